@@ -1,5 +1,5 @@
 -- A line spells one order at most.
-use Rattle.std.proofs.Common.{◌≡◌, ◌∙◌, ◌<◌, ◌^◌, ◌∷◌, ◌++◌, ℕ, false, List, codes, Option, Some, None, Result, Ok, ap, sym, append_assoc, subst, arith}
+use Rattle.std.proofs.Common.{◌≡◌, ◌∙◌, ◌<◌, ◌^◌, ◌∷◌, ◌++◌, ℕ, false, List, codes, Option, Some, None, Result, Ok, Err, ap, sym, append_assoc, subst, arith}
 use Rattle.std.specs.Fmt.{decimal}
 use Rattle.tc_verdict.specs.declared.run.Run.{Run}
 use Rattle.tc_entry.specs.declared.entry.Entry.{Entry}
@@ -11,30 +11,15 @@ use Rattle.tc_evidence.specs.Line.{said_text}
 use Rattle.tc_evidence.specs.Sentence.{IsSentence}
 use Rattle.tc_evidence.proofs.Notes.{entry_not_said, said_not_naming}
 use Rattle.tc_serve.specs.declared.refusal.Refusal.{Refusal}
+use Rattle.tc_serve.specs.declared.refusal.Refusal.TheVariants as W
+use Rattle.tc_serve.specs.Inside.{IsOther}
 use Rattle.tc_serve.specs.Order.{IsOrder, order_text}
-use Rattle.tc_serve.specs.Inside.{IsNoRemark}
 use Rattle.tc_serve.specs.declared.order.Order.{Order}
 use Rattle.tc_serve.specs.declared.order.Order.TheVariants as O
 
 -- no move begins with a letter
 move_no_letter : (run b : ℕ) (op : Op) (after : List ℕ) → run < 2 ^ 16 → 57 < b → move_text run op ≡ b ∷ after → ⊥
 move_no_letter run b op after fits letter e = no_letter run b (codes " " ++ op_text op) after (omega (arith, fits)) letter e
-
--- what is asked, if this is the move that was read
-abbrev asked : Option (Run × Op) → Option Order
-asked None = None
-asked (Some m) = Some (O.Move m.0 m.1)
-
-pub only_move : (text : List ℕ) (run : Run) (op : Op) → run.0 < 2 ^ 16 → text ≡ move_text run.0 op →
-    ((r : ℕ) (p : Op) → r < 2 ^ 16 → IsOp p → text ≡ move_text r p → ◌≡◌ {A = Option (Run × Op)} (Some (run, op)) (Some (record { 0 = r }, p))) →
-    (o : Order) → IsOrder o → IsNoRemark o → text ≡ order_text o → ◌≡◌ {A = Option Order} (Some (O.Move run op)) (Some o)
-only_move text run op low spelled only (O.Case name n) fits other e =
-    absurd (move_no_letter run.0 99 op (codes "ase " ++ (name ++ (codes " " ++ decimal n))) low (omega arith) (sym spelled ∙ e))
-only_move text run op low spelled only (O.Named r name) fits other e =
-    absurd (move_no_letter run.0 98 op (codes "ehaviour " ++ (decimal r.0 ++ (codes " " ++ name))) low (omega arith) (sym spelled ∙ e))
-only_move text run op low spelled only (O.Move r p) fits other e = ap asked (only r.0 p fits.0 fits.1 e)
-only_move text run op low spelled only (O.Remark r sentence) fits other e = absurd other
-only_move text run op low spelled only O.End fits other e = absurd (move_no_letter run.0 101 op (codes "nd") low (omega arith) (sym spelled ∙ e))
 
 -- ---- remarks
 
@@ -49,6 +34,11 @@ said_not_move k run op sentence low fits is same =
   where
     e : Entry
     e = record { caller = record { 0 = run }; op = op; reply = R.Ok }
+
+-- the line makes no remark
+abbrev IsNoRemark : Order → Type 0
+IsNoRemark (O.Remark run sentence) = ⊥
+IsNoRemark _ = Unit {0}
 
 not_remark : (text : List ℕ) (k : ℕ) (bytes : List ℕ) → k < 2 ^ 16 → text ≡ said_text false k bytes → (o : Order) → IsOrder o → IsNoRemark o → text ≡ order_text o → ⊥
 not_remark text k bytes low spelled (O.Case name n) fits other e =
@@ -80,3 +70,30 @@ remark_none text run bytes low spelled only none (O.Case name n) fits e = not_re
 remark_none text run bytes low spelled only none (O.Named r name) fits e = not_remark text run.0 bytes low spelled (O.Named r name) fits tt e
 remark_none text run bytes low spelled only none (O.Move r p) fits e = not_remark text run.0 bytes low spelled (O.Move r p) fits tt e
 remark_none text run bytes low spelled only none O.End fits e = not_remark text run.0 bytes low spelled O.End fits tt e
+
+-- ---- moves
+
+-- what is asked, if this is the move that was read
+abbrev asked : Option (Run × Op) → Result Order Refusal
+asked None = Err W.BadLine
+asked (Some m) = Ok (O.Move m.0 m.1)
+
+pub only_move : (text : List ℕ) (run : Run) (op : Op) → (run.0 < 2 ^ 16) × IsOp op → text ≡ move_text run.0 op →
+    ((r : ℕ) (p : Op) → r < 2 ^ 16 → IsOp p → text ≡ move_text r p → ◌≡◌ {A = Option (Run × Op)} (Some (run, op)) (Some (record { 0 = r }, p))) →
+    (o : Order) → IsOrder o → text ≡ order_text o → ◌≡◌ {A = Result Order Refusal} (Ok (O.Move run op)) (Ok o)
+only_move text run op low spelled only (O.Case name n) fits e =
+    absurd (move_no_letter run.0 99 op (codes "ase " ++ (name ++ (codes " " ++ decimal n))) low.0 (omega arith) (sym spelled ∙ e))
+only_move text run op low spelled only (O.Named r name) fits e =
+    absurd (move_no_letter run.0 98 op (codes "ehaviour " ++ (decimal r.0 ++ (codes " " ++ name))) low.0 (omega arith) (sym spelled ∙ e))
+only_move text run op low spelled only (O.Move r p) fits e = ap asked (only r.0 p fits.0 fits.1 e)
+only_move text run op low spelled only (O.Remark r sentence) fits e = absurd (said_not_move r.0 run.0 op sentence fits.0 low.0 low.1 (sym e ∙ spelled))
+only_move text run op low spelled only O.End fits e = absurd (move_no_letter run.0 101 op (codes "nd") low.0 (omega arith) (sym spelled ∙ e))
+
+-- a line that is neither a move nor a remark
+pub only_other : (text : List ℕ) (found : Option Order) → ((r : ℕ) (p : Op) → r < 2 ^ 16 → IsOp p → text ≡ move_text r p → ⊥) → ((k : ℕ) (sentence : List ℕ) → k < 2 ^ 16 → text ≡ said_text false k sentence → ⊥) →
+    ((o : Order) → IsOrder o → IsOther o → text ≡ order_text o → found ≡ Some o) → (o : Order) → IsOrder o → text ≡ order_text o → found ≡ Some o
+only_other text found no_move no_remark only (O.Move r p) fits e = absurd (no_move r.0 p fits.0 fits.1 e)
+only_other text found no_move no_remark only (O.Remark r sentence) fits e = absurd (no_remark r.0 sentence fits.0 e)
+only_other text found no_move no_remark only (O.Case name n) fits e = only (O.Case name n) fits tt e
+only_other text found no_move no_remark only (O.Named r name) fits e = only (O.Named r name) fits tt e
+only_other text found no_move no_remark only O.End fits e = only O.End fits tt e

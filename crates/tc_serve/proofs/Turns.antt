@@ -1,5 +1,5 @@
 -- What is read and written, and what goes to standard error, turn by turn.
-use Rattle.std.proofs.Common.{ℕ, ◌≡◌, ◌≢◌, ◌∙◌, ◌+◌, ◌-◌, ◌<◌, ◌≤◌, ◌^◌, ◌⊎◌, inl, inr, if◌then◌else◌, Bool, true, false, MatchOption, Option, Some, None, Result, Ok, Err, IfErr, IfOk, List, [], ◌∷◌, ◌++◌, length, take, zero-add, suc-add, refl, ap, sym, subst, append_assoc, arith}
+use Rattle.std.proofs.Common.{ℕ, ◌≡◌, ◌≢◌, ◌∙◌, ◌+◌, ◌-◌, ◌<◌, ◌≤◌, ◌^◌, ◌⊎◌, ◌↔◌, inl, inr, if◌then◌else◌, Bool, true, false, MatchOption, Option, Some, None, Result, Ok, Err, IfErr, IfOk, List, [], ◌∷◌, ◌++◌, length, take, zero-add, suc-add, refl, ap, sym, subst, append_assoc, arith}
 use Rattle.std.specs.Io.KnownBytes.{Appends, Consumes, IsAtEnd, Keeps}
 use Rattle.std.proofs.lemmas.Grind.{common_steps}
 use Rattle.std.proofs.lemmas.List.{append-nil, length-append, take_all}
@@ -11,7 +11,7 @@ use Rattle.tc_serve.specs.declared.serving.Serving.{Serving}
 use Rattle.tc_serve.specs.Protocol.{AllEnded, AreServed, Sent, Stand, finished}
 use Rattle.tc_serve.specs.Text.{bytes_of, stand_text, told_at_end, told_of}
 use Rattle.tc_serve.specs.Serve.{Devices, IsServed, IsStopped, IsTaken, IsWhy, devices}
-use Rattle.tc_serve.specs.Inside.{Finishes, Hears, IsAt, IsFed, Stops}
+use Rattle.tc_serve.specs.Inside.{Finishes, Hears, IsAt, IsFed, IsOwn, Stops}
 
 -- ---- bytes
 
@@ -257,3 +257,9 @@ module _ (from : Devices) (left rest output output' errors errors' : Option (Lis
       IfErr result (λ f. Stops (at_.bytes ++ chunk) rest at_.before out at_.before' said f) → AppendsPrefix output output' out → IsStopped from (devices rest output' errors') told F.Write
   unwritten (Ok end) none so stops wrote = going_unwritten end none so wrote
   unwritten (Err f) none so stops wrote = stops_unwritten f stops wrote
+
+-- ---- faults of devices
+
+-- a fault that is no device's is not this one of a device
+pub is_no_device : (r : Result (Option Served) ServeFault) (f : ServeFault) (failed : Bool) → IfErr r IsOwn → (IsOwn f → ⊥) → failed ≡ false → (r ≡ Err f) ↔ (failed ≡ true)
+is_no_device r f failed own other is = (λ e. absurd (other (subst (λ (x : Result (Option Served) ServeFault). IfErr x IsOwn) e own)), λ t. absurd (let both : false ≡ true = sym is ∙ t in cc))

@@ -29,10 +29,11 @@ use Rattle.tc_serve.specs.Protocol.{AllEnded, AreServed, Asks, Came, IsNobodys, 
 use Rattle.tc_serve.specs.Serve.{Devices, IsTaken, IsWhy}
 use Rattle.tc_serve.specs.Text.{bytes_of, is_refused, stand_text, told_at_end, told_of, worst_of}
 
--- the line makes no remark
-abbrev pub IsNoRemark : Order → Type 0
-IsNoRemark (O.Remark run sentence) = ⊥
-IsNoRemark _ = Unit {0}
+-- the line is neither a move nor a remark
+abbrev pub IsOther : Order → Type 0
+IsOther (O.Move caller op) = ⊥
+IsOther (O.Remark run sentence) = ⊥
+IsOther _ = Unit {0}
 
 -- ---- the runs that sleep
 
@@ -172,6 +173,12 @@ pub record IsFed (bytes : List ℕ) (v : Serving) (before out before' told : Lis
   pub last_is : NoLf last
   pub kept : v.line.items ≡ seen last
   pub counts : Counts v lines stand before out before' told
+
+-- the fault is none of a device
+abbrev pub IsOwn : ServeFault → Type 0
+IsOwn F.Read = ⊥
+IsOwn F.Write = ⊥
+IsOwn _ = Unit {0}
 
 -- why a line ends the service
 abbrev pub IsBadLine : ServeFault → Bool → List ℕ → List Sent → Stand → Type 0

@@ -6,7 +6,7 @@ ghost use Rattle.tc_entry.specs.Name.{IsName};
 ghost use Rattle.tc_evidence.specs.Line.{naming_text, said_text};
 ghost use Rattle.tc_evidence.specs.Sentence.{IsSentence};
 ghost use Rattle.tc_serve.specs.Order.{case_text, order_text, IsOrder};
-ghost use Rattle.tc_serve.specs.Inside.{IsNoRemark};
+ghost use Rattle.tc_serve.specs.Inside.{IsOther};
 ghost use Rattle.tc_serve.specs.Protocol.{IsWhyNothing};
 ghost use Rattle.tc_serve.specs.declared.order.Order.{Order as AnyOrder};
 ghost use Rattle.tc_serve.specs.declared.order.Order.TheVariants as orders;
@@ -75,15 +75,12 @@ fn read_remark(text: &[u8]) -> Option<(Run, &[u8])>
     Some((Run(number), sentence))
 }
 
-// What the line asks for, if it is no remark.
+// What the line asks for, if it is neither a move nor a remark.
 fn read_other(text: &[u8]) -> Option<Order>
     ensures spelled { IfSome result (λ o. text.now ≡ order_text o) }
     ensures fits { IfSome result IsOrder }
-    ensures only { (o : AnyOrder) → IsOrder o → IsNoRemark o → text.now ≡ order_text o → result ≡ Some o }
+    ensures only { (o : AnyOrder) → IsOrder o → IsOther o → text.now ≡ order_text o → result ≡ Some o }
 {
-    if let Some((caller, op)) = read_move(text) {
-        return Some(Order::Move { caller, op });
-    }
     if let Some((run, name)) = read_naming(text) {
         return Some(Order::Named { run, name });
     }
@@ -106,6 +103,9 @@ fn read_short(alloc: Global, text: &[u8]) -> Result<Result<Order, Refusal>, NoMe
     ensures only { (o : AnyOrder) → IsOrder o → text.now ≡ order_text o → IfOk result (λ found. found ≡ Ok o) }
     ensures why { IfOk result (λ found. IfErr found (λ why. IsWhyNothing why true text.now)) }
 {
+    if let Some((caller, op)) = read_move(text) {
+        return Ok(Ok(Order::Move { caller, op }));
+    }
     let Some((run, bytes)) = read_remark(text) else {
         return Ok(read_other(text).ok_or(Refusal::BadLine));
     };

@@ -1,5 +1,6 @@
 //! The service itself.
-ghost use Rattle.std.specs.Prelude.{◌≡◌, ◌+◌, ◌≤◌, ◌<◌, ◌^◌, not, true, [], ℕ, length, OnOk, OnErr, IfOk, IfErr, MatchOption};
+ghost use Rattle.std.specs.Prelude.{◌≡◌, ◌+◌, ◌≤◌, ◌<◌, ◌^◌, ◌↔◌, not, true, false, [], ℕ, Bool, List, Option, is_err, length, OnOk, OnErr, IfOk, IfErr, IsErrOf, MatchOption};
+ghost use Rattle.std.specs.Borrow.{GName};
 ghost use Rattle.std.specs.Io.KnownBytes.{Appends};
 ghost use Rattle.tc_stream.specs.Output.{AppendsPrefix};
 ghost use Rattle.tc_serve.specs.Inside.{Hears, IsAt, IsFed};
@@ -10,7 +11,9 @@ use crate::serving::Serving;
 use std::alloc::Global;
 use std::io::{Read, Write};
 use tc_entry::Verdict;
-use tc_stream::{CountedWrite, CountedWriter, WriteFault, write_counted, write_whole};
+use tc_stream::{
+    CountedRead, CountedReader, CountedWrite, CountedWriter, WriteFault, write_counted, write_whole,
+};
 
 /// What came of an input that was served to its end.
 #[derive(Clone, Copy, PartialEq, Eq, Debug)]
@@ -30,6 +33,45 @@ pub struct Ending {
     pub told: bool,
 }
 
+/// A writer that takes texts whole and flushed, and none after one that failed. The library has no ghost word for a failed
+/// flush, so this has one for a failed text. That a text fails only by a write or a flush is in `write_flushed`, and tested.
+trait FlushedWrite {
+    /// The bytes that it took, if they are known.
+    ghost contents: { Self → Option (List ℕ) };
+    /// Whether the last text failed.
+    ghost has_failed: { Self → Bool };
+    /// Which writer it is.
+    ghost name: { Self → GName };
+
+    /// Writes the text, and flushes the writer.
+    fn put(&mut self, text: &[u8]) -> Result<(), WriteFault>
+        requires sound { has_failed self.old ≡ false }
+        ensures all { OnOk result (Appends (contents self.old) (contents self.new) text.now) }
+        ensures part { OnErr result (AppendsPrefix (contents self.old) (contents self.new) text.now) }
+        ensures failed { has_failed self.new ≡ is_err result }
+        ensures same { name self.new ≡ name self.old };
+}
+
+/// A writer, and whether the last text failed.
+#[derive(Drop)]
+struct FlushedWriter<'a, W: Write> {
+    writer: &'a mut W,
+    failed: bool,
+}
+
+impl<'a, W: Write> FlushedWriter<'a, W> {
+    fn new(writer: &'a mut W) -> FlushedWriter<'a, W>
+        ensures same { result.writer.ghost_name ≡ writer.entry.ghost_name }
+        ensures now { result.writer.now ≡ writer.old }
+        ensures failed { result.failed ≡ false }
+    {
+        FlushedWriter {
+            writer,
+            failed: false,
+        }
+    }
+}
+
 // Writes the text, and flushes the writer.
 fn write_flushed<W: Write>(writer: &mut W, text: &[u8]) -> Result<(), WriteFault>
     ensures all { OnOk result (Appends (W.contents writer.old) (W.contents writer.new) text.now) }
@@ -39,6 +81,20 @@ fn write_flushed<W: Write>(writer: &mut W, text: &[u8]) -> Result<(), WriteFault
     match writer.flush() {
         Ok(()) => Ok(()),
         Err(_) => Err(WriteFault),
+    }
+}
+
+impl<W: Write> FlushedWrite for FlushedWriter<'_, W> {
+    ghost contents = { λ c. W.contents c.writer.now };
+
+    ghost has_failed = { λ c. c.failed };
+
+    ghost name = { λ c. c.writer.ghost_name };
+
+    fn put(&mut self, text: &[u8]) -> Result<(), WriteFault> {
+        let result = write_flushed(self.writer, text);
+        self.failed = result.is_err();
+        result
     }
 }
 
@@ -58,7 +114,7 @@ fn tell<E: CountedWrite>(errors: &mut E, heard: bool, text: &[u8]) -> bool
 }
 
 // One read, and the answers to the lines that end in what it gave; what came of the input, if it has ended.
-fn turn<R: Read, W: Write, E: CountedWrite>(
+fn turn<R: CountedRead, W: FlushedWrite, E: CountedWrite>(
     alloc: Global,
     chunk: &mut [u8],
     serving: &mut Serving,
@@ -70,6 +126,9 @@ fn turn<R: Read, W: Write, E: CountedWrite>(
     requires heard { heard.old ≡ not (E.has_failed errors.old) }
     requires few { E.writes errors.old + 2 ^ 64 < 2 ^ 128 }
     requires some { 0 < length chunk.old }
+    requires read { R.has_failed reader.old ≡ false }
+    requires reads { R.reads reader.old + 1 < 2 ^ 128 }
+    requires written { W.has_failed writer.old ≡ false }
     ensures served { IfOk result (λ end. (from : AnyDevices) (turns : ℕ)
         → IsAt from (devices (R.remaining reader.old) (W.contents writer.old) (E.contents errors.old)) heard.old turns serving.old
         → MatchOption end (IsAt from (devices (R.remaining reader.new) (W.contents writer.new) (E.contents errors.new)) heard.new (turns + 1) serving.new)
@@ -79,7 +138,10 @@ fn turn<R: Read, W: Write, E: CountedWrite>(
         → IsStopped from (devices (R.remaining reader.new) (W.contents writer.new) (E.contents errors.new)) heard.new f) }
     ensures heard { heard.new ≡ not (E.has_failed errors.new) }
     ensures counted { E.writes errors.new ≤ E.writes errors.old + 2 ^ 64 }
-    ensures same { E.name errors.new ≡ E.name errors.old }
+    ensures read { IsErrOf result ServeFault.Read ↔ (R.has_failed reader.new ≡ true) }
+    ensures written { IsErrOf result ServeFault.Write ↔ (W.has_failed writer.new ≡ true) }
+    ensures reads { R.reads reader.new ≡ R.reads reader.old + 1 }
+    ensures same { (R.name reader.new ≡ R.name reader.old) × (W.name writer.new ≡ W.name writer.old) × (E.name errors.new ≡ E.name errors.old) }
 {
     let Ok(count) = reader.read(chunk) else {
         return Err(ServeFault::Read);
@@ -89,14 +151,15 @@ fn turn<R: Read, W: Write, E: CountedWrite>(
     let end = serving.take_read(alloc, &chunk[..count], &mut out, &mut told);
     let taken = tell(errors, *heard, told.as_slice());
     *heard = taken;
-    match write_flushed(writer, out.as_slice()) {
+    match writer.put(out.as_slice()) {
         Ok(()) => end,
         Err(WriteFault) => Err(ServeFault::Write),
     }
 }
 
-// Serves each line of the reader, until the input or a fault ends the service.
-fn serve_lines<R: Read, W: Write, E: CountedWrite>(
+// Serves each line of the reader, until the input or a fault ends the service. `Read` is returned exactly if a read failed,
+// and `Write` exactly if a text could not be written or flushed.
+fn serve_lines<R: CountedRead, W: FlushedWrite, E: CountedWrite>(
     alloc: Global,
     serving: &mut Serving,
     reader: &mut R,
@@ -107,13 +170,17 @@ fn serve_lines<R: Read, W: Write, E: CountedWrite>(
     requires fed { IsFed [] serving.old [] [] [] [] }
     requires heard { heard.old ≡ true }
     requires sound { heard.old ≡ not (E.has_failed errors.old) }
-    requires few { E.writes errors.old ≡ 0 }
+    requires few { (E.writes errors.old ≡ 0) × (R.reads reader.old ≡ 0) }
+    requires read { R.has_failed reader.old ≡ false }
+    requires written { W.has_failed writer.old ≡ false }
     ensures served { IfOk result (IsServed (devices (R.remaining reader.old) (W.contents writer.old) (E.contents errors.old))
         (devices (R.remaining reader.new) (W.contents writer.new) (E.contents errors.new)) heard.new) }
     ensures stopped { IfErr result (IsStopped (devices (R.remaining reader.old) (W.contents writer.old) (E.contents errors.old))
         (devices (R.remaining reader.new) (W.contents writer.new) (E.contents errors.new)) heard.new) }
     ensures heard { heard.new ≡ not (E.has_failed errors.new) }
-    ensures same { E.name errors.new ≡ E.name errors.old }
+    ensures read { IsErrOf result ServeFault.Read ↔ (R.has_failed reader.new ≡ true) }
+    ensures written { IsErrOf result ServeFault.Write ↔ (W.has_failed writer.new ≡ true) }
+    ensures same { (R.name reader.new ≡ R.name reader.old) × (W.name writer.new ≡ W.name writer.old) × (E.name errors.new ≡ E.name errors.old) }
 {
     let mut chunk = [0u8; 4096];
     for _turns in 0..u64::MAX {
@@ -139,7 +206,13 @@ pub fn serve<R: Read, W: Write, E: Write>(
 {
     let mut serving = Serving::new(alloc);
     let mut told = true;
-    let mut counted = CountedWriter::new(errors);
-    let outcome = serve_lines(alloc, &mut serving, reader, writer, &mut counted, &mut told);
+    let outcome = serve_lines(
+        alloc,
+        &mut serving,
+        &mut CountedReader::new(reader),
+        &mut FlushedWriter::new(writer),
+        &mut CountedWriter::new(errors),
+        &mut told,
+    );
     Ending { outcome, told }
 }

@@ -2,7 +2,7 @@
 ghost use Rattle.std.specs.Prelude.{◌≡◌, ◌≢◌, ◌<◌, ◌-◌, ◌++◌, ◌∷◌, [], ℕ, List, Option, IfOk, IfErr, OnOk, OnErr, MatchOption, length, take};
 ghost use Rattle.std.specs.Io.{StartsWith};
 ghost use Rattle.std.specs.Io.KnownBytes.{IsAtEnd};
-ghost use Rattle.tc_serve.specs.Inside.{Closes, Fails, Feeds, Finishes, IsEnd, IsFed, Serves, Stops, StopsIn, TakesPiece};
+ghost use Rattle.tc_serve.specs.Inside.{Closes, Fails, Feeds, Finishes, IsEnd, IsFed, IsOwn, Serves, Stops, StopsIn, TakesPiece};
 ghost use Rattle.tc_serve.specs.Protocol.{NoLf};
 ghost use Rattle.tc_serve.specs.Text.{end_told, refusal_text};
 
@@ -89,6 +89,7 @@ impl Serving {
     ) -> Result<(), ServeFault>
         ensures ok { OnOk result (Serves ended self.old self.new out.old.items out.new.items told.old.items told.new.items) }
         ensures fault { IfErr result (Fails ended self.old out.old.items told.old.items) }
+        ensures own { IfErr result IsOwn }
         ensures any { StartsWith out.new.items out.old.items }
         ensures any_told { StartsWith told.new.items told.old.items }
     {
@@ -121,6 +122,7 @@ impl Serving {
     ) -> Result<(), ServeFault>
         ensures ok { OnOk result (Serves ended self.old self.new out.old.items out.new.items told.old.items told.new.items) }
         ensures fault { IfErr result (Fails ended self.old out.old.items told.old.items) }
+        ensures own { IfErr result IsOwn }
         ensures err { OnErr result (out.new.items ≡ out.old.items) }
         ensures err_told { OnErr result (told.new.items ≡ told.old.items) }
     {
@@ -147,6 +149,7 @@ impl Serving {
             → IsFed (bytes ++ 10 ∷ []) self.new before out.new.items before' told.new.items) }
         ensures stopped { IfErr result (λ f. (bytes more before before' : List ℕ) (input : Option (List ℕ)) → IsFed bytes self.old before out.old.items before' told.old.items
             → Stops (bytes ++ 10 ∷ more) input before out.new.items before' told.new.items f) }
+        ensures own { IfErr result IsOwn }
     {
         match self.serve_line(alloc, true, out, told) {
             Ok(()) => {
@@ -181,6 +184,7 @@ impl Serving {
         requires { bytes.now ≢ [] }
         ensures ok { IfOk result (λ rest. TakesPiece bytes.now rest.now self.old self.new out.old.items out.new.items told.old.items told.new.items) }
         ensures stopped { IfErr result (λ f. StopsIn bytes.now self.old out.old.items out.new.items told.old.items told.new.items f) }
+        ensures own { IfErr result IsOwn }
     {
         let (piece, rest) = cut_line(bytes);
         if let Err(NoMemory) = self.keep(piece) {
@@ -205,6 +209,7 @@ impl Serving {
     ) -> Result<(), ServeFault>
         ensures ok { OnOk result (Feeds bytes.now self.old self.new out.old.items out.new.items told.old.items told.new.items) }
         ensures stopped { IfErr result (λ f. StopsIn bytes.now self.old out.old.items out.new.items told.old.items told.new.items f) }
+        ensures own { IfErr result IsOwn }
     {
         let mut rest = bytes;
         while !rest.is_empty() {
@@ -227,6 +232,7 @@ impl Serving {
             → IsEnd bytes self.new before out.new.items before' told.new.items) }
         ensures stopped { IfErr result (λ f. (bytes before before' : List ℕ) (input : Option (List ℕ)) → IsAtEnd input
             → IsFed bytes self.old before out.old.items before' told.old.items → Stops bytes input before out.new.items before' told.new.items f) }
+        ensures own { IfErr result IsOwn }
     {
         if self.line.is_empty() {
             return Ok(());
@@ -268,6 +274,7 @@ impl Serving {
             → Finishes bytes before out.new.items before' told.new.items r) }
         ensures stopped { IfErr result (λ f. (bytes before before' : List ℕ) (input : Option (List ℕ)) → IsAtEnd input
             → IsFed bytes self.old before out.old.items before' told.old.items → Stops bytes input before out.new.items before' told.new.items f) }
+        ensures own { IfErr result IsOwn }
     {
         if let Err(fault) = self.end_last(alloc, out, told) {
             return Err(fault);
@@ -296,6 +303,7 @@ impl Serving {
             (λ r. (bytes.now ≡ []) × Finishes read before out.new.items before' told.new.items r)) }
         ensures stopped { IfErr result (λ f. (read before before' : List ℕ) (input : Option (List ℕ)) → (length bytes.now ≡ 0 → IsAtEnd input)
             → IsFed read self.old before out.old.items before' told.old.items → Stops (read ++ bytes.now) input before out.new.items before' told.new.items f) }
+        ensures own { IfErr result IsOwn }
     {
         if bytes.is_empty() {
             return match self.finish(alloc, out, told) {

@@ -1,25 +1,26 @@
-use Rattle.std.proofs.Common.{arith, rules}
+use Rattle.std.proofs.Common.{◌∙◌, ap, is_err, arith, rules}
 use Rattle.std.proofs.lemmas.Result.{IfErr-weaker, IfOk-weaker}
-use Rattle.tc_serve.proofs.Turns.{going, stops_on, unwritten}
+use Rattle.tc_serve.specs.declared.fault.ServeFault.TheVariants as F
+use Rattle.tc_serve.proofs.Turns.{going, is_no_device, stops_on, unwritten}
 use Rattle.tc_serve.proofs.service.turn.Goals as goal
 
-pub returns-in-Ok-write_flushed-clause-served : goal.returns-in-Ok-write_flushed-clause-served
-returns-in-Ok-write_flushed-clause-served g c =
+pub returns-in-Ok-put-clause-served : goal.returns-in-Ok-put-clause-served
+returns-in-Ok-put-clause-served g c =
     IfOk-weaker c.take_read-end.result _ _
     (λ end so from turns at_.
     going from _ _ _ _ _ _ _ _ turns c.args.serving.now c.take_read-end.new.self _ _ _ at_ c.in-Ok.ensures.bytes.0 (rw c.as_slice.ensures.value at c.tell-taken.ensures.taken) end
     (λ none. c.in-Ok.ensures.bytes.1 (omega (arith, none, c.in-Ok.ensures.bound.1)) (search rules))
-    (rw (c.new-out.ensures.items, c.new-told.ensures.items) at (so at_.bytes at_.before at_.before') at_.fed) (rw c.as_slice-2.ensures.value at c.in-Ok-write_flushed.ensures.all))
+    (rw (c.new-out.ensures.items, c.new-told.ensures.items) at (so at_.bytes at_.before at_.before') at_.fed) (rw c.as_slice-2.ensures.value at c.in-Ok-put.ensures.all))
     c.take_read-end.ensures.ok
 
-pub returns-in-Ok-write_flushed-clause-stopped : goal.returns-in-Ok-write_flushed-clause-stopped
-returns-in-Ok-write_flushed-clause-stopped g c =
+pub returns-in-Ok-put-clause-stopped : goal.returns-in-Ok-put-clause-stopped
+returns-in-Ok-put-clause-stopped g c =
     IfErr-weaker c.take_read-end.result _ _
     (λ f so from turns at_.
     stops_on from _ _ _ _ _ _ _ _ turns c.args.serving.now c.take_read-end.new.self _ _ _ at_ c.in-Ok.ensures.bytes.0 (rw c.as_slice.ensures.value at c.tell-taken.ensures.taken) f
     ((rw (c.new-out.ensures.items, c.new-told.ensures.items) at (so at_.bytes at_.before at_.before')) _
     (λ none. c.in-Ok.ensures.bytes.1 (omega (arith, none, c.in-Ok.ensures.bound.1)) (search rules)) at_.fed)
-    (rw c.as_slice-2.ensures.value at c.in-Ok-write_flushed.ensures.all))
+    (rw c.as_slice-2.ensures.value at c.in-Ok-put.ensures.all))
     c.take_read-end.ensures.stopped
 
 pub returns-clause-stopped : goal.returns-clause-stopped
@@ -30,3 +31,9 @@ returns-clause-stopped g c = λ from turns at_.
     (IfErr-weaker c.take_read-end.result _ _ (λ f so. (rw (c.new-out.ensures.items, c.new-told.ensures.items) at (so at_.bytes at_.before at_.before')) _
     (λ none. c.in-Ok.ensures.bytes.1 (omega (arith, none, c.in-Ok.ensures.bound.1)) (search rules)) at_.fed) c.take_read-end.ensures.stopped)
     (rw c.as_slice-2.ensures.value at c.in-Err.ensures.part)
+
+pub returns-in-Ok-put-clause-read : goal.returns-in-Ok-put-clause-read
+returns-in-Ok-put-clause-read g c = is_no_device c.take_read-end.result F.Read _ c.take_read-end.ensures.own (λ own. own) (c.read.ensures.failed ∙ ap is_err c.in-Ok.is)
+
+pub returns-in-Ok-put-clause-written : goal.returns-in-Ok-put-clause-written
+returns-in-Ok-put-clause-written g c = is_no_device c.take_read-end.result F.Write _ c.take_read-end.ensures.own (λ own. own) (c.put.ensures.failed ∙ ap is_err c.in-Ok-put.is)
