@@ -17,7 +17,6 @@ EACH = ("--explain", "--html", "serve")
 UNREFUSED: Tuple[Exempt, ...] = (
     (("read_counted",), "read_input is this call over a reader that is counted"),
     (("read_moves_into",), "read_moves is this call for a list"),
-    (("read_history_into",), "read_history is this call for a list"),
     (("append_first_line", "append_line"), "write_evidence makes them"),
     (("append_parts",), "explain makes it"),
     (("read_line", "read_words"), "read_campaign makes them"),
@@ -28,7 +27,7 @@ UNREFUSED: Tuple[Exempt, ...] = (
     (("Kept::with_room", "without_room"), "run_campaign makes them"),
     (("Sentence::of_bytes",), "read_evidence_into makes it"),
     (("append_said", "append_refusal"), "serve makes them"),
-    (("append_entry", "append_end"), "write_block makes them"),
+    (("append_entry", "append_entries", "append_end"), "write_block makes them"),
     (("read_evidence_into",), "check and report make it"),
     (("read_evidence", "append_whole_block", "Block::history"), "no program keeps or writes whole blocks of evidence yet"),
     (("answer_alone",), "it makes the calls of answer; tests/play takes the memory from it"),

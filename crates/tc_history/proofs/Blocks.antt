@@ -1,5 +1,5 @@
 -- How far a block is read.
-use Rattle.std.proofs.Common.{ℕ, ◌≡◌, ◌≢◌, ◌∙◌, ◌+◌, ◌<◌, ◌≤◌, List, [], ◌∷◌, ◌++◌, length, map, codes, ap, sym, append_assoc, arith}
+use Rattle.std.proofs.Common.{ℕ, ◌≡◌, ◌≢◌, ◌∙◌, ◌+◌, ◌<◌, ◌≤◌, List, [], ◌∷◌, ◌++◌, length, map, codes, ap, sym, refl, append_assoc, arith}
 use Rattle.std.specs.Fmt.{decimal}
 use Rattle.std.proofs.lemmas.List.{append-nil, map-append}
 use Rattle.tc_verdict.specs.declared.verdict.Verdict.{Verdict}
@@ -13,7 +13,7 @@ use Rattle.tc_history.specs.declared.header.Header.{Header}
 use Rattle.tc_history.specs.declared.read.Block.{Block}
 use Rattle.tc_history.specs.Block.{header_text, entry_text, end_text}
 use Rattle.tc_history.specs.Text.{IsEntry, AreEntries, IsHeader, IsBlock, header_of, open_lines, block_lines}
-use Rattle.tc_history.specs.Inside.{Opens, IsBadStart, IsBadInside, IsCutInside}
+use Rattle.tc_history.specs.Inside.{Opens, IsBadStart, IsBadInside, IsCutInside, IsTaken}
 
 -- the first line is that of no entry of a block of this format
 abbrev pub IsNoEntryLine : ℕ → List ℕ → Type 0
@@ -159,6 +159,18 @@ ended_only text line b rest after so ends first only c others is whole = by_tail
         let two = only c.verdict others spelled in
         (same_block b c (ap (λ (h : Header). h.format) that.header_is) (ap (λ (h : Header). h.name) that.header_is) (ap (λ (h : Header). h.behaviours) that.header_is) (first ∙ sym is.first) (sym (parts ∙ append-nil b.entries)) two.0, two.1)
     by_tail (t ∷ ts) parts spelled right = absurd (entry_no_end b.format t b.verdict right.0 (head_is (entry_text t) (end_text b.verdict) _ (lines_of after) (sym spelled ∙ ends)))
+
+-- a block whose last line is read
+pub taken : (text : List ℕ) (line : ℕ) (h : Header) (entries : List Entry) (rest after : List ℕ) (v : Verdict) → SoFar text line h entries rest → lines_of rest ≡ end_text v ∷ lines_of after →
+    IsThatEnd rest v after → length after < length rest → IsTaken text line (make h.format h.name h.behaviours line entries v) after
+taken text line h entries rest after v so spelled only less =
+    let b = make h.format h.name h.behaviours line entries v in
+    record {
+      fits = record { header = so.opens.header_is; entries = so.opens.right; first = refl };
+      lines = ended_lines text b rest after so.opens spelled;
+      room = let room = so.room in omega (arith, room, less);
+      only = ended_only text line b rest after so spelled refl only;
+    }
 
 -- nothing can be such a block: a line is neither an entry nor a last line
 pub never_inside : (text : List ℕ) (line : ℕ) (h : Header) (entries : List Entry) (rest : List ℕ) → SoFar text line h entries rest → IsNoEntryLine h.format rest → IsNoEndLine rest →

@@ -5,4 +5,3 @@ pub mod InnerLines
 pub mod Prefixes
 pub mod Texts
 pub mod Lemmas
-pub mod Taking

@@ -9,7 +9,7 @@ use Rattle.tc_text.proofs.Lemmas.LinesOf.{no_line}
 use Rattle.tc_history.specs.declared.read.Block.{Block}
 use Rattle.tc_history.specs.Block.{entry_text, end_text}
 use Rattle.tc_history.specs.Text.{IsBlock, AreBlocks, AreHistories, IsHistoryFault, open_lines, block_lines, all_lines}
-use Rattle.tc_history.specs.Inside.{IsBlockFault}
+use Rattle.tc_history.specs.Inside.{IsBlockFault, IsTaken}
 
 -- the blocks are the ones read, and those that the rest spells
 pub record Others (blocks : List Block) (rest : List ℕ) (line : ℕ) (all : List Block) : Type 0 where
@@ -18,23 +18,19 @@ pub record Others (blocks : List Block) (rest : List ℕ) (line : ℕ) (all : Li
   pub spelled : lines_of rest ≡ all_lines tail
   pub fits : AreBlocks line tail
 
--- these blocks are read
+-- these blocks are read, and all histories that the text spells begin with them
 pub record AreRead (text : List ℕ) (blocks : List Block) (rest : List ℕ) (line : ℕ) : Type 0 where
   pub fits : AreBlocks 1 blocks
   pub lines : lines_of text ≡ all_lines blocks ++ lines_of rest
   pub number : line ≡ length (all_lines blocks) + 1
   pub room : line + length rest ≤ length text + 1
-
--- these blocks are read, and all histories that the text spells begin with them
-pub record Read (text : List ℕ) (blocks : List Block) (rest : List ℕ) (line : ℕ) : Type 0 where
-  pub are : AreRead text blocks rest line
   pub only : (all : List Block) → AreHistories text all → Others blocks rest line all
 
-pub none_are_read : (text : List ℕ) → AreRead text [] text 1
-none_are_read text = record { fits = tt; lines = refl; number = refl; room = omega arith }
+none_yet : (text : List ℕ) → AreRead text [] text 1
+none_yet text = record { fits = tt; lines = refl; number = refl; room = omega arith; only = λ all is. record { tail = all; parts = refl; spelled = is.lines; fits = is.fits } }
 
-pub none_read : (text : List ℕ) (blocks : List Block) → blocks ≡ [] → Read text blocks text 1
-none_read text blocks none = rw none (record { are = none_are_read text; only = λ all is. record { tail = all; parts = refl; spelled = is.lines; fits = is.fits } })
+pub none_read : (text : List ℕ) (blocks : List Block) → blocks ≡ [] → AreRead text blocks text 1
+none_read text blocks none = rw none (none_yet text)
 
 -- a block has two lines more than entries
 block_count : (b : Block) → length (block_lines b) ≡ length b.entries + 2
@@ -49,46 +45,41 @@ blocks_more line at [] b all here one = let same : line ≡ at = omega (arith, h
 blocks_more line at (x ∷ xs) b all here one =
     (all.0, blocks_more (line + length (block_lines x)) at xs b all.1 (omega (arith, here, length-append (block_lines x) (all_lines xs))) one)
 
-pub one_is_read : (text : List ℕ) (blocks : List Block) (rest after : List ℕ) (line next : ℕ) (b : Block) → AreRead text blocks rest line → lines_of rest ≡ block_lines b ++ lines_of after → IsBlock line b →
-    next ≡ line + (length b.entries + 2) → length b.entries + 2 + length after ≤ length rest → AreRead text (blocks ++ b ∷ []) after next
-one_is_read text blocks rest after line next b read lines fits more less = record {
-  fits = let number = read.number in blocks_more 1 line blocks b read.fits (omega (arith, number)) fits;
-  lines = read.lines ∙ (ap (λ l. all_lines blocks ++ l) lines ∙ (sym (append_assoc (all_lines blocks) (block_lines b) (lines_of after)) ∙ ap (λ l. l ++ lines_of after) (sym (all_lines-more blocks b))));
+others_more : (text rest after : List ℕ) (blocks : List Block) (line next : ℕ) (b : Block) (all : List Block) → IsTaken rest line b after → next ≡ line + (length b.entries + 2) → Others blocks rest line all → Others (blocks ++ b ∷ []) after next all
+others_more text rest after blocks line next b all one more so = by_tail so.tail so.parts so.spelled so.fits
+  where
+    by_tail : (tail : List Block) → all ≡ blocks ++ tail → lines_of rest ≡ all_lines tail → AreBlocks line tail → Others (blocks ++ b ∷ []) after next all
+    by_tail [] parts spelled right = let e = sym one.lines ∙ spelled in absurd cc
+    by_tail (t ∷ ts) parts spelled right =
+        let two = one.only t (all_lines ts) right.0 spelled in
+        let same : line + length (block_lines t) ≡ next = rw (← two.0) (omega (arith, more, block_count b)) in
+        record { tail = ts; parts = parts ∙ (ap (λ x. blocks ++ x ∷ ts) (sym two.0) ∙ sym (append_assoc blocks (b ∷ []) ts)); spelled = two.1; fits = rw same at right.1 }
+
+pub one_read : (text : List ℕ) (blocks new : List Block) (rest after : List ℕ) (line next : ℕ) (b : Block) → AreRead text blocks rest line → IsTaken rest line b after → new ≡ blocks ++ b ∷ [] → next ≡ line + (length b.entries + 2) → AreRead text new after next
+one_read text blocks new rest after line next b read one added more = rw added (record {
+  fits = let number = read.number in blocks_more 1 line blocks b read.fits (omega (arith, number)) one.fits;
+  lines = read.lines ∙ (ap (λ l. all_lines blocks ++ l) one.lines ∙ (sym (append_assoc (all_lines blocks) (block_lines b) (lines_of after)) ∙ ap (λ l. l ++ lines_of after) (sym (all_lines-more blocks b))));
   number =
       let number = read.number in
       let grown = ap length (all_lines-more blocks b) in
       omega (arith, number, grown, more, length-append (all_lines blocks) (block_lines b), block_count b);
-  room = let room = read.room in omega (arith, room, more, less);
-}
-
-pub one_read : (text : List ℕ) (blocks new : List Block) (rest after : List ℕ) (line next : ℕ) (b : Block) → Read text blocks rest line → lines_of rest ≡ block_lines b ++ lines_of after → IsBlock line b →
-    ((c : Block) (others : List (List ℕ)) → IsBlock line c → lines_of rest ≡ block_lines c ++ others → (b ≡ c) × (lines_of after ≡ others)) → new ≡ blocks ++ b ∷ [] → next ≡ line + (length b.entries + 2) →
-    length b.entries + 2 + length after ≤ length rest → Read text new after next
-one_read text blocks new rest after line next b read lines fits only added more less = rw added (record {
-  are = one_is_read text blocks rest after line next b read.are lines fits more less;
-  only = λ all is. let so = read.only all is in by_tail so.tail all so.parts so.spelled so.fits;
+  room = let room = read.room in let less = one.room in omega (arith, room, more, less);
+  only = λ all is. others_more text rest after blocks line next b all one more (read.only all is);
 })
-  where
-    by_tail : (tail all : List Block) → all ≡ blocks ++ tail → lines_of rest ≡ all_lines tail → AreBlocks line tail → Others (blocks ++ b ∷ []) after next all
-    by_tail [] all parts spelled right = let e = sym lines ∙ spelled in absurd cc
-    by_tail (t ∷ ts) all parts spelled right =
-        let two = only t (all_lines ts) right.0 spelled in
-        let same : line + length (block_lines t) ≡ next = rw (← two.0) (omega (arith, more, block_count b)) in
-        record { tail = ts; parts = parts ∙ (ap (λ x. blocks ++ x ∷ ts) (sym two.0) ∙ sym (append_assoc blocks (b ∷ []) ts)); spelled = two.1; fits = rw same at right.1 }
 
 pub all_read : (text : List ℕ) (blocks : List Block) (rest : List ℕ) (line : ℕ) → AreRead text blocks rest line → rest ≡ [] → text ≢ [] → AreHistories text blocks
 all_read text blocks rest line read nothing some =
     let whole : lines_of text ≡ all_lines blocks = read.lines ∙ (ap (λ r. all_lines blocks ++ lines_of r) nothing ∙ append-nil (all_lines blocks)) in
     record { some = λ e. some (no_line text (whole ∙ ap all_lines e)); fits = read.fits; lines = whole }
 
-pub all_only : (text : List ℕ) (blocks : List Block) (rest : List ℕ) (line : ℕ) → Read text blocks rest line → rest ≡ [] → (all : List Block) → AreHistories text all → blocks ≡ all
+pub all_only : (text : List ℕ) (blocks : List Block) (rest : List ℕ) (line : ℕ) → AreRead text blocks rest line → rest ≡ [] → (all : List Block) → AreHistories text all → blocks ≡ all
 all_only text blocks rest line read nothing all is = let so = read.only all is in by_tail so.tail so.parts so.spelled
   where
     by_tail : (tail : List Block) → all ≡ blocks ++ tail → lines_of rest ≡ all_lines tail → blocks ≡ all
     by_tail [] parts spelled = sym (parts ∙ append-nil blocks)
     by_tail (t ∷ ts) parts spelled = let e = sym (ap lines_of nothing) ∙ spelled in absurd cc
 
-pub refused_only : (text : List ℕ) (blocks : List Block) (rest : List ℕ) (line : ℕ) (fault : TextFault) → Read text blocks rest line → rest ≢ [] →
+pub refused_only : (text : List ℕ) (blocks : List Block) (rest : List ℕ) (line : ℕ) (fault : TextFault) → AreRead text blocks rest line → rest ≢ [] →
     ((c : Block) (others : List (List ℕ)) → IsBlock line c → lines_of rest ≡ block_lines c ++ others → fault ≡ F.NoMemory) → (all : List Block) → AreHistories text all → fault ≡ F.NoMemory
 refused_only text blocks rest line fault read some only all is = let so = read.only all is in by_tail so.tail so.spelled so.fits
   where

@@ -19,17 +19,13 @@ first_line name n = header_text (record { format = 2; name = name; behaviours = 
 abbrev pub IsSomeFormat : ℕ → Type 0
 IsSomeFormat f = (f ≡ 1) ⊎ (f ≡ 2)
 
--- the text begins with a block whose first line has this number, with it the value before becomes the one after, and
--- the rest begins with the next line
-pub record IsTaken {H : Type 0} (stands : List Block → H → Type 0) (text : List ℕ) (first_line : ℕ) (before after : H) (next : ℕ) (rest : List ℕ) : Type 0 where
-  pub block : Block
-  pub fits : IsBlock first_line block
-  pub lines : lines_of text ≡ block_lines block ++ lines_of rest
-  pub taken : (blocks : List Block) → stands blocks before → stands (blocks ++ block ∷ []) after
-  pub next_is : next ≡ first_line + (length block.entries + 2)
-  pub room : length block.entries + 2 + length rest ≤ length text
+-- the text begins with this block, whose first line has this number, and the rest begins with the next line
+pub record IsTaken (text : List ℕ) (first_line : ℕ) (b : Block) (rest : List ℕ) : Type 0 where
+  pub fits : IsBlock first_line b
+  pub lines : lines_of text ≡ block_lines b ++ lines_of rest
+  pub room : length b.entries + 2 + length rest ≤ length text
   -- and it begins with no other block
-  pub only : (b : Block) (others : List (List ℕ)) → IsBlock first_line b → lines_of text ≡ block_lines b ++ others → (block ≡ b) × (lines_of rest ≡ others)
+  pub only : (c : Block) (others : List (List ℕ)) → IsBlock first_line c → lines_of text ≡ block_lines c ++ others → (b ≡ c) × (lines_of rest ≡ others)
 
 -- the line is no first line of a block
 abbrev pub IsNoHeader : List ℕ → Type 0

@@ -77,12 +77,6 @@ pub record AreHistories (text : List ℕ) (blocks : List Block) : Type 0 where
   pub fits : AreBlocks 1 blocks
   pub lines : lines_of text ≡ all_lines blocks
 
--- the value is what the histories of the text make
-pub record IsMadeOf {H : Type 0} (stands : List Block → H → Type 0) (text : List ℕ) (value : H) : Type 0 where
-  pub blocks : List Block
-  pub histories : AreHistories text blocks
-  pub made : stands blocks value
-
 -- some blocks, and then, in the line of this number, no first line of a block
 pub record IsBadHeader (text : List ℕ) (line : ℕ) : Type 0 where
   pub blocks : List Block

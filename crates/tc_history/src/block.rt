@@ -34,8 +34,8 @@ pub fn append_entry(out: &mut Vec<u8>, entry: &Entry) -> Result<(), NoMemory>
     Ok(())
 }
 
-// Appends the line of each entry; if memory runs out, a part of them.
-fn append_entries(out: &mut Vec<u8>, entries: &[Entry]) -> Result<(), NoMemory>
+/// Appends the line of each entry; if memory runs out, a part of them.
+pub fn append_entries(out: &mut Vec<u8>, entries: &[Entry]) -> Result<(), NoMemory>
     ensures ok { OnOk result (out.new.items ≡ out.old.items ++ flat_map entry_line entries.now) }
     ensures err { OnErr result (StartsWith out.new.items out.old.items) }
 {

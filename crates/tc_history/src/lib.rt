@@ -7,7 +7,7 @@ pub mod laws;
 mod line;
 mod read;
 
-pub use block::{append_end, append_entry, write_block};
+pub use block::{append_end, append_entries, append_entry, write_block};
 pub use header::{FORMAT_1_BEHAVIOURS, Header, take_behaviours};
 pub use line::{take_end_line, take_entry_line};
-pub use read::{BegunBlock, Block, TakesHistories, read_history, read_history_into};
+pub use read::{Block, read_history};

@@ -2,7 +2,6 @@
 ghost use Rattle.std.specs.Prelude.{◌≡◌, ◌≤◌, ◌++◌, OnOk, IfErr, length, take};
 ghost use Rattle.std.specs.List.{flat_map};
 ghost use Rattle.std.specs.Io.KnownBytes.{Appends};
-ghost use Rattle.tc_history.specs.Block.{entry_line};
 ghost use Rattle.tc_evidence.specs.declared.header.Kind.TheVariants.{Evidence, History2};
 ghost use Rattle.tc_evidence.specs.Block.{ended, header_text};
 ghost use Rattle.tc_evidence.specs.Line.{line_text, naming_text};
@@ -14,9 +13,9 @@ use crate::output::write_made;
 use crate::results::{Finished, Results};
 use std::alloc::Global;
 use std::io::Write;
-use tc_entry::{Entry, Name, NoMemory, Run};
+use tc_entry::{Name, NoMemory, Run};
 use tc_evidence::{Header, Kind, Line, append_first_line, append_line};
-use tc_history::{append_end, append_entry};
+use tc_history::{append_end, append_entries};
 
 fn append_header(out: &mut Vec<u8>, kind: Kind, case: &Finished) -> Result<(), NoMemory>
     ensures { OnOk result (out.new.items ≡ out.old.items
@@ -76,15 +75,6 @@ fn append_names(out: &mut Vec<u8>, kind: Kind, case: &Finished) -> Result<(), No
         Kind::Evidence => append_namings(out, names_of(case)),
         Kind::History1 | Kind::History2 => Ok(()),
     }
-}
-
-fn append_entries(out: &mut Vec<u8>, entries: &[Entry]) -> Result<(), NoMemory>
-    ensures { OnOk result (out.new.items ≡ out.old.items ++ flat_map entry_line entries.now) }
-{
-    for entry in entries {
-        append_entry(out, entry)?;
-    }
-    Ok(())
 }
 
 /// Appends the block of a finished test case.

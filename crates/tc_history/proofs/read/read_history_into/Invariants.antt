@@ -1,9 +1,0 @@
-use Rattle.std.proofs.Common.{length}
-use Rattle.tc_history.proofs.Taking.{IsMadeSoFar}
-use Rattle.tc_history.proofs.read.read_history_into.Given as goal
-
-abbrev pub invariant-loop-rest : goal.invariant-loop-rest
-invariant-loop-rest g l = IsMadeSoFar g.H.TakesHistories.stands l.text l.rest l.line l.made
-
-abbrev pub decreases-loop-rest : goal.decreases-loop-rest
-decreases-loop-rest g l = length l.rest
