@@ -1,14 +1,14 @@
 //! The calls on passes, and the close of a case.
 use crate::outcome::{Outcome, told};
-use crate::stock::{Stock, list};
-use crate::tells::{tell_closed, tell_pass, told_entries};
+use crate::stock::Stock;
+use crate::tells::{tell_closed, tell_entries, tell_pass};
 use crate::trial::Trial;
 use std::alloc::Global;
 use std::sync::Wait;
 use tc_book::laws::merge;
 use tc_book::{CloseFault, Closed, Halt, Left, Pass, Shared, Ticket, close_case, open_case};
 use tc_entry::{Entry, Name, NoMemory, Op, Run, Target, name_of_fault};
-use tc_text::append_text;
+use tc_text::{append_text, read_moves};
 
 /// Calls of two runs, none of which waits for a thread.
 pub const CALLS: &str = "behaviours 2
@@ -63,25 +63,10 @@ pub(crate) fn await_start<R: Wait>(rt: &R, ticket: Ticket) -> Result<Pass, Left>
     ticket.await_start(rt)
 }
 
-/// What a run leaves, without a contract too.
-pub(crate) fn leave<R: Wait>(rt: &R, pass: Pass) -> Left {
-    pass.leave(rt)
-}
-
-/// A closed case, without a contract too.
-fn close_by<R: Wait>(
-    rt: &R,
-    alloc: Global,
-    shared: Shared,
-    lefts: Vec<Left>,
-) -> Result<Closed, CloseFault> {
-    close_case(rt, alloc, shared, lefts)
-}
-
 /// What the run of this ticket leaves.
 fn left_unstarted<R: Wait>(rt: &R, ticket: Ticket) -> Left {
     match await_start(rt, ticket) {
-        Ok(pass) => leave(rt, pass),
+        Ok(pass) => pass.leave(rt),
         Err(left) => left,
     }
 }
@@ -96,7 +81,7 @@ fn add_all_unstarted<R: Wait>(rt: &R, tickets: Vec<Ticket>, lefts: &mut Vec<Left
 /// Adds what a run leaves, if it has a pass.
 fn add_left<R: Wait>(rt: &R, pass: Option<Pass>, lefts: &mut Vec<Left>) {
     if let Some(pass) = pass {
-        let _ = lefts.push(leave(rt, pass));
+        let _ = lefts.push(pass.leave(rt));
     }
 }
 
@@ -173,12 +158,6 @@ pub(crate) trait IsCalled: Drop + Sized {
 }
 
 impl Opened {
-    /// The pass of run 0.
-    pub(crate) fn into_main(self) -> Pass {
-        let Opened { main, .. } = self;
-        main
-    }
-
     /// What all runs leave.
     fn left<R: Wait>(self, rt: &R, alloc: Global) -> (Shared, Vec<Left>) {
         let Opened {
@@ -234,7 +213,7 @@ impl IsCalled for Opened {
 
     fn closed<R: Wait>(self, rt: &R, alloc: Global) -> Result<Closed, CloseFault> {
         let (shared, lefts) = self.left(rt, alloc);
-        close_by(rt, alloc, shared, lefts)
+        close_case(rt, alloc, shared, lefts)
     }
 }
 
@@ -270,19 +249,6 @@ fn tell_halt(out: &mut Vec<u8>, halt: Option<Halt>) -> Result<(), NoMemory> {
     )
 }
 
-/// Appends the texts of the passes of a case.
-fn tell<C: IsCalled>(trial: &mut Trial, case: &C) {
-    let is_told = case.tell(&mut trial.out);
-    trial.note(is_told);
-}
-
-/// Appends why a call is not answered, if it is not, and the texts of the passes then.
-fn tell_answer<C: IsCalled>(trial: &mut Trial, case: &C, halt: Option<Halt>) {
-    let is_told = tell_halt(&mut trial.out, halt);
-    trial.note(is_told);
-    tell(trial, case);
-}
-
 /// Makes a call with a growth refused, and then again.
 fn call_again<R: Wait, C: IsCalled>(
     rt: &R,
@@ -290,24 +256,25 @@ fn call_again<R: Wait, C: IsCalled>(
     case: &mut C,
     run: Run,
     op: &Op,
-) -> Outcome {
-    tell(trial, case);
+) -> Result<Outcome, NoMemory> {
+    case.tell(&mut trial.out)?;
     trial.begin(
         "Pass::create Pass::create_named Pass::start Pass::stop Pass::kill Pass::stop_case Pass::running Pass::alive Pass::done Pass::killed Pass::set_verdict Pass::get_verdict Pass::wait_done Pass::wait_killed",
     );
     let first = case.call(rt, run, op);
     trial.end();
     if first != Some(Halt::NoMemory) {
-        tell_answer(trial, case, first);
-        return Outcome::Told;
+        tell_halt(&mut trial.out, first)?;
+        case.tell(&mut trial.out)?;
+        return Ok(Outcome::Told);
     }
-    tell(trial, case);
+    case.tell(&mut trial.out)?;
     if !trial.is_told_twice() {
-        return Outcome::Wrong("a refused call changes its pass");
+        return Ok(Outcome::Wrong("a refused call changes its pass"));
     }
-    let second = case.call(rt, run, op);
-    tell_answer(trial, case, second);
-    Outcome::Repeated
+    tell_halt(&mut trial.out, case.call(rt, run, op))?;
+    case.tell(&mut trial.out)?;
+    Ok(Outcome::Repeated)
 }
 
 /// Makes a call with a growth refused, after that many that ask for the verdict of its run.
@@ -317,7 +284,7 @@ fn call_behind<R: Wait, C: IsCalled>(
     case: &mut C,
     first: &(Run, Op),
     asked: usize,
-) -> Outcome {
+) -> Result<Outcome, NoMemory> {
     let (run, op) = first;
     for _ in 0..asked {
         let _ = case.call(rt, *run, &Op::GetVerdict);
@@ -328,19 +295,11 @@ fn call_behind<R: Wait, C: IsCalled>(
 }
 
 /// Appends the text of a closed case, or why it is not closed.
-fn tell_closing(out: &mut Vec<u8>, closed: &Result<Closed, CloseFault>) -> Result<(), NoMemory> {
-    match closed {
+fn tell_closing(out: &mut Vec<u8>, closed: Result<Closed, CloseFault>) -> Result<(), NoMemory> {
+    match &closed {
         Ok(closed) => tell_closed(out, closed),
         Err(fault) => append_text(out, fault.text()),
     }
-}
-
-/// Closes a case, and appends what comes of it.
-fn close_and_tell<R: Wait, C: IsCalled>(rt: &R, trial: &mut Trial, case: C) {
-    let closed = case.closed(rt, trial.alloc);
-    let is_told = tell_closing(&mut trial.out, &closed);
-    drop(closed);
-    trial.note(is_told);
 }
 
 /// A call in a case: those before it, it with a growth refused, those after it, and the close.
@@ -355,8 +314,8 @@ fn call_in<R: Wait, C: IsCalled>(
     let mut case: C = opened_behind(rt, trial.alloc, moves.get(..place)?)?;
     let outcome = call_behind(rt, trial, &mut case, first, asked);
     call_all(rt, &mut case, behind);
-    close_and_tell(rt, trial, case);
-    Some(outcome)
+    let is_told = tell_closing(&mut trial.out, case.closed(rt, trial.alloc));
+    is_told.and(outcome).ok()
 }
 
 /// Each of the calls, after those before it and before those after it.
@@ -371,12 +330,10 @@ pub(crate) fn call<R: Wait>(
 
 /// The last call of each list, after none, one, two and so on that ask for the verdict.
 pub(crate) fn call_last<R: Wait>(rt: &R, trial: &mut Trial, place: usize) -> Option<Outcome> {
-    let list = list(trial.alloc, LAST.get(place / ASKED)?);
+    let list = read_moves(trial.alloc, LAST.get(place / ASKED)?.as_bytes()).ok()?;
     let moves = list.moves.as_slice();
     let last = moves.len().saturating_sub(1);
-    let outcome = call_in::<R, Opened>(rt, trial, moves, last, place % ASKED);
-    drop(list);
-    outcome
+    call_in::<R, Opened>(rt, trial, moves, last, place % ASKED)
 }
 
 /// Adds the entries that are none of verdicts.
@@ -393,48 +350,31 @@ fn merge_logs(trial: &mut Trial, closed: &Closed) -> Outcome {
     let mut kept = Vec::new(trial.alloc);
     add_locked(closed.history.as_slice(), &mut kept);
     trial.begin("merge");
-    let merged = merge(trial.alloc, &kept, closed.logs.as_slice());
+    let answer = merge(trial.alloc, &kept, closed.logs.as_slice());
     trial.end();
-    let outcome = told_entries(trial, &merged);
-    drop(merged);
-    drop(kept);
-    outcome
-}
-
-/// The merge of the logs of a case, if it is closed.
-fn merge_of(trial: &mut Trial, closed: &Result<Closed, CloseFault>) -> Option<Outcome> {
-    match closed {
-        Ok(closed) => Some(merge_logs(trial, closed)),
-        Err(_) => None,
+    match &answer {
+        Ok(merged) => told(tell_entries(&mut trial.out, 0, merged)),
+        Err(NoMemory) => Outcome::Refused,
     }
 }
 
 /// The merge of the logs of a case after all calls.
 fn merge_one<R: Wait>(rt: &R, trial: &mut Trial, case: Opened) -> Option<Outcome> {
-    let closed = case.closed(rt, trial.alloc);
-    let outcome = merge_of(trial, &closed);
-    drop(closed);
-    outcome
-}
-
-/// What came of a close of a whole case.
-fn told_close(trial: &mut Trial, closed: &Result<Closed, CloseFault>) -> Outcome {
-    match closed {
-        Ok(closed) => told(tell_closed(&mut trial.out, closed)),
-        Err(CloseFault::NoMemory) => Outcome::Refused,
-        Err(CloseFault::Torn) => Outcome::Wrong("a whole case is torn"),
-    }
+    let closed = case.closed(rt, trial.alloc).ok()?;
+    Some(merge_logs(trial, &closed))
 }
 
 /// The close of a case after all calls.
 fn close_one<R: Wait>(rt: &R, trial: &mut Trial, case: Opened) -> Outcome {
     let (shared, lefts) = case.left(rt, trial.alloc);
     trial.begin("close_case");
-    let closed = close_by(rt, trial.alloc, shared, lefts);
+    let answer = close_case(rt, trial.alloc, shared, lefts);
     trial.end();
-    let outcome = told_close(trial, &closed);
-    drop(closed);
-    outcome
+    match &answer {
+        Ok(closed) => told(tell_closed(&mut trial.out, closed)),
+        Err(CloseFault::NoMemory) => Outcome::Refused,
+        Err(CloseFault::Torn) => Outcome::Wrong("a whole case is torn"),
+    }
 }
 
 /// The close of a case after all calls, and the merge of its logs.

@@ -1,5 +1,5 @@
 //! Test cases of one behaviour, which need no thread, and campaigns of them; a test case of three behaviours on threads.
-ghost use Rattle.std.specs.Prelude.{All, IfOk};
+ghost use Rattle.std.specs.Prelude.{All, IfOk, IfSome};
 ghost use Rattle.tc_campaign.specs.Outline.{HasNames};
 
 use crate::live::FORMS;
@@ -14,7 +14,7 @@ use tc_behaviour::ScriptJob;
 use tc_book::{Halt, Pass};
 use tc_campaign::{Case, LiveWriter, Shard, choose, have_all, run_campaign, run_campaign_with};
 use tc_entry::{Name, NoMemory, UserVerdict, Verdict};
-use tc_exec::{Back, CaseError, CaseReport, Everyone, Job, run_case, run_case_with};
+use tc_exec::{Back, CaseError, Everyone, Job, run_case, run_case_with};
 use tc_report::{CampaignEnd, Finished, LiveForm, OutFault, Results};
 use tc_script::Script;
 
@@ -74,50 +74,32 @@ fn case_of<R: Wait + Copy + Send + 'static>(
     Ok(Case { name, names, jobs })
 }
 
-/// Adds the test case of this script, which has this name, unless memory runs out.
-fn add_case<R: Wait + Copy + Send + 'static>(
+/// The test cases of two scripts.
+fn cases_of<R: Wait + Copy + Send + 'static>(
     rt: &R,
     alloc: Global,
-    cases: &mut Vec<Case<ScriptJob<R>>>,
-    name: &str,
-    script: Script,
-)
-    requires names { All HasNames cases.old.items }
-    ensures names { All HasNames cases.new.items }
+    first: Script,
+    second: Script,
+) -> Option<Vec<Case<ScriptJob<R>>>>
+    ensures { IfSome result (λ v. All HasNames v.items) }
 {
-    if let Some(name) = Name::read(name) {
-        if let Ok(case) = case_of(rt, alloc, name, script) {
-            let _ = cases.push(case);
-        }
-    }
-}
-
-/// The two test cases; fewer if memory runs out.
-fn cases<R: Wait + Copy + Send + 'static>(rt: &R, alloc: Global) -> Vec<Case<ScriptJob<R>>>
-    ensures { All HasNames result.items }
-{
-    let mut scripts = scripts_of(alloc, SCRIPT);
-    let (second, first) = (scripts.pop(), scripts.pop());
-    drop(scripts);
     let mut cases = Vec::new(alloc);
-    if let Some(script) = first {
-        add_case(rt, alloc, &mut cases, NAMES[0], script);
-    }
-    if let Some(script) = second {
-        add_case(rt, alloc, &mut cases, NAMES[1], script);
-    }
     cases
+        .push(case_of(rt, alloc, Name::read(NAMES[0])?, first).ok()?)
+        .ok()?;
+    cases
+        .push(case_of(rt, alloc, Name::read(NAMES[1])?, second).ok()?)
+        .ok()?;
+    Some(cases)
 }
 
-/// The results of these test cases, without a contract, so that the proofs of its callers are short.
-fn run_cases<R: Threads + Wait + Copy + Send + 'static>(
-    rt: &R,
-    alloc: Global,
-    cases: Vec<Case<ScriptJob<R>>>,
-) -> Results
-    requires names { All HasNames cases.items }
+/// The two test cases.
+fn cases<R: Wait + Copy + Send + 'static>(rt: &R, alloc: Global) -> Option<Vec<Case<ScriptJob<R>>>>
+    ensures { IfSome result (λ v. All HasNames v.items) }
 {
-    run_campaign(rt, alloc, cases, None, 0)
+    let mut scripts = scripts_of(alloc, SCRIPT)?;
+    let (second, first) = scripts.pop().zip(scripts.pop())?;
+    cases_of(rt, alloc, first, second)
 }
 
 /// What a behaviour calls.
@@ -135,15 +117,6 @@ fn behave(pass: Pass) -> Back {
     Back::after(pass, made)
 }
 
-/// What came of a test case of one behaviour.
-fn told_report(trial: &mut Trial, answer: &Result<CaseReport, CaseError>) -> Outcome {
-    match answer {
-        Ok(report) => told(tell_closed(&mut trial.out, report)),
-        Err(CaseError::NoMemory) => Outcome::Refused,
-        Err(_) => Outcome::Wrong("a test case is refused for another reason"),
-    }
-}
-
 /// The run of a test case of one behaviour.
 fn run_one<R: Threads + Wait + Copy + Send + 'static>(
     rt: &R,
@@ -154,13 +127,15 @@ fn run_one<R: Threads + Wait + Copy + Send + 'static>(
         |pass: Pass| behave(pass),
     ).ok()?;
     let mut jobs = Vec::new(trial.alloc);
-    let _ = jobs.push(Job::new(behaviour));
+    jobs.push(Job::new(behaviour)).ok()?;
     trial.begin("run_case");
     let answer = run_case(rt, trial.alloc, jobs, 0);
     trial.end();
-    let outcome = told_report(trial, &answer);
-    drop(answer);
-    Some(outcome)
+    Some(match &answer {
+        Ok(report) => told(tell_closed(&mut trial.out, report)),
+        Err(CaseError::NoMemory) => Outcome::Refused,
+        Err(_) => Outcome::Wrong("a test case is refused for another reason"),
+    })
 }
 
 /// The jobs of these scripts.
@@ -176,36 +151,34 @@ fn jobs_of<R: Wait + Copy + Send + 'static>(
     jobs
 }
 
-/// What came of a test case on threads.
-fn told_locals(trial: &mut Trial, answer: &Result<CaseReport, CaseError>) -> Outcome {
-    match answer {
-        Ok(report) => told(tell_verdicts(&mut trial.out, report.locals.as_slice())),
-        Err(CaseError::NoMemory | CaseError::NoThread) => Outcome::Refused,
-        Err(_) => Outcome::Wrong("a test case is refused for another reason"),
-    }
-}
-
 /// The run of a test case of three behaviours on threads.
-fn run_restarted<R: Threads + Wait + Copy + Send + 'static>(rt: &R, trial: &mut Trial) -> Outcome {
-    let jobs = jobs_of(rt, trial.alloc, scripts_of(trial.alloc, RESTARTED));
+fn run_restarted<R: Threads + Wait + Copy + Send + 'static>(
+    rt: &R,
+    trial: &mut Trial,
+) -> Option<Outcome> {
+    let jobs = jobs_of(rt, trial.alloc, scripts_of(trial.alloc, RESTARTED)?);
     trial.begin("run_case_with");
     let answer = run_case_with(rt, trial.alloc, jobs, 2, &mut Everyone);
     trial.end();
-    let outcome = told_locals(trial, &answer);
-    drop(answer);
-    outcome
+    Some(match &answer {
+        Ok(report) => told(tell_verdicts(&mut trial.out, report.locals.as_slice())),
+        Err(CaseError::NoMemory | CaseError::NoThread) => Outcome::Refused,
+        Err(_) => Outcome::Wrong("a test case is refused for another reason"),
+    })
 }
 
 /// The results of the two test cases, and of one after them that had no thread.
-pub(crate) fn results<R: Threads + Wait + Copy + Send + 'static>(rt: &R, alloc: Global) -> Results {
-    let mut results = run_cases(rt, alloc, cases(rt, alloc));
-    if let Some(name) = Name::read("third") {
-        results.ending = CampaignEnd::Aborted {
-            name,
-            why: CaseError::NoThread,
-        };
-    }
-    results
+pub(crate) fn results<R: Threads + Wait + Copy + Send + 'static>(
+    rt: &R,
+    alloc: Global,
+) -> Option<Results> {
+    let (cases, name) = cases(rt, alloc).zip(Name::read("third"))?;
+    let mut results = run_campaign(rt, alloc, cases, None, 0);
+    results.ending = CampaignEnd::Aborted {
+        name,
+        why: CaseError::NoThread,
+    };
+    Some(results)
 }
 
 /// Appends the texts of test cases that finished.
@@ -227,27 +200,22 @@ fn is_aborted_behind(ending: &CampaignEnd, finished: usize) -> bool {
     }
 }
 
-/// What came of a campaign whose results are kept.
-fn told_results(trial: &mut Trial, results: &Results) -> Outcome {
+/// The run of a campaign whose results are kept.
+fn run_kept<R: Threads + Wait + Copy + Send + 'static>(
+    rt: &R,
+    trial: &mut Trial,
+) -> Option<Outcome> {
+    let cases = cases(rt, trial.alloc)?;
+    trial.begin("run_campaign");
+    let results = run_campaign(rt, trial.alloc, cases, None, 0);
+    trial.end();
     let finished = results.finished.as_slice();
-    let is_told = tell_finished(&mut trial.out, finished);
-    trial.note(is_told);
-    match &results.ending {
+    tell_finished(&mut trial.out, finished).ok()?;
+    Some(match &results.ending {
         CampaignEnd::Complete => Outcome::Told,
         ending if is_aborted_behind(ending, finished.len()) => Outcome::Part,
         _ => Outcome::Wrong("a refused campaign ends otherwise"),
-    }
-}
-
-/// The run of a campaign whose results are kept.
-fn run_kept<R: Threads + Wait + Copy + Send + 'static>(rt: &R, trial: &mut Trial) -> Outcome {
-    let cases = cases(rt, trial.alloc);
-    trial.begin("run_campaign");
-    let results = run_cases(rt, trial.alloc, cases);
-    trial.end();
-    let outcome = told_results(trial, &results);
-    drop(results);
-    outcome
+    })
 }
 
 /// Has the opening and the test cases of a campaign written. How it ended.
@@ -285,13 +253,13 @@ fn write_to<R: Threads + Wait + Copy + Send + 'static>(
     trial: &mut Trial,
     form: LiveForm,
     out: &mut Vec<u8>,
-) -> Outcome {
-    let cases = cases(rt, trial.alloc);
+) -> Option<Outcome> {
+    let cases = cases(rt, trial.alloc)?;
     let mut live = LiveWriter::new(trial.alloc, form, out);
     trial.begin("run_campaign_with");
     let answer = write_cases(rt, trial.alloc, cases, &mut live);
     trial.end();
-    live_as(&answer, live.writer.as_slice())
+    Some(live_as(&answer, live.writer.as_slice()))
 }
 
 /// The run of a campaign that is written as its test cases finish; there is room for what is written.
@@ -303,8 +271,7 @@ fn run_live<R: Threads + Wait + Copy + Send + 'static>(
     let mut out = Vec::with_capacity(trial.alloc, 10_000).ok()?;
     let outcome = write_to(rt, trial, form, &mut out);
     trial.tell_bytes(&out);
-    drop(out);
-    Some(outcome)
+    outcome
 }
 
 /// Appends the names of test cases.
@@ -318,41 +285,30 @@ fn tell_names<R: Wait + Copy + Send + 'static>(
     Ok(())
 }
 
-/// What came of the choice of a shard.
-fn told_chosen<R: Wait + Copy + Send + 'static>(
-    trial: &mut Trial,
-    answer: &Result<Vec<Case<ScriptJob<R>>>, NoMemory>,
-) -> Outcome {
-    match answer {
-        Ok(chosen) if chosen.len() == 1 => told(tell_names(&mut trial.out, chosen)),
-        Ok(_) => Outcome::Wrong("other test cases are chosen"),
-        Err(NoMemory) => Outcome::Refused,
-    }
-}
-
 /// The choice of a shard.
 fn choose_shard<R: Threads + Wait + Copy + Send + 'static>(
     rt: &R,
     trial: &mut Trial,
 ) -> Option<Outcome> {
     let shard = Shard::new(2, 2)?;
-    let cases = cases(rt, trial.alloc);
+    let cases = cases(rt, trial.alloc)?;
     trial.begin("choose");
     let answer = choose(trial.alloc, cases, &[], Some(shard));
     trial.end();
-    let outcome = told_chosen(trial, &answer);
-    drop(answer);
-    Some(outcome)
+    Some(match &answer {
+        Ok(chosen) if chosen.len() == 1 => told(tell_names(&mut trial.out, chosen)),
+        Ok(_) => Outcome::Wrong("other test cases are chosen"),
+        Err(NoMemory) => Outcome::Refused,
+    })
 }
 
 /// What is asked of test cases before they are run.
 pub(crate) fn ask<R: Wait + Copy + Send + 'static>(rt: &R, trial: &mut Trial) -> Option<Outcome> {
     let name = Name::read("second")?;
-    let cases = cases(rt, trial.alloc);
+    let cases = cases(rt, trial.alloc)?;
     trial.begin_each("");
     trial.holds("have_all", have_all(cases.as_slice(), &[name]));
     trial.end();
-    drop(cases);
     Some(Outcome::Told)
 }
 
@@ -365,9 +321,9 @@ pub(crate) fn run<R: Threads + Wait + Copy + Send + 'static>(
 ) -> Option<Outcome> {
     match place {
         0 => run_one(rt, trial),
-        1 => Some(run_kept(rt, trial)),
+        1 => run_kept(rt, trial),
         2 => choose_shard(rt, trial),
-        3 => Some(run_restarted(rt, trial)),
+        3 => run_restarted(rt, trial),
         _ => run_live(rt, trial, *FORMS.get(place - 4)?),
     }
 }

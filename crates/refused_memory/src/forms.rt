@@ -42,9 +42,7 @@ fn make_text(trial: &mut Trial, place: usize, cases: &[Summary]) -> Outcome {
 /// The form of histories in this place, with what is said of the results.
 fn make_form(trial: &mut Trial, place: usize, results: &Results) -> Option<Outcome> {
     let cases = summaries_of_results(trial.alloc, results).ok()?;
-    let outcome = make_text(trial, place, cases.as_slice());
-    drop(cases);
-    Some(outcome)
+    Some(make_text(trial, place, cases.as_slice()))
 }
 
 /// Writes the form of results in this place.
@@ -100,12 +98,10 @@ fn told_summary(trial: &mut Trial, answer: Result<Summary, NoMemory>) -> Outcome
 /// The summary of the state after the first of the histories.
 fn summarize_state(trial: &mut Trial, stock: &Stock) -> Option<Outcome> {
     let entries = stock.blocks.first()?.entries.as_slice();
-    let name = Name::read("first")?;
-    let state = replay(trial.alloc, 200, entries).ok()?;
+    let (name, state) = Name::read("first").zip(replay(trial.alloc, 200, entries).ok())?;
     trial.begin("summary_of_state");
     let answer = summary_of_state(trial.alloc, &name, &state, entries);
     trial.end();
-    drop(state);
     Some(told_summary(trial, answer))
 }
 

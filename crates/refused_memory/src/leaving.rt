@@ -1,6 +1,6 @@
 //! What is asked of passes, tickets and what they leave, and the calls on a pass that has ended: none of it takes memory.
 use crate::books::{IsCalled, Opened, await_start, call_on, opened_behind};
-use crate::outcome::{Outcome, right_if, told};
+use crate::outcome::{Outcome, told};
 use crate::stock::Stock;
 use crate::tells::{tell_entries, tell_pass};
 use crate::trial::Trial;
@@ -10,26 +10,22 @@ use tc_book::{Halt, Left, Pass, Ticket, open_case};
 use tc_entry::{Args, Comp, NoMemory, Op, Run};
 use tc_exec::Back;
 
-/// What is asked of tickets, each of run 1.
-fn hold_tickets(trial: &mut Trial, tickets: &[Ticket]) {
-    for ticket in tickets {
-        trial.holds("Ticket::run", ticket.run() == Run(1));
-    }
-}
-
 /// What is asked of a pass that has called nothing, of its case and of the tickets of this.
 fn hold_opened<R: Wait>(rt: &R, trial: &mut Trial, opened: &Opened) {
     let pass = &opened.main;
-    trial.begin_each("Shared::look");
-    trial.holds("Pass::run", pass.run() == Run(0));
-    trial.holds("Pass::me", pass.me() == Comp(0));
-    trial.holds("Pass::args", pass.args().is_empty());
-    trial.holds("Pass::is_ended", !pass.is_ended());
-    trial.holds("Pass::log", pass.log().is_empty());
+    trial.begin_each("Pass::run Pass::me Pass::args Pass::is_ended Shared::look");
+    let is_first = pass.run() == Run(0) && pass.me() == Comp(0) && pass.args().is_empty();
+    trial.holds(
+        "Pass::log",
+        is_first && !pass.is_ended() && pass.log().is_empty(),
+    );
     trial.holds("Pass::hand", pass.hand().run() == pass.run());
     trial.holds("Hand::run", pass.hand().run() == Run(0));
     trial.holds("Look::has_place", opened.shared.look(rt).has_place(Run(1)));
-    hold_tickets(trial, opened.tickets.as_slice());
+    trial.holds(
+        "Ticket::run",
+        opened.tickets.iter().all(|it| it.run() == Run(1)),
+    );
     trial.end();
 }
 
@@ -46,9 +42,7 @@ fn hold_left(trial: &mut Trial, left: &Left) {
 pub(crate) fn ask<R: Wait>(rt: &R, trial: &mut Trial) -> Option<Outcome> {
     let opened = Opened::new(trial.alloc)?;
     hold_opened(rt, trial, &opened);
-    let left = opened.into_main().leave(rt);
-    hold_left(trial, &left);
-    drop(left);
+    hold_left(trial, &opened.main.leave(rt));
     Some(Outcome::Told)
 }
 
@@ -57,16 +51,14 @@ fn leave_one<R: Wait>(rt: &R, trial: &mut Trial, pass: Pass) -> Outcome {
     trial.begin_each("Pass::leave Back::after");
     let left = Back::after(pass, Ok(())).pass.leave(rt);
     trial.end();
-    let outcome = told(tell_entries(&mut trial.out, left.run().0, left.log()));
-    drop(left);
-    outcome
+    told(tell_entries(&mut trial.out, left.run().0, left.log()))
 }
 
 /// The leave of a pass after the first calls.
 pub(crate) fn leave<R: Wait>(rt: &R, trial: &mut Trial, stock: &Stock) -> Option<Outcome> {
     let first = stock.calls.moves.as_slice().get(..10)?;
     let opened: Opened = opened_behind(rt, trial.alloc, first)?;
-    Some(leave_one(rt, trial, opened.into_main()))
+    Some(leave_one(rt, trial, opened.main))
 }
 
 /// A case that was stopped.
@@ -79,25 +71,18 @@ fn stopped<R: Wait>(rt: &R, alloc: Global) -> Option<Opened> {
 /// The leave of a pass that has ended.
 pub(crate) fn leave_ended<R: Wait>(rt: &R, trial: &mut Trial) -> Option<Outcome> {
     let opened = stopped(rt, trial.alloc)?;
-    Some(leave_one(rt, trial, opened.into_main()))
-}
-
-/// Appends the text of what a ticket gave.
-fn tell_given(out: &mut Vec<u8>, given: &Result<Pass, Left>) -> Result<(), NoMemory> {
-    match given {
-        Ok(pass) => tell_pass(out, pass),
-        Err(left) => tell_entries(out, left.run().0, left.log()),
-    }
+    Some(leave_one(rt, trial, opened.main))
 }
 
 /// What a ticket gives with no growth given.
-fn take_given<R: Wait>(rt: &R, trial: &mut Trial, ticket: Ticket) {
+fn take_given<R: Wait>(rt: &R, trial: &mut Trial, ticket: Ticket) -> Result<(), NoMemory> {
     trial.begin_each("Ticket::await_start");
     let given = await_start(rt, ticket);
     trial.end();
-    let is_told = tell_given(&mut trial.out, &given);
-    drop(given);
-    trial.note(is_told);
+    match &given {
+        Ok(pass) => tell_pass(&mut trial.out, pass),
+        Err(left) => tell_entries(&mut trial.out, left.run().0, left.log()),
+    }
 }
 
 /// Starts a run on a component that is created for it.
@@ -111,28 +96,24 @@ fn take_both<R: Wait>(
     rt: &R,
     trial: &mut Trial,
     main: &mut Pass,
-    first: Ticket,
-    last: Ticket,
-) -> Outcome {
+    tickets: &mut Vec<Ticket>,
+) -> Option<Outcome> {
+    let (last, first) = tickets.pop().zip(tickets.pop())?;
     let is_started = start_on_another(rt, main, first.run()).is_ok();
-    take_given(rt, trial, first);
+    let is_given = take_given(rt, trial, first);
     let is_stopped = main.stop_case(rt).is_ok();
-    take_given(rt, trial, last);
-    right_if(is_started && is_stopped)
+    let is_left = take_given(rt, trial, last);
+    Some(if is_started && is_stopped {
+        told(is_given.and(is_left))
+    } else {
+        Outcome::Wrong("a run is not started, or its case is not stopped")
+    })
 }
 
 /// What tickets give.
 pub(crate) fn await_starts<R: Wait>(rt: &R, trial: &mut Trial) -> Option<Outcome> {
-    let (shared, mut main, mut tickets) = open_case(trial.alloc, 3).ok()?;
-    let given = tickets.pop().zip(tickets.pop());
-    drop(tickets);
-    let outcome = match given {
-        Some((last, first)) => Some(take_both(rt, trial, &mut main, first, last)),
-        None => None,
-    };
-    drop(main);
-    drop(shared);
-    outcome
+    let (_shared, mut main, mut tickets) = open_case(trial.alloc, 3).ok()?;
+    take_both(rt, trial, &mut main, &mut tickets)
 }
 
 /// Whether a pass answers each of these calls that it has ended.
@@ -146,26 +127,15 @@ fn answers_ended<R: Wait>(rt: &R, pass: &mut Pass, moves: &[(Run, Op)]) -> bool 
     are_ended
 }
 
-/// Makes these calls on a pass that has ended.
-fn call_in_vain<R: Wait>(
-    rt: &R,
-    trial: &mut Trial,
-    pass: &mut Pass,
-    moves: &[(Run, Op)],
-) -> Outcome {
-    trial.begin_each("");
-    let are_ended = answers_ended(rt, pass, moves);
-    trial.end();
-    let is_told = tell_pass(&mut trial.out, pass);
-    trial.note(is_told);
-    right_if(are_ended)
-}
-
 /// All calls on a pass that has ended.
 pub(crate) fn call_ended<R: Wait>(rt: &R, trial: &mut Trial, stock: &Stock) -> Option<Outcome> {
     let mut opened = stopped(rt, trial.alloc)?;
-    let moves = stock.calls.moves.as_slice();
-    let outcome = call_in_vain(rt, trial, &mut opened.main, moves);
-    drop(opened);
-    Some(outcome)
+    trial.begin_each("");
+    let are_ended = answers_ended(rt, &mut opened.main, stock.calls.moves.as_slice());
+    trial.end();
+    Some(if are_ended {
+        told(tell_pass(&mut trial.out, &opened.main))
+    } else {
+        Outcome::Wrong("a call on an ended pass is no Ended")
+    })
 }

@@ -43,6 +43,5 @@ pub(crate) fn make(trial: &mut Trial, place: usize) -> Option<Outcome> {
     let mut live = LiveWriter::new(trial.alloc, form, &mut text);
     let outcome = write_again(trial, &mut live, place % 2);
     trial.tell_bytes(&text);
-    drop(text);
     outcome.ok()
 }

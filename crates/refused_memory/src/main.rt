@@ -24,7 +24,6 @@ mod values;
 use crate::outcome::{Outcome, Sum};
 use crate::stock::Stock;
 use crate::trial::Trial;
-use std::alloc::Global;
 use std::io;
 use std::process::ExitCode;
 use std::sync::Wait;
@@ -179,11 +178,10 @@ fn run<R: Threads + Wait + Copy + Send + Print + Eprint + 'static>(
     stock: &Stock,
 ) -> io::Result<bool> {
     let mut is_right = true;
-    for (kind, name) in &KINDS {
-        let sum = sweep_all(rt, trial, stock, *kind);
-        if !tell(rt, name, &sum)? {
-            is_right = false;
-        }
+    for (kind, name) in KINDS {
+        let sum = sweep_all(rt, trial, stock, kind);
+        let is_kind_right = tell(rt, name, &sum)?;
+        is_right = is_right && is_kind_right;
     }
     Ok(is_right)
 }
@@ -200,30 +198,14 @@ fn run_on<R: Threads + Wait + Copy + Send + Print + Eprint + 'static>(
     run(rt, trial, stock)
 }
 
-/// The status: 0 if nothing was wrong, 1 if something was, and 3 if there was no memory to begin, or nothing can be printed.
-fn status<R: Threads + Wait + Copy + Send + Print + Eprint + 'static>(
-    rt: &R,
-    alloc: Global,
-    stock: &Stock,
-) -> u8 {
-    let made = if stock.is_whole() {
-        Trial::new(alloc)
-    } else {
-        None
-    };
-    let Some(mut trial) = made else {
-        return 3;
-    };
-    match run_on(rt, &mut trial, stock) {
-        Ok(true) => 0,
-        Ok(false) => 1,
-        Err(_) => 3,
-    }
-}
-
 fn main(rt: HostRuntime) -> ExitCode {
-    let stock = Stock::new(&rt, rt.alloc());
-    let status = status(&rt, rt.alloc(), &stock);
-    drop(stock);
-    ExitCode::from(status)
+    let made = Trial::new(rt.alloc()).zip(Stock::new(&rt, rt.alloc()));
+    let Some((mut trial, stock)) = made else {
+        return ExitCode::from(3);
+    };
+    match run_on(&rt, &mut trial, &stock) {
+        Ok(true) => ExitCode::from(0),
+        Ok(false) => ExitCode::from(1),
+        Err(_) => ExitCode::from(3),
+    }
 }

@@ -4,7 +4,7 @@ use crate::tables::behaviours_in;
 use crate::tells::tell_pass;
 use crate::trial::Trial;
 use tc_board::Board;
-use tc_book::{Pass, Shared, Ticket, open_case};
+use tc_book::open_case;
 use tc_entry::NoMemory;
 
 /// A board for one, some or the most behaviours, which has a hand for each.
@@ -20,21 +20,6 @@ pub(crate) fn new_board(trial: &mut Trial, place: usize) -> Option<Outcome> {
     })
 }
 
-/// What came of the open of a case with that many tickets.
-fn told_opened(
-    trial: &mut Trial,
-    answer: &Result<(Shared, Pass, Vec<Ticket>), NoMemory>,
-    others: usize,
-) -> Outcome {
-    match answer {
-        Ok((_, pass, tickets)) if tickets.len() == others => {
-            told(tell_pass(&mut trial.out, pass))
-        }
-        Ok(_) => Outcome::Wrong("there are more or fewer tickets than are wanted"),
-        Err(NoMemory) => Outcome::Refused,
-    }
-}
-
 /// The open of a case of one, some or the most behaviours, which has a pass and a ticket for each other run.
 pub(crate) fn open(trial: &mut Trial, place: usize) -> Option<Outcome> {
     let behaviours = behaviours_in(place)?;
@@ -42,7 +27,11 @@ pub(crate) fn open(trial: &mut Trial, place: usize) -> Option<Outcome> {
     trial.begin("open_case");
     let answer = open_case(trial.alloc, behaviours);
     trial.end();
-    let outcome = told_opened(trial, &answer, others);
-    drop(answer);
-    Some(outcome)
+    Some(match &answer {
+        Ok((_, pass, tickets)) if tickets.len() == others => {
+            told(tell_pass(&mut trial.out, pass))
+        }
+        Ok(_) => Outcome::Wrong("there are more or fewer tickets than are wanted"),
+        Err(NoMemory) => Outcome::Refused,
+    })
 }

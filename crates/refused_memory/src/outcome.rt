@@ -25,15 +25,6 @@ pub(crate) fn told(is_told: Result<(), NoMemory>) -> Outcome {
     }
 }
 
-/// What comes of a call that is answered rightly, or otherwise.
-pub(crate) fn right_if(is_right: bool) -> Outcome {
-    if is_right {
-        Outcome::Told
-    } else {
-        Outcome::Wrong("a call is answered otherwise")
-    }
-}
-
 /// What came of many calls.
 #[derive(Default, Drop)]
 pub struct Sum {

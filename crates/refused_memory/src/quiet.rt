@@ -2,7 +2,7 @@
 ghost use Rattle.std.specs.Prelude.{◌≡◌};
 ghost use Rattle.tc_board.specs.Board.{new_hands, new_keeper};
 
-use crate::outcome::{Outcome, right_if};
+use crate::outcome::Outcome;
 use crate::stock::Stock;
 use crate::trial::Trial;
 use crate::values::hold_values;
@@ -98,6 +98,15 @@ fn create_and_wait(book: &mut Book, starts: bool) -> Option<Reply> {
         book.record(Run(0), start).ok()?;
     }
     book.record(Run(0), WAIT).ok()
+}
+
+/// Right or wrong.
+fn right_if(is_right: bool) -> Outcome {
+    if is_right {
+        Outcome::Told
+    } else {
+        Outcome::Wrong("a call is answered otherwise")
+    }
 }
 
 /// What comes of the wake of a wait that is stuck, and of the leave of its run.

@@ -1,12 +1,12 @@
 //! Test cases and campaigns that are refused, or run nothing, before they take memory.
-use crate::outcome::{Outcome, right_if};
+use crate::outcome::Outcome;
 use crate::trial::Trial;
 use std::sync::Wait;
 use std::thread::Threads;
 use tc_book::Pass;
 use tc_campaign::{Case, run_campaign};
 use tc_entry::BEHAVIOURS;
-use tc_exec::{Back, CaseError, CaseReport, Job, run_case};
+use tc_exec::{Back, CaseError, Job, run_case};
 use tc_report::CampaignEnd;
 
 /// That many jobs with that many workers are refused for this reason.
@@ -15,14 +15,6 @@ const REFUSED: [(usize, u16, CaseError); 3] = [
     (BEHAVIOURS + 1, 1, CaseError::TooManyBehaviours),
     (3, 1, CaseError::NoThread),
 ];
-
-/// What came of a test case that must be refused for this reason.
-fn told_refusal(answer: &Result<CaseReport, CaseError>, wanted: CaseError) -> Outcome {
-    match answer {
-        Err(why) if *why == wanted => Outcome::Told,
-        _ => Outcome::Wrong("a test case is run, or refused for another reason"),
-    }
-}
 
 /// The run of that many jobs that do nothing, with that many workers, which must be refused for this reason. The boxes are made where
 /// they are run, since a function that hands out a boxed closure fails the gate.
@@ -33,7 +25,7 @@ fn run_idle<R: Threads + Wait + Copy + Send + 'static>(
     workers: u16,
     wanted: CaseError,
 ) -> Option<Outcome> {
-    let mut jobs = Vec::with_capacity(trial.alloc, count).ok()?;
+    let mut jobs = Vec::new(trial.alloc);
     for _ in 0..count {
         let idle: Box<dyn FnOnce(Pass) -> Back + Send> = Box::new(
             trial.alloc,
@@ -42,14 +34,15 @@ fn run_idle<R: Threads + Wait + Copy + Send + 'static>(
         trial.begin_each("Job::new");
         let job = Job::new(idle);
         trial.end();
-        let _ = jobs.push(job);
+        jobs.push(job).ok()?;
     }
     trial.begin_each("run_case");
     let answer = run_case(rt, trial.alloc, jobs, workers);
     trial.end();
-    let outcome = told_refusal(&answer, wanted);
-    drop(answer);
-    Some(outcome)
+    Some(match &answer {
+        Err(why) if *why == wanted => Outcome::Told,
+        _ => Outcome::Wrong("a test case is run, or refused for another reason"),
+    })
 }
 
 /// The run of no job, of one job more than a test case may have, and of three jobs with one worker.
@@ -71,8 +64,9 @@ pub(crate) fn run_no_case<R: Threads + Wait + Copy + Send + 'static>(
     trial.begin_each("run_campaign");
     let results = run_campaign(rt, trial.alloc, cases, None, 1);
     trial.end();
-    let is_complete = matches!(results.ending, CampaignEnd::Complete);
-    let is_empty = results.finished.as_slice().is_empty();
-    drop(results);
-    right_if(is_complete && is_empty)
+    if results.finished.as_slice().is_empty() && matches!(results.ending, CampaignEnd::Complete) {
+        Outcome::Told
+    } else {
+        Outcome::Wrong("a campaign of no test case is not complete")
+    }
 }

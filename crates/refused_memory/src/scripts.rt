@@ -10,6 +10,13 @@ pub(crate) fn campaign_of(alloc: Global, text: &str) -> Result<Campaign, ReadFau
     read_campaign(alloc, text.as_bytes())
 }
 
+/// The first test case of this text.
+fn first_case(alloc: Global, text: &str) -> Option<CaseScript> {
+    let mut campaign = campaign_of(alloc, text).ok()?;
+    let (_, case) = campaign.take_first()?;
+    Some(case)
+}
+
 /// Takes the next script of a test case. Whether there is one, and memory for it.
 fn add_script(case: &mut CaseScript, scripts: &mut Vec<Script>) -> bool {
     match case.take_first() {
@@ -18,22 +25,14 @@ fn add_script(case: &mut CaseScript, scripts: &mut Vec<Script>) -> bool {
     }
 }
 
-/// Adds the scripts of the first test case of a campaign.
-fn add_first(campaign: &mut Campaign, scripts: &mut Vec<Script>) {
-    if let Some((_, mut case)) = campaign.take_first() {
-        for _ in 0..MOST {
-            if !add_script(&mut case, scripts) {
-                break;
-            }
+/// The scripts of the first test case of this text.
+pub(crate) fn scripts_of(alloc: Global, text: &str) -> Option<Vec<Script>> {
+    let mut case = first_case(alloc, text)?;
+    let mut scripts = Vec::new(alloc);
+    for _ in 0..MOST {
+        if !add_script(&mut case, &mut scripts) {
+            break;
         }
     }
-}
-
-/// The scripts of the first test case of this text; none if memory runs out.
-pub(crate) fn scripts_of(alloc: Global, text: &str) -> Vec<Script> {
-    let mut scripts = Vec::new(alloc);
-    if let Ok(mut campaign) = campaign_of(alloc, text) {
-        add_first(&mut campaign, &mut scripts);
-    }
-    scripts
+    Some(scripts)
 }

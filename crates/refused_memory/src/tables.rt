@@ -4,7 +4,7 @@ ghost use Rattle.tc_entry.specs.Limits.{IsBehaviours};
 
 use crate::outcome::{Outcome, told};
 use crate::stock::Stock;
-use crate::tells::{tell_entries, tell_verdicts, told_entries};
+use crate::tells::{tell_entries, tell_verdicts};
 use crate::trial::Trial;
 use std::alloc::Global;
 use tc_entry::{BEHAVIOURS, Comp, Entry, NoMemory, Op, Reply, Run, Sequence};
@@ -148,19 +148,6 @@ fn tell<T: Plays>(out: &mut Vec<u8>, on: &T, moves: &[(Run, Op)]) -> Result<(), 
     }
 }
 
-/// Appends the replies to these moves, and the entries that are kept.
-fn tell_all<T: Plays>(trial: &mut Trial, on: &T, moves: &[(Run, Op)]) {
-    let is_told = tell(&mut trial.out, on, moves);
-    trial.note(is_told);
-}
-
-/// Appends the reply to a move, and then the replies to these, and the entries that are kept.
-fn tell_played<T: Plays>(trial: &mut Trial, on: &T, moves: &[(Run, Op)], reply: Reply) {
-    let is_told = write_reply(&mut trial.out, &reply);
-    trial.note(is_told);
-    tell_all(trial, on, moves);
-}
-
 /// What came of a call that makes what moves are played on.
 fn told_of<T: Plays>(trial: &mut Trial, stock: &Stock, answer: &Result<T, NoMemory>) -> Outcome {
     match answer {
@@ -197,24 +184,23 @@ fn play_on<T: Plays>(
     moves: &[(Run, Op)],
     run: Run,
     op: &Op,
-) -> Outcome {
-    tell_all(trial, on, moves);
+) -> Result<Outcome, NoMemory> {
+    tell(&mut trial.out, on, moves)?;
     trial.begin("Table::play CaseState::play");
     let first = on.play(run, op);
     trial.end();
     if let Ok(reply) = first {
-        tell_played(trial, on, moves, reply);
-        return Outcome::Told;
+        write_reply(&mut trial.out, &reply)?;
+        tell(&mut trial.out, on, moves)?;
+        return Ok(Outcome::Told);
     }
-    tell_all(trial, on, moves);
+    tell(&mut trial.out, on, moves)?;
     if !trial.is_told_twice() {
-        return Outcome::Wrong("a refused move leaves something");
+        return Ok(Outcome::Wrong("a refused move leaves something"));
     }
-    let Ok(reply) = on.play(run, op) else {
-        return Outcome::Wrong("a move is refused again");
-    };
-    tell_played(trial, on, moves, reply);
-    Outcome::Repeated
+    write_reply(&mut trial.out, &on.play(run, op)?)?;
+    tell(&mut trial.out, on, moves)?;
+    Ok(Outcome::Repeated)
 }
 
 /// Each of the moves, after those before it.
@@ -222,7 +208,7 @@ pub(crate) fn play<T: Plays>(trial: &mut Trial, stock: &Stock, place: usize) -> 
     let moves = stock.moves.moves.as_slice();
     let (run, op) = moves.get(place)?;
     let mut on: T = played(trial.alloc, moves.get(..place)?)?;
-    Some(play_on(trial, &mut on, moves, *run, op))
+    play_on(trial, &mut on, moves, *run, op).ok()
 }
 
 /// A copy, after all moves.
@@ -235,23 +221,28 @@ pub(crate) fn copy<T: Plays>(trial: &mut Trial, stock: &Stock) -> Option<Outcome
 }
 
 /// Makes room for this many moves on a table.
-fn make_room_on(trial: &mut Trial, table: &mut Table, moves: &[(Run, Op)], more: usize) -> Outcome {
-    tell_all(trial, table, moves);
+fn make_room_on(
+    trial: &mut Trial,
+    table: &mut Table,
+    moves: &[(Run, Op)],
+    more: usize,
+) -> Result<Outcome, NoMemory> {
+    tell(&mut trial.out, table, moves)?;
     trial.begin("Table::make_room");
     let made = table.make_room(more);
     trial.end();
-    tell_all(trial, table, moves);
+    tell(&mut trial.out, table, moves)?;
     if !trial.is_told_twice() {
-        return Outcome::Wrong("room changes a table");
+        return Ok(Outcome::Wrong("room changes a table"));
     }
     if made.is_err() {
-        let _ = table.make_room(more);
+        table.make_room(more)?;
     }
-    match made {
+    Ok(match made {
         _ if table.room() < more => Outcome::Wrong("the room was not made"),
         Ok(()) => Outcome::Told,
         Err(NoMemory) => Outcome::Repeated,
-    }
+    })
 }
 
 /// Room for one, some and many moves, on a table with moves.
@@ -259,9 +250,7 @@ pub(crate) fn make_room(trial: &mut Trial, stock: &Stock, place: usize) -> Optio
     let more = [1usize, 40, 5000].get(place).copied()?;
     let moves = stock.moves.moves.as_slice();
     let mut table: Table = played(trial.alloc, moves)?;
-    let outcome = make_room_on(trial, &mut table, moves, more);
-    drop(table);
-    Some(outcome)
+    make_room_on(trial, &mut table, moves, more).ok()
 }
 
 /// The history of the moves, and one that lacks its first entry, which is not legal.
@@ -289,32 +278,20 @@ pub(crate) fn check(trial: &mut Trial, stock: &Stock, place: usize) -> Option<Ou
     })
 }
 
-/// What came of the replay of a history, which is legal or not.
-fn told_replay(
-    trial: &mut Trial,
-    stock: &Stock,
-    answer: &Result<CaseState, CheckFault>,
-    is_legal: bool,
-) -> Outcome {
-    match answer {
-        Err(CheckFault::NoMemory) => Outcome::Refused,
-        Ok(state) if is_legal => told(tell(&mut trial.out, state, stock.moves.moves.as_slice())),
-        Err(CheckFault::Differs { at: 0, reply }) if !is_legal => {
-            told(write_reply(&mut trial.out, reply))
-        }
-        _ => Outcome::Wrong("a history leaves another state"),
-    }
-}
-
 /// The replay of each of these histories.
 fn play_again(trial: &mut Trial, stock: &Stock, place: usize) -> Option<Outcome> {
     let checked = history_in(stock, place)?;
     trial.begin("tc_table::replay");
     let answer = replay(trial.alloc, BEHAVIOURS as u16, checked);
     trial.end();
-    let outcome = told_replay(trial, stock, &answer, place == 0);
-    drop(answer);
-    Some(outcome)
+    Some(match &answer {
+        Err(CheckFault::NoMemory) => Outcome::Refused,
+        Ok(state) if place == 0 => told(tell(&mut trial.out, state, stock.moves.moves.as_slice())),
+        Err(CheckFault::Differs { at: 0, reply }) if place == 1 => {
+            told(write_reply(&mut trial.out, reply))
+        }
+        _ => Outcome::Wrong("a history leaves another state"),
+    })
 }
 
 /// A copy of the history.
@@ -322,43 +299,40 @@ fn copy_history(trial: &mut Trial, stock: &Stock) -> Outcome {
     trial.begin("copied_entries");
     let answer = copied_entries(trial.alloc, stock.history.as_slice());
     trial.end();
-    let outcome = told_entries(trial, &answer);
-    drop(answer);
-    outcome
-}
-
-/// Appends the text of these entries.
-fn tell_list(trial: &mut Trial, entries: &[Entry]) {
-    let is_told = tell_entries(&mut trial.out, 0, entries);
-    trial.note(is_told);
+    match &answer {
+        Ok(copy) => told(tell_entries(&mut trial.out, 0, copy)),
+        Err(NoMemory) => Outcome::Refused,
+    }
 }
 
 /// Pushes an entry after these.
-fn push_on(trial: &mut Trial, entries: &mut Sequence<Entry>, last: &Entry) -> Outcome {
-    tell_list(trial, entries.as_slice());
+fn push_on(
+    trial: &mut Trial,
+    entries: &mut Sequence<Entry>,
+    last: &Entry,
+) -> Result<Outcome, NoMemory> {
+    tell_entries(&mut trial.out, 0, entries.as_slice())?;
     trial.begin("Sequence::push");
     let pushed = entries.push(last.copy());
     trial.end();
-    tell_list(trial, entries.as_slice());
     if pushed.is_ok() {
-        return Outcome::Told;
+        tell_entries(&mut trial.out, 0, entries.as_slice())?;
+        return Ok(Outcome::Told);
     }
+    tell_entries(&mut trial.out, 0, entries.as_slice())?;
     if !trial.is_told_twice() {
-        return Outcome::Wrong("a refused push changes its list");
+        return Ok(Outcome::Wrong("a refused push changes its list"));
     }
-    let is_pushed = entries.push(last.copy());
-    trial.note(is_pushed);
-    tell_list(trial, entries.as_slice());
-    Outcome::Repeated
+    entries.push(last.copy())?;
+    tell_entries(&mut trial.out, 0, entries.as_slice())?;
+    Ok(Outcome::Repeated)
 }
 
 /// Pushes the last entry of the history after a list of those before it.
 fn push(trial: &mut Trial, stock: &Stock) -> Option<Outcome> {
     let (last, before) = stock.history.as_slice().split_last()?;
     let mut entries: Sequence<Entry> = Sequence::new(copied_entries(trial.alloc, before).ok()?);
-    let outcome = push_on(trial, &mut entries, last);
-    drop(entries);
-    Some(outcome)
+    push_on(trial, &mut entries, last).ok()
 }
 
 /// The state of a new case, a copy of one, and the replay of a history.
@@ -476,19 +450,13 @@ CaseState::components CaseState::overall CaseState::is_over CaseState::behaviour
     trial.end();
 }
 
-/// What is asked of a table after these moves, and of a state after them.
-fn ask_both(trial: &mut Trial, table: &Table, moves: &[(Run, Op)]) -> Option<Outcome> {
-    let state: CaseState = played(trial.alloc, moves)?;
-    hold_all(trial, table, &state, moves);
-    drop(state);
-    Some(Outcome::Told)
-}
-
 /// What is asked of a table and of a state after the first moves.
 pub(crate) fn ask(trial: &mut Trial, stock: &Stock) -> Option<Outcome> {
     let moves = stock.moves.moves.as_slice().get(..12)?;
-    let table: Table = played(trial.alloc, moves)?;
-    let outcome = ask_both(trial, &table, moves);
-    drop(table);
-    outcome
+    let (table, state): (Table, CaseState) = played(trial.alloc, moves).zip(played(
+        trial.alloc,
+        moves,
+    ))?;
+    hold_all(trial, &table, &state, moves);
+    Some(Outcome::Told)
 }

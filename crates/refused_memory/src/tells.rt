@@ -1,6 +1,4 @@
 //! The texts of values, by which one differs from another of its kind.
-use crate::outcome::{Outcome, told};
-use crate::trial::Trial;
 use tc_book::{Closed, Pass, RunLog};
 use tc_entry::{Comp, Entry, Name, NoMemory, Op, Run, Verdict};
 use tc_explore::Explored;
@@ -24,14 +22,6 @@ pub(crate) fn tell_entries(
     match Name::read("told") {
         Some(name) => write_block(out, &name, number, entries, Verdict::None),
         None => Err(NoMemory),
-    }
-}
-
-/// What came of a call that makes a list of entries.
-pub(crate) fn told_entries(trial: &mut Trial, answer: &Result<Vec<Entry>, NoMemory>) -> Outcome {
-    match answer {
-        Ok(entries) => told(tell_entries(&mut trial.out, 0, entries)),
-        Err(NoMemory) => Outcome::Refused,
     }
 }
 

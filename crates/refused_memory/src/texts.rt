@@ -9,7 +9,7 @@ use tc_entry::{Entry, Fault, Name, NoMemory, Op, Reply, Run, Verdict};
 use tc_exec::CaseError;
 use tc_history::{read_history, write_block};
 use tc_report::{append_aborted, append_verdict};
-use tc_script::{Campaign, ReadFault};
+use tc_script::ReadFault;
 use tc_stream::{InputFault, read_input};
 use tc_text::{
     TextFault, append_number, append_text, read_moves, write_move, write_op, write_reply,
@@ -79,20 +79,15 @@ fn read_blocks(trial: &mut Trial) -> Outcome {
     }
 }
 
-/// What came of the reading of a script.
-fn told_script(trial: &mut Trial, answer: Result<Campaign, ReadFault>) -> Outcome {
-    match answer {
-        Ok(mut campaign) => told(tell_campaign(&mut trial.out, &mut campaign)),
+fn read_script(trial: &mut Trial) -> Outcome {
+    trial.begin("read_campaign");
+    let mut answer = campaign_of(trial.alloc, SCRIPT);
+    trial.end();
+    match &mut answer {
+        Ok(campaign) => told(tell_campaign(&mut trial.out, campaign)),
         Err(ReadFault::NoMemory) => Outcome::Refused,
         Err(_) => ANOTHER,
     }
-}
-
-fn read_script(trial: &mut Trial) -> Outcome {
-    trial.begin("read_campaign");
-    let answer = campaign_of(trial.alloc, SCRIPT);
-    trial.end();
-    told_script(trial, answer)
 }
 
 fn read_bytes(trial: &mut Trial) -> Outcome {
@@ -155,24 +150,28 @@ fn append(out: &mut Vec<u8>, text: &Text, name: &Name) -> Result<(), NoMemory> {
 pub(crate) const HEAD: &[u8] = b"#";
 
 /// Appends a text with a growth refused, and then again where it is to leave nothing.
-fn append_to(trial: &mut Trial, out: &mut Vec<u8>, text: &Text, name: &Name) -> Outcome {
+fn append_to(
+    trial: &mut Trial,
+    out: &mut Vec<u8>,
+    text: &Text,
+    name: &Name,
+) -> Result<Outcome, NoMemory> {
     trial.begin(
         "write_move write_op write_reply write_block append_text append_number append_verdict append_aborted",
     );
     let first = append(out, text, name);
     trial.end();
     if first.is_ok() {
-        return Outcome::Told;
+        return Ok(Outcome::Told);
     }
     if text.leaves_part() {
-        return Outcome::Part;
+        return Ok(Outcome::Part);
     }
     if out.as_slice() != HEAD {
-        return Outcome::Wrong("a refused writer leaves a part");
+        return Ok(Outcome::Wrong("a refused writer leaves a part"));
     }
-    let second = append(out, text, name);
-    trial.note(second);
-    Outcome::Repeated
+    append(out, text, name)?;
+    Ok(Outcome::Repeated)
 }
 
 /// Appends a text after what is there.
@@ -181,8 +180,7 @@ fn append_one(trial: &mut Trial, text: &Text) -> Option<Outcome> {
     let mut out = HEAD.to_vec(trial.alloc).ok()?;
     let outcome = append_to(trial, &mut out, text, &name);
     trial.tell_bytes(&out);
-    drop(out);
-    Some(outcome)
+    outcome.ok()
 }
 
 /// The text in a place after those of moves.

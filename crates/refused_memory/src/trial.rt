@@ -1,7 +1,6 @@
 //! A call that is tried: which of its growths is refused, and what it answers and leaves.
 use crate::outcome::Outcome;
 use std::alloc::Global;
-use tc_entry::NoMemory;
 
 /// What is asked for in a growth that ends all refusals. It is given only if none was refused since the last was begun.
 const MARK: usize = 0x100_0000_0000;
@@ -117,11 +116,6 @@ impl Trial {
             self.call = call;
             self.is_wrong = true;
         }
-    }
-
-    /// Takes in whether there was memory for the text of what a call answered or left.
-    pub(crate) fn note(&mut self, is_told: Result<(), NoMemory>) {
-        self.holds("the text of a call", is_told.is_ok());
     }
 
     /// Appends these bytes to the text.
