@@ -219,7 +219,7 @@ LIES = (
         ("""if bytes.len() <= SHOWN { "`" }""", """if bytes.len() < SHOWN { "`" }"""),
     ), shown="explain_a_line_of_sixty_bytes"),
     Lie("an_error_ends_no_line", (
-        ("""pub const LINE_ENDS: [Slot; 2] = [ERROR, LINE_END];""", """pub const LINE_ENDS: [Slot; 2] = [LINE_END, LINE_END];"""),
+        ("""const LINE_ENDS: [Slot; 2] = [ERROR, LINE_END];""", """const LINE_ENDS: [Slot; 2] = [LINE_END, LINE_END];"""),
     ), "tc_script_tests"),
     Lie("a_tab_is_told_as_a_zero_byte", (
         ("""[9, ..] => Some("a tab"),""", """[9, ..] => Some("a zero byte, as UTF-16 has them"),"""),
@@ -231,7 +231,7 @@ LIES = (
         ("""slot.0 == END.0 || (last && is_among(&CALL_ENDS, slot)),""", """slot.0 == END.0 || last || is_among(&CALL_ENDS, slot),"""),
     ), "tc_script_tests"),
     Lie("histories_are_told_to_be_replayed", (
-        ("""Sort::Histories => (b"", b", which ttrun check and ttrun report read"),""", """Sort::Histories => (b"", b", which ttrun replay reads"),"""),
+        ("""the text looks like histories, which ttrun check and ttrun report read""", """the text looks like histories, which ttrun replay reads"""),
     ), "tc_script_tests"),
     Lie("a_run_is_understood_by_a_name", (
         ("""    (STARTED, Test::Behaviour, "", ARGUMENTS),""", """    (STARTED, Test::Name, "", ARGUMENTS),"""),
@@ -256,8 +256,17 @@ LIES = (
         ("""append_parts(alloc, out, &[Part::Text(b" ..")])""", """append_parts(alloc, out, &[Part::Text(b"")])"""),
     ), shown="a_long_race"),
     Lie("eleven_rows_of_a_race_are_shown", (
-        ("""pub const ROWS: usize = 12;""", """pub const ROWS: usize = 11;"""),
+        ("""const ROWS: usize = 12;""", """const ROWS: usize = 11;"""),
     ), shown="a_long_race"),
+    Lie("a_race_is_shown_from_the_start", (
+        ("""append_rows(alloc, out, &left[count..], &right[count..])""", """append_rows(alloc, out, left, right)"""),
+    ), "tc_explore_tests"),
+    Lie("a_step_is_told_after_half_a_search", (
+        ("""            Ending::Undecided => Ok(()),""", """            Ending::Undecided => append_unseen(alloc, out, scripts, self.reached.as_slice()),"""),
+    ), shown="no_step_is_told_dead"),
+    Lie("a_stopped_component_is_told_as_killed", (
+        ("""Some(Phase::Stopped) => push_state(parts, b"stopped"),""", """Some(Phase::Stopped) => push_state(parts, b"killed"),"""),
+    ), shown="a_stopped_component_is_waited_for"),
     Lie("the_tip_names_check", (
         ("""tip: ttrun run < {word}""", """tip: ttrun check < {word}"""),
     ), shown="refused_file_"),

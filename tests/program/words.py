@@ -329,6 +329,11 @@ DEAD_TOLD = (b"t error complete\n  error: mtc error, 1 none\n"
              b"  stuck: run 1 on 1 waits for killed of 1, where run 1 is\n"
              b"  not seen: run 0 from step 4 of 4 on: setverdict pass\n"
              b"  not seen: run 1 from step 1 of 1 on: wait killed self\n")
+# The main component waits for the end of one that is stopped, and stays alive.
+STOPPED = (b"testcase t\nbehaviour main\ncreate p alive\nstart p w\nwait done p\nwait killed p\nend\n"
+           b"behaviour w\nend\nend\n")
+STOPPED_TOLD = (b"t error complete\n  error: mtc error, 1 none\n"
+                b"  stuck: run 0 on mtc waits for killed of 1, stopped\n")
 # Of this no step is dead.
 PLAIN = b"testcase t\nbehaviour main\ncreate p\nstart p w\nwait done p\nend\nbehaviour w\nsetverdict pass\nend\nend\n"
 
@@ -366,6 +371,7 @@ def of_explore() -> List[Case]:
     found.append(Case("three_states_are_not_complete", ("explore", "--states", "3"), LOOSE, b"t none undecided after 3 states\n", status=3))
     found.append(Case("a_race_is_told_complete", ("explore",), RACE, b"t none fail complete\n", status=1))
     found.append(Case("steps_behind_a_wait_are_dead", ("explore", "--details"), DEAD, DEAD_TOLD))
+    found.append(Case("a_stopped_component_is_waited_for", ("explore", "--details"), STOPPED, STOPPED_TOLD))
     found.append(Case("a_long_race_is_cut", ("explore", "--details"), LONG, LONG_TOLD, status=1))
     found.append(Case("no_step_is_dead", ("explore", "--details"), PLAIN, b"t pass complete\n  pass: mtc none, 1 pass\n"))
     found.append(Case("no_step_is_told_dead_by_half_a_search", ("explore", "--details", "--states", "1"), DEAD,

@@ -2,6 +2,4 @@
 pub mod Scan
 pub mod Slots
 pub mod Places
-pub mod Nearest
 pub mod Explanation
-pub mod Inside

@@ -1,9 +1,7 @@
 //! The lines of an explanation.
-ghost use Rattle.std.specs.Prelude.{◌≡◌, ◌<◌, ◌^◌, ◌++◌, [], ◌∷◌, OnOk, flat_map, map, option_copied};
-ghost use Rattle.std.specs.Option.{option_map_or};
+ghost use Rattle.std.specs.Prelude.{◌≡◌, ◌<◌, ◌+◌, ◌^◌, ◌++◌, [], ◌∷◌, OnOk, flat_map, map};
 ghost use Rattle.std.specs.Fmt.{decimal};
-ghost use Rattle.tc_text.specs.Said.{Tells, TellsLine, word_of};
-ghost use Rattle.tc_explain.specs.Explanation.{column, nearest_note};
+ghost use Rattle.tc_text.specs.Said.{TellsAmong, TellsLine, word_of};
 ghost use Rattle.tc_explain.specs.Places.{quoted};
 
 use crate::nearest::near_word;
@@ -13,8 +11,9 @@ use tc_text::{Part, append_parts};
 use tc_verdict::NoMemory;
 
 /// Appends a line of this prose.
+#[tactic(auto, using(tc_text::proofs::Lemmas::Among::among_rules))]
 pub(crate) fn append_note(alloc: Global, out: &mut Vec<u8>, text: &str) -> Result<(), NoMemory>
-    ensures { OnOk result (TellsLine [] out.old.items out.new.items) }
+    ensures { OnOk result (TellsAmong [] out.old.items out.new.items) }
 {
     append_parts(alloc, out, &[Part::Text(text.as_bytes())])
 }
@@ -40,7 +39,7 @@ pub(crate) fn append_column(
     what: &[u8],
 ) -> Result<(), NoMemory>
     requires { start < 2 ^ 63 }
-    ensures { OnOk result (TellsLine (column start ∷ []) out.old.items out.new.items) }
+    ensures { OnOk result (TellsLine (decimal (start + 1) ∷ []) out.old.items out.new.items) }
 {
     let number = Part::Number(start as u64 + 1);
     let head = Part::Text(b"column");
@@ -59,7 +58,7 @@ pub(crate) fn append_word(
     word: &[u8],
 ) -> Result<(), NoMemory>
     requires { start < 2 ^ 63 }
-    ensures { OnOk result (TellsLine (column start ∷ quoted word.now ∷ []) out.old.items out.new.items) }
+    ensures { OnOk result (TellsLine (decimal (start + 1) ∷ quoted word.now ∷ []) out.old.items out.new.items) }
 {
     let begin = quoted_begin(alloc, word)?;
     let rest = quoted_rest(alloc, word)?;
@@ -114,31 +113,21 @@ pub(crate) fn append_list(
     append_parts(alloc, out, parts.as_slice())
 }
 
-// Appends the nearest word, if there is one.
-#[tactic(auto, using(tc_text::proofs::Lemmas::Saying::tell_rules))]
-fn append_near(alloc: Global, out: &mut Vec<u8>, near: Option<&str>) -> Result<(), NoMemory>
-    ensures { OnOk result (Tells (option_map_or (λ w. (w ∷ []) ∷ []) (option_copied near.entry) []) out.old.items out.new.items) }
-{
-    let Some(near) = near else {
-        return Ok(());
-    };
-    let near = Part::Word(near.as_bytes());
-    append_parts(alloc, out, &[Part::Text(b"nearest:"), near])
-}
-
-/// Appends the word of the table that is the nearest to a word.
-#[tactic(auto, using(tc_text::proofs::Lemmas::Saying::tell_rules))]
+/// Appends the word of the table that is the nearest to a word, if one is near.
+#[tactic(auto, using(tc_text::proofs::Lemmas::Among::among_rules))]
 pub(crate) fn append_nearest(
     alloc: Global,
     out: &mut Vec<u8>,
-    word: Option<&[u8]>,
+    word: &[u8],
     table: &[&str],
 ) -> Result<(), NoMemory>
-    ensures { OnOk result (Tells (nearest_note (option_copied word.entry) (map (λ w. w.now) table.now)) out.old.items out.new.items) }
+    ensures { OnOk result (TellsAmong [] out.old.items out.new.items) }
 {
-    let Some(word) = word else {
-        return Ok(());
-    };
-    let near = near_word(alloc, word, table)?;
-    append_near(alloc, out, near)
+    match near_word(alloc, word, table)? {
+        Some(near) => {
+            let near = Part::Word(near.as_bytes());
+            append_parts(alloc, out, &[Part::Text(b"nearest:"), near])
+        }
+        None => Ok(()),
+    }
 }

@@ -1,8 +1,7 @@
 //! The words that may be at a place, and the nearest to a word.
-ghost use Rattle.std.specs.Prelude.{◌≡◌, ◌≤◌, ◌*◌, ◌++◌, nat_le, max, IfOk, IfSome, OnOk, drop, map, option_copied, option_map};
+ghost use Rattle.std.specs.Prelude.{◌≡◌, ◌++◌, IfOk, OnOk, map};
 ghost use Rattle.std.specs.List.{flat_map};
-ghost use Rattle.tc_explain.specs.Nearest.{distance, listed as listed_at, near_word as near_of, nearest as nearest_of, open_words as words_while, told_at, words_at as words_of};
-ghost use Rattle.tc_explain.specs.Inside.{IsFirstNearest};
+ghost use Rattle.tc_explain.specs.Slots.{listed as listed_at, open_words as words_while, told_at, words_at as words_of};
 
 use crate::scan::Opened;
 use crate::slot::{KEYWORD, Row, Slot, Test, rows};
@@ -15,8 +14,8 @@ fn add_word(words: &mut Vec<&'static str>, slot: Slot, row: &Row) -> Result<(), 
     ensures { OnOk result (map (λ w. w.now) words.new.items
         ≡ map (λ w. w.now) words.old.items ++ told_at slot (row.now.0, row.now.1, row.now.2.now, row.now.3)) }
 {
-    if row.0.0 == slot.0 {
-        if let Test::Word = row.1 {
+    if let Test::Word = row.1 {
+        if row.0.0 == slot.0 {
             words.push(row.2)?;
         }
     }
@@ -48,8 +47,8 @@ fn open_words<'t>(opened: Opened, keywords: &'t [&'static str]) -> &'t [&'static
 {
     match opened {
         Opened::Nothing => &["testcase"],
-        Opened::Begun(_) => &["behaviour"],
-        Opened::Filled(_) => &["behaviour", "end"],
+        Opened::Begun(_, false) => &["behaviour"],
+        Opened::Begun(_, true) => &["behaviour", "end"],
         Opened::Inside(..) => keywords.get(2..).unwrap_or(&[]),
     }
 }
@@ -78,10 +77,11 @@ struct Near<'t> {
 }
 
 // The word of least distance in the table, and the first of them.
-fn nearest<'t>(alloc: Global, word: &[u8], table: &[&'t str]) -> Result<Option<Near<'t>>, NoMemory>
-    ensures word { IfOk result (λ n. option_map (λ near. near.word.now) n ≡ nearest_of word.now (map (λ w. w.now) table.now)) }
-    ensures distance { IfOk result (λ n. IfSome n (λ near. near.distance ≡ distance word.now near.word.now)) }
-{
+fn nearest<'t>(
+    alloc: Global,
+    word: &[u8],
+    table: &[&'t str],
+) -> Result<Option<Near<'t>>, NoMemory> {
     let [first, rest @ ..] = table else {
         return Ok(None);
     };
@@ -96,29 +96,19 @@ fn nearest<'t>(alloc: Global, word: &[u8], table: &[&'t str]) -> Result<Option<N
     }
 }
 
-// Whether at most a third of the letters of a word of that many must change.
-fn helps(distance: usize, letters: usize) -> bool
-    requires { letters ≤ 16 }
-    ensures { result ≡ nat_le (3 * distance) (max 3 letters) }
-{
-    distance <= 16 && 3 * distance <= letters.max(3)
-}
-
-/// The nearest word of the table that helps, for a word that is not long.
-#[tactic(auto, using(crate::proofs::Least::told_is))]
+/// The nearest word of the table, if some but at most a third of the letters of a word that is not long must change.
 pub(crate) fn near_word<'t>(
     alloc: Global,
     word: &[u8],
     table: &[&'t str],
-) -> Result<Option<&'t str>, NoMemory>
-    ensures is { IfOk result (λ n. option_copied n ≡ near_of word.now (map (λ w. w.now) table.now)) }
-    ensures least { IfOk result (λ n. IfSome (option_copied n) (λ near. IsFirstNearest word.now near (map (λ w. w.now) table.now))) }
-{
+) -> Result<Option<&'t str>, NoMemory> {
     if word.len() > 16 {
         return Ok(None);
     }
     match nearest(alloc, word, table)? {
-        Some(near) if helps(near.distance, word.len()) => Ok(Some(near.word)),
+        Some(near) if near.distance > 0 && near.distance <= word.len().max(3) / 3 => {
+            Ok(Some(near.word))
+        }
         _ => Ok(None),
     }
 }

@@ -1,6 +1,6 @@
 //! Places in a line.
-ghost use Rattle.std.specs.Prelude.{◌≡◌, ◌≤◌, length, false, true};
-ghost use Rattle.tc_explain.specs.Places.{spaced, starts};
+ghost use Rattle.std.specs.Prelude.{◌≡◌, ◌≤◌, length, false};
+ghost use Rattle.tc_explain.specs.Places.{starts};
 
 /// How many bytes are before the word at this place among the words of the line, or before its end.
 #[tactic(auto, unfolding(crate::specs::Places::starts))]
@@ -25,10 +25,7 @@ pub(crate) fn start_of(line: &[u8], place: usize) -> usize
 }
 
 /// How many bytes are before the first space after a space, or at an end of the line.
-#[tactic(auto, unfolding(crate::specs::Places::spaced))]
-pub(crate) fn space_of(line: &[u8]) -> usize
-    ensures { result ≡ spaced true line.now }
-{
+pub(crate) fn space_of(line: &[u8]) -> usize {
     let mut after = true;
     for (at, byte) in line.iter().enumerate() {
         let space = *byte == b' ';

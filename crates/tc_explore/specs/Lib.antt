@@ -4,5 +4,4 @@ pub mod Found
 pub mod Told
 pub mod Inside
 pub mod Race
-pub mod Waits
 pub mod Details

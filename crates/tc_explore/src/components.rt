@@ -9,10 +9,9 @@ ghost use Rattle.tc_table.specs.Faults.{components};
 ghost use Rattle.tc_table.specs.Legal.{IsLegal};
 ghost use Rattle.tc_table.specs.Standing.{StandsFor};
 ghost use Rattle.tc_explore.specs.Inside.Adding.{AddsWords};
-ghost use Rattle.tc_explore.specs.Details.{local_words, locals as about_locals};
+ghost use Rattle.tc_explore.specs.Details.{comp_words, local_words, locals as about_locals};
 ghost use Rattle.tc_verdict.specs.Verdict.{name_of as verdict_name};
-ghost use Rattle.tc_explore.specs.Waits.{comp_words};
-ghost use Rattle.tc_text.specs.Said.{Tells};
+ghost use Rattle.tc_text.specs.Said.{TellsAmong};
 
 use crate::parts::{push_number, push_text, push_word};
 use crate::state::state_after;
@@ -117,7 +116,7 @@ fn push_locals<'a>(
 }
 
 // Appends the line of a witness, at the end of which the case is in this state.
-#[tactic(auto, using(tc_text::proofs::Lemmas::Saying::tell_rules))]
+#[tactic(auto, using(tc_text::proofs::Lemmas::Among::among_rules))]
 fn append_state_line(
     alloc: Global,
     out: &mut Vec<u8>,
@@ -125,7 +124,7 @@ fn append_state_line(
     state: &CaseState,
 ) -> Result<(), NoMemory>
     requires { StandsFor state.now (reverse witness.now.history) }
-    ensures { OnOk result (Tells (about_locals witness.now) out.old.items out.new.items) }
+    ensures { OnOk result (TellsAmong (about_locals witness.now) out.old.items out.new.items) }
 {
     let mut parts = Vec::new(alloc);
     push_word(&mut parts, name_of(witness.verdict).as_bytes())?;
@@ -144,7 +143,7 @@ pub(crate) fn append_locals_line(
     requires some { 1 ≤ behaviours }
     requires few { behaviours ≤ BEHAVIOURS }
     requires legal { IsLegal behaviours (reverse witness.now.history) }
-    ensures { OnOk result (Tells (about_locals witness.now) out.old.items out.new.items) }
+    ensures { OnOk result (TellsAmong (about_locals witness.now) out.old.items out.new.items) }
 {
     let state = state_after(alloc, behaviours, witness.history.as_slice())?;
     let appended = append_state_line(alloc, out, witness, &state);

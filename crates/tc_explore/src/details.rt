@@ -1,12 +1,11 @@
 //! What the details say of a test case that was explored.
-ghost use Rattle.std.specs.Prelude.{◌≤◌, All, OnOk, length, reverse};
+ghost use Rattle.std.specs.Prelude.{◌≤◌, [], All, OnOk, length, reverse};
 ghost use Rattle.std.specs.List.{flat_map};
 ghost use Rattle.tc_entry.specs.declared.limits.TheConstants.{BEHAVIOURS};
-ghost use Rattle.tc_explore.specs.Details.{details, locals, of_witnesses};
+ghost use Rattle.tc_explore.specs.Details.{details, locals};
 ghost use Rattle.tc_explore.specs.Found.{AreLegal};
 ghost use Rattle.tc_table.specs.Legal.{IsLegal};
-ghost use Rattle.tc_text.specs.Said.{Tells};
-ghost use Rattle.tc_explore.specs.Waits.{waits};
+ghost use Rattle.tc_text.specs.Said.{TellsAmong};
 
 use crate::components::append_locals_line;
 use crate::explored::{Ending, Explored};
@@ -19,7 +18,7 @@ use tc_step::Script;
 use tc_verdict::NoMemory;
 
 // Appends the line of each witness; if memory runs out, a part of them.
-#[tactic(auto, using(tc_text::proofs::Lemmas::Saying::tell_rules))]
+#[tactic(auto, using(tc_text::proofs::Lemmas::Among::among_rules))]
 fn append_locals_lines(
     alloc: Global,
     out: &mut Vec<u8>,
@@ -29,7 +28,7 @@ fn append_locals_lines(
     requires some { 1 ≤ behaviours }
     requires few { behaviours ≤ BEHAVIOURS }
     requires legal { All (λ w. IsLegal behaviours (reverse w.history)) found.now }
-    ensures { OnOk result (Tells (flat_map locals found.now) out.old.items out.new.items) }
+    ensures { OnOk result (TellsAmong (flat_map locals found.now) out.old.items out.new.items) }
 {
     for witness in found {
         append_locals_line(alloc, out, behaviours, witness)?;
@@ -38,7 +37,7 @@ fn append_locals_lines(
 }
 
 // Appends who waits for whom in each witness; if memory runs out, a part of it.
-#[tactic(auto, using(tc_text::proofs::Lemmas::Saying::tell_rules))]
+#[tactic(auto, using(tc_text::proofs::Lemmas::Among::among_rules))]
 fn append_all_waits(
     alloc: Global,
     out: &mut Vec<u8>,
@@ -48,7 +47,7 @@ fn append_all_waits(
     requires some { 1 ≤ behaviours }
     requires few { behaviours ≤ BEHAVIOURS }
     requires legal { All (λ w. IsLegal behaviours (reverse w.history)) found.now }
-    ensures { OnOk result (Tells (flat_map (waits behaviours) found.now) out.old.items out.new.items) }
+    ensures { OnOk result (TellsAmong [] out.old.items out.new.items) }
 {
     for witness in found {
         append_waits(alloc, out, behaviours, witness)?;
@@ -56,30 +55,12 @@ fn append_all_waits(
     Ok(())
 }
 
-// Appends what the witnesses show; if memory runs out, a part of it.
-#[tactic(auto, unfolding(crate::specs::Details::of_witnesses), using(tc_text::proofs::Lemmas::Saying::tell_rules))]
-fn append_witnesses(
-    alloc: Global,
-    out: &mut Vec<u8>,
-    behaviours: u16,
-    found: &[Witness],
-) -> Result<(), NoMemory>
-    requires some { 1 ≤ behaviours }
-    requires few { behaviours ≤ BEHAVIOURS }
-    requires legal { All (λ w. IsLegal behaviours (reverse w.history)) found.now }
-    ensures { OnOk result (Tells (of_witnesses behaviours found.now) out.old.items out.new.items) }
-{
-    append_locals_lines(alloc, out, behaviours, found)?;
-    append_races(alloc, out, found)?;
-    append_all_waits(alloc, out, behaviours, found)
-}
-
 impl Explored {
     /// Appends what the search for the verdicts of these scripts shows. That is the local verdict of each component,
     /// the first witness next to each other one from where they part, and which run waits for whom if no run can
     /// continue. If the search came to its end, it is also which steps no course that it looked at carries out. A test
     /// case without behaviours has no line. If memory runs out, a part of it.
-    #[tactic(auto, unfolding(crate::specs::Details::details), using(tc_text::proofs::Lemmas::Saying::tell_rules))]
+    #[tactic(auto, unfolding(crate::specs::Details::details), using(tc_text::proofs::Lemmas::Among::among_rules))]
     pub fn append_details(
         &self,
         alloc: Global,
@@ -88,12 +69,16 @@ impl Explored {
     ) -> Result<(), NoMemory>
         requires few { length scripts.now ≤ BEHAVIOURS }
         requires legal { AreLegal scripts.now self.now.found }
-        ensures { OnOk result (Tells (details scripts.now self.now) out.old.items out.new.items) }
+        ensures { OnOk result (TellsAmong (details scripts.now self.now) out.old.items out.new.items) }
     {
         if scripts.is_empty() {
             return Ok(());
         }
-        append_witnesses(alloc, out, scripts.len() as u16, self.found.as_slice())?;
+        let behaviours = scripts.len() as u16;
+        let found = self.found.as_slice();
+        append_locals_lines(alloc, out, behaviours, found)?;
+        append_races(alloc, out, found)?;
+        append_all_waits(alloc, out, behaviours, found)?;
         match self.ending {
             Ending::Complete => append_unseen(alloc, out, scripts, self.reached.as_slice()),
             Ending::Undecided => Ok(()),

@@ -1,12 +1,10 @@
 //! Two witnesses side by side, from where they part.
-ghost use Rattle.std.specs.Prelude.{◌≡◌, ◌≤◌, ◌++◌, [], ◌∷◌, IfOk, OnOk, bytes_eq, drop, length, slice_get};
-ghost use Rattle.std.specs.Option.{option_map_or};
-ghost use Rattle.std.specs.List.{flat_map, range_with_len};
-ghost use Rattle.tc_history.specs.Block.{entry_text};
-ghost use Rattle.tc_explore.specs.Race.{alike_count as count_alike, more_row, race, races, row_at, rows};
-ghost use Rattle.tc_text.specs.Said.{Tells, TellsLine};
-ghost use Rattle.tc_verdict.specs.Verdict.{name_of as verdict_name};
+ghost use Rattle.std.specs.Prelude.{◌≡◌, ◌≤◌, ◌++◌, [], ◌∷◌, IfOk, OnOk, bytes_eq, length};
 ghost use Rattle.std.specs.Fmt.{decimal};
+ghost use Rattle.tc_history.specs.Block.{entry_text};
+ghost use Rattle.tc_explore.specs.Race.{alike_count as count_alike, race, races};
+ghost use Rattle.tc_text.specs.Said.{TellsAmong, TellsLine};
+ghost use Rattle.tc_verdict.specs.Verdict.{name_of as verdict_name};
 
 use crate::witness::Witness;
 use std::alloc::Global;
@@ -21,7 +19,7 @@ const COLUMN: usize = 36;
 const EMPTY: &[u8] = b"                                    ";
 
 /// How many lines of entries are shown.
-pub const ROWS: usize = 12;
+const ROWS: usize = 12;
 
 // Appends an entry as histories spell it; if memory runs out, a part of it.
 fn append_entry(out: &mut Vec<u8>, entry: &Entry) -> Result<(), NoMemory>
@@ -72,13 +70,14 @@ fn rest_of_column(text: &[u8]) -> &'static [u8] {
 }
 
 // Appends a line of two columns; if memory runs out, a part of it.
+#[tactic(auto, using(tc_text::proofs::Lemmas::Among::among_rules))]
 fn append_row<'a>(
     alloc: Global,
     out: &mut Vec<u8>,
     left: &'a [u8],
     right: &'a [u8],
 ) -> Result<(), NoMemory>
-    ensures { OnOk result (TellsLine (left.now ∷ right.now ∷ []) out.old.items out.new.items) }
+    ensures { OnOk result (TellsAmong [] out.old.items out.new.items) }
 {
     append_parts(
         alloc,
@@ -93,9 +92,7 @@ fn append_row<'a>(
 }
 
 // The text of the entry at a place, if there is one.
-fn text_at(alloc: Global, history: &[Entry], at: usize) -> Result<Vec<u8>, NoMemory>
-    ensures { IfOk result (λ v. v.items ≡ option_map_or entry_text (slice_get history.now at) []) }
-{
+fn text_at(alloc: Global, history: &[Entry], at: usize) -> Result<Vec<u8>, NoMemory> {
     let mut text = Vec::new(alloc);
     if at < history.len() {
         append_entry(&mut text, &history[at])?;
@@ -104,7 +101,7 @@ fn text_at(alloc: Global, history: &[Entry], at: usize) -> Result<Vec<u8>, NoMem
 }
 
 // Appends the line of the entries at a place, if one of both has an entry there; if memory runs out, a part of it.
-#[tactic(auto, unfolding(crate::specs::Race::row_at), using(tc_text::proofs::Lemmas::Saying::tell_rules))]
+#[tactic(auto, using(tc_text::proofs::Lemmas::Among::among_rules))]
 fn append_row_at(
     alloc: Global,
     out: &mut Vec<u8>,
@@ -112,7 +109,7 @@ fn append_row_at(
     right: &[Entry],
     at: usize,
 ) -> Result<(), NoMemory>
-    ensures { OnOk result (Tells (row_at left.now right.now at) out.old.items out.new.items) }
+    ensures { OnOk result (TellsAmong [] out.old.items out.new.items) }
 {
     if at >= left.len() && at >= right.len() {
         return Ok(());
@@ -122,50 +119,23 @@ fn append_row_at(
     append_row(alloc, out, text.as_slice(), other.as_slice())
 }
 
-// Appends the first entries of both in two columns; if memory runs out, a part of them.
-#[tactic(auto, using(tc_text::proofs::Lemmas::Saying::tell_rules))]
-fn append_first_rows(
-    alloc: Global,
-    out: &mut Vec<u8>,
-    left: &[Entry],
-    right: &[Entry],
-) -> Result<(), NoMemory>
-    ensures { OnOk result (Tells (flat_map (row_at left.now right.now) (range_with_len 0 ROWS)) out.old.items out.new.items) }
-{
-    for at in 0..ROWS {
-        append_row_at(alloc, out, left, right, at)?;
-    }
-    Ok(())
-}
-
-// Appends whether there are more entries than are shown; if memory runs out, a part of it.
-#[tactic(auto, unfolding(crate::specs::Race::more_row), using(tc_text::proofs::Lemmas::Saying::tell_rules))]
-fn append_more(
-    alloc: Global,
-    out: &mut Vec<u8>,
-    left: &[Entry],
-    right: &[Entry],
-) -> Result<(), NoMemory>
-    ensures { OnOk result (Tells (more_row left.now right.now) out.old.items out.new.items) }
-{
-    if left.len() <= ROWS && right.len() <= ROWS {
-        return Ok(());
-    }
-    append_parts(alloc, out, &[Part::Text(b" ..")])
-}
-
 // Appends the first entries of both in two columns, and whether there are more; if memory runs out, a part of it.
-#[tactic(auto, unfolding(crate::specs::Race::rows), using(tc_text::proofs::Lemmas::Saying::tell_rules))]
+#[tactic(auto, using(tc_text::proofs::Lemmas::Among::among_rules))]
 fn append_rows(
     alloc: Global,
     out: &mut Vec<u8>,
     left: &[Entry],
     right: &[Entry],
 ) -> Result<(), NoMemory>
-    ensures { OnOk result (Tells (rows left.now right.now) out.old.items out.new.items) }
+    ensures { OnOk result (TellsAmong [] out.old.items out.new.items) }
 {
-    append_first_rows(alloc, out, left, right)?;
-    append_more(alloc, out, left, right)
+    for at in 0..ROWS {
+        append_row_at(alloc, out, left, right, at)?;
+    }
+    if left.len() <= ROWS && right.len() <= ROWS {
+        return Ok(());
+    }
+    append_parts(alloc, out, &[Part::Text(b" ..")])
 }
 
 // Appends how far two witnesses go alike; if memory runs out, a part of it.
@@ -192,56 +162,33 @@ fn append_alike(
     )
 }
 
-// Appends the names of two verdicts in two columns; if memory runs out, a part of it.
-fn append_heads(
-    alloc: Global,
-    out: &mut Vec<u8>,
-    witness: &Witness,
-    other: &Witness,
-) -> Result<(), NoMemory>
-    ensures { OnOk result (TellsLine (verdict_name witness.now.verdict ∷ verdict_name other.now.verdict ∷ []) out.old.items out.new.items) }
-{
-    let left = name_of(witness.verdict);
-    let right = name_of(other.verdict);
-    append_row(alloc, out, left.as_bytes(), right.as_bytes())
-}
-
-// The entries after that many.
-fn behind(history: &[Entry], count: usize) -> &[Entry]
-    requires { count ≤ length history.now }
-    ensures { result.now ≡ drop count history.now }
-{
-    &history[count..]
-}
-
 // Appends two witnesses side by side from where they part; if memory runs out, a part of it.
-#[tactic(auto, unfolding(crate::specs::Race::race), using(tc_text::proofs::Lemmas::Saying::tell_rules))]
+#[tactic(auto, using(tc_text::proofs::Lemmas::Among::among_rules))]
 fn append_race(
     alloc: Global,
     out: &mut Vec<u8>,
     witness: &Witness,
     other: &Witness,
 ) -> Result<(), NoMemory>
-    ensures { OnOk result (Tells (race witness.now other.now) out.old.items out.new.items) }
+    ensures { OnOk result (TellsAmong (race witness.now other.now) out.old.items out.new.items) }
 {
     let left = witness.history.as_slice();
     let right = other.history.as_slice();
     let count = alike_count(alloc, left, right)?;
     append_alike(alloc, out, witness, other, count)?;
-    append_heads(alloc, out, witness, other)?;
-    let rest = behind(left, count);
-    let others = behind(right, count);
-    append_rows(alloc, out, rest, others)
+    let head = name_of(witness.verdict).as_bytes();
+    append_row(alloc, out, head, name_of(other.verdict).as_bytes())?;
+    append_rows(alloc, out, &left[count..], &right[count..])
 }
 
 /// Appends the first witness next to each other one, from where they part. If memory runs out, a part of it.
-#[tactic(auto, using(tc_text::proofs::Lemmas::Saying::tell_rules))]
+#[tactic(auto, using(tc_text::proofs::Lemmas::Among::among_rules))]
 pub(crate) fn append_races(
     alloc: Global,
     out: &mut Vec<u8>,
     found: &[Witness],
 ) -> Result<(), NoMemory>
-    ensures { OnOk result (Tells (races found.now) out.old.items out.new.items) }
+    ensures { OnOk result (TellsAmong (races found.now) out.old.items out.new.items) }
 {
     let Some((witness, others)) = found.split_first() else {
         return Ok(());

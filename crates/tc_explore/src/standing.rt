@@ -1,7 +1,6 @@
 //! What is known of one run.
 ghost use Rattle.std.specs.Prelude.{◌≡◌, ◌++◌, IfOk, IfSome, Some, OnOk, map};
 ghost use Rattle.tc_explore.specs.Course as courses;
-ghost use Rattle.tc_explore.specs.Waits.{awaited_by};
 ghost use Rattle.tc_explore.specs.Inside.Keys.{comp_code, number_of, run_key};
 
 use crate::call::call_at;
@@ -118,9 +117,7 @@ impl Standing {
     }
 
     /// The component of the run and what it waits for, if a Wake is to come.
-    pub(crate) fn awaited(&self) -> Option<(Comp, Awaited)>
-        ensures { result ≡ awaited_by self.now.comp self.now.wake }
-    {
+    pub(crate) fn awaited(&self) -> Option<(Comp, Awaited)> {
         let (Some(comp), Some(Op::Wake { killed, target })) = (self.comp, &self.wake) else {
             return None;
         };

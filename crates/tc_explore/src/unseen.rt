@@ -1,7 +1,7 @@
 //! The steps that no course which was looked at carries out.
 ghost use Rattle.std.specs.Prelude.{◌≡◌, ◌<◌, ◌≤◌, ◌+◌, [], ◌∷◌, OnOk, length, slice_index_or};
 ghost use Rattle.tc_entry.specs.declared.limits.TheConstants.{BEHAVIOURS};
-ghost use Rattle.tc_text.specs.Said.{Tells, TellsLine};
+ghost use Rattle.tc_text.specs.Said.{TellsAmong, TellsLine};
 ghost use Rattle.std.specs.Fmt.{decimal};
 ghost use Rattle.tc_explore.specs.Details.{unseen, unseen_among};
 
@@ -50,7 +50,7 @@ fn append_at(
 }
 
 // Appends the line of a run, if one of its steps is not carried out; if memory runs out, a part of it.
-#[tactic(auto, unfolding(crate::specs::Details::unseen_among), using(tc_text::proofs::Lemmas::Saying::tell_rules))]
+#[tactic(auto, unfolding(crate::specs::Details::unseen_among), using(tc_text::proofs::Lemmas::Among::among_rules))]
 fn append_among(
     alloc: Global,
     out: &mut Vec<u8>,
@@ -58,7 +58,7 @@ fn append_among(
     before: usize,
     steps: &[Step],
 ) -> Result<(), NoMemory>
-    ensures { OnOk result (Tells (unseen_among run before (length steps.now)) out.old.items out.new.items) }
+    ensures { OnOk result (TellsAmong (unseen_among run before (length steps.now)) out.old.items out.new.items) }
 {
     if before >= steps.len() {
         return Ok(());
@@ -68,7 +68,7 @@ fn append_among(
 
 /// Appends the lines of the runs of which some steps are carried out in no course that was looked at. If memory runs
 /// out, a part of them.
-#[tactic(auto, unfolding(crate::specs::Details::unseen), using(tc_text::proofs::Lemmas::Saying::tell_rules))]
+#[tactic(auto, unfolding(crate::specs::Details::unseen), using(tc_text::proofs::Lemmas::Among::among_rules))]
 pub(crate) fn append_unseen(
     alloc: Global,
     out: &mut Vec<u8>,
@@ -76,7 +76,7 @@ pub(crate) fn append_unseen(
     reached: &[usize],
 ) -> Result<(), NoMemory>
     requires few { length scripts.now ≤ BEHAVIOURS }
-    ensures { OnOk result (Tells (unseen scripts.now reached.now) out.old.items out.new.items) }
+    ensures { OnOk result (TellsAmong (unseen scripts.now reached.now) out.old.items out.new.items) }
 {
     for run in 0..scripts.len() as u16 {
         let before = reached_by(reached, run);

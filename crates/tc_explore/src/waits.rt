@@ -1,12 +1,8 @@
 //! The waits of a witness that ends since no run can continue, and for whom.
-ghost use Rattle.std.specs.Prelude.{◌≡◌, ◌≤◌, ◌++◌, [], ◌∷◌, OnOk, codes, if◌then◌else◌, reverse};
-ghost use Rattle.std.specs.List.{flat_map, range_with_len};
+ghost use Rattle.std.specs.Prelude.{◌≤◌, [], OnOk, reverse};
 ghost use Rattle.tc_entry.specs.declared.limits.TheConstants.{BEHAVIOURS};
 ghost use Rattle.tc_table.specs.Legal.{IsLegal};
-ghost use Rattle.tc_table.specs.Standing.{StandsFor};
-ghost use Rattle.tc_text.specs.Said.{Tells};
-ghost use Rattle.tc_explore.specs.Inside.Adding.{AddsWords};
-ghost use Rattle.tc_explore.specs.Waits.{is_stuck as is_stuck_reply, phase_words, stuck_place as place_of_stuck, target_words, wait, wait_words, waits};
+ghost use Rattle.tc_text.specs.Said.{TellsAmong};
 
 use crate::components::push_comp;
 use crate::parts::{push_number, push_text, push_word};
@@ -18,21 +14,13 @@ use tc_table::{Awaited, CaseState};
 use tc_text::{Part, append_parts};
 use tc_verdict::{NoMemory, Run};
 
-// Whether the main component got the reply that no run can continue.
-fn is_stuck(reply: Reply) -> bool
-    ensures { result ≡ is_stuck_reply reply }
-{
-    matches!(reply, Reply::Fault(Fault::Stuck))
-}
-
-// How many entries are before the one that says so; all, if none does.
-fn stuck_place(history: &[Entry]) -> usize
-    ensures { result ≡ place_of_stuck history.now }
-{
+// How many entries are before the one by which the main component gets the reply that no run can continue; all, if none
+// does.
+fn stuck_place(history: &[Entry]) -> usize {
     let mut place = 0;
     let mut left = history;
     while let Some((entry, later)) = left.split_first() {
-        if is_stuck(entry.reply) {
+        if matches!(entry.reply, Reply::Fault(Fault::Stuck)) {
             return place;
         }
         place += 1;
@@ -42,17 +30,13 @@ fn stuck_place(history: &[Entry]) -> usize
 }
 
 // Appends a word after a comma.
-fn push_state<'a>(parts: &mut Vec<Part<'a>>, word: &'a [u8]) -> Result<(), NoMemory>
-    ensures { OnOk result (AddsWords (word.now ∷ []) parts.old.items parts.new.items) }
-{
+fn push_state<'a>(parts: &mut Vec<Part<'a>>, word: &'a [u8]) -> Result<(), NoMemory> {
     push_text(parts, b",")?;
     push_word(parts, word)
 }
 
 // Appends what a component is doing that is waited for.
-fn push_phase(parts: &mut Vec<Part>, phase: Option<Phase>) -> Result<(), NoMemory>
-    ensures { OnOk result (AddsWords (phase_words phase) parts.old.items parts.new.items) }
-{
+fn push_phase(parts: &mut Vec<Part>, phase: Option<Phase>) -> Result<(), NoMemory> {
     match phase {
         None => Ok(()),
         Some(Phase::Inactive) => push_state(parts, b"not started"),
@@ -70,13 +54,9 @@ fn push_phase(parts: &mut Vec<Part>, phase: Option<Phase>) -> Result<(), NoMemor
 fn push_target<'a>(
     parts: &mut Vec<Part<'a>>,
     history: &'a [Entry],
-    before: &[Entry],
     state: &CaseState,
     target: Target,
-) -> Result<(), NoMemory>
-    requires { StandsFor state.now (reverse before.now) }
-    ensures { OnOk result (AddsWords (target_words history.now (reverse before.now) target) parts.old.items parts.new.items) }
-{
+) -> Result<(), NoMemory> {
     match target {
         Target::One(comp) => {
             push_comp(parts, history, comp)?;
@@ -87,38 +67,27 @@ fn push_target<'a>(
     }
 }
 
-// The word for what is waited for.
-fn awaited_word(killed: bool) -> &'static [u8]
-    ensures { result.now ≡ (if killed then codes "killed" else codes "done") }
-{
-    if killed { b"killed" } else { b"done" }
-}
-
 // Appends which run waits on which component, and for what.
 fn push_wait<'a>(
     parts: &mut Vec<Part<'a>>,
     history: &'a [Entry],
-    before: &[Entry],
     state: &CaseState,
     run: u16,
     comp: Comp,
     awaited: Awaited,
-) -> Result<(), NoMemory>
-    requires { StandsFor state.now (reverse before.now) }
-    ensures { OnOk result (AddsWords (wait_words history.now (reverse before.now) run (comp, awaited)) parts.old.items parts.new.items) }
-{
+) -> Result<(), NoMemory> {
     push_text(parts, b"stuck: run")?;
     push_number(parts, u64::from(run))?;
     push_text(parts, b"on")?;
     push_comp(parts, history, comp)?;
     push_text(parts, b"waits for")?;
-    push_word(parts, awaited_word(awaited.killed))?;
+    push_word(parts, if awaited.killed { b"killed" } else { b"done" })?;
     push_text(parts, b"of")?;
-    push_target(parts, history, before, state, awaited.target)
+    push_target(parts, history, state, awaited.target)
 }
 
 // Appends the line of a run, if it continues and waits; if memory runs out, a part of it.
-#[tactic(auto, unfolding(crate::specs::Waits::wait), using(tc_text::proofs::Lemmas::Saying::tell_rules))]
+#[tactic(auto, using(tc_text::proofs::Lemmas::Among::among_rules))]
 fn append_wait(
     alloc: Global,
     out: &mut Vec<u8>,
@@ -127,8 +96,7 @@ fn append_wait(
     state: &CaseState,
     run: u16,
 ) -> Result<(), NoMemory>
-    requires stands { StandsFor state.now (reverse before.now) }
-    ensures { OnOk result (Tells (wait history.now (reverse before.now) run) out.old.items out.new.items) }
+    ensures { OnOk result (TellsAmong [] out.old.items out.new.items) }
 {
     if !state.is_active(Run(run)) {
         return Ok(());
@@ -140,12 +108,12 @@ fn append_wait(
         return Ok(());
     };
     let mut parts = Vec::new(alloc);
-    push_wait(&mut parts, history, before, state, run, comp, awaited)?;
+    push_wait(&mut parts, history, state, run, comp, awaited)?;
     append_parts(alloc, out, parts.as_slice())
 }
 
 // Appends the lines of all runs that continue and wait; if memory runs out, a part of them.
-#[tactic(auto, using(tc_text::proofs::Lemmas::Saying::tell_rules))]
+#[tactic(auto, using(tc_text::proofs::Lemmas::Among::among_rules))]
 fn append_waiting(
     alloc: Global,
     out: &mut Vec<u8>,
@@ -156,7 +124,7 @@ fn append_waiting(
     requires some { 1 ≤ behaviours }
     requires few { behaviours ≤ BEHAVIOURS }
     requires legal { IsLegal behaviours (reverse before.now) }
-    ensures { OnOk result (Tells (flat_map (wait history.now (reverse before.now)) (range_with_len 0 behaviours)) out.old.items out.new.items) }
+    ensures { OnOk result (TellsAmong [] out.old.items out.new.items) }
 {
     let state = state_after(alloc, behaviours, before)?;
     for run in 0..behaviours {
@@ -166,7 +134,7 @@ fn append_waiting(
 }
 
 /// Appends who waits for whom in a witness that ends since no run can continue. If memory runs out, a part of it.
-#[tactic(auto, unfolding(crate::specs::Waits::waits), using(tc_text::proofs::Lemmas::Saying::tell_rules))]
+#[tactic(auto, using(tc_text::proofs::Lemmas::Among::among_rules))]
 pub(crate) fn append_waits(
     alloc: Global,
     out: &mut Vec<u8>,
@@ -176,7 +144,7 @@ pub(crate) fn append_waits(
     requires some { 1 ≤ behaviours }
     requires few { behaviours ≤ BEHAVIOURS }
     requires legal { IsLegal behaviours (reverse witness.now.history) }
-    ensures { OnOk result (Tells (waits behaviours witness.now) out.old.items out.new.items) }
+    ensures { OnOk result (TellsAmong [] out.old.items out.new.items) }
 {
     let history = witness.history.as_slice();
     let place = stuck_place(history);

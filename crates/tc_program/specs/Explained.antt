@@ -5,7 +5,7 @@ use Rattle.tc_text.specs.declared.fault.TextFault.TheVariants as X
 use Rattle.tc_explain.specs.declared.sort.Refusal.{Refusal}
 use Rattle.tc_explain.specs.declared.sort.Refusal.TheVariants as R
 use Rattle.tc_explain.specs.Explanation.{explanation}
-use Rattle.tc_text.specs.Said.{Line, Tells}
+use Rattle.tc_text.specs.Said.{Line, TellsAmong}
 use Rattle.tc_command.specs.declared.task.Task.{Task}
 use Rattle.tc_command.specs.declared.task.Task.TheVariants as T
 use Rattle.tc_program.specs.declared.fault.RunFault.{RunFault}
@@ -39,14 +39,14 @@ refusal_at task fault = None
 abbrev pub refusal_of : Task → RunFault → Option (Refusal × ℕ)
 refusal_of task fault = if explains task then refusal_at task fault else None
 
--- what is explained of the text, if something is
+-- what is explained of the text at least, if something is
 abbrev pub notes_of : Option (Refusal × ℕ) → List ℕ → List Line
 notes_of None text = []
 notes_of (Some what) text = explanation what.0 text what.1
 
--- this is printed for the text of a task that has this fault: its line, and after it what is explained
+-- this is printed for the text of a task that has this fault: its line, and after it lines, among which is what is explained at least
 abbrev pub IsToldOf : Task → List ℕ → RunFault → List ℕ → Type 0
-IsToldOf task text fault told = Tells (notes_of (refusal_of task fault) text) (line_of fault) told
+IsToldOf task text fault told = TellsAmong (notes_of (refusal_of task fault) text) (line_of fault) told
 
 -- the outcome of a task whose text has this fault: that is printed
 abbrev pub IsExplained : Task → List ℕ → RunFault → Option (List ℕ) → Option (List ℕ) → Outcome → Type 0

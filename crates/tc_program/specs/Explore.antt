@@ -3,7 +3,7 @@ use Rattle.std.specs.Prelude.{ℕ, ◌≡◌, ◌==◌, ◌≤◌, if◌then◌e
 use Rattle.std.specs.List.{AllZip, flat_map, list_any}
 use Rattle.tc_script.specs.Campaign.{CampaignView, campaign}
 use Rattle.tc_explore.specs.Details.{details as of_details}
-use Rattle.tc_text.specs.Said.{Tells}
+use Rattle.tc_text.specs.Said.{TellsAmong}
 use Rattle.tc_explore.specs.Course.{most_states}
 use Rattle.tc_explore.specs.Found.{AreWitnesses, AreLegal, AreReached, IsOnce}
 use Rattle.tc_explore.specs.Found.{AllFound}
@@ -25,7 +25,7 @@ pub record IsExplored (details : Bool) (states : ℕ) (c : CaseView) (e : Explor
   pub reached : AreReached (scripts_of c.1) e.explored.reached
   pub most : e.explored.states ≤ most_states (scripts_of c.1) states
   pub undecided : e.explored.ending ≡ E.Undecided → 1 ≤ length (scripts_of c.1) → e.explored.states ≡ most_states (scripts_of c.1) states
-  pub details_are : Tells (if details then of_details (scripts_of c.1) e.explored else []) [] e.details
+  pub details_are : TellsAmong (if details then of_details (scripts_of c.1) e.explored else []) [] e.details
 
 -- what is written of a test case: its line and its details, or the histories of its witnesses
 abbrev pub told_of : Bool → ExploredCase → List ℕ

@@ -1,7 +1,7 @@
 //! What is printed about a text that is refused.
 ghost use Rattle.std.specs.Prelude.{◌≡◌, IfOk, OnOk};
 ghost use Rattle.tc_explain.specs.Explanation.{explanation};
-ghost use Rattle.tc_text.specs.Said.{Tells};
+ghost use Rattle.tc_text.specs.Said.{TellsAmong};
 ghost use Rattle.tc_program.specs.Explained.{IsExplained, IsToldOf, explains as spec_explains, notes_of, refusal_at as spec_at, refusal_by as spec_by, refusal_of as spec_refusal};
 
 use crate::fault::{RunFault, fault_line};
@@ -77,7 +77,7 @@ fn append_notes(
     line: usize,
     refusal: Refusal,
 ) -> Result<(), NoMemory>
-    ensures { OnOk result (Tells (explanation refusal text.now line) out.old.items out.new.items) }
+    ensures { OnOk result (TellsAmong (explanation refusal text.now line) out.old.items out.new.items) }
 {
     let notes = explain(alloc, text, line, refusal)?;
     out.extend_from_slice(notes.as_slice())?;
@@ -85,14 +85,14 @@ fn append_notes(
 }
 
 // Appends what is explained of the text, if something is.
-#[tactic(auto, using(tc_text::proofs::Lemmas::Saying::tells_none))]
+#[tactic(auto, using(tc_text::proofs::Lemmas::Among::among_none))]
 fn append_explained(
     alloc: Global,
     out: &mut Vec<u8>,
     text: &[u8],
     refused: Option<(Refusal, usize)>,
 ) -> Result<(), NoMemory>
-    ensures { OnOk result (Tells (notes_of refused text.now) out.old.items out.new.items) }
+    ensures { OnOk result (TellsAmong (notes_of refused text.now) out.old.items out.new.items) }
 {
     match refused {
         Some((refusal, line)) => append_notes(alloc, out, text, line, refusal),

@@ -3,7 +3,7 @@ ghost use Rattle.std.specs.Prelude.{◌≡◌, ◌≤◌, [], All, IfOk, IfErr, 
 ghost use Rattle.std.specs.List.{AllZip, flat_map};
 ghost use Rattle.tc_entry.specs.declared.limits.TheConstants.{BEHAVIOURS};
 ghost use Rattle.tc_explore.specs.Found.{AreLegal};
-ghost use Rattle.tc_text.specs.Said.{Tells};
+ghost use Rattle.tc_text.specs.Said.{TellsAmong};
 ghost use Rattle.tc_script.specs.Law.{IsCase};
 ghost use Rattle.tc_program.specs.Choosing.{RefusesScript};
 ghost use Rattle.tc_program.specs.Inside.{details_if};
@@ -42,7 +42,7 @@ pub(crate) fn scripts_of(alloc: Global, case: CaseScript) -> Result<Vec<Script>,
 }
 
 // The details of a test case with these scripts, if they are asked for.
-#[tactic(auto, using(tc_text::proofs::Lemmas::Saying::tells_none))]
+#[tactic(auto, using(tc_text::proofs::Lemmas::Among::among_none))]
 fn details_of(
     alloc: Global,
     details: bool,
@@ -51,7 +51,7 @@ fn details_of(
 ) -> Result<Vec<u8>, NoMemory>
     requires few { length scripts.now ≤ BEHAVIOURS }
     requires legal { AreLegal scripts.now explored.now.found }
-    ensures { IfOk result (λ text. Tells (details_if details scripts.now explored.now) [] text.items) }
+    ensures { IfOk result (λ text. TellsAmong (details_if details scripts.now explored.now) [] text.items) }
 {
     let mut out = Vec::new(alloc);
     if details {

@@ -1,4 +1,5 @@
 -- The lemmas that other crates cite.
+pub mod Among
 pub mod Digits
 pub mod LinesOf
 pub mod MoveLines

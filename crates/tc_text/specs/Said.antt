@@ -1,6 +1,6 @@
 -- Lines for a reader next to an answer, by what matters of each: its numbers and its names. No clause spells the prose
 -- around them.
-use Rattle.std.specs.Prelude.{ℕ, ◌≡◌, not, Bool, true, if◌then◌else◌, List, [], ◌∷◌, ◌++◌, map}
+use Rattle.std.specs.Prelude.{ℕ, ◌≡◌, ◌⊎◌, not, Bool, true, if◌then◌else◌, List, [], ◌∷◌, ◌++◌, map}
 use Rattle.std.specs.Fmt.{decimal}
 use Rattle.tc_entry.specs.Name.{is_name_byte}
 use Rattle.tc_text.specs.Shown.{is_plain}
@@ -34,6 +34,16 @@ TellsLine words before after = (text : List ℕ) × (after ≡ before ++ (32 ∷
 unfoldable pub Tells : List Line → List ℕ → List ℕ → Type 0
 Tells [] before after = after ≡ before
 Tells (line ∷ lines) before after = (middle : List ℕ) × TellsLine line before middle × Tells lines middle after
+
+-- the first lines are among the second, in their order
+abbrev pub AreAmong : List Line → List Line → Type 0
+AreAmong [] all = Unit {0}
+AreAmong (line ∷ lines) [] = ⊥
+AreAmong (line ∷ lines) (first ∷ all) = ((line ≡ first) × AreAmong lines all) ⊎ AreAmong (line ∷ lines) all
+
+-- lines are appended, and these are among them
+unfoldable pub TellsAmong : List Line → List ℕ → List ℕ → Type 0
+TellsAmong lines before after = (all : List Line) × AreAmong lines all × Tells all before after
 
 -- what a part of a line holds
 abbrev pub word_of : Part → Line

@@ -1,6 +1,6 @@
 use Rattle.std.proofs.Common.{◌≡◌, map, take}
 use Rattle.std.specs.List.{flat_map}
-use Rattle.tc_explain.specs.Nearest.{told_at}
+use Rattle.tc_explain.specs.Slots.{told_at}
 use Rattle.tc_explain.proofs.nearest.words_in.Given as goal
 
 abbrev pub invariant-loop-row : goal.invariant-loop-row
