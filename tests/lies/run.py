@@ -45,7 +45,7 @@ TRIED = re.compile(rb"case=c(\d+) run=(\w+) (?:status=(\d+) )?.*proved=no\n")
 TESTED = re.compile(r"(?m)^test (\S+) \.\.\. (\w+)")
 PROGRAM = "ttrun"
 # Each test of a crate has so long: under some lies many wait for ever.
-SECONDS = "20"
+SECONDS = "40"
 
 
 def is_plain(case: object) -> bool:
