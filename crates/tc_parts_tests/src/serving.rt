@@ -163,7 +163,13 @@ fn devices_that_fail(rt: HostRuntime) {
     ends_at(&rt, rt.alloc(), 9, NEVER, (ServeFault::Read, 15));
     ends_at(&rt, rt.alloc(), NEVER, 0, (ServeFault::Write, 0));
     ends_at(&rt, rt.alloc(), NEVER, 7, (ServeFault::Write, 7));
-    ends_at(&rt, rt.alloc(), NEVER, NEVER, (ServeFault::Line(4, Refusal::BadLine), 39));
+    ends_at(
+        &rt,
+        rt.alloc(),
+        NEVER,
+        NEVER,
+        (ServeFault::Line(4, Refusal::BadLine), 39),
+    );
 }
 
 /// Takes all that is written, and notes how much it has at each flush.
