@@ -128,9 +128,9 @@ fn components_with_names(rt: HostRuntime) -> Result<(), Fail> {
 fn lines_that_are_served(rt: HostRuntime) -> Result<(), Fail> {
     for row in [
         "ttrun serve < case t 1;0 setverdict fail;0 finish;end; => evidence 1 t 1;0 setverdict fail -> ok;0 finish -> ok;end fail;1",
-        "ttrun serve < case t 1;fly;0 fly;0 finish;end; => evidence 1 t 1;0 ! bad move;0 finish -> ok;end none;3ttrun: line 2: bad move;",
+        "ttrun serve < case t 1;fly;0 fly;0 finish;end; => evidence 1 t 1;0 ! bad line;0 finish -> ok;end none;3ttrun: line 2: bad line;",
         "ttrun serve < case t 1;0 stopcase; => evidence 1 t 1;0 stopcase -> ok;end error;2ttrun: the input ended inside a test case;",
-        "ttrun serve < case t 1;0 finish;end;0 finish;case u 1; => evidence 1 t 1;0 finish -> ok;end none;3ttrun: line 4: bad move;",
+        "ttrun serve < case t 1;0 finish;end;0 finish;case u 1; => evidence 1 t 1;0 finish -> ok;end none;3ttrun: line 4: no test case is open;",
         "ttrun serve <  => 0",
     ] {
         is_row(&rt, rt.alloc(), row)?;
