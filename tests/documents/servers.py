@@ -9,7 +9,7 @@ import subprocess
 from dataclasses import dataclass, field
 from typing import Callable, Dict, Iterator, List, Optional, Tuple
 
-from blocks import PIPELINES, WORST, hold_left, step
+from blocks import PIPELINES, WORST, hold_junit, hold_left, step
 from room import SHELLS, TOP, VERDICTS, Ran, Room, hold
 from documents import Block, read
 from yaml_reader import read_yaml
@@ -22,7 +22,8 @@ MADE = "make-report"
 CUT, LACKING = "2/4", "t_waits"
 # What follows `uses:`, without its version.
 ACTIONS = ("actions/checkout", "actions/cache", "actions/upload-artifact", "actions/download-artifact")
-LEFT = ["run.history", "run.html", "run.xml"]
+JUNIT = "run.xml"
+LEFT = ["run.history", "run.html", JUNIT]
 
 
 # A file that a server keeps: its content, and whether it may be run.
@@ -250,12 +251,17 @@ def jenkins(server: Server) -> Tuple[List[int], Optional[Done]]:
 Pipeline = Callable[[Server], Tuple[List[int], Optional[Done]]]
 
 
-def hold_report(server: Server, done: Done, cases: List[str], status: int) -> None:
-    """Holds the job of the report to a status, and to what it keeps of these test cases."""
+def hold_report(server: Server, done: Done, missing: List[str], status: int) -> None:
+    """Holds the job of the report to a status, and to what it keeps of the test cases, of which these are missing."""
     hold(done is not None and done.status == status, f"the report ends otherwise: {done}")
     hold(all(it in done.kept for it in LEFT), f"{sorted(done.kept)} are kept")
     room = server.checkout({name: it for name, it in done.kept.items() if name in LEFT})
-    hold_left(room, LEFT, cases, status)
+    hold_left(room, [it for it in LEFT if it != JUNIT], [it for it in VERDICTS if it not in missing], status)
+    hold_junit(room, JUNIT, list(VERDICTS))
+    for name in VERDICTS:
+        is_told = re.search(f'<testcase name="{name}" [^>]*>\n<error type="missing"', room.text(JUNIT)) is not None
+        hold(is_told == (name in missing), f"{JUNIT}: {name}")
+        hold((f"missing {name}\n" in done.output) == (name in missing), f"the output: {name}: {done.output}")
     hold(server.count() == 1, f"the program was built {server.count()} times")
 
 
@@ -264,7 +270,7 @@ def all_shards_end(room: str, program: str, shell: str, pipeline: Pipeline) -> s
     server = Server(os.path.join(room, f"{shell}-whole"), program, shell, "none")
     ends, done = pipeline(server)
     hold(ends == [0] * SHARDS, f"{ends}")
-    hold_report(server, done, list(VERDICTS), WORST)
+    hold_report(server, done, [], WORST)
     if shell != "jenkins":  # whose agents keep what they have built
         pipeline(server)
         hold(server.count() == 1, "the next run builds again what the cache has")
@@ -272,13 +278,12 @@ def all_shards_end(room: str, program: str, shell: str, pipeline: Pipeline) -> s
 
 
 def a_shard_runs_out_of_time(room: str, program: str, shell: str, pipeline: Pipeline) -> str:
-    """The report comes all the same, has what had finished, and names what had not."""
+    """The report comes all the same, and has what had finished and what had not."""
     server = Server(os.path.join(room, f"{shell}-late"), program, shell, CUT)
     ends, done = pipeline(server)
     hold(ends == [0, 1, 0, 0], f"the shard that was cut fails, and no other: {ends}")
-    hold_report(server, done, [it for it in VERDICTS if it != LACKING], 3)
-    hold(f"< {LACKING}\n" in done.output, f"{LACKING} is not named: {done.output}")
-    return f"{LACKING} is named"
+    hold_report(server, done, [LACKING], 3)
+    return f"{LACKING} is missing"
 
 
 def github_whole(room: str, program: str) -> str:

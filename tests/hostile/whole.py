@@ -45,7 +45,7 @@ WITHOUT_ALLOCATOR = (
 UNTRIED: Tuple[Exempt, ...] = (
     (WITHOUT_ALLOCATOR, "they are handed no allocator"),
     (("CountedReader::new", "CountedWriter::new", "NarrowWriter::new", "LiveWriter::new", "Progress::new", "Script::new", "ScriptJob::new",
-      "Kept::into_results"), "they put together what they are handed"),
+      "Kept::into_results", "bare_summary"), "they put together what they are handed"),
     (("write_whole", "write_counted", "write_abort"), "the memory that their writer takes is the writer's"),
     (("Words::record_of", "Words::follow"), "Book::word_of, Book::wake and Book::leave make them"),
     (("Sentence::bytes", "take_behaviours", "take_end_line", "take_entry_line"), "they only look at what they are lent"),

@@ -40,7 +40,10 @@ ELEMENTS: Dict[str, Tuple[str, str]] = {
     "fail": ("failure", "fail"),
     "error": ("error", "error"),
     "unfinished": ("error", "unfinished"),
+    "missing": ("error", "missing"),
 }
+# The messages of the ends that have no text of their own.
+MESSAGES = {"unfinished": "the test case is not over", "missing": "there is no history of the test case"}
 # The elements that have a text.
 WITH_TEXT = ("failure", "error", "system-out")
 # How many verdicts of random histories are decided by a setting and by an error, at least.
@@ -73,13 +76,20 @@ class Told:
         self.name = block.name
         self.locals = [it.verdict for it in table.components]
         self.end = "unfinished" if table.components[0].phase == "running" else table.overall()
-        self.message = "the test case is not over" if self.end == "unfinished" else ""
+        self.message = MESSAGES.get(self.end, "")
         self.lines: List[str] = []
         if self.end in VERDICTS[2:]:
             at = verdicts.index(self.end)
             self.message = who_decided(table, block, at)
             of_run = [it for it in block.entries if it.caller == block.entries[at].caller]
             self.lines = [f"  {line_of(it)}" for it in of_run if it.reply != "parked"]
+
+
+def missing_case(name: str) -> Told:
+    """What a form prints of a test case of which there is no block."""
+    told = Told(Block("history 2", name, 1, [], 0, "none"))
+    told.locals, told.end, told.message = [], "missing", MESSAGES["missing"]
+    return told
 
 
 def blocks_of(text: bytes) -> List[Told]:
@@ -91,7 +101,7 @@ def blocks_of(text: bytes) -> List[Told]:
 
 def status_for(told: List[Told]) -> int:
     """The exit status."""
-    return max(status_of("error" if it.end == "unfinished" else it.end) for it in told)
+    return max(status_of("error" if it.end in MESSAGES else it.end) for it in told)
 
 
 def csv_of(told: List[Told]) -> bytes:
@@ -112,7 +122,7 @@ def junit_of(told: List[Told], version: str) -> bytes:
     for it in told:
         lines.append(f'<testcase name="{it.name}" classname="ttrun">')
         element, kind = ELEMENTS.get(it.end, ("", ""))
-        if kind == "unfinished":
+        if kind in MESSAGES:
             lines.append(f'<{element} type="{kind}" message="{it.message}"/>')
         elif kind:
             lines += [f'<{element} type="{kind}" message="{it.message}">', it.message, *it.lines, f"</{element}>"]
@@ -167,6 +177,11 @@ def faults_of_report(program: str, form: str, text: bytes) -> List[str]:
     """What is wrong with the report of a legal history text."""
     ran = run(Case("", ("report", f"--{form}"), text), program)
     told = blocks_of(text)
+    return faults_of_forms(form, told, text, ran, b"", status_for(told))
+
+
+def faults_of_forms(form: str, told: List[Told], text: bytes, ran: Ran, errors: bytes, status: int) -> List[str]:
+    """What is wrong with a report of these test cases, whose blocks are this text, with these lines on standard error."""
     if form == "csv":
         wanted = csv_of(told)
         faults = []
@@ -176,8 +191,8 @@ def faults_of_report(program: str, form: str, text: bytes) -> List[str]:
     else:
         wanted = junit_of(told, version_in(ran.output))
         faults = faults_of_junit(ran.output) + ([] if version_in(ran.output) else ["it tells no version"])
-    faults += difference(form, wanted, ran.output) + difference("standard error", b"", ran.errors)
-    return faults + ([] if ran.status == status_for(told) else [f"status {ran.status}, and {status_for(told)} is wanted"])
+    faults += difference(form, wanted, ran.output) + difference("standard error", errors, ran.errors)
+    return faults + ([] if ran.status == status else [f"status {ran.status}, and {status} is wanted"])
 
 
 def history_of(program: str, script: bytes) -> bytes:

@@ -19,6 +19,7 @@ sys.dont_write_bytecode = True
 
 import choosing
 import compared
+import compared_reports
 import details
 import devices
 import documents_run
@@ -57,6 +58,7 @@ GROUPS = (
     ("reports", reports.cases, 30),
     ("evidence", evidence_rows.cases, 145),
     ("compared", compared.cases, 59),
+    ("compared reports", compared_reports.cases, 34),
     ("explain", explain.cases, 100),
     ("documents", documents_run.cases, 2),
 )
@@ -76,7 +78,7 @@ def tests(seed: int) -> List[Test]:
     found += evidence_rows.judgements(seed)
     found += choosing.judgements(seed)
     found += details.judgements(seed)
-    found += compared.judgements(seed)
+    found += compared.judgements(seed) + compared_reports.judgements(seed)
     names = [it.name for it in found]
     twice = sorted({it for it in names if names.count(it) > 1})
     if twice:

@@ -43,12 +43,17 @@ EXPLORE = ("looks for every overall verdict that a test case can have\n",
            "N is from 1 to 1000000, and 100000 without --states.\n",
            "Status: 0 if each test case has one verdict, 1 if one has several, 3 if a\nsearch met its limit, or for a refusal.\n")
 REPORT = ("reads histories, and writes them in one of these forms\n",
-          "  --csv      writes a table as CSV\n", "  --junit    writes a JUnit suite\n",
-          "  --html     writes a page for a browser\n", "  --explain  " + EXPLAIN,
+          "  --csv          writes a table as CSV\n", "  --junit        writes a JUnit suite\n",
+          "  --html         writes a page for a browser\n",
+          "  --script       reads their script before them, and compares them with it\n",
+          "  --only <NAME>  awaits this test case of the script; may be given again, for others\n",
+          "  --shard <K/N>  awaits the K-th of N shards of the test cases of the script\n", "  --explain      " + EXPLAIN,
           "Standard input is histories or evidence: ttrun report --csv < FILE. Nothing is\n"
-          "written to standard output if one of them is not legal.\n",
+          "written to standard output if one of them is not legal. With --script it is what\n"
+          "check --script reads, and --only and --shard choose as there. Test cases that\n"
+          "are missing come last, and the lines of check --script go to standard error.\n",
           "Status: 0 for none and pass, 1 for inconc and fail, 2 for error and for a test\n"
-          "case that is not over, 3 if a history is not legal, or for a refusal.\n")
+          "case that is not over, 3 if a history is not legal, for such a line, or for a\nrefusal.\n")
 CHECK = ("replays histories and evidence, and says which are legal\n",
          "  --script       reads their script before them, and compares them with it\n",
          "  --only <NAME>  awaits this test case of the script; may be given again, for others\n",
@@ -121,6 +126,10 @@ report --explain --csv --junit => the argument '--csv' cannot be used with '--ju
 report --html --csv => the argument '--csv' cannot be used with '--html'
 report --html --html => the argument '--html' cannot be used multiple times
 report --html --junit => the argument '--junit' cannot be used with '--html'
+report --explain --junit --script => the argument '--script' cannot be used with '--explain'
+report --junit --only a => the arguments '--only' and '--shard' need '--script'
+report --shard 1/2 => the arguments '--only' and '--shard' need '--script'
+report --script --only a => one of the arguments '--csv', '--junit' and '--html' is needed
 report --junit --csv => the argument '--csv' cannot be used with '--junit'
 report --junit --junit => the argument '--junit' cannot be used multiple times
 run --csv --csv => the argument '--csv' cannot be used multiple times

@@ -63,7 +63,7 @@ apart S.Run =
     ∷ (codes "list", codes "progress") ∷ (codes "list", codes "stop-on") ∷ (codes "list", codes "explain") ∷ (codes "junit", codes "live") ∷ []
 apart S.Check = (codes "script", codes "explain") ∷ []
 apart S.Explore = (codes "history", codes "details") ∷ []
-apart S.Report = (codes "csv", codes "junit") ∷ (codes "csv", codes "html") ∷ (codes "junit", codes "html") ∷ []
+apart S.Report = (codes "csv", codes "junit") ∷ (codes "csv", codes "html") ∷ (codes "junit", codes "html") ∷ (codes "script", codes "explain") ∷ []
 apart subcommand = []
 
 -- both options of a pair are given
@@ -86,8 +86,13 @@ report_form_of rows =
     else (if is_given rows (codes "html") then Some report_form.Html else None))
 
 -- test cases are chosen, and there is no script of them
+abbrev pub lacks_its_script : List Row → Bool
+lacks_its_script rows = (is_given rows (codes "only") || is_given rows (codes "shard")) && not (is_given rows (codes "script"))
+
+-- the same, where a script may come before histories
 abbrev pub lacks_script : Subcommand → List Row → Bool
-lacks_script S.Check rows = (is_given rows (codes "only") || is_given rows (codes "shard")) && not (is_given rows (codes "script"))
+lacks_script S.Check rows = lacks_its_script rows
+lacks_script S.Report rows = lacks_its_script rows
 lacks_script subcommand rows = false
 
 -- a form is needed, and none is given
@@ -123,9 +128,10 @@ pub record AsksRun (rows : List Row) (o : RunOptions) : Type 0 where
 -- the subcommand with its options asks for this task
 abbrev pub Asks : Subcommand × List Row → Task → Type 0
 Asks (S.Check, rows) (T.Check explains) = (is_given rows (codes "script") ≡ false) × (explains ≡ is_given rows (codes "explain"))
-Asks (S.Check, rows) (T.Compare c) = (is_given rows (codes "script") ≡ true) × Chooses rows c
+Asks (S.Check, rows) (T.Compare None c) = (is_given rows (codes "script") ≡ true) × Chooses rows c
 Asks (S.Replay, rows) (T.Replay explains) = explains ≡ is_given rows (codes "explain")
-Asks (S.Report, rows) (T.Report f explains) = (report_form_of rows ≡ Some f) × (explains ≡ is_given rows (codes "explain"))
+Asks (S.Report, rows) (T.Report f explains) = (is_given rows (codes "script") ≡ false) × (report_form_of rows ≡ Some f) × (explains ≡ is_given rows (codes "explain"))
+Asks (S.Report, rows) (T.Compare (Some f) c) = (is_given rows (codes "script") ≡ true) × (report_form_of rows ≡ Some f) × Chooses rows c
 Asks (S.Explore, rows) (T.Explore histories details states) =
     (histories ≡ is_given rows (codes "history")) × (details ≡ is_given rows (codes "details")) × IsStatesOf (first_of (codes "states") rows) states
 Asks (S.Run, rows) (T.Run o) = (is_given rows (codes "list") ≡ false) × AsksRun rows o

@@ -33,7 +33,9 @@ explore = with_rules (new_app (codes "explore")) (flag_rule (codes "history") �
 
 -- the options of `report`
 abbrev pub report : App
-report = with_rules (new_app (codes "report")) (flag_rule (codes "csv") ∷ flag_rule (codes "junit") ∷ flag_rule (codes "html") ∷ flag_rule (codes "explain") ∷ [])
+report = with_rules (new_app (codes "report")) (
+    flag_rule (codes "csv") ∷ flag_rule (codes "junit") ∷ flag_rule (codes "html")
+    ∷ flag_rule (codes "script") ∷ words_rule (codes "only") ∷ word_rule (codes "shard") ∷ flag_rule (codes "explain") ∷ [])
 
 -- the options of `check`
 abbrev pub check : App

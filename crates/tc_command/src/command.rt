@@ -47,9 +47,12 @@ search met its limit, or for a refusal.";
 // What the help of `report` says at its end.
 const REPORT_HELP: &str = "\
 Standard input is histories or evidence: ttrun report --csv < FILE. Nothing is
-written to standard output if one of them is not legal.
+written to standard output if one of them is not legal. With --script it is what
+check --script reads, and --only and --shard choose as there. Test cases that
+are missing come last, and the lines of check --script go to standard error.
 Status: 0 for none and pass, 1 for inconc and fail, 2 for error and for a test
-case that is not over, 3 if a history is not legal, or for a refusal.";
+case that is not over, 3 if a history is not legal, for such a line, or for a
+refusal.";
 
 // What the help of `replay` says at its end.
 const REPLAY_HELP: &str = "\
@@ -191,10 +194,13 @@ const EXPLORE_OPTIONS: [OptionRow; 3] = [
 
 const CHECK_OPTIONS: [OptionRow; 4] = [SCRIPT, SCRIPT_ONLY, SCRIPT_SHARD, EXPLAIN];
 
-const REPORT_OPTIONS: [OptionRow; 4] = [
+const REPORT_OPTIONS: [OptionRow; 7] = [
     OptionRow("csv", Takes::Nothing, "writes a table as CSV"),
     OptionRow("junit", Takes::Nothing, "writes a JUnit suite"),
     OptionRow("html", Takes::Nothing, "writes a page for a browser"),
+    SCRIPT,
+    SCRIPT_ONLY,
+    SCRIPT_SHARD,
     EXPLAIN,
 ];
 

@@ -1,5 +1,5 @@
 //! The arguments, and the task that they ask for.
-ghost use Rattle.std.specs.Prelude.{◌≡◌, All, IfOk, IfErr, List, None, OnOk, codes, false, map, option_copied, string_bytes, true};
+ghost use Rattle.std.specs.Prelude.{◌≡◌, All, IfOk, IfErr, List, OnOk, Some, codes, false, map, option_copied, string_bytes, true};
 ghost use Rattle.std.specs.List.{list_any};
 ghost use Rattle.clap.specs.Words.{FailsBy, Row, app_of, fault_of, first_of, found_of, is_simple, is_simple_and_free, rows_of, subcommand_of, subcommand_rows_of};
 ghost use Rattle.tc_entry.specs.Name.{IsName};
@@ -9,7 +9,6 @@ ghost use Rattle.tc_command.specs.Asked.{report_form_of, subcommand_named as spe
 ghost use Rattle.tc_command.specs.Words.{IsGood, IsShardOf};
 ghost use Rattle.tc_command.specs.Inside.{IsBadWord, IsClash, IsRefusedBy, IsTaken, IsWordRefused};
 ghost use Rattle.tc_command.specs.declared.command.Subcommand.TheVariants.{Check, Explore, Report, Run};
-ghost use Rattle.tc_command.specs.declared.refusal.Refusal.TheVariants.{NoForm};
 ghost use Rattle.tc_command.specs.declared.word.WordFault.TheVariants as fault;
 
 use crate::command::{Subcommand, command};
@@ -65,7 +64,12 @@ fn apart(subcommand: Subcommand) -> &'static [(&'static str, &'static str)]
             ("junit", "live"),
         ],
         Subcommand::Explore => &[("history", "details")],
-        Subcommand::Report => &[("csv", "junit"), ("csv", "html"), ("junit", "html")],
+        Subcommand::Report => &[
+            ("csv", "junit"),
+            ("csv", "html"),
+            ("junit", "html"),
+            ("script", "explain"),
+        ],
         Subcommand::Check => &[("script", "explain")],
         Subcommand::Replay | Subcommand::Serve => &[],
     }
@@ -206,16 +210,23 @@ fn explore_task(options: &ArgMatches<'_>) -> Result<Task, Refusal>
     })
 }
 
-// What the options of `report` ask for.
-fn report_task(options: &ArgMatches<'_>) -> Result<Task, Refusal>
+// What the options of `report` ask for, among them this form.
+fn report_task(alloc: Global, options: &ArgMatches<'_>, form: ReportForm) -> Result<Task, Refusal>
+    requires { report_form_of (rows_of (found_of options.now)) ≡ Some form }
     ensures taken { IfOk result (Asks (Report, rows_of (found_of options.now))) }
-    ensures refused { IfErr result (λ r. (r ≡ NoForm) × (report_form_of (rows_of (found_of options.now)) ≡ None)) }
+    ensures refused { IfErr result (IsWordRefused (rows_of (found_of options.now))) }
 {
-    let form = report_form(options).ok_or(Refusal::NoForm)?;
-    Ok(Task::Report {
-        form,
-        explains: has_option(options, "explain"),
-    })
+    if has_option(options, "script") {
+        Ok(Task::Compare {
+            form: Some(form),
+            choice: choice(alloc, options)?,
+        })
+    } else {
+        Ok(Task::Report {
+            form,
+            explains: has_option(options, "explain"),
+        })
+    }
 }
 
 // What the options of `check` ask for.
@@ -224,7 +235,10 @@ fn check_task(alloc: Global, options: &ArgMatches<'_>) -> Result<Task, Refusal>
     ensures refused { IfErr result (IsWordRefused (rows_of (found_of options.now))) }
 {
     if has_option(options, "script") {
-        Ok(Task::Compare(choice(alloc, options)?))
+        Ok(Task::Compare {
+            form: None,
+            choice: choice(alloc, options)?,
+        })
     } else {
         Ok(Task::Check {
             explains: has_option(options, "explain"),
@@ -237,7 +251,7 @@ fn lacks_script(subcommand: Subcommand, options: &ArgMatches<'_>) -> bool
     ensures { result ≡ spec_lacks subcommand (rows_of (found_of options.now)) }
 {
     match subcommand {
-        Subcommand::Check => {
+        Subcommand::Check | Subcommand::Report => {
             (has_option(options, "only") || has_option(options, "shard"))
                 && !has_option(options, "script")
         }
@@ -261,7 +275,10 @@ fn subcommand_task(
     match subcommand {
         Subcommand::Run => run_task(alloc, options),
         Subcommand::Explore => explore_task(options),
-        Subcommand::Report => report_task(options),
+        Subcommand::Report => match report_form(options) {
+            Some(form) => report_task(alloc, options, form),
+            None => Err(Refusal::NoForm),
+        },
         Subcommand::Check => check_task(alloc, options),
         Subcommand::Replay => Ok(Task::Replay {
             explains: has_option(options, "explain"),

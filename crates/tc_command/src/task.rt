@@ -71,8 +71,12 @@ pub enum Task {
     Check {
         explains: bool,
     },
-    /// Check histories and evidence after their script in one text, and compare them with its chosen test cases.
-    Compare(Choice),
+    /// Compare histories and evidence with the chosen test cases of the script before them in one text: check them, or
+    /// report them in a form.
+    Compare {
+        form: Option<ReportForm>,
+        choice: Choice,
+    },
     /// Report histories in this form.
     Report {
         form: ReportForm,

@@ -1,5 +1,5 @@
 -- Blocks next to the test cases of their script: what is kept of them while they are taken in.
-use Rattle.std.proofs.Common.{ℕ, zero, suc, ◌≡◌, ◌∙◌, ◌+◌, ◌<◌, ◌≤◌, ◌||◌, ◌==◌, cond, not, nat_lt, Bool, true, false, Option, Some, None, List, [], ◌∷◌, ◌++◌, All, drop, if◌then◌else◌, map, length, get_or, position, replicate, reverse, take, slice_get, slice_index_or, slice_set, get_or-set_same, refl, sym, ap, ap₂, subst, arith}
+use Rattle.std.proofs.Common.{ℕ, zero, suc, ◌≡◌, ◌∙◌, ◌+◌, ◌<◌, ◌≤◌, ◌||◌, ◌==◌, cond, not, nat_lt, Bool, true, false, Option, Some, None, List, [], ◌∷◌, ◌++◌, All, drop, if◌then◌else◌, map, length, get_or, replicate, reverse, take, slice_get, slice_index_or, slice_set, get_or-set_same, refl, sym, ap, ap₂, subst, arith}
 use Rattle.std.proofs.lemmas.Bool.Decides.{nat_tests}
 use Rattle.std.proofs.lemmas.Grind.{elements}
 use Rattle.std.proofs.lemmas.List.{append-nil, drop_more, map-append, reverse-append, take_all, take-append-drop, take_more}
@@ -27,7 +27,6 @@ use Rattle.tc_program.specs.declared.fault.RunFault.{RunFault}
 use Rattle.tc_program.specs.declared.fault.RunFault.TheVariants as F
 use Rattle.tc_program.proofs.Chosen.{or_left, or_right}
 use Rattle.tc_program.specs.declared.compare.Wrong.{Wrong}
-use Rattle.tc_program.specs.declared.compare.Wrong.TheVariants as W
 
 -- ---- names
 

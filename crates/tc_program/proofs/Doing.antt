@@ -29,7 +29,8 @@ answer_of out told status = record { out = out; told = told; status = status }
 not_write : (task : Task) (text : List ℕ) → Refuses task text F.Write → ⊥
 not_write (T.Replay explains) text refused = refused
 not_write (T.Check explains) text refused = refused
-not_write (T.Compare choice) text refused = refused
+not_write (T.Compare None choice) text refused = refused
+not_write (T.Compare (Some form) choice) text refused = refused
 not_write (T.Report form explains) text refused = refused
 not_write (T.Explore histories details states) text refused = refused
 not_write (T.List choice) text refused = refused

@@ -1,8 +1,8 @@
 -- The test cases of blocks, one block after the other.
-use Rattle.std.proofs.Common.{ℕ, ◌≡◌, ◌∙◌, ◌+◌, All, true, false, if◌then◌else◌, Option, Some, None, List, [], ◌∷◌, ◌++◌, map, reverse, refl, ap, sym, subst, append_assoc}
+use Rattle.std.proofs.Common.{ℕ, ◌≡◌, ◌∙◌, All, true, false, if◌then◌else◌, Option, Some, None, List, [], ◌∷◌, ◌++◌, ◌==◌, length, map, reverse, refl, ap, ap₂, sym, subst, append_assoc}
 use Rattle.std.specs.List.{flat_map}
 use Rattle.std.specs.Prelude.{is_some}
-use Rattle.std.proofs.lemmas.List.{map-append}
+use Rattle.std.proofs.lemmas.List.{append-nil, map-append}
 use Rattle.std.proofs.lemmas.List.Elements.{All-head, All-tail}
 use Rattle.tc_table.specs.Standing.{StandsFor}
 use Rattle.tc_evidence.specs.declared.block.Block.{Block}
@@ -11,7 +11,8 @@ use Rattle.tc_evidence.specs.Line.{entries_of}
 use Rattle.tc_evidence.specs.Laws.{history_of}
 use Rattle.tc_report.specs.declared.summary.Summary.{Summary}
 use Rattle.tc_report.specs.Status.{status_of_summaries}
-use Rattle.tc_report.specs.Summary.{block_summary, case_summary, summary_of}
+use Rattle.tc_report.specs.declared.results.CaseEnd.TheVariants as C
+use Rattle.tc_report.specs.Summary.{bare_summary, block_summary, case_summary, summary_of}
 use Rattle.tc_report.proofs.Lemmas.Agreeing.{one_same}
 use Rattle.tc_report.specs.declared.results.Finished.{Finished}
 use Rattle.tc_report.specs.declared.results.Results.{Results}
@@ -21,11 +22,11 @@ use Rattle.tc_program.specs.declared.judge.Judgement.{Judgement}
 use Rattle.tc_program.specs.declared.judge.Judgement.TheVariants as J
 use Rattle.tc_program.specs.declared.report.Recorded.{Recorded}
 use Rattle.tc_program.specs.Check.{IsChecked, RefusesHistory}
-use Rattle.tc_program.specs.Inside.{IsJudgement, IsPlayedTo, IsRecorded, Summarizes, WasRun, WereRun, illegal_line, judges_legal, judgement_line}
+use Rattle.tc_program.specs.Inside.{IsJudgement, IsPlayedTo, IsRecorded, Summarizes, WasRun, WereRun, judges_legal, judgement_line}
 use Rattle.tc_program.specs.declared.fault.RunFault.{RunFault}
 use Rattle.tc_program.specs.declared.fault.RunFault.TheVariants as F
 use Rattle.tc_command.specs.declared.task.ReportForm.{ReportForm}
-use Rattle.tc_program.specs.Report.{IsFirstIllegal, IsReport, form_of, reported}
+use Rattle.tc_program.specs.Report.{IsFirstIllegal, IsReport, form_of, reported, unreported}
 use Rattle.tc_program.specs.declared.reply.Answer.{Answer}
 use Rattle.tc_program.specs.WrittenHistories.{AreFoundLegal, found_legal, legal_case}
 use Rattle.tc_program.proofs.Doing.{answer_of}
@@ -109,24 +110,20 @@ illegal_passed (Some k) blocks b ss some so = record {
 
 -- ---- the steps of `report`
 
-pub made_none : (ss lent : List Summary) (o : Option Judgement) (blocks : List Block) → o ≡ None → lent ≡ ss → Summarizes blocks ss o → Summarizes blocks lent None
-made_none ss lent o blocks none same made = subst (λ l. Summarizes blocks l None) (sym same) (subst (Summarizes blocks ss) none made)
+made_none : (ss : List Summary) (o : Option Judgement) (blocks : List Block) → o ≡ None → Summarizes blocks ss o → Summarizes blocks ss None
+made_none ss o blocks none made = subst (Summarizes blocks ss) none made
 
--- what is made of a text, none of whose histories is illegal
-pub legal_report : (form : ReportForm) (text : List ℕ) (blocks : List Block) (ss lent : List Summary) (o : Option Judgement) (a : Answer) → o ≡ None → lent ≡ ss → Summarizes blocks ss o
-    → a.out ≡ form_of form text lent → a.told ≡ [] → a.status ≡ status_of_summaries lent → IsReport form text blocks a
-legal_report form text blocks ss lent o a none same made out told status =
-    let made = made_none ss lent o blocks none same made in
-    let out_is : a.out ≡ form_of form text (map summary_at blocks) = out ∙ ap (form_of form text) made.1 in
-    let status_is : a.status ≡ status_of_summaries (map summary_at blocks) = status ∙ ap status_of_summaries made.1 in
-    IsReport.legal made.0.0 (whole blocks made.0.0 true made.0.1)
-    (ap (λ x. answer_of x a.told a.status) out_is ∙ ap (λ x. answer_of (form_of form text (map summary_at blocks)) x a.status) told
-    ∙ ap (λ x. answer_of (form_of form text (map summary_at blocks)) [] x) status_is)
+-- what is made of a text, none of whose blocks is illegal
+pub legal_report : (form : ReportForm) (text : List ℕ) (ss : List Summary) (o : Option Judgement) (names : List (List ℕ)) (notes : List ℕ) (a : Answer) (blocks : List Block)
+    → o ≡ None → a ≡ reported form text notes (ss ++ map (bare_summary C.Missing) names) → Summarizes blocks ss o → IsReport form text blocks names notes a
+legal_report form text ss o names notes a blocks none is made =
+    let made = made_none ss o blocks none made in
+    IsReport.legal made.0.0 (whole blocks made.0.0 true made.0.1) (is ∙ ap (λ l. reported form text notes (l ++ map (bare_summary C.Missing) names)) made.1)
 
--- what is made of a text, one of whose histories is illegal
-pub illegal_report : (form : ReportForm) (text : List ℕ) (blocks : List Block) (ss : List Summary) (o : Option Judgement) (j : Judgement) (a : Answer) → o ≡ Some j → Summarizes blocks ss o
-    → a.out ≡ [] → a.told ≡ illegal_line j → a.status ≡ 3 → IsReport form text blocks a
-illegal_report form text blocks ss o j a some made out told status =
+-- what is made of a text, one of whose blocks is illegal
+pub illegal_report : (form : ReportForm) (text : List ℕ) (ss : List Summary) (o : Option Judgement) (j : Judgement) (names : List (List ℕ)) (notes : List ℕ) (a : Answer) (blocks : List Block)
+    → o ≡ Some j → a ≡ unreported (judgement_line j) → Summarizes blocks ss o → IsReport form text blocks names notes a
+illegal_report form text ss o j names notes a blocks some is made =
     let made = subst (Summarizes blocks ss) some made in
     let first : IsFirstIllegal blocks made.block (judgement_line j) = record {
       before = made.before;
@@ -136,8 +133,14 @@ illegal_report form text blocks ss o j a some made out told status =
       legal = whole made.before made.lines true made.legal;
       illegal = illegal_said made.block j made.illegal made.judged;
     } in
-    IsReport.illegal made.block (judgement_line j) first
-    (ap (λ x. answer_of x a.told a.status) out ∙ ap (λ x. answer_of [] x a.status) told ∙ ap (λ x. answer_of [] (illegal_line j) x) status)
+    IsReport.illegal made.block (judgement_line j) first is
+
+-- an answer of these parts
+pub answer_made : (form : ReportForm) (text notes lent : List ℕ) (ss : List Summary) (out told : List ℕ) (status : ℕ) → out ≡ form_of form text ss → told ≡ notes → lent ≡ notes
+    → status ≡ (if length lent == 0 then status_of_summaries ss else 3) → answer_of out told status ≡ reported form text notes ss
+answer_made form text notes lent ss out told status out_is told_is same status_is =
+    ap₂ (λ o t. answer_of o t status) out_is told_is
+    ∙ ap (λ s. answer_of (form_of form text ss) notes s) (status_is ∙ ap (λ l. if length l == 0 then status_of_summaries ss else 3) same)
 
 -- ---- blocks that a run writes
 
@@ -161,9 +164,10 @@ module _ (kind : Kind) (r : Results) (ran : WereRun kind r) where
       ap (λ x. answer_of x a.told a.status) two.0 ∙ ap (λ x. answer_of lines x a.status) told ∙ ap (λ x. answer_of lines [] x) status_is
 
   -- the report of what a run wrote: none of it is illegal
-  reported_so : (form : ReportForm) (a : Answer) → IsReport form (blocks_text kind r) (blocks_of kind 1 r.finished) a
-      → a ≡ reported form (blocks_text kind r) (map case_summary r.finished)
-  reported_so form a (IsReport.legal lines checks is) = is ∙ ap (reported form (blocks_text kind r)) (summaries_written kind 1 r.finished ran.each)
+  reported_so : (form : ReportForm) (a : Answer) → IsReport form (blocks_text kind r) (blocks_of kind 1 r.finished) [] [] a
+      → a ≡ reported form (blocks_text kind r) [] (map case_summary r.finished)
+  reported_so form a (IsReport.legal lines checks is) =
+      is ∙ ap (reported form (blocks_text kind r) []) (append-nil (map summary_at (blocks_of kind 1 r.finished)) ∙ summaries_written kind 1 r.finished ran.each)
   reported_so form a (IsReport.illegal b line first is) =
       absurd (none_illegal (blocks_of kind 1 r.finished) b line (are_right kind 1 r.finished ran.each) first)
 

@@ -3,6 +3,9 @@ use Rattle.std.specs.Prelude.{ℕ, suc, ◌≡◌, ◌==◌, ◌≤◌, ◌&&◌
 use Rattle.std.specs.List.{flat_map, list_any, starts_with}
 use Rattle.std.specs.Option.{option_map_or}
 use Rattle.tc_command.specs.declared.task.Choice.{Choice}
+use Rattle.tc_command.specs.declared.task.ReportForm.{ReportForm}
+use Rattle.tc_program.specs.declared.reply.Answer.{Answer}
+use Rattle.tc_program.specs.Report.{IsReport}
 use Rattle.tc_evidence.specs.declared.block.Block.{Block}
 use Rattle.tc_evidence.specs.Line.{entries_of}
 use Rattle.tc_evidence.specs.Text.{AreEvidence}
@@ -119,3 +122,14 @@ abbrev pub RefusesAgainst : Choice → List ℕ → RunFault → Type 0
 RefusesAgainst choice text (F.Text fault) =
     ((cases : CampaignView) × AreChosen choice (script_part text) cases) × RefusesHistory (blocks_part text) (F.Text fault)
 RefusesAgainst choice text fault = RefusesChoice choice (script_part text) fault
+
+-- The text is a script, and histories and evidence after it. Their test cases are reported, and after them the chosen ones that
+-- are missing; what is wrong goes to standard error.
+pub record IsReportedAgainst (form : ReportForm) (choice : Choice) (text : List ℕ) (a : Answer) : Type 0 where
+  pub cases : CampaignView
+  pub chosen : AreChosen choice (script_part text) cases
+  pub blocks : List Block
+  pub evidence : AreEvidence (blocks_part text) blocks
+  pub notes : List ℕ
+  pub compared : (all : List Block) → AreEvidence (blocks_part text) all → IsCompared cases all notes
+  pub made : (all : List Block) → AreEvidence (blocks_part text) all → IsReport form (blocks_part text) all (missing (reverse all) cases) notes a

@@ -5,6 +5,7 @@ use Rattle.tc_entry.specs.declared.limits.TheConstants.{BEHAVIOURS}
 use Rattle.tc_script.specs.Names.{has_twice}
 use Rattle.tc_program.specs.Compared.{AreJudged, IsCompared, IsJudged, is_late, is_met, missing}
 use Rattle.tc_program.specs.declared.compare.Comparing.{Comparing}
+use Rattle.tc_program.specs.declared.compare.Comparison.{Comparison}
 use Rattle.tc_program.specs.declared.compare.Wrong.{Wrong}
 use Rattle.tc_verdict.specs.declared.verdict.Verdict.{Verdict}
 use Rattle.tc_stream.specs.declared.input.InputFault.{InputFault}
@@ -312,10 +313,13 @@ pub record AreComparable (ready : List (Case ScriptView)) : Type 0 where
   pub distinct : has_twice (map (λ k. k.name) ready) ≡ false
   pub few : All (λ k. length k.jobs.items ≤ BEHAVIOURS) ready
 
--- this is said of the blocks that the text spells, next to the test cases of which these are made
-abbrev pub Compares : List (Case ScriptView) → List ℕ → List ℕ → Type 0
-Compares ready text notes =
-    (cases : CampaignView) (blocks : List Block) → AllZip IsCaseOf cases ready → AreEvidence text blocks → IsCompared cases blocks notes
+-- this is said of blocks next to test cases, and these are missing
+abbrev pub Finds : CampaignView → List Block → Comparison → Type 0
+Finds cases blocks r = IsCompared cases blocks r.notes.items × (r.missing.items ≡ missing (reverse blocks) cases)
+
+-- the same of the blocks that the text spells, next to the test cases of which these are made
+abbrev pub Compares : List (Case ScriptView) → List ℕ → Comparison → Type 0
+Compares ready text r = (cases : CampaignView) (blocks : List Block) → AllZip IsCaseOf cases ready → AreEvidence text blocks → Finds cases blocks r
 
 -- as much is kept of each test case, and its behaviours are few
 pub record IsWhole (c : Comparing) : Type 0 where

@@ -7,7 +7,7 @@ use Rattle.tc_program.specs.declared.limits.TheConstants.{HISTORY_LIMIT, SCRIPT_
 -- the bytes of the input of a task: a text of histories, otherwise a script or a list of moves
 abbrev pub limit_of : Task → ℕ
 limit_of (T.Check explains) = HISTORY_LIMIT
-limit_of (T.Compare choice) = HISTORY_LIMIT
+limit_of (T.Compare form choice) = HISTORY_LIMIT
 limit_of (T.Report form explains) = HISTORY_LIMIT
 limit_of task = SCRIPT_LIMIT
 

@@ -1,5 +1,5 @@
 -- What a task makes of its text, and what a call over a reader and a writer returns.
-use Rattle.std.specs.Prelude.{ℕ, ◌≡◌, ◌⊎◌, List, [], MatchResult, Option, Result, Ok, Err}
+use Rattle.std.specs.Prelude.{ℕ, ◌≡◌, ◌⊎◌, List, [], MatchResult, Option, Some, None, Result, Ok, Err}
 use Rattle.std.specs.Io.KnownBytes.{Appends, Keeps}
 use Rattle.tc_stream.specs.Output.{AppendsPrefix}
 use Rattle.tc_command.specs.declared.task.Choice.{Choice}
@@ -10,7 +10,7 @@ use Rattle.tc_program.specs.declared.fault.RunFault.{RunFault}
 use Rattle.tc_program.specs.declared.fault.RunFault.TheVariants as F
 use Rattle.tc_program.specs.declared.reply.Answer.{Answer}
 use Rattle.tc_program.specs.Check.{IsChecked, RefusesHistory}
-use Rattle.tc_program.specs.Compared.{IsCheckedAgainst, RefusesAgainst}
+use Rattle.tc_program.specs.Compared.{IsCheckedAgainst, IsReportedAgainst, RefusesAgainst}
 use Rattle.tc_program.specs.Choosing.{AreChosen, RefusesChoice, RefusesScript, list_text}
 use Rattle.tc_program.specs.Explore.{Explores}
 use Rattle.tc_program.specs.Input.{IsRead, IsUnread}
@@ -31,7 +31,8 @@ IsSilent Is a = Is a.out a.status × (a.told ≡ [])
 abbrev pub IsMade : Task → List ℕ → Result Answer RunFault → Type 0
 IsMade (T.Replay e) text made = MatchResult made (IsSilent (Replays text)) (RefusesMoves text)
 IsMade (T.Check e) text made = MatchResult made (IsSilent (IsChecked text)) (RefusesHistory text)
-IsMade (T.Compare choice) text made = MatchResult made (IsSilent (IsCheckedAgainst choice text)) (RefusesAgainst choice text)
+IsMade (T.Compare None choice) text made = MatchResult made (IsSilent (IsCheckedAgainst choice text)) (RefusesAgainst choice text)
+IsMade (T.Compare (Some form) choice) text made = MatchResult made (IsReportedAgainst form choice text) (RefusesAgainst choice text)
 IsMade (T.Report form e) text made = MatchResult made (IsReported form text) (RefusesHistory text)
 IsMade (T.Explore h d n) text made = MatchResult made (IsSilent (Explores h d n text)) (RefusesScript text)
 IsMade (T.List choice) text made = MatchResult made (IsListed choice text) (RefusesChoice choice text)

@@ -1,5 +1,5 @@
 -- What `report` writes of histories and evidence.
-use Rattle.std.specs.Prelude.{ℕ, ◌≡◌, true, List, [], ◌∷◌, ◌++◌, codes, map}
+use Rattle.std.specs.Prelude.{ℕ, ◌≡◌, ◌==◌, true, if◌then◌else◌, List, [], ◌∷◌, ◌++◌, codes, length, map}
 use Rattle.tc_command.specs.declared.command.TheConstants.{VERSION}
 use Rattle.tc_command.specs.declared.task.ReportForm.{ReportForm}
 use Rattle.tc_command.specs.declared.task.ReportForm.TheVariants as Forms
@@ -11,7 +11,8 @@ use Rattle.tc_report.specs.declared.summary.Summary.{Summary}
 use Rattle.tc_report.specs.Csv.{csv_of}
 use Rattle.tc_report.specs.Junit.{junit_of}
 use Rattle.tc_report.specs.Status.{status_of_summaries}
-use Rattle.tc_report.specs.Summary.{block_summary}
+use Rattle.tc_report.specs.Summary.{bare_summary, block_summary}
+use Rattle.tc_report.specs.declared.results.CaseEnd.TheVariants as C
 use Rattle.tc_program.specs.declared.reply.Answer.{Answer}
 use Rattle.tc_program.specs.Check.{Checks, IsIllegalLine}
 
@@ -21,9 +22,10 @@ form_of Forms.Csv text ss = csv_of ss
 form_of Forms.Junit text ss = junit_of VERSION.now ss
 form_of Forms.Html text ss = page_of text
 
--- what is answered for test cases: their form, and their status
-abbrev pub reported : ReportForm → List ℕ → List Summary → Answer
-reported form text ss = record { out = form_of form text ss; told = []; status = status_of_summaries ss }
+-- what is answered for test cases, with these lines for standard error: their form, and their status, or 3 if there is a line
+abbrev pub reported : ReportForm → List ℕ → List ℕ → List Summary → Answer
+reported form text notes ss =
+    record { out = form_of form text ss; told = notes; status = if length notes == 0 then status_of_summaries ss else 3 }
 
 -- what is answered if a block is not legal: nothing is written, its line of `check` is printed, and the status is 3
 abbrev pub unreported : List ℕ → Answer
@@ -38,14 +40,19 @@ pub record IsFirstIllegal (blocks : List Block) (b : Block) (line : List ℕ) : 
   pub legal : Checks before lines true
   pub illegal : IsIllegalLine b line
 
--- what is answered for the blocks of a text: `check` finds each legal, or this is the first that it does not
-pub data IsReport (form : ReportForm) (text : List ℕ) (blocks : List Block) (a : Answer) : Type 0 where
+-- the test cases of blocks, and after them those of these names, of which there is none
+abbrev pub summaries_of : List Block → List (List ℕ) → List Summary
+summaries_of blocks missing = map (λ b. block_summary (history_of b)) blocks ++ map (bare_summary C.Missing) missing
+
+-- what is answered for the blocks of a text and missing test cases, with these lines for standard error: `check` finds each
+-- block legal, or this is the first that it does not
+pub data IsReport (form : ReportForm) (text : List ℕ) (blocks : List Block) (missing : List (List ℕ)) (notes : List ℕ) (a : Answer) : Type 0 where
   legal : (lines : List ℕ) → Checks blocks lines true
-      → a ≡ reported form text (map (λ b. block_summary (history_of b)) blocks) → IsReport form text blocks a
-  illegal : (b : Block) (line : List ℕ) → IsFirstIllegal blocks b line → a ≡ unreported line → IsReport form text blocks a
+      → a ≡ reported form text notes (summaries_of blocks missing) → IsReport form text blocks missing notes a
+  illegal : (b : Block) (line : List ℕ) → IsFirstIllegal blocks b line → a ≡ unreported line → IsReport form text blocks missing notes a
 
 -- the text is that of histories and evidence, and whatever blocks it is of, this is answered for them
 pub record IsReported (form : ReportForm) (text : List ℕ) (a : Answer) : Type 0 where
   pub blocks : List Block
   pub evidence : AreEvidence text blocks
-  pub made : (all : List Block) → AreEvidence text all → IsReport form text all a
+  pub made : (all : List Block) → AreEvidence text all → IsReport form text all [] [] a

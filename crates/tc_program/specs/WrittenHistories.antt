@@ -34,5 +34,5 @@ found_legal r = record { out = flat_map legal_case r.finished; told = []; status
 pub record AreFoundLegal (text : List ℕ) (r : Results) : Type 0 where
   pub checked_so : (explains : Bool) (a : Answer) → IsMade (T.Check explains) text (Ok a) → a ≡ found_legal r
   pub reported_so : (form : ReportForm) (explains : Bool) (a : Answer) → IsMade (T.Report form explains) text (Ok a)
-      → a ≡ reported form text (map case_summary r.finished)
+      → a ≡ reported form text [] (map case_summary r.finished)
   pub refused_so : (fault : RunFault) → RefusesHistory text fault → fault ≡ F.NoMemory

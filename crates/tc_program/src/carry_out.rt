@@ -8,7 +8,7 @@ ghost use Rattle.tc_program.specs.Streams.{held};
 
 use crate::cases::ready_cases;
 use crate::check::check_text;
-use crate::compare::compare_text;
+use crate::compare::{compare_text, report_compared};
 use crate::explained::refuse_text;
 use crate::explore::explore_text;
 use crate::fault::RunFault;
@@ -63,7 +63,11 @@ pub(crate) fn made_text(alloc: Global, task: &Task, text: &[u8]) -> Result<Answe
     match task {
         Task::Replay { .. } => replay_text(alloc, text),
         Task::Check { .. } => check_text(alloc, text),
-        Task::Compare(choice) => compare_text(alloc, choice, text),
+        Task::Compare { form: None, choice } => compare_text(alloc, choice, text),
+        Task::Compare {
+            form: Some(form),
+            choice,
+        } => report_compared(alloc, *form, choice, text),
         Task::Report { form, .. } => report_text(alloc, *form, text),
         Task::Explore {
             histories,

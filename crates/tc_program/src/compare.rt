@@ -7,8 +7,8 @@ ghost use Rattle.tc_evidence.specs.Text.{AreEvidence};
 ghost use Rattle.tc_script.specs.Campaign.{CampaignView};
 ghost use Rattle.tc_script.specs.Names.{among};
 ghost use Rattle.tc_program.specs.Check.{RefusesHistory};
-ghost use Rattle.tc_program.specs.Compared.{IsCheckedAgainst, IsCompared, IsCourseOf, RefusesAgainst, note, place, script_part, wrong_text};
-ghost use Rattle.tc_program.specs.Inside.{AddsIfMissing, AreComparable, AreMissing, AreReady, Compares, IsCaseOf, IsWhole, Judges, SaysNext, StandsBeside};
+ghost use Rattle.tc_program.specs.Compared.{IsCheckedAgainst, IsCourseOf, IsReportedAgainst, RefusesAgainst, note, place, script_part, wrong_text};
+ghost use Rattle.tc_program.specs.Inside.{AddsIfMissing, AreComparable, AreMissing, AreReady, Compares, Finds, IsCaseOf, IsWhole, Judges, SaysNext, StandsBeside};
 ghost use Rattle.tc_program.specs.declared.compare.Wrong.TheVariants.{Missing};
 
 use crate::cases::chosen_cases;
@@ -16,11 +16,12 @@ use crate::check::check_lines;
 use crate::fault::RunFault;
 use crate::outcome::REFUSED;
 use crate::reply::Answer;
+use crate::report::{read_reported, report_blocks};
 use crate::split::split;
 use indexmap::IndexSet;
 use std::alloc::Global;
 use tc_campaign::Case;
-use tc_command::Choice;
+use tc_command::{Choice, ReportForm};
 use tc_entry::{Name, Sequence};
 use tc_evidence::{Block, read_evidence};
 use tc_explore::is_course;
@@ -222,15 +223,23 @@ fn append_missing(out: &mut Vec<u8>, missing: &[Name]) -> Result<(), NoMemory>
     Ok(())
 }
 
-/// What is wrong with the blocks as courses of the test cases. A line names each block that is wrong, in their order, and
-/// then one each test case that has no block.
+/// What is wrong with blocks as courses of test cases.
+#[derive(Drop)]
+pub(crate) struct Comparison {
+    /// A line for each block that is wrong, in their order, and then one for each test case that is missing.
+    pub notes: Vec<u8>,
+    /// The names of the test cases that have no block, in their order.
+    pub missing: Vec<Name>,
+}
+
+/// What is wrong with the blocks as courses of the test cases.
 pub(crate) fn compare(
     alloc: Global,
     ready: Vec<Case<Script>>,
     blocks: &[Block],
-) -> Result<Vec<u8>, NoMemory>
+) -> Result<Comparison, NoMemory>
     requires { AreComparable ready.items }
-    ensures { IfOk result (λ v. (cases : CampaignView) → AllZip IsCaseOf cases ready.items → IsCompared cases blocks.now v.items) }
+    ensures { IfOk result (λ r. (cases : CampaignView) → AllZip IsCaseOf cases ready.items → Finds cases blocks.now r) }
 {
     let mut comparing = Comparing::new(alloc, ready)?;
     let mut notes = Vec::new(alloc);
@@ -239,7 +248,7 @@ pub(crate) fn compare(
     }
     let missing = comparing.missing(alloc)?;
     append_missing(&mut notes, missing.as_slice())?;
-    Ok(notes)
+    Ok(Comparison { notes, missing })
 }
 
 // The blocks that the text spells.
@@ -252,9 +261,13 @@ fn read_blocks(alloc: Global, text: &[u8]) -> Result<Sequence<Block>, RunFault>
 }
 
 // What is wrong with the blocks that the text spells as courses of the test cases.
-fn compare_blocks(alloc: Global, ready: Vec<Case<Script>>, text: &[u8]) -> Result<Vec<u8>, RunFault>
+fn compare_blocks(
+    alloc: Global,
+    ready: Vec<Case<Script>>,
+    text: &[u8],
+) -> Result<Comparison, RunFault>
     requires { AreComparable ready.items }
-    ensures done { IfOk result (λ v. Compares ready.items text.now v.items) }
+    ensures done { IfOk result (Compares ready.items text.now) }
     ensures refused { IfErr result (RefusesHistory text.now) }
 {
     let blocks = read_blocks(alloc, text)?;
@@ -281,11 +294,32 @@ pub(crate) fn compare_text(alloc: Global, choice: &Choice, text: &[u8]) -> Resul
     let ready = chosen_before(alloc, choice, text)?;
     let (_, rest) = split(text);
     let (mut out, checked) = check_lines(alloc, rest)?;
-    let notes = compare_blocks(alloc, ready, rest)?;
+    let Comparison { notes, missing } = compare_blocks(alloc, ready, rest)?;
+    drop(missing);
     out.extend_from_slice(notes.as_slice())?;
     Ok(Answer {
         out: Sequence::new(out),
         told: Sequence::new(Vec::new(alloc)),
         status: if notes.is_empty() { checked } else { REFUSED },
     })
+}
+
+/// What `report --script` makes of a script with histories and evidence after it: what `report` makes of these, with the
+/// chosen test cases that are missing. What is wrong goes to standard error, and then the status is 3.
+#[tactic(auto, using(crate::proofs::Beside::refusing_rules))]
+pub(crate) fn report_compared(
+    alloc: Global,
+    form: ReportForm,
+    choice: &Choice,
+    text: &[u8],
+) -> Result<Answer, RunFault>
+    ensures done { IfOk result (IsReportedAgainst form choice.now text.now) }
+    ensures refused { IfErr result (RefusesAgainst choice.now text.now) }
+{
+    let ready = chosen_before(alloc, choice, text)?;
+    let (_, rest) = split(text);
+    let reporting = read_reported(alloc, rest)?;
+    let Comparison { notes, missing } = compare_blocks(alloc, ready, rest)?;
+    let answer = report_blocks(alloc, form, rest, reporting, missing.as_slice(), notes)?;
+    Ok(answer)
 }

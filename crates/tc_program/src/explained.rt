@@ -23,7 +23,7 @@ fn explains(task: &Task) -> bool
             *explains
         }
         Task::Run(options) => options.explains,
-        Task::Compare(_) | Task::Serve | Task::List(_) | Task::Explore { .. } => false,
+        Task::Compare { .. } | Task::Serve | Task::List(_) | Task::Explore { .. } => false,
     }
 }
 
@@ -34,7 +34,7 @@ fn refusal_by(task: &Task, kind: TextKind) -> Option<Refusal>
     match task {
         Task::Replay { .. } => Some(Refusal::Moves(kind)),
         Task::Check { .. } | Task::Report { .. } => Some(Refusal::Histories(kind)),
-        Task::Compare(_) | Task::Run(_) | Task::Serve | Task::List(_) | Task::Explore { .. } =>
+        Task::Compare { .. } | Task::Run(_) | Task::Serve | Task::List(_) | Task::Explore { .. } =>
             None,
     }
 }

@@ -15,7 +15,7 @@ pub(crate) fn limit_of(task: &Task) -> usize
     ensures { result ≡ spec_limit task.now }
 {
     match task {
-        Task::Check { .. } | Task::Compare(_) | Task::Report { .. } => HISTORY_LIMIT,
+        Task::Check { .. } | Task::Compare { .. } | Task::Report { .. } => HISTORY_LIMIT,
         Task::Replay { .. } | Task::Explore { .. } | Task::List(_) | Task::Run(_) | Task::Serve =>
             SCRIPT_LIMIT,
     }

@@ -1,11 +1,14 @@
 //! The subcommand `report`.
-ghost use Rattle.std.specs.Prelude.{◌≡◌, ◌++◌, List, IfOk, IfErr, OnOk};
+ghost use Rattle.std.specs.Prelude.{◌≡◌, ◌==◌, ◌++◌, List, IfOk, IfErr, OnOk, if◌then◌else◌, length, map};
 ghost use Rattle.tc_evidence.specs.Line.{entry_of};
 ghost use Rattle.tc_evidence.specs.Text.{AreEvidence};
 ghost use Rattle.tc_evidence.specs.declared.block.Block.{Block as AnyBlock};
 ghost use Rattle.tc_program.specs.Check.{RefusesHistory};
-ghost use Rattle.tc_program.specs.Inside.{IsRecorded, Summarizes, illegal_line};
-ghost use Rattle.tc_program.specs.Report.{IsReported, form_of};
+ghost use Rattle.tc_program.specs.Inside.{IsRecorded, Summarizes, illegal_line, judgement_line};
+ghost use Rattle.tc_program.specs.Report.{IsReport, IsReported, form_of, reported, unreported};
+ghost use Rattle.tc_report.specs.Status.{status_of_summaries};
+ghost use Rattle.tc_report.specs.Summary.{bare_summary as bare};
+ghost use Rattle.tc_report.specs.declared.results.CaseEnd.TheVariants.{Missing};
 
 use crate::check_lines::append_judgement;
 use crate::fault::RunFault;
@@ -14,10 +17,10 @@ use crate::outcome::REFUSED;
 use crate::reply::Answer;
 use std::alloc::Global;
 use tc_command::{ReportForm, VERSION};
-use tc_entry::Sequence;
+use tc_entry::{Name, Sequence};
 use tc_evidence::{Header, Line, TakesEvidence, read_evidence_into};
 use tc_page::html_page;
-use tc_report::{Summary, csv_report, junit_report, worst_status};
+use tc_report::{CaseEnd, Summary, bare_summary, csv_report, junit_report, worst_status};
 use tc_table::{Entry, NoMemory, Verdict};
 use tc_text::append_text;
 
@@ -104,9 +107,9 @@ impl TakesEvidence for Reporting {
     }
 }
 
-// The test cases of the blocks that the text spells, and the first block that is not legal; otherwise the text's first
-// fault, or NoMemory.
-fn read_reported(alloc: Global, text: &[u8]) -> Result<Reporting, RunFault>
+/// The test cases of the blocks that the text spells, and the first block that is not legal; otherwise the text's first
+/// fault, or NoMemory.
+pub(crate) fn read_reported(alloc: Global, text: &[u8]) -> Result<Reporting, RunFault>
     ensures done { OnOk result ((blocks : List AnyBlock) × AreEvidence text.now blocks) }
     ensures refused { IfErr result (RefusesHistory text.now) }
     ensures only { OnOk result ((blocks : List AnyBlock) → AreEvidence text.now blocks → IfOk result (λ r. Summarizes blocks r.summaries.items r.illegal)) }
@@ -141,27 +144,103 @@ fn illegal_text(alloc: Global, judgement: &Judgement) -> Result<Vec<u8>, NoMemor
     Ok(line)
 }
 
-/// What `report` makes of a text of histories and evidence. Each block is replayed on a table of its own. If all are
-/// legal, their form is written; otherwise the line of `check` for the first that is not is printed.
+// Adds the test cases of these names, which are missing.
+fn add_missing(alloc: Global, cases: &mut Vec<Summary>, missing: &[Name]) -> Result<(), NoMemory>
+    ensures { OnOk result (cases.new.items ≡ cases.old.items ++ map (bare Missing) missing.now) }
+{
+    for name in missing {
+        cases.push(bare_summary(alloc, CaseEnd::Missing, name))?;
+    }
+    Ok(())
+}
+
+// The status of test cases, or 3 if there are lines for standard error.
+fn status_with(notes: &[u8], cases: &[Summary]) -> u8
+    ensures { result ≡ (if length notes.now == 0 then status_of_summaries cases.now else 3) }
+{
+    if notes.is_empty() {
+        worst_status(cases)
+    } else {
+        REFUSED
+    }
+}
+
+// The answer for test cases, with lines for standard error.
+fn legal_answer(
+    alloc: Global,
+    form: ReportForm,
+    text: &[u8],
+    cases: &[Summary],
+    notes: Vec<u8>,
+) -> Result<Answer, NoMemory>
+    ensures { IfOk result (λ a. a ≡ reported form text.now notes.items cases.now) }
+{
+    let out = form_text(alloc, form, text, cases)?;
+    let status = status_with(notes.as_slice(), cases);
+    Ok(Answer {
+        out: Sequence::new(out),
+        told: Sequence::new(notes),
+        status,
+    })
+}
+
+// The answer for blocks of which this is the first that is not legal.
+fn illegal_answer(alloc: Global, judgement: &Judgement) -> Result<Answer, NoMemory>
+    ensures { IfOk result (λ a. a ≡ unreported (judgement_line judgement.now)) }
+{
+    let line = illegal_text(alloc, judgement)?;
+    Ok(Answer {
+        out: Sequence::new(Vec::new(alloc)),
+        told: Sequence::new(line),
+        status: REFUSED,
+    })
+}
+
+// The answer for the test cases of legal blocks and missing ones, with lines for standard error.
+fn answer_with_missing(
+    alloc: Global,
+    form: ReportForm,
+    text: &[u8],
+    cases: &mut Vec<Summary>,
+    missing: &[Name],
+    notes: Vec<u8>,
+) -> Result<Answer, NoMemory>
+    ensures { IfOk result (λ a. a ≡ reported form text.now notes.items (cases.old.items ++ map (bare Missing) missing.now)) }
+{
+    add_missing(alloc, cases, missing)?;
+    legal_answer(alloc, form, text, cases.as_slice(), notes)
+}
+
+/// The answer for the blocks of a text and missing test cases, with lines for standard error. If all blocks are legal, their
+/// form is written; otherwise the line of `check` for the first that is not is printed.
+pub(crate) fn report_blocks(
+    alloc: Global,
+    form: ReportForm,
+    text: &[u8],
+    reporting: Reporting,
+    missing: &[Name],
+    notes: Vec<u8>,
+) -> Result<Answer, NoMemory>
+    ensures { IfOk result (λ a. (blocks : List AnyBlock) → Summarizes blocks reporting.summaries.items reporting.illegal
+        → IsReport form text.now blocks missing.now notes.items a) }
+{
+    let Reporting {
+        mut summaries,
+        illegal,
+        ..
+    } = reporting;
+    match illegal {
+        None => answer_with_missing(alloc, form, text, &mut summaries, missing, notes),
+        Some(judgement) => illegal_answer(alloc, &judgement),
+    }
+}
+
+/// What `report` makes of a text of histories and evidence, each block of which is replayed on a table of its own.
 pub(crate) fn report_text(alloc: Global, form: ReportForm, text: &[u8]) -> Result<Answer, RunFault>
     ensures done { IfOk result (IsReported form text.now) }
     ensures refused { IfErr result (RefusesHistory text.now) }
 {
-    let Reporting {
-        summaries,
-        illegal,
-        ..
-    } = read_reported(alloc, text)?;
-    match illegal {
-        None => Ok(Answer {
-            out: Sequence::new(form_text(alloc, form, text, summaries.as_slice())?),
-            told: Sequence::new(Vec::new(alloc)),
-            status: worst_status(summaries.as_slice()),
-        }),
-        Some(judgement) => Ok(Answer {
-            out: Sequence::new(Vec::new(alloc)),
-            told: Sequence::new(illegal_text(alloc, &judgement)?),
-            status: REFUSED,
-        }),
-    }
+    let reporting = read_reported(alloc, text)?;
+    let answer = report_blocks(alloc, form, text, reporting, &[], Vec::new(alloc))?;
+    Ok(answer)
 }

@@ -55,6 +55,8 @@ ttrun report --explain --junit => report --junit --explain
 ttrun report --csv => report --csv
 ttrun report --junit => report --junit
 ttrun report --html => report --html
+ttrun report --script --csv => report --csv --script
+ttrun report --shard=1/2 --junit --only a --script => report --junit --script --only=a --shard=1/2
 ttrun serve => serve
 ttrun serve -- => serve
 ttrun explore => explore --states=100000
@@ -119,17 +121,18 @@ fn append_list(out: &mut String, choice: &Choice) -> Result<(), Fail> {
     append_choice(out, choice)
 }
 
-fn append_script(out: &mut String, choice: &Choice) -> Result<(), Fail> {
-    out.push_str("check --script")?;
-    append_choice(out, choice)
-}
-
 fn word_of_report(form: ReportForm) -> &'static str {
     match form {
         ReportForm::Csv => "report --csv",
         ReportForm::Junit => "report --junit",
         ReportForm::Html => "report --html",
     }
+}
+
+fn append_script(out: &mut String, form: Option<ReportForm>, choice: &Choice) -> Result<(), Fail> {
+    out.push_str(form.map_or("check", word_of_report))?;
+    out.push_str(" --script")?;
+    append_choice(out, choice)
 }
 
 fn append_explaining(out: &mut String, word: &str, explains: bool) -> Result<(), Fail> {
@@ -154,7 +157,7 @@ fn append_task(out: &mut String, task: &Task) -> Result<(), Fail> {
     match task {
         Task::Replay { explains } => append_explaining(out, "replay", *explains),
         Task::Check { explains } => append_explaining(out, "check", *explains),
-        Task::Compare(choice) => append_script(out, choice),
+        Task::Compare { form, choice } => append_script(out, *form, choice),
         Task::Run(options) => append_run(out, options),
         Task::Serve => Ok(out.push_str("serve")?),
         Task::List(choice) => append_list(out, choice),

@@ -50,6 +50,7 @@ end-unquoted : (ending : CaseEnd) → IsUnquoted (end_word ending)
 end-unquoted (C.Over v) = verdict-unquoted v
 end-unquoted C.Unfinished = refl
 end-unquoted (C.Aborted why) = refl
+end-unquoted C.Missing = refl
 
 counts-unquoted : (ns : List ℕ) (rest : List (List ℕ)) → All IsBoundedDecimal ns → All IsUnquoted rest → All IsUnquoted (map decimal ns ++ rest)
 counts-unquoted [] rest digits plain = plain

@@ -75,6 +75,7 @@ end_element (C.Over V.Fail) cause = verdict_element (codes "<failure type=\"fail
 end_element (C.Over V.Error) cause = verdict_element (codes "<error type=\"error\" message=\"") V.Error cause (codes "</error>\n")
 end_element C.Unfinished cause = codes "<error type=\"unfinished\" message=\"the test case is not over\"/>\n"
 end_element (C.Aborted why) cause = codes "<error type=\"aborted\" message=\"" ++ (refusal_text why ++ codes "\"/>\n")
+end_element C.Missing cause = codes "<error type=\"missing\" message=\"there is no history of the test case\"/>\n"
 
 -- the first tag of a test case, with its name
 unfoldable pub name_tag : List ℕ → List ℕ

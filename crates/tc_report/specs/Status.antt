@@ -24,7 +24,7 @@ abbrev pub ending_status : CampaignEnd → Verdict → ℕ
 ending_status (E.Aborted name why) v = 3
 ending_status ending v = verdict_status v
 
--- the verdict that an end counts as: a test case that is not over, or has no report, counts as error
+-- the verdict that an end counts as: a test case that is not over, is missing, or has no report, counts as error
 abbrev pub counted_as : CaseEnd → Verdict
 counted_as (C.Over v) = v
 counted_as ending = V.Error

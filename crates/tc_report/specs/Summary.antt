@@ -33,9 +33,13 @@ case_summary f =
     let r = f.report in
     record { name = f.name; locals = r.locals; ending = C.Over r.verdict; cause = cause_of (C.Over r.verdict) r.history }
 
+-- the test case of this name that ended so, without a local verdict
+abbrev pub bare_summary : CaseEnd → List ℕ → Summary
+bare_summary ending name = record { name = name; locals = []; ending = ending; cause = None }
+
 -- the test case that has no report, if there is one
 abbrev pub aborted_summary : CampaignEnd → List Summary
-aborted_summary (E.Aborted name why) = record { name = name; locals = []; ending = C.Aborted why; cause = None } ∷ []
+aborted_summary (E.Aborted name why) = bare_summary (C.Aborted why) name ∷ []
 aborted_summary ending = []
 
 -- each finished test case, and the one that has no report

@@ -241,6 +241,10 @@ fn append_end_element(
             append_text(out, why.text())?;
             append_text(out, "\"/>\n")
         }
+        CaseEnd::Missing => append_text(
+            out,
+            "<error type=\"missing\" message=\"there is no history of the test case\"/>\n",
+        ),
     }
 }
 

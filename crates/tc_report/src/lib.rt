@@ -35,4 +35,4 @@ pub use records::{csv_report, write_csv};
 pub use report::{append_verdict, write_text};
 pub use results::{CampaignEnd, CaseEnd, Finished, Results, Tally};
 pub use status::{status_of, verdict_status, worst_status};
-pub use summary::{Summary, summaries_of_results, summary_of_case, summary_of_state};
+pub use summary::{Summary, bare_summary, summaries_of_results, summary_of_case, summary_of_state};

@@ -33,7 +33,7 @@ fn push_count(alloc: Global, row: &mut ByteRecord, count: usize) -> Result<(), N
     Ok(())
 }
 
-// The word for the end of a test case: its overall verdict, `unfinished` or `aborted`.
+// The word for the end of a test case: its overall verdict, `unfinished`, `aborted` or `missing`.
 fn end_word(ending: CaseEnd) -> &'static str
     ensures { result.now ≡ spec_word ending }
 {
@@ -41,6 +41,7 @@ fn end_word(ending: CaseEnd) -> &'static str
         CaseEnd::Over(verdict) => name_of(verdict),
         CaseEnd::Unfinished => "unfinished",
         CaseEnd::Aborted(_) => "aborted",
+        CaseEnd::Missing => "missing",
     }
 }
 

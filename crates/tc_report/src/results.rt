@@ -22,6 +22,8 @@ pub enum CaseEnd {
     Unfinished,
     /// It has no report.
     Aborted(CaseError),
+    /// Its script has it, and it has no history.
+    Missing,
 }
 
 /// How a campaign ended.

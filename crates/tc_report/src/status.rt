@@ -8,13 +8,13 @@ use crate::summary::Summary;
 use tc_entry::Verdict;
 use tc_verdict::worse_of;
 
-/// The verdict that an end counts as: error for a test case that is not over, or has no report.
+/// The verdict that an end counts as: error for a test case that is not over, is missing, or has no report.
 pub(crate) fn counted_as(ending: CaseEnd) -> Verdict
     ensures { result ≡ spec_counted ending }
 {
     match ending {
         CaseEnd::Over(verdict) => verdict,
-        CaseEnd::Unfinished | CaseEnd::Aborted(_) => Verdict::Error,
+        CaseEnd::Unfinished | CaseEnd::Aborted(_) | CaseEnd::Missing => Verdict::Error,
     }
 }
 
@@ -70,7 +70,7 @@ pub fn status_of(results: &Results) -> u8
 }
 
 /// The exit status: 0 if the worst overall verdict is none or pass, 1 if it is inconc or fail, 2 if it is error. A test
-/// case that is not over, or has no report, counts as error. It takes no memory.
+/// case that is not over, is missing, or has no report, counts as error. It takes no memory.
 pub fn worst_status(cases: &[Summary]) -> u8
     ensures { result ≡ status_of_summaries cases.now }
 {

@@ -2,7 +2,7 @@
 ghost use Rattle.std.specs.Prelude.{◌≡◌, ◌++◌, IfOk, OnOk, List, map, reverse};
 ghost use Rattle.tc_entry.specs.declared.entry.Entry.{Entry as AnyEntry};
 ghost use Rattle.tc_table.specs.Standing.{StandsFor};
-ghost use Rattle.tc_report.specs.Summary.{aborted_summary, case_summary, end_of, results_summaries, summary_of};
+ghost use Rattle.tc_report.specs.Summary.{aborted_summary, bare_summary as spec_bare, case_summary, end_of, results_summaries, summary_of};
 
 use crate::cause::{Cause, cause_of};
 use crate::results::{CampaignEnd, CaseEnd, Finished, Results};
@@ -70,6 +70,18 @@ pub fn summary_of_case(alloc: Global, case: &Finished) -> Result<Summary, NoMemo
     })
 }
 
+/// The summary of the test case of this name that ended so, without a local verdict.
+pub fn bare_summary(alloc: Global, ending: CaseEnd, name: &Name) -> Summary
+    ensures { result ≡ spec_bare ending name.now }
+{
+    Summary {
+        name: name.copy(),
+        locals: Sequence::new(Vec::new(alloc)),
+        ending,
+        cause: None,
+    }
+}
+
 // Adds the summary of the test case that has no report, if there is one.
 fn add_aborted(
     alloc: Global,
@@ -79,12 +91,7 @@ fn add_aborted(
     ensures { OnOk result (summaries.new.items ≡ summaries.old.items ++ aborted_summary ending.now) }
 {
     if let CampaignEnd::Aborted { name, why } = ending {
-        summaries.push(Summary {
-            name: name.copy(),
-            locals: Sequence::new(Vec::new(alloc)),
-            ending: CaseEnd::Aborted(*why),
-            cause: None,
-        })?;
+        summaries.push(bare_summary(alloc, CaseEnd::Aborted(*why), name))?;
     }
     Ok(())
 }

@@ -1,7 +1,6 @@
-use Rattle.std.proofs.Common.{rules, ◌≡◌, ◌∙◌, ◌<◌, ◌≤◌, ◌+◌, ◌++◌, ◌∷◌, [], List, length, get_or, reverse, take, ap, sym, subst}
+use Rattle.std.proofs.Common.{rules, ◌≡◌, ◌∙◌, ◌<◌, ◌+◌, ◌++◌, ◌∷◌, [], length, get_or, reverse, take, ap, sym, subst}
 use Rattle.std.specs.List.{flat_map}
 use Rattle.std.proofs.lemmas.List.{take_all}
-use Rattle.tc_evidence.specs.declared.block.Block.{Block}
 use Rattle.tc_program.specs.Compared.{AreJudged, missing, note}
 use Rattle.tc_program.specs.Inside.{StandsBeside}
 use Rattle.tc_program.specs.declared.compare.Wrong.TheVariants as W
@@ -36,9 +35,12 @@ returns c cases each =
     let so = c.loop-block.invariant.1 cases each in
     let whole : take c.loop-block.block-index blocks ≡ blocks = take_all c.loop-block.block-index blocks (search rules) in
     let beside = subst (λ l. StandsBeside cases (reverse l) c.loop-block.comparing) whole so.0 in
-    let names : c.as_slice.result.now ≡ missing (reverse blocks) cases = c.as_slice.ensures.value ∙ c.in_ok-missing.ensures cases (reverse blocks) beside in
-    record {
-      notes = c.loop-block.notes.items;
-      judged = subst (λ l. AreJudged cases (reverse l) c.loop-block.notes.items) whole so.1;
-      out_is = c.in_ok-append_missing.ensures ∙ ap (λ l. c.loop-block.notes.items ++ flat_map (λ n. note n W.Missing) l) names;
-    }
+    let names = c.in_ok-missing.ensures cases (reverse blocks) beside in
+    let lent : c.as_slice.result.now ≡ missing (reverse blocks) cases = c.as_slice.ensures.value ∙ names in (
+      record {
+        notes = c.loop-block.notes.items;
+        judged = subst (λ l. AreJudged cases (reverse l) c.loop-block.notes.items) whole so.1;
+        out_is = c.in_ok-append_missing.ensures ∙ ap (λ l. c.loop-block.notes.items ++ flat_map (λ n. note n W.Missing) l) lent;
+      },
+      names,
+    )

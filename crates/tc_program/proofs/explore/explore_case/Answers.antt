@@ -1,4 +1,4 @@
-use Rattle.std.proofs.Common.{rules, ℕ, ◌≡◌, ◌≤◌, ◌∙◌, List, length, ap, subst}
+use Rattle.std.proofs.Common.{rules, ◌≡◌, ◌≤◌, ◌∙◌, List, length, ap, subst}
 use Rattle.std.proofs.lemmas.List.{length-map}
 use Rattle.tc_step.specs.Steps.{ScriptView}
 use Rattle.tc_explore.specs.Course.{most_states}

@@ -1,5 +1,5 @@
-use Rattle.std.proofs.Common.{rules, ◌≡◌, ◌+◌, ◌==◌, ◌&&◌, ◌<◌, suc, length, get_or, drop, true, false, refl, arith, ap, ◌∙◌}
-use Rattle.tc_program.specs.Compared.{begins_block, script_bytes}
+use Rattle.std.proofs.Common.{rules, ◌≡◌, ◌&&◌, ◌<◌, length, drop, true, false, arith}
+use Rattle.tc_program.specs.Compared.{begins_block}
 use Rattle.tc_program.proofs.Splitting.{ends_here, goes_on}
 use Rattle.tc_program.proofs.split.script_bytes.Goals as goal
 

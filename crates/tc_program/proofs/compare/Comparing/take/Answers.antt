@@ -1,4 +1,4 @@
-use Rattle.std.proofs.Common.{rules, ◌≡◌, ◌∙◌, ◌<◌, ◌≤◌, ◌+◌, ◌≢◌, length, get_or, Some, None, true, false, slice_index_or, slice_get, refl, sym, subst, ap}
+use Rattle.std.proofs.Common.{rules, ◌≡◌, ◌∙◌, ◌<◌, ◌≤◌, ◌+◌, length, get_or, Some, None, true, false, slice_index_or, refl, sym, subst}
 use Rattle.std.proofs.lemmas.List.{get_or_default}
 use Rattle.tc_program.specs.Compared.{IsCourseOf, IsJudged, place}
 use Rattle.tc_program.specs.Scripted.{scripts_of}
