@@ -18,11 +18,12 @@ BLOCKS, SHOWN = "tests/documents/blocks.py", "tests/program/documents_run.py"
 RUN: Tuple[Tuple[str, str, str, str], ...] = (
     ("README.md", "./ttrun run < examples/restart.script", SHOWN, "cases"), ("README.md", "./gate", "tests/gate/run.py", "PARTS"),
     (PIPELINES, "", BLOCKS, "every_block_on_a_campaign_that_fails"), (GUIDE, "< examples/", SHOWN, "cases"),
-    (GUIDE, "< campaign.script", BLOCKS, "blocks_of_the_guide"), (GUIDE, "printf 'testcase", SHOWN, "shown_cases"),
+    (GUIDE, "", BLOCKS, "blocks_of_the_guide"), (GUIDE, "printf 'testcase", SHOWN, "shown_cases"),
     (GUIDE, "./ttrun explore --details < race.script", SHOWN, "shown_cases"),
     (LIBRARY, "cp -r crates/car_window", "tests/documents/tables.py", "the_copy_is_a_crate_as_the_claims_have_it"),
     (LIBRARY, "rt try > bench.history", "tests/documents/tables.py", "histories_of_a_bench_are_read"),
     ("docs/titan.md", "clients/titan/ttrun-titan", "tests/titan/command_tests.py", "the_commands_of_the_document_run"),
+    ("docs/benches.md", "", BLOCKS, "blocks_of_the_bench"),
     ("docs/benches.md", "bash heater.sh", "tests/python/document_tests.py", "the_bench_in_bash"),
     ("docs/benches.md", "< heater.evidence", "tests/documents/released.py", "the_archive_runs_benches"),
     ("clients/cpp/README.md", "c++ -std=c++17", "tests/cpp/run.py", "heater.cpp"),
