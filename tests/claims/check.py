@@ -376,6 +376,7 @@ def main() -> int:
         "the code that the documents quote stands in its crate": lambda: quoted_code(documents),
         "the commands that name an example name one, with words that there are": lambda: commands(documents),
         "a test runs each block of commands": lambda: shell.unrun(documents),
+        "a test runs each command with an input that a sentence has": lambda: shell.untyped(documents),
         "the options that the documents name are options": lambda: shell.no_options(documents),
         "a planted block of commands and a planted option are found": shell.unseen,
         "the lines of scripts next to those of TTCN-3 are read": shell.unread_lines,

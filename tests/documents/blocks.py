@@ -235,6 +235,24 @@ def evidence_that_was_cut(room: str, program: str) -> str:
     return "the missing test cases are named"
 
 
+def commands_in_the_text(room: str, program: str) -> str:
+    """The commands that the text of the pipelines shows: a pipe whose status is that of the last program, and the check of a shard."""
+    found = [it for line in read(TOP, PIPELINES).lines for it in re.findall(r"`([^`]*\| \./ttrun [^`]*)`", line)]
+    hold(len(found) == 2, f"{PIPELINES}: {found}")
+    pipe, check = found
+    it = Room(os.path.join(room, "typed", "it"), program)
+    for words, status in ((("bash", "-e"), 0), (("bash", "-eo", "pipefail"), WORST)):
+        ran = it.shell(words, pipe)
+        hold(ran.status == status and ran.output.count("legal ") == len(VERDICTS), f"{pipe}: {ran}")
+    hold(it.shell(SHELLS["github"], step("Shards", "part.1.history").text).status == 0, "the shards")
+    ran = it.shell(SHELLS["gitlab"], check)
+    hold(ran.status == 0 and [line.split()[1] for line in ran.output.splitlines()] == list(VERDICTS)[::2], f"{check}: {ran}")
+    it.write("part.1.history", it.text("part.1.history").partition("history 2 t_none ")[0])
+    ran = it.shell(SHELLS["gitlab"], check)
+    hold(ran.status == 3 and ran.output.endswith("missing t_error\n"), f"{check}: {ran}")
+    return f"{len(found)} commands"
+
+
 def typed_blocks(path: str) -> Iterator[Tuple[int, str, List[str]]]:
     """The blocks of a document that a reader types into a shell, each with the files that it writes."""
     for block in read(TOP, path).blocks():
@@ -329,6 +347,6 @@ def the_model_of_a_bench(room: str, program: str) -> str:
 TESTS: Tuple[Callable[[str, str], str], ...] = (
     every_block_on_a_campaign_that_fails, every_block_on_a_campaign_that_passes, a_step_that_runs_out_of_time,
     a_step_on_a_script_that_is_refused, a_step_that_keeps_races_out, evidence_that_was_changed, evidence_that_was_cut,
-    evidence_of_a_release, evidence_of_a_campaign_that_runs_out_of_time, blocks_of_the_guide, blocks_of_the_bench,
+    evidence_of_a_release, evidence_of_a_campaign_that_runs_out_of_time, commands_in_the_text, blocks_of_the_guide, blocks_of_the_bench,
     no_block_of_the_guide_runs_all_again_where_nothing_failed, the_race_of_the_readme, the_model_of_a_bench,
 )
