@@ -387,6 +387,7 @@ def main() -> int:
         "the first page is short": long_readme,
         "no sentence and no cell of the documents is too long, or has an idiom": lambda: plain.in_documents(documents),
         "no sentence of the comments is too long, or has an idiom": lambda: plain.in_comments(TOP, tracked()),
+        "no text that a client or a script prints has an idiom": lambda: plain.in_messages(TOP, tracked()),
         "what the comments name stands in the sources": lambda: plain.unknown_names(TOP, tracked(), sources),
         "each definition outside of Inside is said in words": lambda: plain.wordless(TOP, tracked()),
         "a planted idiom or long sentence is found": plain.unseen,
