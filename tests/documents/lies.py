@@ -89,6 +89,8 @@ LIES = (
     Lie("a_race_with_another_line", GUIDE, "# t none fail complete", "# t fail complete", "blocks_of_the_guide"),
     Lie("a_page_of_the_bench_is_not_made", BENCHES, " > run.xml || test $? -le 2 ", " > run.xml ", "blocks_of_the_bench"),
     Lie("a_bench_that_fails_ends_the_block", LIBRARY, "bench.history || test $? -le 2 ", "bench.history ", "histories_of_a_bench_are_read"),
+    Lie("a_document_that_names_a_toolchain", README, "`rt version` prints", "`rt version` here: `rattle-kit-1`. It prints",
+        "no_source_and_no_document_names_a_toolchain"),
     Lie("a_gate_that_failed", RELEASE, "passed,\\ 0\\ failed$", "passed,\\ [0-9]+\\ failed$", "no_release_without_a_green_gate"),
     Lie("a_gate_of_another_commit", RELEASE, "[ \"$(recorded commit)\" = \"$commit\" ] ||", "true ||", "no_release_of_another_tree"),
     Lie("a_tree_that_was_changed", RELEASE, "[ -z \"$changed\" ] ||", "true ||", "no_release_of_another_tree"),
