@@ -181,15 +181,15 @@ def messages(text: str) -> Iterator[Tuple[int, str]]:
     """The texts of more than a word in a source of a client or a script, with their lines; what is put into one is a name."""
     for number, line in enumerate(text.split("\n"), 1):
         if not line.lstrip().startswith(("#", "//", '"""')):
-            found = re.findall(r'"((?:[^"\\]|\\.)*\s(?:[^"\\]|\\.)*)"', line)
-            yield from ((number, re.sub(r"\$?\{[^}]*\}", "`", it)) for it in found)
+            found = re.findall(r'"((?:[^"\\]|\\.)*\s(?:[^"\\]|\\.)*)"|`([^`]*\s[^`]*)`', line)
+            yield from ((number, re.sub(r"\$?\{[^}]*\}", "NAME", one or other)) for one, other in found)
 
 
 def in_messages(top: str, paths: List[str]) -> Iterator[str]:
-    """Idioms in what the clients, the builder and the scripts print."""
+    """Idioms in what the clients, the builder, the scripts and the pages print."""
     seen = 0
     for path in paths:
-        if path in SCRIPTS or path.startswith(("clients/", "tools/")) and path.endswith((".py", ".hpp")):
+        if path in SCRIPTS or path.startswith(("clients/", "tools/", "page/")) and path.endswith((".py", ".hpp", ".mjs")):
             with open(os.path.join(top, path), encoding="utf-8") as file:
                 for line, text in messages(file.read()):
                     seen += 1
