@@ -118,6 +118,7 @@ COUNTS: Dict[str, Callable[[], int]] = {
     "cases of random_cases": lambda: found_number("crates/random_cases/src/task.rt", r"cases: (\d+),"),
     "cases of car_window": lambda: found_number("crates/car_window/stdout", r"cases (\d+) "),
     "failed cases of car_window": lambda: found_number("crates/car_window/stdout", r" fail (\d+) error"),
+    "line of a fail": lambda: text_of("examples/restart.script").split("\n").index("setverdict fail") + 1,
     "cases of verdicts": lambda: text_of("examples/verdicts.script").count("\ntestcase "),
     "cases of verdicts that are run": lambda: found_number("examples/verdicts.stop-on-fail.report", r"cases (\d+) "),
 }
@@ -180,6 +181,8 @@ NUMBERS: Tuple[Tuple[str, str, str], ...] = (
     ("docs/library.md", "is a campaign of # test cases", "cases of car_window"),
     ("docs/library.md", "It prints # reports, one of a test case that fails", "cases of car_window"),
     ("docs/library.md", "It prints three reports, # of a test case that fails", "failed cases of car_window"),
+    ("docs/architecture.md", "`setverdict fail` is line # of", "line of a fail"),
+    ("docs/architecture.md", "script: line # has the form `setverdict V`", "line of a fail"),
     ("docs/guide.md", "runs # of its four test cases", "cases of verdicts that are run"),
     ("docs/guide.md", "runs three of its # test cases", "cases of verdicts"),
     ("docs/guide.md", "A file above # letters", "letters in the editor"),
