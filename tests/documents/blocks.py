@@ -247,7 +247,7 @@ def commands_in_the_text(room: str, program: str) -> str:
     hold(it.shell(SHELLS["github"], step("Shards", "part.1.history").text).status == 0, "the shards")
     ran = it.shell(SHELLS["gitlab"], check)
     hold(ran.status == 0 and [line.split()[1] for line in ran.output.splitlines()] == list(VERDICTS)[::2], f"{check}: {ran}")
-    it.write("part.1.history", it.text("part.1.history").partition("history 2 t_none ")[0])
+    it.write("part.1.history", it.text("part.1.history").partition("history 2 t_error ")[0])
     ran = it.shell(SHELLS["gitlab"], check)
     hold(ran.status == 3 and ran.output.endswith("missing t_error\n"), f"{check}: {ran}")
     return f"{len(found)} commands"
