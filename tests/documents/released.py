@@ -360,7 +360,7 @@ def words_that_release_does_not_know(room: str, program: str) -> str:
 
 
 def no_source_and_no_document_names_a_toolchain(_: str, __: str) -> str:
-    words = ["git", "ls-files", "crates", "tools", "ttrun", "gate", "release", "page", "clients", "bench", "*.md"]
+    words = ["git", "ls-files", "-co", "--exclude-standard", "crates", "tools", "ttrun", "gate", "release", "page", "clients", "bench", "*.md"]
     listed = subprocess.run(words, cwd=TOP, capture_output=True, text=True, check=True).stdout.splitlines()
     names = [it for it in listed if it.endswith((".rt", ".antt", ".py", ".mjs", ".txt", ".md")) or "." not in os.path.basename(it)]
     for name in names:
