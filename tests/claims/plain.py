@@ -13,7 +13,7 @@ from sources import Sources
 MOST_WORDS_OF_A_SENTENCE, MOST_WORDS_OF_A_CELL = 35, 40
 # Of a document; the history of changes is held only to the words. A list of files has its own marks.
 MOST_SENTENCES_OF_A_PARAGRAPH, MOST_MARKS_OF_A_SENTENCE = 6, 1
-FEWEST_COMMENTS, FEWEST_MESSAGES = 5000, 300
+FEWEST_COMMENTS, FEWEST_MESSAGES = 5000, 1000
 # The sources whose comments are held to the words, besides the crates.
 HELD = (".py", ".mjs", ".hpp", ".cpp")
 SCRIPTS = ("ttrun", "gate", "release")
