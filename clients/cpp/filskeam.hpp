@@ -865,7 +865,7 @@ inline std::string Run::exchange(const std::string& words, const std::string& be
     const std::string found = heard(limit);
     if (found.rfind(detail::lost, 0) == 0) throw ServerEnded(found.substr(detail::lost.size()));
     if (found.rfind(detail::refused, 0) == 0) throw Refused("the server refused a line of " + text() + ": " + found.substr(detail::refused.size()));
-    if (found == "ended") throw Ended(text() + " is not going on");
+    if (found == "ended") throw Ended(text() + " has ended");
     if (detail::is_error(found)) throw DynamicError(words + " -> " + found);
     return found;
 }

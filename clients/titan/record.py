@@ -85,7 +85,7 @@ def campaign(module: str, folder: str) -> None:
         try:
             port = port_of(output)
             if port is None:
-                raise OSError(f"the main controller tells no port: {output}")
+                raise OSError(f"the main controller names no port: {output}")
             started.append(subprocess.Popen([os.path.join(folder, module), "127.0.0.1", port], cwd=folder, stdin=subprocess.DEVNULL,
                                             stdout=subprocess.DEVNULL, stderr=subprocess.DEVNULL))
             for process in started:

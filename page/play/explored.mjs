@@ -21,7 +21,7 @@ const about = ({ ending, verdicts }) => ending !== "complete" ? "Other verdicts 
 export function exploredRows(rows, hasWitnesses) {
   const link = (ids, words) => hasWitnesses ? `<a href="#${ids.map(id => `/${id}`).join("")}">${words}</a>` : words;
   const sideBySide = ({ from, verdicts }) => verdicts.slice(1).map((verdict, nth) =>
-    link([from, from + nth + 1], when(hasWitnesses, `${verdicts[0]} beside ${verdict}`))).join(" ");
+    link([from, from + nth + 1], when(hasWitnesses, `${verdicts[0]} next to ${verdict}`))).join(" ");
   return rows.map(row => `<tr data-from="${row.from}"><td><b>${row.name}</b><td>${row.verdicts.map((verdict, nth) =>
     link([row.from + nth], chip(verdict))).join(" ")}<td><span class="${when(row.ending !== "complete", "warn")}">${row.ending}</span>
     <span class="dim">${about(row)}</span> ${sideBySide(row)}</tr>`).join("");
@@ -32,7 +32,7 @@ export const rowOf = (rows, id) => rows.findLast(({ from }) => from <= id);
 export function whyOf({ lines, verdicts }) {
   const of = word => lines.filter(line => line.startsWith(`  ${word}: `)).map(line => `<li>${escaped(line.slice(word.length + 4))}`);
   const stuck = of("stuck"), unseen = of("not seen");
-  return when(stuck.length, `<div><b>Nobody can go on</b> at the end of <i>error</i>:<ul>${stuck.join("")}</ul></div>`) +
+  return when(stuck.length, `<div><b>No run can continue</b> at the end of <i>error</i>:<ul>${stuck.join("")}</ul></div>`) +
     when(unseen.length, `<div><b>No schedule comes to</b><ul>${unseen.join("")}</ul></div>`) +
     when(lines.length, `<details><summary>${counted(verdicts.length, "witness", "witnesses")}, as <code>explore --details</code>
     prints of them</summary><pre>${escaped(lines.join("\n"))}</pre></details>`);

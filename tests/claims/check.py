@@ -36,7 +36,9 @@ TABLES = (("docs/proved.md", "", 60), ("docs/architecture.md", "From a question 
 IN_WORDS = ("crate", "question", "rule")
 WIDTH = 120
 MOST_WORDS_OF_THE_README = 1000
-FEWEST_LINES_OF_A_LIBRARY, MOST_LINES_OF_A_CRATE = 20, 35
+FEWEST_LINES_OF_A_CRATE, MOST_LINES_OF_A_CRATE = 20, 35
+# The programs that are here; one that a reader adds, as a copy to begin with, may have a line.
+OWN_CRATES = ("ttrun", "one_case", "car_window", "random_cases", "refused_memory")
 # A sentence of that many words is in one document only; the history of changes is none of these.
 FEWEST_WORDS_SAID_ONCE = 11
 # In backquotes, what is spelt as a name of the sources.
@@ -309,7 +311,7 @@ def readmes_of_crates(sources: Sources) -> Iterator[str]:
         lines = read(TOP, path).lines
         if not re.fullmatch(rf"# {crate}: \w.*", lines[0]):
             yield f"{path}: the first line does not say what {crate} is"
-        fewest = FEWEST_LINES_OF_A_LIBRARY if crate.startswith("tc_") else 1
+        fewest = FEWEST_LINES_OF_A_CRATE if crate in OWN_CRATES or crate.startswith("tc_") else 1
         if not fewest <= len(lines) - 1 <= MOST_LINES_OF_A_CRATE:
             yield f"{path}: {len(lines) - 1} lines, where {fewest} to {MOST_LINES_OF_A_CRATE} are wanted"
         yield from absent_names(sources, crate, lines)
@@ -374,6 +376,7 @@ def main() -> int:
         "the code that the documents quote stands in its crate": lambda: quoted_code(documents),
         "the commands that name an example name one, with words that there are": lambda: commands(documents),
         "a test runs each block of commands": lambda: shell.unrun(documents),
+        "a test runs each command with an input that a sentence has": lambda: shell.untyped(documents),
         "the options that the documents name are options": lambda: shell.no_options(documents),
         "a planted block of commands and a planted option are found": shell.unseen,
         "the lines of scripts next to those of TTCN-3 are read": shell.unread_lines,
@@ -384,6 +387,7 @@ def main() -> int:
         "the first page is short": long_readme,
         "no sentence and no cell of the documents is too long, or has an idiom": lambda: plain.in_documents(documents),
         "no sentence of the comments is too long, or has an idiom": lambda: plain.in_comments(TOP, tracked()),
+        "no text that a client or a script prints has an idiom": lambda: plain.in_messages(TOP, tracked()),
         "what the comments name stands in the sources": lambda: plain.unknown_names(TOP, tracked(), sources),
         "each definition outside of Inside is said in words": lambda: plain.wordless(TOP, tracked()),
         "a planted idiom or long sentence is found": plain.unseen,

@@ -1,4 +1,4 @@
-"""The commands of the documents: which test runs each block of them, and whether each option that they name is one."""
+"""The commands of the documents: which test runs each block of them, and each in a sentence, and whether each option is one."""
 from __future__ import annotations
 
 import os
@@ -18,15 +18,23 @@ BLOCKS, SHOWN = "tests/documents/blocks.py", "tests/program/documents_run.py"
 RUN: Tuple[Tuple[str, str, str, str], ...] = (
     ("README.md", "./ttrun run < examples/restart.script", SHOWN, "cases"), ("README.md", "./gate", "tests/gate/run.py", "PARTS"),
     (PIPELINES, "", BLOCKS, "every_block_on_a_campaign_that_fails"), (GUIDE, "< examples/", SHOWN, "cases"),
-    (GUIDE, "< campaign.script", BLOCKS, "blocks_of_the_guide"), (GUIDE, "printf 'testcase", SHOWN, "shown_cases"),
+    (GUIDE, "", BLOCKS, "blocks_of_the_guide"), (GUIDE, "printf 'testcase", SHOWN, "shown_cases"),
     (GUIDE, "./ttrun explore --details < race.script", SHOWN, "shown_cases"),
     (LIBRARY, "cp -r crates/car_window", "tests/documents/tables.py", "the_copy_is_a_crate_as_the_claims_have_it"),
     (LIBRARY, "rt try > bench.history", "tests/documents/tables.py", "histories_of_a_bench_are_read"),
     ("docs/titan.md", "clients/titan/ttrun-titan", "tests/titan/command_tests.py", "the_commands_of_the_document_run"),
+    ("docs/benches.md", "", BLOCKS, "blocks_of_the_bench"),
     ("docs/benches.md", "bash heater.sh", "tests/python/document_tests.py", "the_bench_in_bash"),
     ("docs/benches.md", "< heater.evidence", "tests/documents/released.py", "the_archive_runs_benches"),
     ("clients/cpp/README.md", "c++ -std=c++17", "tests/cpp/run.py", "heater.cpp"),
     ("clients/python/README.md", "pip install clients/python", "tests/python/document_tests.py", "the_package_is_installed_from_its_folder"))
+# The same of commands that a sentence has: those with an input.
+TYPED: Tuple[Tuple[str, str, str, str], ...] = (
+    ("README.md", "race.script", BLOCKS, "the_race_of_the_readme"), ("README.md", "< examples/", SHOWN, "cases"),
+    (GUIDE, "< examples/", SHOWN, "cases"), (PIPELINES, "campaign.script", BLOCKS, "commands_in_the_text"),
+    ("docs/benches.md", "< heater.script", BLOCKS, "the_model_of_a_bench"))
+# A command with an input; one with a word in capitals is a pattern.
+INPUT, PATTERN = re.compile(r"(?:\./ttrun|cat) .*[<|]"), re.compile(r"\b[A-Z]{2,}\b")
 # Options of programs that are not of this repository, by the first word of a command.
 OTHERS: Dict[str, Tuple[str, ...]] = {
     "rt": ("--jobs", "--only", "--test", "--minutes", "--fail-alloc"), "git": ("--short",), "sha256sum": ("--check",),
@@ -62,6 +70,24 @@ def unrun(documents: List[Document]) -> Iterator[str]:
                 yield f"{document.path}:{block.line}: no test runs this block"
 
 
+def typed(document: Document) -> List[Tuple[int, str]]:
+    """The commands with an input that the sentences of a document have, with their lines."""
+    lines = [(number, line) for number, line, is_code in marked(document) if not is_code]
+    return [(number, it) for number, line in lines for it in re.findall(r"`([^`]+)`", line) if INPUT.match(it) and not PATTERN.search(it)]
+
+
+def untyped(documents: List[Document]) -> Iterator[str]:
+    """Commands in sentences that no test of the list runs, and tests of the list that are not there, or run none."""
+    for path, has, file, name in TYPED:
+        if not re.search(rf"\b{re.escape(name)}", text_of(file)):
+            yield f"{file} has no {name}"
+        if not any(has in it for document in documents if document.path == path for _, it in typed(document)):
+            yield f"{path}: no command has {has!r}"
+    for document in documents:
+        yield from (f"{document.path}:{number}: no test runs {it}" for number, it in typed(document)
+                    if not any(path == document.path and has in it for path, has, _, _ in TYPED))
+
+
 def unread_lines() -> Iterator[str]:
     """Lines of the table next to TTCN-3 that no script may have."""
     path, section = NEXT_TO_TTCN
@@ -87,11 +113,17 @@ def own_options() -> List[str]:
     return sorted({it for one in found for it in ([one] if isinstance(one, str) else one) if it} | {"--help", "--version"})
 
 
-def codes(document: Document) -> Iterator[Tuple[int, str]]:
-    """What a document has as code, in backquotes or in a block, line by line."""
+def marked(document: Document) -> Iterator[Tuple[int, str, bool]]:
+    """The numbered lines of a document, and whether each is in a block."""
     is_code = False
     for number, line in enumerate(document.lines, 1):
         is_code ^= line.lstrip().startswith("```")
+        yield number, line, is_code
+
+
+def codes(document: Document) -> Iterator[Tuple[int, str]]:
+    """What a document has as code, in backquotes or in a block, line by line."""
+    for number, line, is_code in marked(document):
         yield from ((number, it) for it in ([line] if is_code else re.findall(r"`([^`]+)`", line)))
 
 
@@ -110,8 +142,10 @@ def no_options(documents: List[Document]) -> Iterator[str]:
 
 def unseen() -> Iterator[str]:
     """Blocks and options that are planted, and that nobody finds."""
-    plant = Document("docs/plant.md", ["```sh", "./ttrun explore --fly < race.script", "```"])
+    plant = Document("docs/plant.md", ["```sh", "./ttrun explore --fly < race.script", "```", "Or `./ttrun run < it.script`."])
     if not any(it.startswith("docs/plant.md:2: no test") for it in unrun([plant])):
         yield "nobody finds a block that no test runs"
+    if "docs/plant.md:4: no test runs ./ttrun run < it.script" not in list(untyped([plant])):
+        yield "nobody finds a command in a sentence that no test runs"
     if "docs/plant.md:2: nothing takes --fly" not in list(no_options([plant])):
         yield "nobody finds an option that there is not"

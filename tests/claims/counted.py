@@ -20,8 +20,8 @@ import plain
 from documents import read
 
 WORDS = ("none", "one", "two", "three", "four", "five", "six", "seven", "eight", "nine", "ten", "eleven", "twelve")
-FEWEST_ROWS_OF_LIMITS = 11
-FEWEST_NUMBERS = 40
+FEWEST_ROWS_OF_LIMITS = 13
+FEWEST_NUMBERS = 85
 
 
 def text_of(path: str) -> str:
@@ -51,6 +51,11 @@ def believed_lines(of_headline: bool = False, first: int = 0, inside: bool = Fal
     crates = believed.libraries()[:first or None]
     places = {it for it in (headline if of_headline else cited) if it[0].split(".")[0] in crates}
     return believed.lines_of({it for it in places if not inside or ".Inside" in it[0]}, all_of)
+
+
+def greatest(path: str, name: str) -> int:
+    """The greatest number that a type which holds only a number can have."""
+    return 2 ** found_number(path, rf"pub struct {name}\(pub u(\d+)\)") - 1
 
 
 def found_number(path: str, pattern: str) -> int:
@@ -96,11 +101,26 @@ COUNTS: Dict[str, Callable[[], int]] = {
     "bytes of an entry": lambda: found_number(*ENTRY),
     "bytes of a recorded call": lambda: 2 * found_number(*ENTRY),
     "states of a plain search": lambda: constant("tests/program/random_courses.py", "MOST"),
+    "letters in the editor": lambda: found_number("page/play/given.mjs", r"MOST_SHOWN = (\d+)"),
     "lines in the editor": lambda: found_number("page/play/given.mjs", r"MOST_LINES = (\d+)"),
     "words of a sentence": lambda: plain.MOST_WORDS_OF_A_SENTENCE,
     "letters of a line": lambda: constant("tests/claims/check.py", "WIDTH"),
+    "fewest lines of a README": lambda: found_number("tests/claims/check.py", r"MOST_LINES_OF_A_CRATE = (\d+), \d+"),
     "lines of a README": lambda: found_number("tests/claims/check.py", r"MOST_LINES_OF_A_CRATE = \d+, (\d+)"),
     "remark": lambda: constant("clients/python/filskeam/words.py", "MOST_BYTES_OF_A_REMARK"),
+    "bytes of a line of serve": lambda: constant("crates/tc_serve/src/order.rt", "LINE_BYTES"),
+    "longest remark": lambda: len("255 # ") + constant("crates/tc_evidence/src/sentence.rt", "SENTENCE_BYTES"),
+    "bytes of a piece": lambda: found_number("crates/tc_serve/src/service.rt", r"let mut chunk = \[0u8; (\d+)\]"),
+    "refusals": lambda: variants("crates/tc_serve/src/refusal.rt", "Refusal"),
+    "bytes of a near word": lambda: found_number("crates/tc_explain/src/nearest.rt", r"word\.len\(\) > (\d+)"),
+    "greatest run": lambda: greatest("crates/tc_verdict/src/run.rt", "Run"),
+    "greatest component": lambda: greatest("crates/tc_entry/src/comp.rt", "Comp"),
+    "cases of random_cases": lambda: found_number("crates/random_cases/src/task.rt", r"cases: (\d+),"),
+    "cases of car_window": lambda: found_number("crates/car_window/stdout", r"cases (\d+) "),
+    "failed cases of car_window": lambda: found_number("crates/car_window/stdout", r" fail (\d+) error"),
+    "line of a fail": lambda: text_of("examples/restart.script").split("\n").index("setverdict fail") + 1,
+    "cases of verdicts": lambda: text_of("examples/verdicts.script").count("\ntestcase "),
+    "cases of verdicts that are run": lambda: found_number("examples/verdicts.stop-on-fail.report", r"cases (\d+) "),
 }
 # Document, what is said with # for the number, and what it counts. What is said is once in the document, with spaces for line ends.
 NUMBERS: Tuple[Tuple[str, str, str], ...] = (
@@ -117,8 +137,8 @@ NUMBERS: Tuple[Tuple[str, str, str], ...] = (
     ("docs/texts.md", "If a line or a word has more than # bytes, the first", "shown"),
     ("docs/guide.md", "at most # entries of both", "rows"),
     ("docs/guide.md", "1,000,000; # without `--states`", "states"),
-    ("docs/guide.md", "one more for each # that the behaviours", "weight"),
-    ("docs/guide.md", "at most # divided by one more than the steps", "kept"),
+    ("docs/guide.md", "1 + B (S + 1) / #, rounded down", "weight"),
+    ("docs/guide.md", "at most # / (S + 1), with S", "kept"),
     ("docs/scripts.md", "A name has 1 to # bytes", "name bytes"),
     ("docs/board.md", "| `Unbegun` | # |", "unbegun"),
     ("docs/board.md", "| # more than the rank of v |", "closed"),
@@ -148,14 +168,33 @@ NUMBERS: Tuple[Tuple[str, str, str], ...] = (
     ("docs/proved.md", "An entry takes # bytes", "bytes of an entry"),
     ("docs/DECISIONS.md", "as large as the largest, # bytes", "bytes of an entry"),
     ("docs/guide.md", "A recorded call takes # bytes", "bytes of a recorded call"),
-    ("docs/guide.md", "million letters or # lines", "lines in the editor"),
+    ("docs/texts.md", "the longest that is taken has # bytes", "longest remark"),
+    ("docs/texts.md", "| has # bytes or more |", "bytes of a line of serve"),
+    ("docs/texts.md", "why-a-line-is-refused) has # texts", "refusals"),
+    ("docs/texts.md", "near the word, which has at most # bytes", "bytes of a near word"),
+    ("crates/tc_serve/README.md", "A line of # bytes or more is refused by its first 209", "bytes of a line of serve"),
+    ("crates/tc_serve/README.md", "or more is refused by its first #, as too long", "bytes of a line of serve"),
+    ("crates/tc_serve/README.md", "pieces of # bytes", "bytes of a piece"),
+    ("crates/random_cases/README.md", "runs CASES test cases, # without arguments", "cases of random_cases"),
+    ("crates/car_window/README.md", "It runs # test cases, one of which fails", "cases of car_window"),
+    ("crates/car_window/README.md", "It runs three test cases, # of which fails", "failed cases of car_window"),
+    ("docs/library.md", "is a campaign of # test cases", "cases of car_window"),
+    ("docs/library.md", "It prints # reports, one of a test case that fails", "cases of car_window"),
+    ("docs/library.md", "It prints three reports, # of a test case that fails", "failed cases of car_window"),
+    ("docs/architecture.md", "`setverdict fail` is line # of", "line of a fail"),
+    ("docs/architecture.md", "script: line # has the form `setverdict V`", "line of a fail"),
+    ("docs/guide.md", "runs # of its four test cases", "cases of verdicts that are run"),
+    ("docs/guide.md", "runs three of its # test cases", "cases of verdicts"),
+    ("docs/guide.md", "A file above # letters", "letters in the editor"),
+    ("docs/guide.md", "letters or # lines is checked", "lines in the editor"),
     ("docs/texts.md", "The limit is a number from 1 to #, by which", "most states"),
     ("docs/guide.md", "| #; 100,000 without `--states`", "most states"),
     ("docs/texts.md", "bytes, the first # are shown", "shown"),
     ("crates/tc_exec/README.md", "If 1 to # jobs need more workers", "behaviours"),
     ("crates/tc_entry/README.md", "An entry takes # bytes", "bytes of an entry"),
     ("crates/tc_explore/README.md", "all together have room for # entries", "kept"),
-    ("CONTRIBUTING.md", "its files: at most # lines", "lines of a README"),
+    ("CONTRIBUTING.md", "its files: # to 35 lines", "fewest lines of a README"),
+    ("CONTRIBUTING.md", "its files: 20 to # lines", "lines of a README"),
     ("CONTRIBUTING.md", "short true sentences, # letters a line", "letters of a line"),
     ("CONTRIBUTING.md", "a sentence has # words at most", "words of a sentence"),
     ("docs/titan.md", "may look at in one test case (# without it)", "states of Titan"),
@@ -179,7 +218,8 @@ ROWS: Tuple[Tuple[str, str], ...] = (
     ("arguments of a start", "arguments"), ("steps of a behaviour", "steps"), ("test cases of a script", "test cases"),
     ("behaviours of a test case whose history is of format 1", "behaviours of format 1"), ("bytes of a name", "name bytes"),
     ("bytes of a script, or of a list of moves", "bytes of a script"), ("bytes of a script, or of a list of moves", "bytes of moves"),
-    ("bytes of a history text", "bytes of histories"))
+    ("bytes of a history text", "bytes of histories"), ("the number of a run in a text", "greatest run"),
+    ("the number of a component in a text", "greatest component"))
 
 # The tables whose cells give the texts of faults, moves and replies: document, section, column, and whether a text is in the sources as a
 # whole, or word by word.

@@ -13,7 +13,7 @@ from sources import Sources
 MOST_WORDS_OF_A_SENTENCE, MOST_WORDS_OF_A_CELL = 35, 40
 # Of a document; the history of changes is held only to the words. A list of files has its own marks.
 MOST_SENTENCES_OF_A_PARAGRAPH, MOST_MARKS_OF_A_SENTENCE = 6, 1
-FEWEST_COMMENTS = 5000
+FEWEST_COMMENTS, FEWEST_MESSAGES = 5000, 1000
 # The sources whose comments are held to the words, besides the crates.
 HELD = (".py", ".mjs", ".hpp", ".cpp")
 SCRIPTS = ("ttrun", "gate", "release")
@@ -177,6 +177,27 @@ def in_comments(top: str, paths: List[str]) -> Iterator[str]:
         yield f"{seen} comments, where there are no fewer than {FEWEST_COMMENTS}"
 
 
+def messages(text: str) -> Iterator[Tuple[int, str]]:
+    """The texts of more than a word in a source of a client or a script, with their lines; what is put into one is a name."""
+    for number, line in enumerate(text.split("\n"), 1):
+        if not line.lstrip().startswith(("#", "//", '"""')):
+            found = re.findall(r'"((?:[^"\\]|\\.)*\s(?:[^"\\]|\\.)*)"|`([^`]*\s[^`]*)`', line)
+            yield from ((number, re.sub(r"\$?\{[^}]*\}", "NAME", one or other)) for one, other in found)
+
+
+def in_messages(top: str, paths: List[str]) -> Iterator[str]:
+    """Idioms in what the clients, the builder, the scripts and the pages print."""
+    seen = 0
+    for path in paths:
+        if path in SCRIPTS or path.startswith(("clients/", "tools/", "page/")) and path.endswith((".py", ".hpp", ".mjs")):
+            with open(os.path.join(top, path), encoding="utf-8") as file:
+                for line, text in messages(file.read()):
+                    seen += 1
+                    yield from (f"{path}:{line}: {it}" for it in idioms(text))
+    if seen < FEWEST_MESSAGES:
+        yield f"{seen} messages, where there are no fewer than {FEWEST_MESSAGES}"
+
+
 def unknown_names(top: str, paths: List[str], sources: Sources) -> Iterator[str]:
     """Names in the comments of the crates that no source has."""
     for path in paths:
@@ -222,6 +243,8 @@ def unseen() -> Iterator[str]:
         found = found_in(text)
         is_of_sentences = BEGINNING.match(text) or len(text) > 100
         yield from (f"nobody finds: {text[:60]}" for at, it in enumerate(found) if not it and not (is_of_sentences and at == 1))
+    if not any(idioms(text) for _, text in messages('    fail(f"{name} is not there any more, and no more than that")')):
+        yield "nobody finds an idiom in a message"
     for text in ("It is: so; and so.", "So. " * (MOST_SENTENCES_OF_A_PARAGRAPH + 1)):
         if not list(in_documents([Document("plant.md", [text])])):
             yield f"nobody finds: {text}"

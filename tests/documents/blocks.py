@@ -3,12 +3,13 @@ from __future__ import annotations
 
 import os
 import re
+import shutil
 import subprocess
 import xml.etree.ElementTree
 from dataclasses import dataclass, field
 from typing import Callable, Iterator, List, Tuple
 
-from room import FAILING, PASSING, RACE, SHELLS, TOP, VERDICTS, Room, hold
+from room import FAILING, PASSING, RACE, SHELLS, TOP, VERDICTS, Ran, Room, hold
 from documents import Block, Document, read
 
 README, PIPELINES, BENCHES = "README.md", "docs/pipelines.md", "docs/benches.md"
@@ -16,9 +17,11 @@ README, PIPELINES, BENCHES = "README.md", "docs/pipelines.md", "docs/benches.md"
 WORST = 2
 LEAVES = re.compile(r"It leaves (?P<names>.*?)(?: in the folder `(?P<folder>\w+)`)?, and ends with (?P<end>the status of the run|\d)\.")
 FEWEST_BLOCKS = 6
-# The blocks of the guide that a reader types, who has a script of this name.
+# How many blocks a reader of the guide types, and of the bench in bash.
 GUIDE = "docs/guide.md"
-FEWEST_OF_THE_GUIDE = 3
+FEWEST_OF_THE_GUIDE, FEWEST_OF_THE_BENCH = 7, 2
+# What is there if a shell has come to the last line of a block.
+REACHED = "reached"
 
 
 @dataclass
@@ -232,32 +235,79 @@ def evidence_that_was_cut(room: str, program: str) -> str:
     return "the missing test cases are named"
 
 
-def typed_blocks() -> Iterator[Tuple[int, str, List[str]]]:
-    """The guide's blocks that read a script of the reader's, each with the files that it writes."""
-    for block in read(TOP, GUIDE).blocks():
-        if block.language == "sh" and "< campaign.script" in block.text:
+def commands_in_the_text(room: str, program: str) -> str:
+    """The commands that the text of the pipelines shows: a pipe whose status is that of the last program, and the check of a shard."""
+    found = [it for line in read(TOP, PIPELINES).lines for it in re.findall(r"`([^`]*\| \./ttrun [^`]*)`", line)]
+    hold(len(found) == 2, f"{PIPELINES}: {found}")
+    pipe, check = found
+    it = Room(os.path.join(room, "typed", "it"), program)
+    for words, status in ((("bash", "-e"), 0), (("bash", "-eo", "pipefail"), WORST)):
+        ran = it.shell(words, pipe)
+        hold(ran.status == status and ran.output.count("legal ") == len(VERDICTS), f"{pipe}: {ran}")
+    hold(it.shell(SHELLS["github"], step("Shards", "part.1.history").text).status == 0, "the shards")
+    ran = it.shell(SHELLS["gitlab"], check)
+    hold(ran.status == 0 and [line.split()[1] for line in ran.output.splitlines()] == list(VERDICTS)[::2], f"{check}: {ran}")
+    it.write("part.1.history", it.text("part.1.history").partition("history 2 t_error ")[0])
+    ran = it.shell(SHELLS["gitlab"], check)
+    hold(ran.status == 3 and ran.output.endswith("missing t_error\n"), f"{check}: {ran}")
+    return f"{len(found)} commands"
+
+
+def typed_blocks(path: str) -> Iterator[Tuple[int, str, List[str]]]:
+    """The blocks of a document that a reader types into a shell, each with the files that it writes."""
+    for block in read(TOP, path).blocks():
+        if block.language == "sh":
             yield block.line, block.text, re.findall(r"(?m) > ([\w.]+)(?: |$)", block.text)
 
 
+def typed(room: Room, shell: str, where: str, text: str) -> Ran:
+    """Runs a block in a shell that ends at the first command that fails. It comes to its last line, and prints what is said next to a
+    command as `# NAME VERDICT .. complete`."""
+    *before, last = text.rstrip("\n").split("\n")
+    ran = room.shell(SHELLS[shell], "\n".join([*before, f": > {REACHED}", last, ""]))
+    hold(os.path.exists(room.path(REACHED)), f"{where}, by {shell}: it ends before its last line: {ran}")
+    os.remove(room.path(REACHED))
+    said = re.findall(r"(?m) # (\w+ .*complete)$", text)
+    hold(all(it in ran.output.splitlines() for it in said), f"{where}, by {shell}: {said} is wanted: {ran}")
+    return ran
+
+
 def blocks_of_the_guide(room: str, program: str) -> str:
-    found = list(typed_blocks())
+    found = list(typed_blocks(GUIDE))
     hold(len(found) >= FEWEST_OF_THE_GUIDE, f"{len(found)} blocks")
-    it = Room(os.path.join(room, "guide", "it"), program)
-    for line, text, names in found:
-        hold(names, f"{GUIDE}:{line}: it writes no file")
-        ran = it.shell(("bash",), text)
-        hold(not ran.errors, f"{GUIDE}:{line}: {ran}")
-        hold_left(it, names, list(VERDICTS), WORST)
-    hold(it.judged("again.history") == ["t_inconc", "t_fail", "t_error"], "not those that failed are run again")
-    return f"{len(found)} blocks"
+    for shell in SHELLS:
+        it = Room(os.path.join(room, shell, "it"), program)
+        shutil.copytree(os.path.join(TOP, "examples"), it.path("examples"))
+        for line, text, names in found:
+            ran = typed(it, shell, f"{GUIDE}:{line}", text)
+            hold(not ran.errors or "--explain" in text, f"{GUIDE}:{line}: {ran}")
+            hold_left(it, names, list(VERDICTS), WORST)
+        hold(it.judged("again.history") == ["t_inconc", "t_fail", "t_error"], "not those that failed are run again")
+    return f"{len(found)} blocks in {len(SHELLS)} shells"
 
 
 def no_block_of_the_guide_runs_all_again_where_nothing_failed(room: str, program: str) -> str:
     it = Room(os.path.join(room, "guide", "it"), program, PASSING)
-    for _, text, _ in typed_blocks():
-        it.shell(("bash",), text)
+    for _, text, _ in typed_blocks(GUIDE):
+        if "campaign.script" in text:
+            it.shell(SHELLS["github"], text)
     hold(os.path.isfile(it.path("run.xml")) and not os.path.exists(it.path("again.history")), "all are run again")
     return "none"
+
+
+def blocks_of_the_bench(room: str, program: str) -> str:
+    """The bench in bash fails its test case, and the blocks that read its evidence come to their ends."""
+    found = list(typed_blocks(BENCHES))
+    hold(len(found) >= FEWEST_OF_THE_BENCH, f"{len(found)} blocks")
+    for shell in SHELLS:
+        it = Room(os.path.join(room, shell, "it"), program)
+        it.write("heater.sh", next(block.text for block in read(TOP, BENCHES).blocks() if block.language == "bash"))
+        for line, text, names in found:
+            ran = typed(it, shell, f"{BENCHES}:{line}", text)
+            hold(ran.status == 1 and not ran.errors, f"{BENCHES}:{line}, by {shell}: {ran}")
+            hold(all(os.path.getsize(it.path(name)) > 0 for name in names), f"{BENCHES}:{line}: {names}")
+        hold_junit(it, "run.xml", ["t_heater"])
+    return f"{len(found)} blocks in {len(SHELLS)} shells"
 
 
 def the_race_of_the_readme(room: str, program: str) -> str:
@@ -297,6 +347,6 @@ def the_model_of_a_bench(room: str, program: str) -> str:
 TESTS: Tuple[Callable[[str, str], str], ...] = (
     every_block_on_a_campaign_that_fails, every_block_on_a_campaign_that_passes, a_step_that_runs_out_of_time,
     a_step_on_a_script_that_is_refused, a_step_that_keeps_races_out, evidence_that_was_changed, evidence_that_was_cut,
-    evidence_of_a_release, evidence_of_a_campaign_that_runs_out_of_time, blocks_of_the_guide,
+    evidence_of_a_release, evidence_of_a_campaign_that_runs_out_of_time, commands_in_the_text, blocks_of_the_guide, blocks_of_the_bench,
     no_block_of_the_guide_runs_all_again_where_nothing_failed, the_race_of_the_readme, the_model_of_a_bench,
 )

@@ -359,13 +359,13 @@ def words_that_release_does_not_know(room: str, program: str) -> str:
     return "4 calls"
 
 
-def no_source_names_a_toolchain(_: str, __: str) -> str:
-    words = ["git", "ls-files", "crates", "tools", "ttrun", "gate", "release", "page", "clients"]
+def no_source_and_no_document_names_a_toolchain(_: str, __: str) -> str:
+    words = ["git", "ls-files", "-co", "--exclude-standard", "crates", "tools", "ttrun", "gate", "release", "page", "clients", "bench", "*.md"]
     listed = subprocess.run(words, cwd=TOP, capture_output=True, text=True, check=True).stdout.splitlines()
-    names = [it for it in listed if it.endswith((".rt", ".antt", ".py", ".mjs", ".txt")) or "." not in os.path.basename(it)]
+    names = [it for it in listed if it.endswith((".rt", ".antt", ".py", ".mjs", ".txt", ".md")) or "." not in os.path.basename(it)]
     for name in names:
         with open(os.path.join(TOP, name), encoding="utf-8") as file:
-            found = re.search(r"rattle-kit|\bkit-?\d+", file.read())
+            found = re.search(r"rattle-kit|\bkit[- ]?\d+", file.read())
             hold(found is None, f"{name} names {found and found[0]}")
     hold(len(names) > 500, f"{len(names)} sources")
     return f"{len(names)} sources"
@@ -376,5 +376,5 @@ TESTS: Tuple[Callable[[str, str], Optional[str]], ...] = (
     the_page_of_the_archive_opens, the_archive_reads_logs_of_titan, the_archive_runs_benches,
     links_of_the_archive_lead_to_it_or_to_sources,
     no_release_without_a_green_gate, no_release_of_another_tree, no_release_of_another_program,
-    no_release_of_a_version_without_its_changes, words_that_release_does_not_know, no_source_names_a_toolchain,
+    no_release_of_a_version_without_its_changes, words_that_release_does_not_know, no_source_and_no_document_names_a_toolchain,
 )

@@ -27,7 +27,7 @@ from lanes import lanes
 
 # A test gets a folder and the program. It answers what it reached, and nothing if it lacks what it needs.
 Test = Callable[[str, str], Optional[str]]
-GROUPS: Tuple[Tuple[Tuple[Test, ...], int], ...] = ((blocks.TESTS, 13), (servers.TESTS, 8), (tables.TESTS, 4), (released.TESTS, 14))
+GROUPS: Tuple[Tuple[Tuple[Test, ...], int], ...] = ((blocks.TESTS, 15), (servers.TESTS, 10), (tables.TESTS, 4), (released.TESTS, 14))
 
 
 def passes(test: Test, program: str) -> Tuple[Optional[bool], str]:

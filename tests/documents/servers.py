@@ -127,10 +127,13 @@ def gitlab_job(server: Server, job: Dict, kept: Files, **names: str) -> Done:
     return done
 
 
-def gitlab(server: Server) -> Tuple[List[int], Optional[Done]]:
-    """The pipeline of GitLab: how each shard ended, and the job of the report."""
+def gitlab(server: Server, unpack: str = "") -> Tuple[List[int], Optional[Done]]:
+    """The pipeline of GitLab: how each shard ended, and the job of the report. With a released program, each job unpacks it first."""
     text = read_yaml(block_with("yaml", ".gitlab-ci.yml").text)
     stages = text.pop("stages")
+    if unpack:
+        text.pop("program")
+        text = {name: {**job, "script": [unpack, *job["script"]]} for name, job in text.items()}
     hold(all(it["stage"] in stages for it in text.values()), f"stages that are not in {stages}")
     kept: Files = {}
     ends: Dict[str, List[Done]] = {}
@@ -186,13 +189,17 @@ def github_job(server: Server, job: Dict, store: Dict[str, Files], names: Dict[s
     return done
 
 
-def github(server: Server) -> Tuple[List[int], Optional[Done]]:
-    """The workflow of GitHub."""
+def github(server: Server, unpack: str = "") -> Tuple[List[int], Optional[Done]]:
+    """The workflow of GitHub. With a released program, each job unpacks it instead of the cache."""
     jobs = read_yaml(block_with("yaml", ".github/workflows").text)["jobs"]
     needs = [(name, job.get("needs")) for name, job in jobs.items()]
     hold(needs == [("program", None), ("campaign", "program"), ("report", "campaign")], f"{needs}")
     store: Dict[str, Files] = {}
-    hold(github_job(server, jobs["program"], store, {}).status == 0, "the program is built")
+    if unpack:
+        for job in jobs.values():
+            job["steps"] = [{"run": unpack} if it.get("uses", "").startswith("actions/cache@") else it for it in job["steps"]]
+    else:
+        hold(github_job(server, jobs["program"], store, {}).status == 0, "the program is built")
     strategy = jobs["campaign"]["strategy"]
     hold(strategy["fail-fast"] == "false", "a shard that fails ends the others")
     ends = [github_job(server, jobs["campaign"], store, {"matrix.shard": it}).status for it in strategy["matrix"]["shard"]]
@@ -310,6 +317,27 @@ def jenkins_late(room: str, program: str) -> str:
     return a_shard_runs_out_of_time(room, program, "jenkins", jenkins)
 
 
+def a_released_program(room: str, program: str, shell: str, pipeline: Callable[[Server, str], Tuple[List[int], Optional[Done]]]) -> str:
+    """The repository has the archive of a release instead of the sources, and nothing is built."""
+    server = Server(os.path.join(room, f"{shell}-released"), program, shell, "none")
+    for name in SOURCES:
+        os.remove(server.origin.path(name))
+    server.origin.add_archive()
+    server.origin.commit()
+    ends, done = pipeline(server, step("Where `ttrun` comes from", "MANIFEST").text)
+    hold(ends == [0] * SHARDS and done is not None and done.status == WORST, f"{ends}: {done}")
+    hold(all(it in done.kept for it in LEFT) and server.count() == 0, f"{sorted(done.kept)}, and {server.count()} builds")
+    return f"{server.jobs} checkouts"
+
+
+def github_released(room: str, program: str) -> str:
+    return a_released_program(room, program, "github", github)
+
+
+def gitlab_released(room: str, program: str) -> str:
+    return a_released_program(room, program, "gitlab", gitlab)
+
+
 def texts() -> List[Tuple[str, Block]]:
     """Each text of YAML that a document shows."""
     found = [(it, block) for it in DOCUMENTS for block in read(TOP, it).blocks() if block.language == "yaml"]
@@ -338,4 +366,4 @@ def every_yaml_as_another_reader_has_it(_: str, __: str) -> Optional[str]:
 
 
 TESTS = (every_yaml_is_read, every_yaml_as_another_reader_has_it, github_whole, github_late, gitlab_whole, gitlab_late, jenkins_whole,
-         jenkins_late)
+         jenkins_late, github_released, gitlab_released)

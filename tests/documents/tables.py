@@ -86,9 +86,10 @@ def histories_of_a_bench_are_read(room: str, program: str) -> str:
     block = next(it for it in read(TOP, LIBRARY).blocks() if it.language == "sh" and "bench.history" in it.text)
     it = Room(os.path.join(room, "it"), program)
     histories = source("examples/verdicts.history")
-    it.write(os.path.join(it.bin, "rt"), f"#!/bin/sh\n[ \"$*\" = try ] || exit 9\ncat {os.path.join(TOP, 'examples/verdicts.history')}\n")
+    shown = os.path.join(TOP, "examples/verdicts.history")
+    it.write(os.path.join(it.bin, "rt"), f"#!/bin/sh\n[ \"$*\" = try ] || exit 9\ncat {shown}\nexit 2\n")
     os.makedirs(it.path(f"crates/{COPY}"))
-    ran = it.shell(("bash",), f"cd crates/{COPY}\n{block.text}")
+    ran = it.shell(SHELLS["github"], f"cd crates/{COPY}\n{block.text}")
     hold(not ran.errors and it.text(f"crates/{COPY}/bench.history") == histories, f"{ran}")
     legal = [line.split()[1] for line in ran.output.splitlines() if line.startswith("legal ")]
     named = re.findall(r'<testcase name="(\w+)"', ran.output)

@@ -20,7 +20,7 @@ sys.path.insert(0, os.path.join(TESTS_FOLDER, "serve"))
 from planting import Ground, Lie, show
 
 LIES = (
-    Lie("an_ended_call_returns", "filskeam/bench.py", "        if answer == \"ended\":\n            raise Ended(f\"{self} is not going on\")\n", "",
+    Lie("an_ended_call_returns", "filskeam/bench.py", "        if answer == \"ended\":\n            raise Ended(f\"{self} has ended\")\n", "",
         "ended_is_no_exception"),
     Lie("ended_is_an_exception", "filskeam/errors.py", "class Ended(BaseException)", "class Ended(Exception)", "ended_is_no_exception"),
     Lie("a_dynamic_error_is_not_kept", "filskeam/bench.py", "if not isinstance(raised, Ended) or isinstance(raised, DynamicError):",

@@ -285,7 +285,7 @@ def what_no_script_holds_is_told(place: Place) -> None:
     ran = command(place, "audit", "logs")
     hold(ran.status == 0 and "its order is not shown to ttrun check: 300 starts, and a history holds 255" in "\n".join(ran.lines), ran.lines[-5:])
     ran = command(place, "script", log("quarrel-shim.merged"), "--only", "t_quarrel")
-    hold(ran.status == 3 and "a script hands on 4" in ran.errors, ran)
+    hold(ran.status == 3 and "a script passes at most 4" in ran.errors, ran)
 
 
 @test

@@ -167,7 +167,7 @@ class Run:
         if isinstance(answer, BaseException):
             raise answer
         if answer == "ended":
-            raise Ended(f"{self} is not going on")
+            raise Ended(f"{self} has ended")
         if answer.startswith("error "):
             raise DynamicError(f"{words} -> {answer}")
         return answer

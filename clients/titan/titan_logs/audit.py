@@ -57,7 +57,7 @@ def remarks_on(case: TestCase, answer: Answer, overall: Optional[str]) -> Iterat
     if answer.outcome == FOUND and overall != case.verdict and case.verdict is not None:
         yield f"the log says {case.verdict}, and this order gives {overall}"
     if answer.outcome == FOUND and case.errors and verdict_of(case, answer.entries) != overall:
-        yield (f"{case.errors} dynamic error{'s' * (case.errors > 1)} of a component, which Titan lets end that component alone, is written"
+        yield (f"{case.errors} dynamic error{'s' * (case.errors > 1)} of a component, which ends only that component in Titan, is written"
                f" as its kill: the history ends with {verdict_of(case, answer.entries)}, Titan with {case.verdict}")
 
 

@@ -60,7 +60,7 @@ def parser() -> Parser:
         if name == "script":
             continue
         command.add_argument("--states", type=states_of, default=STATES, metavar="N", help=f"how many states a search may look at ({STATES})")
-        command.add_argument("--program", metavar="FILE", help="the program ttrun, where it is not found by itself")
+        command.add_argument("--program", metavar="FILE", help="the program ttrun, if it is not found by itself")
         command.add_argument("--unchecked", action="store_true", help="does without ttrun: no history is shown to ttrun check")
         command.add_argument("--history", metavar="FILE", help="writes the orders that were found as histories")
         command.add_argument("--html", metavar="FILE", help="writes them as a page, which shows two of them side by side")

@@ -51,10 +51,10 @@ def handed_on(case: TestCase, calls: List[List[Call]]) -> Dict[int, List[int]]:
 def why_none(case: TestCase, handed: Dict[int, List[int]]) -> str:
     """Why no script can hold the test case, nothing if one can."""
     if len(case.runs) > MOST_BEHAVIOURS:
-        return f"{len(case.runs) - 1} starts, and a script holds {MOST_BEHAVIOURS - 1} behaviours beside the main one"
+        return f"{len(case.runs) - 1} starts, and a script holds {MOST_BEHAVIOURS - 1} behaviours besides the main one"
     most = max(handed, key=lambda it: len(handed[it]))
     if len(handed[most]) > MOST_ARGUMENTS:
-        return f"a behaviour would be handed {len(handed[most])} components, and a script hands on {MOST_ARGUMENTS}: {case.runs[most].function}"
+        return f"a behaviour would be handed {len(handed[most])} components, and a script passes at most {MOST_ARGUMENTS}: {case.runs[most].function}"
     longest = max(case.runs, key=lambda it: len(it.calls))
     if len(longest.calls) > MOST_STEPS:
         return f"{len(longest.calls)} calls of a behaviour, and a script holds {MOST_STEPS} steps: {longest.function}"
