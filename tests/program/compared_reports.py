@@ -133,7 +133,7 @@ def of_random_campaigns(seed: int) -> Judgement:
 
     def judge(program: str) -> List[str]:
         chance, met = random.Random(f"compared reports {seed}"), Counter()
-        for _ in range(40):
+        for _ in range(60):
             script = ("\n".join(drawn_cases(chance, chance.choice((1, 3, 6)))) + "\n").encode()
             campaign = read_script(script)
             history = run(Case("", ("run", chance.choice(("--history", "--evidence"))), script), program).output
@@ -157,7 +157,7 @@ def of_random_campaigns(seed: int) -> Judgement:
                 met["nothing"] += not ran.output
                 met.update(line.rpartition(" ")[0] for line in ran.errors.decode().splitlines())
         return below(met, [("csv", 40), ("junit", 40), ("html", 40), ("whole", 40), ("failed", 10), ("nothing", 5), ("missing", 30),
-                           ("twice", 8), ("out of order", 5), ("unknown", 10), ("no course", 15)])
+                           ("twice", 8), ("out of order", 5), ("unknown", 10), ("no course", 8)])
 
     return Judgement(f"reports_of_random_campaigns_beside_their_script_{seed}", "ttrun report --script < (random scripts and runs)", judge)
 

@@ -1,6 +1,5 @@
 -- What only the reading of the arguments needs: no public clause rests on a word of this file.
-use Rattle.std.specs.Prelude.{◌≡◌, ◌==◌, ◌||◌, ◌∷◌, [], Bool, List, Option, Some, None, if◌then◌else◌, codes, true}
-use Rattle.std.specs.List.{list_any}
+use Rattle.std.specs.Prelude.{◌≡◌, ◌∷◌, [], Bool, List, codes, true}
 use Rattle.clap.specs.Words.{App, Row, Rule, Text, app_of, kind_of, new_app, with_rule, with_subcommand}
 use Rattle.clap.specs.declared.builder.command.Command.{Command}
 use Rattle.clap.specs.declared.builder.command.Command.TheViews.{out-Command}
@@ -89,17 +88,3 @@ app_of_subcommand S.Replay = replay
 abbrev pub with_each : List Subcommand → App → App
 with_each [] app = app
 with_each (s ∷ ss) app = with_each ss (with_subcommand app (app_of_subcommand s).top)
-
--- the argument has a dot or a slash
-abbrev pub looks_like_file : Text → Bool
-looks_like_file word = list_any (λ b. (b == 46) || (b == 47)) word
-
--- the argument, if it looks like the path of a file
-abbrev pub if_file : Text → Option Text
-if_file word = if looks_like_file word then Some word else None
-
--- the first argument after the program's name, if it looks like the path of a file
-abbrev pub stray_file : List Text → Option Text
-stray_file [] = None
-stray_file (program ∷ []) = None
-stray_file (program ∷ word ∷ words) = if_file word

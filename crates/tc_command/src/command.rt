@@ -1,11 +1,12 @@
 //! The program's command, with its subcommands and their options.
 ghost use Rattle.std.specs.Prelude.{◌≡◌, IfOk, codes, false};
-ghost use Rattle.clap.specs.Words.{app_of, new_app, rule_of, with_subcommand as and_subcommand};
+ghost use Rattle.clap.specs.Words.{app_of, kind_of, new_app, rule_of, with_subcommand as and_subcommand};
 ghost use Rattle.clap.specs.declared.builder.command.Command.TheViews.{out-Command};
 ghost use Rattle.tc_command.specs.Command.{check, explore, flag_rule, replay, report, run, ttrun, word_rule, words_rule};
 ghost use Rattle.tc_command.specs.Inside.{GrowsBy, app_of_subcommand, rule_of_row, with_each, with_rows};
 
-use clap::{Arg, ArgAction, Command};
+use clap::error::ErrorKind;
+use clap::{Arg, ArgAction, Command, Error};
 use std::alloc::{AllocError, Global};
 
 /// The version of the program.
@@ -29,10 +30,9 @@ standard input or output failed: standard error says which.";
 const RUN_HELP: &str = "\
 Standard input is a script: ttrun run < FILE. Standard output is the report.
 
-VERDICT is none, pass, inconc, fail or error. Of the chosen test cases the
-K-th of N shards, K from 1 to N, has those whose index, from 0, is K - 1
-modulo N. --list takes no other option than --only and --shard, and --junit is
-not taken with --live.
+VERDICT is none, pass, inconc, fail or error. --shard K/N runs every N-th of
+the chosen test cases, from the K-th on. --list takes no other option than
+--only and --shard, and --junit is not taken with --live.
 Status: 0 for none and pass, 1 for inconc and fail, 2 for error, 3 for an
 abort or a refusal.";
 
@@ -63,15 +63,18 @@ refusal.";
 
 // What the help of `check` says at its end.
 const CHECK_HELP: &str = "\
-With --script the input is a script with histories or evidence of its test cases after
-it: cat FILE EVIDENCE | ttrun check --script. With --only and --shard, as for run, it is
-as if the script had only these test cases. After the lines of check a line says
+Standard input is histories or evidence: ttrun check < FILE. Standard output
+has a line for each, and none after the first that is not legal.
+With --script the input is a script, and after it histories or evidence of its
+test cases: cat FILE EVIDENCE | ttrun check --script. With --only and --shard,
+as for run, it is as if the script had only these test cases. After the lines
+of check a line says
   unknown NAME       the script has no test case NAME
   twice NAME         NAME came before
   out of order NAME  a later test case came before
   no course NAME     this is no complete course of the scripts of NAME
   missing NAME       there is nothing of NAME
-Status: 0 where each history is legal, and with --script no such line is printed;
+Status: 0 if each history is legal, and with --script no such line is printed;
 otherwise 3.";
 
 // What the help of `serve` says at its end.
@@ -115,13 +118,13 @@ const SCRIPT: OptionRow = OptionRow(
 const SCRIPT_ONLY: OptionRow = OptionRow(
     "only",
     Takes::Words("NAME"),
-    "awaits this test case of the script; may be given again, for others",
+    "awaits this test case; may be given again, for others",
 );
 
 const SCRIPT_SHARD: OptionRow = OptionRow(
     "shard",
     Takes::Word("K/N"),
-    "awaits the K-th of N shards of the test cases of the script",
+    "awaits the K-th of N shards of the test cases",
 );
 
 const RUN_OPTIONS: [OptionRow; 11] = [
@@ -356,7 +359,8 @@ pub(crate) enum Subcommand {
     Replay,
 }
 
-const SUBCOMMANDS: [Subcommand; 6] = [
+/// All of them.
+pub(crate) const SUBCOMMANDS: [Subcommand; 6] = [
     Subcommand::Run,
     Subcommand::Serve,
     Subcommand::Explore,
@@ -364,6 +368,32 @@ const SUBCOMMANDS: [Subcommand; 6] = [
     Subcommand::Report,
     Subcommand::Replay,
 ];
+
+impl Subcommand {
+    /// Its name.
+    pub(crate) fn name(self) -> &'static str {
+        match self {
+            Subcommand::Run => "run",
+            Subcommand::Serve => "serve",
+            Subcommand::Explore => "explore",
+            Subcommand::Check => "check",
+            Subcommand::Report => "report",
+            Subcommand::Replay => "replay",
+        }
+    }
+
+    // Its name behind that of the program.
+    fn usage_name(self) -> &'static str {
+        match self {
+            Subcommand::Run => "ttrun run",
+            Subcommand::Serve => "ttrun serve",
+            Subcommand::Explore => "ttrun explore",
+            Subcommand::Check => "ttrun check",
+            Subcommand::Report => "ttrun report",
+            Subcommand::Replay => "ttrun replay",
+        }
+    }
+}
 
 fn subcommand_of<'a>(alloc: Global, subcommand: Subcommand) -> Result<Command<'a>, AllocError>
     ensures options { IfOk result (λ c. app_of c ≡ app_of_subcommand subcommand) }
@@ -377,6 +407,19 @@ fn subcommand_of<'a>(alloc: Global, subcommand: Subcommand) -> Result<Command<'a
         Subcommand::Report => report_command(alloc),
         Subcommand::Replay => replay_command(alloc),
     }
+}
+
+/// An error with the usage of the subcommand.
+pub(crate) fn usage_error(
+    alloc: Global,
+    subcommand: Subcommand,
+    kind: ErrorKind,
+    text: &str,
+) -> Result<Error, AllocError>
+    ensures { IfOk result (λ e. kind_of e ≡ kind) }
+{
+    let mut command = subcommand_of(alloc, subcommand)?.bin_name(subcommand.usage_name())?;
+    command.error(kind, text)
 }
 
 // The program's command with this subcommand more.

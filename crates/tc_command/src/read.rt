@@ -322,6 +322,14 @@ fn task(alloc: Global, matches: &ArgMatches<'_>) -> Result<Task, Refusal>
     }
 }
 
+// The subcommand that the line names; `run` if it names none.
+fn asked(matches: &ArgMatches<'_>) -> Subcommand {
+    match matches.subcommand() {
+        None => Subcommand::Run,
+        Some((name, _)) => subcommand_named(name),
+    }
+}
+
 // What the command finds in the arguments.
 fn parsed<'a>(
     alloc: Global,
@@ -350,7 +358,7 @@ fn read_by<'a>(
     let matches = parsed(alloc, command, words)?;
     match task(alloc, &matches) {
         Ok(task) => Ok(task),
-        Err(refusal) => match told_of(alloc, command, refusal) {
+        Err(refusal) => match told_of(alloc, asked(&matches), refusal) {
             Ok(refused) => Err(refused),
             Err(error) => Err(Refused::Line(Error::from(error))),
         },
