@@ -268,13 +268,13 @@ LIES = (
         ("""Some(Phase::Stopped) => push_state(parts, b"stopped"),""", """Some(Phase::Stopped) => push_state(parts, b"killed"),"""),
     ), shown="a_stopped_component_is_waited_for"),
     Lie("the_tip_names_check", (
-        ("""tip: ttrun run < {word}""", """tip: ttrun check < {word}"""),
+        ("""in alloc; "ttrun run < {word}""", """in alloc; "ttrun check < {word}"""),
     ), shown="refused_file_"),
     Lie("a_clash_is_told_the_other_way_round", (
-        ("""conflict_error(alloc, command, first, second)?""", """conflict_error(alloc, command, second, first)?"""),
+        ("""conflict_error(alloc, subcommand, first, second)?""", """conflict_error(alloc, subcommand, second, first)?"""),
     ), shown="refused: report"),
     Lie("the_help_counts_shards_from_0", (
-        ("""whose index, from 0, is K - 1""", """whose index, from 0, is K"""),
+        ("""the chosen test cases, from the K-th on.""", """the chosen test cases, after the K-th."""),
     ), shown="help_"),
     Lie("the_help_of_serve_opens_smaller_test_cases", (
         ("""opens a test case of N behaviours, 1 to 256""", """opens a test case of N behaviours, 1 to 64"""),

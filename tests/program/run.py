@@ -26,6 +26,7 @@ import documents_run
 import evidence_rows
 import examples
 import explain
+import failed
 import live
 import progress
 import random_courses
@@ -59,6 +60,7 @@ GROUPS = (
     ("evidence", evidence_rows.cases, 145),
     ("compared", compared.cases, 59),
     ("compared reports", compared_reports.cases, 34),
+    ("failed", failed.cases, 50),
     ("explain", explain.cases, 100),
     ("documents", documents_run.cases, 2),
 )
@@ -73,12 +75,12 @@ def tests(seed: int) -> List[Test]:
             sys.exit(f"{name}: {len(group)} tests are fewer than {fewest}")
         found += group
     found += random_moves.judgements(seed) + random_scripts.judgements(seed) + random_courses.judgements(seed)
-    found += devices.judgements()
+    found += devices.judgements() + [words.help_in_78_columns()]
     found += reports.judgements(seed)
     found += evidence_rows.judgements(seed)
     found += choosing.judgements(seed)
     found += details.judgements(seed)
-    found += compared.judgements(seed) + compared_reports.judgements(seed)
+    found += compared.judgements(seed) + compared_reports.judgements(seed) + failed.judgements(seed)
     names = [it.name for it in found]
     twice = sorted({it for it in names if names.count(it) > 1})
     if twice:

@@ -5,7 +5,8 @@ import os
 import re
 from typing import List, Tuple
 
-from case import Case, SomeText, Word
+from case import Case, SomeText, Word, run
+from judged import Judgement
 
 COMMANDS = ("run", "serve", "check", "replay", "explore", "report", "\n  ttrun run < FILE\nNo argument at all means run.\n",
             "Each command reads standard input and writes standard output:\n",
@@ -28,11 +29,14 @@ ALL_OPTIONS = ("runs the campaign of a script, and writes its report\n",
                "  --list               prints the names of the test cases, and runs none\n",
                "  --only <NAME>        runs this test case; may be given again, for others\n",
                "  --shard <K/N>        runs the K-th of N shards of the test cases\n",
+               "  --failed             reads evidence after the script, and leaves out what passed\n",
                "  --explain            " + EXPLAIN,
-               "Standard input is a script: ttrun run < FILE. Standard output is the report.\n",
-               "VERDICT is none, pass, inconc, fail or error. Of the chosen test cases the\nK-th of N shards, K from 1 to N, has those"
-               " whose index, from 0, is K - 1\nmodulo N. --list takes no other option than --only and --shard, and --junit is\n"
-               "not taken with --live.\n",
+               "Standard input is a script: ttrun run < FILE. Standard output is the report.\n"
+               "With --failed it is a script, and after it histories or evidence of its test\n"
+               "cases: cat FILE EVIDENCE | ttrun run --failed runs those that are missing, or\n"
+               "have a verdict other than none and pass.\n",
+               "VERDICT is none, pass, inconc, fail or error. --shard K/N runs every N-th of\nthe chosen test cases, from the K-th on."
+               " --list takes no other option than\n--only, --shard and --failed, and --junit is not taken with --live.\n",
                "Status: 0 for none and pass, 1 for inconc and fail, 2 for error, 3 for an\nabort or a refusal.\n")
 EXPLORE = ("looks for every overall verdict that a test case can have\n",
            "  --history     writes a history for each verdict that was found\n",
@@ -46,8 +50,8 @@ REPORT = ("reads histories, and writes them in one of these forms\n",
           "  --csv          writes a table as CSV\n", "  --junit        writes a JUnit suite\n",
           "  --html         writes a page for a browser\n",
           "  --script       reads their script before them, and compares them with it\n",
-          "  --only <NAME>  awaits this test case of the script; may be given again, for others\n",
-          "  --shard <K/N>  awaits the K-th of N shards of the test cases of the script\n", "  --explain      " + EXPLAIN,
+          "  --only <NAME>  awaits this test case; may be given again, for others\n",
+          "  --shard <K/N>  awaits the K-th of N shards of the test cases\n", "  --explain      " + EXPLAIN,
           "Standard input is histories or evidence: ttrun report --csv < FILE. Nothing is\n"
           "written to standard output if one of them is not legal. With --script it is what\n"
           "check --script reads, and --only and --shard choose as there. Test cases that\n"
@@ -56,16 +60,19 @@ REPORT = ("reads histories, and writes them in one of these forms\n",
           "case that is not over, 3 if a history is not legal, for such a line, or for a\nrefusal.\n")
 CHECK = ("replays histories and evidence, and says which are legal\n",
          "  --script       reads their script before them, and compares them with it\n",
-         "  --only <NAME>  awaits this test case of the script; may be given again, for others\n",
-         "  --shard <K/N>  awaits the K-th of N shards of the test cases of the script\n", "  --explain      " + EXPLAIN,
-         "With --script the input is a script with histories or evidence of its test cases after\n"
-         "it: cat FILE EVIDENCE | ttrun check --script. With --only and --shard, as for run, it is\n"
-         "as if the script had only these test cases. After the lines of check a line says\n",
+         "  --only <NAME>  awaits this test case; may be given again, for others\n",
+         "  --shard <K/N>  awaits the K-th of N shards of the test cases\n", "  --explain      " + EXPLAIN,
+         "Standard input is histories or evidence: ttrun check < FILE. Standard output\n"
+         "has a line for each, and none after the first that is not legal.\n"
+         "With --script the input is a script, and after it histories or evidence of its\n"
+         "test cases: cat FILE EVIDENCE | ttrun check --script. With --only and --shard,\n"
+         "as for run, it is as if the script had only these test cases. After the lines\n"
+         "of check a line says\n",
          "  unknown NAME       the script has no test case NAME\n", "  twice NAME         NAME came before\n",
          "  out of order NAME  a later test case came before\n",
          "  no course NAME     this is no complete course of the scripts of NAME\n",
          "  missing NAME       there is nothing of NAME\n",
-         "Status: 0 where each history is legal, and with --script no such line is printed;\notherwise 3.\n")
+         "Status: 0 if each history is legal, and with --script no such line is printed;\notherwise 3.\n")
 REPLAY = ("replays a list of moves, and prints each reply and the verdict\n", "  --explain  " + EXPLAIN,
           "Standard input is a list of moves: ttrun replay < FILE. Standard output is a\n"
           "line for each reply, and then the overall verdict.\n",
@@ -144,6 +151,8 @@ run --evidence --evidence => the argument '--evidence' cannot be used multiple t
 run --evidence --history => the argument '--history' cannot be used with '--evidence'
 run --evidence --junit => the argument '--evidence' cannot be used with '--junit'
 run --evidence --list => the argument '--list' cannot be used with '--evidence'
+run --explain --failed => the argument '--failed' cannot be used with '--explain'
+run --failed --failed => the argument '--failed' cannot be used multiple times
 run --explain --list => the argument '--list' cannot be used with '--explain'
 run --history --csv => the argument '--csv' cannot be used with '--history'
 run --history --evidence => the argument '--history' cannot be used with '--evidence'
@@ -230,7 +239,6 @@ run --version => unexpected argument '--version' found
 run -V => unexpected argument '-V' found
 run -c => unexpected argument '-c' found
 run -csv => unexpected argument '-c' found
-run campaign.txt => unexpected argument 'campaign.txt' found
 run check => unexpected argument 'check' found
 run help => unexpected argument 'help' found
 run more => unexpected argument 'more' found
@@ -262,7 +270,6 @@ REFUSED: List[Tuple[str, Tuple[Word, ...]]] = [
     ("stop_on_without_a_word_behind_csv", ("run", "--csv", "--stop-on")),
     ("stop_on_twice", ("run", "--stop-on", "fail", "--stop-on", "fail")),
     ("a_verdict_behind_run", ("run", "fail")),
-    ("a_file_behind_run", ("run", "examples/workers.script")),
     ("help_of_an_unknown_word", ("help", "frobnicate")),
 ]
 
@@ -308,11 +315,28 @@ NAMELESS: List[Tuple[str, bytes]] = [
 # How the text about refused words ends.
 MORE = "\nFor more information, try '--help'.\n"
 
-# What is said if no file's name was given instead of a subcommand.
-NO_TIP = SomeText(lacking=("tip: ttrun run <",))
+# What is said if no file's name was given.
+NO_TIP = SomeText(lacking=("tip: ttrun ",))
 
 # A file's name instead of a subcommand.
 FILES = ("examples/workers.script", "campaign.txt", "./run", "../script", "run/")
+
+# A file's name after a subcommand.
+GIVEN_FILES = ("run campaign.txt", "run --csv ./a.script", "run --list -- a.script", "check run.history", "check --script a/run.history",
+               "report --junit run/x", "explore --states 7 a.b", "replay moves/a", "serve x.y", "run a.script more")
+
+# Of these words the last is not expected, and is no file's name; the one before is the value of an option.
+NO_FILES = ("run --stop-on a.b more", "run --only a/b more")
+
+# Words that are nearly a subcommand, and words that are not.
+NEARLY = (("rnu", "run"), ("Run", "run"), ("runn", "run"), ("chec", "check"), ("repla", "replay"), ("exlpore", "explore"),
+          ("reprot", "report"), ("srve", "serve"), ("RuN", "run"))
+NOT_NEARLY = ("list", "version", "frobnicate", "RUN", "help list", "help more")
+
+# Options that ask for nothing, and the subcommand whose usage is shown.
+USAGES = (("run --csv --junit", "run"), ("run --failed --explain", "run"), ("explore --details --history", "explore"), ("report", "report"),
+          ("report --csv --html", "report"), ("report --csv --only a", "report"), ("check --shard 1/2", "check"),
+          ("check --script --explain", "check"))
 
 NOT_UTF8: List[Tuple[str, Tuple[Word, ...]]] = [
     ("a_word_that_is_not_utf8", (b"\xff",)),
@@ -393,6 +417,20 @@ def of_explore() -> List[Case]:
     return found
 
 
+def help_in_78_columns() -> Judgement:
+    """The help of the program and of each subcommand fits a terminal of 80 columns."""
+
+    def judge(program: str) -> List[str]:
+        faults, lines = [], 0
+        for name in ("", "run", "serve", "explore", "check", "report", "replay"):
+            for line in run(Case("", (*name.split(), "--help"), b""), program).output.decode().splitlines():
+                lines += 1
+                faults += [f"{name}: {len(line)} columns: {line}"] if len(line) > 78 else []
+        return faults + ([] if lines > 100 else [f"{lines} lines"])
+
+    return Judgement("help_in_78_columns", "ttrun SUBCOMMAND --help", judge)
+
+
 def cases() -> List[Case]:
     """All of them. Standard input is a pipe that stays open: a program that reads it does not end."""
     found = [Case("help_" + "_".join(words), words, output=SomeText(("Usage", *named)), stays_open=True)
@@ -407,6 +445,19 @@ def cases() -> List[Case]:
     found += [Case("_".join(["refused_file", word, *more]), (word, *more), status=3, stays_open=True,
                    errors=SomeText((f"unrecognized subcommand '{word}'", f"\n  tip: ttrun run < {word}\n")))
               for word in FILES for more in ((), ("more",))]
+    for line in GIVEN_FILES:
+        given = line.split(" ")
+        file = next(it for it in given if "." in it or "/" in it)
+        found.append(Case(f"refused_file: {line}", tuple(given), status=3, stays_open=True, errors=SomeText(
+            (f"error: unexpected argument '{file}' found\n", f"\n  tip: ttrun {given[0]} < {file}\n", f"Usage: ttrun {given[0]}", MORE))))
+    found += [Case(f"refused_and_no_file: {line}", tuple(line.split(" ")), status=3, stays_open=True,
+                   errors=SomeText(("error: unexpected argument 'more' found\n",), NO_TIP.lacking)) for line in NO_FILES]
+    found += [Case(f"nearly_a_subcommand_{word}", (word,), status=3, stays_open=True, errors=SomeText(
+        (f"error: unrecognized subcommand '{word}'\n", f"\n  tip: a similar subcommand exists: '{name}'\n"))) for word, name in NEARLY]
+    found += [Case(f"not_nearly_a_subcommand: {line}", tuple(line.split(" ")), status=3, stays_open=True,
+                   errors=SomeText(("unrecognized subcommand",), ("tip:",))) for line in NOT_NEARLY]
+    found += [Case(f"usage_of_a_subcommand: {line}", tuple(line.split(" ")), status=3, stays_open=True,
+                   errors=SomeText((f"Usage: ttrun {name} [OPTIONS]\n", MORE))) for line, name in USAGES]
     found += [Case(f"refused_{name}", words, errors=b"ttrun: an argument is not UTF-8\n", status=3, stays_open=True)
               for name, words in NOT_UTF8]
     found += [Case("_".join(["unread_with", word, *form]), ("run", *form, "--stop-on", word), status=3, stays_open=True,

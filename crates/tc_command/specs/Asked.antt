@@ -60,7 +60,8 @@ apart S.Run =
     ∷ (codes "history", codes "evidence") ∷ (codes "history", codes "junit") ∷ (codes "evidence", codes "junit")
     ∷ (codes "list", codes "csv") ∷ (codes "list", codes "history") ∷ (codes "list", codes "evidence") ∷ (codes "list", codes "junit")
     ∷ (codes "list", codes "live")
-    ∷ (codes "list", codes "progress") ∷ (codes "list", codes "stop-on") ∷ (codes "list", codes "explain") ∷ (codes "junit", codes "live") ∷ []
+    ∷ (codes "list", codes "progress") ∷ (codes "list", codes "stop-on") ∷ (codes "list", codes "explain") ∷ (codes "junit", codes "live")
+    ∷ (codes "failed", codes "explain") ∷ []
 apart S.Check = (codes "script", codes "explain") ∷ []
 apart S.Explore = (codes "history", codes "details") ∷ []
 apart S.Report = (codes "csv", codes "junit") ∷ (codes "csv", codes "html") ∷ (codes "junit", codes "html") ∷ (codes "script", codes "explain") ∷ []
@@ -115,6 +116,7 @@ faults words = or_else (fault_of ttrun words) (option_faults (line_of (subcomman
 pub record Chooses (rows : List Row) (c : Choice) : Type 0 where
   pub only : c.only.items ≡ words_of (codes "only") rows
   pub shard : IsShardOf (first_of (codes "shard") rows) c.shard
+  pub failed : c.failed ≡ is_given rows (codes "failed")
 
 -- the options ask for a run so
 pub record AsksRun (rows : List Row) (o : RunOptions) : Type 0 where

@@ -25,7 +25,8 @@ abbrev pub run : App
 run = with_rules (new_app (codes "run")) (
     flag_rule (codes "csv") ∷ flag_rule (codes "history") ∷ flag_rule (codes "evidence") ∷ flag_rule (codes "junit")
     ∷ flag_rule (codes "live") ∷ flag_rule (codes "progress")
-    ∷ word_rule (codes "stop-on") ∷ flag_rule (codes "list") ∷ words_rule (codes "only") ∷ word_rule (codes "shard") ∷ flag_rule (codes "explain") ∷ [])
+    ∷ word_rule (codes "stop-on") ∷ flag_rule (codes "list") ∷ words_rule (codes "only") ∷ word_rule (codes "shard")
+    ∷ flag_rule (codes "failed") ∷ flag_rule (codes "explain") ∷ [])
 
 -- the options of `explore`
 abbrev pub explore : App

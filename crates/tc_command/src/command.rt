@@ -29,10 +29,13 @@ standard input or output failed: standard error says which.";
 // What the help of `run` says at its end.
 const RUN_HELP: &str = "\
 Standard input is a script: ttrun run < FILE. Standard output is the report.
+With --failed it is a script, and after it histories or evidence of its test
+cases: cat FILE EVIDENCE | ttrun run --failed runs those that are missing, or
+have a verdict other than none and pass.
 
 VERDICT is none, pass, inconc, fail or error. --shard K/N runs every N-th of
 the chosen test cases, from the K-th on. --list takes no other option than
---only and --shard, and --junit is not taken with --live.
+--only, --shard and --failed, and --junit is not taken with --live.
 Status: 0 for none and pass, 1 for inconc and fail, 2 for error, 3 for an
 abort or a refusal.";
 
@@ -127,7 +130,7 @@ const SCRIPT_SHARD: OptionRow = OptionRow(
     "awaits the K-th of N shards of the test cases",
 );
 
-const RUN_OPTIONS: [OptionRow; 11] = [
+const RUN_OPTIONS: [OptionRow; 12] = [
     OptionRow("csv", Takes::Nothing, "writes the report as CSV"),
     OptionRow(
         "history",
@@ -173,6 +176,11 @@ const RUN_OPTIONS: [OptionRow; 11] = [
         "shard",
         Takes::Word("K/N"),
         "runs the K-th of N shards of the test cases",
+    ),
+    OptionRow(
+        "failed",
+        Takes::Nothing,
+        "reads evidence after the script, and leaves out what passed",
     ),
     EXPLAIN,
 ];
@@ -382,7 +390,7 @@ impl Subcommand {
         }
     }
 
-    // Its name behind that of the program.
+    // Its name after that of the program.
     fn usage_name(self) -> &'static str {
         match self {
             Subcommand::Run => "ttrun run",

@@ -62,6 +62,7 @@ fn apart(subcommand: Subcommand) -> &'static [(&'static str, &'static str)]
             ("list", "stop-on"),
             ("list", "explain"),
             ("junit", "live"),
+            ("failed", "explain"),
         ],
         Subcommand::Explore => &[("history", "details")],
         Subcommand::Report => &[
@@ -164,7 +165,11 @@ fn choice(alloc: Global, options: &ArgMatches<'_>) -> Result<Choice, Refusal>
 {
     let shard = word::shard(word_of(options, "shard"))?;
     let only = names(alloc, options)?;
-    Ok(Choice { only, shard })
+    Ok(Choice {
+        only,
+        shard,
+        failed: has_option(options, "failed"),
+    })
 }
 
 // How the options ask for a campaign to be run.
@@ -315,6 +320,7 @@ fn task(alloc: Global, matches: &ArgMatches<'_>) -> Result<Task, Refusal>
             choice: Choice {
                 only: Vec::new(alloc),
                 shard: None,
+                failed: false,
             },
             explains: false,
         })),

@@ -35,6 +35,9 @@ pub struct Choice {
     pub only: Vec<Name>,
     /// The shard of `--shard`.
     pub shard: Option<Shard>,
+    /// Whether the text has histories or evidence after the script, and of the test cases those are left out that it
+    /// shows to have passed.
+    pub failed: bool,
 }
 
 /// How a campaign is run.

@@ -16,7 +16,7 @@ use Rattle.tc_script.specs.Campaign.{CampaignView, campaign}
 use Rattle.tc_script.specs.Law.{IsCase}
 use Rattle.tc_script.specs.Names.{Word, among, has_twice}
 use Rattle.tc_line.specs.Words.{is_text}
-use Rattle.tc_program.specs.Inside.{AreReady, IsCaseOf, RefusesNames, case_line, case_parts}
+use Rattle.tc_program.specs.Inside.{AreReady, AreReadyAs, IsCaseOf, RefusesNames, case_line, case_parts}
 use Rattle.tc_program.specs.Scripted.{CaseView}
 
 module _ {C : Type 0} (P : C → Type 0) where
@@ -24,7 +24,7 @@ module _ {C : Type 0} (P : C → Type 0) where
   all_with true c cs one rest = All-cons P c cs one rest
   all_with false c cs one rest = rest
 
-  all_filtered : (test : C → Bool) (cs : List C) → All P cs → All P (filter test cs)
+  pub all_filtered : (test : C → Bool) (cs : List C) → All P cs → All P (filter test cs)
   all_filtered test [] each = each
   all_filtered test (c ∷ cs) each = all_with (test c) c (filter test cs) (All-head P c cs each) (all_filtered test cs (All-tail P c cs each))
 
@@ -75,7 +75,7 @@ module _ (test : CaseView → Bool) where
       let rest = list_any (is_text n) (map (λ c. c.0) cs) in
       unnamed_with n (test c) c (filter test cs) (or_left (is_text n c.0) rest other) (unnamed_filtered n cs (or_right (is_text n c.0) rest other))
 
-  distinct_filtered : (cs : List CaseView) → IsDistinct cs → IsDistinct (filter test cs)
+  pub distinct_filtered : (cs : List CaseView) → IsDistinct cs → IsDistinct (filter test cs)
   distinct_filtered [] each = each
   distinct_filtered (c ∷ cs) each =
       let new = or_left (has_name c.0 cs) (has_twice (map (λ c. c.0) cs)) each in
@@ -106,7 +106,7 @@ distinct_chosen only (Some s) cs each = distinct_placed s 0 (named script_name o
 abbrev AreCases : List CaseView → List (Case ScriptView) → Type 0
 AreCases cs ks = AllZip IsCaseOf cs ks
 
-zip_with : (a b : Bool) (c : CaseView) (k : Case ScriptView) (cs : List CaseView) (ks : List (Case ScriptView)) → a ≡ b → IsCaseOf c k → AreCases cs ks
+pub zip_with : (a b : Bool) (c : CaseView) (k : Case ScriptView) (cs : List CaseView) (ks : List (Case ScriptView)) → a ≡ b → IsCaseOf c k → AreCases cs ks
     → AreCases (if a then c ∷ cs else cs) (if b then k ∷ ks else ks)
 zip_with true true c k cs ks same one rest = (one, rest)
 zip_with false false c k cs ks same one rest = rest
@@ -194,8 +194,8 @@ same_cases (c ∷ cs) (k ∷ ks) (r ∷ rs) each same =
     )
 
 -- test cases with the same parts as ready ones are ready
-pub still_ready : (choice : Choice) (text : List ℕ) (ks rs : List (Case ScriptView)) → AreReady choice text ks → map case_parts rs ≡ map case_parts ks → AreReady choice text rs
-still_ready choice text ks rs are same =
+pub still_ready : (Are : CampaignView → Type 0) (ks rs : List (Case ScriptView)) → AreReadyAs Are ks → map case_parts rs ≡ map case_parts ks → AreReadyAs Are rs
+still_ready Are ks rs are same =
     record { cases = are.cases; chosen = are.chosen; distinct = are.distinct; lawful = are.lawful; each = same_cases are.cases ks rs are.each same }
 
 -- a name that they do not have is one that the script does not have

@@ -1,9 +1,10 @@
 -- What comes of a text, and of an input.
-use Rattle.std.proofs.Common.{ℕ, ◌≡◌, ◌≤◌, List, [], Option, None, Some, IfSome, IfOk, IfErr, Result, Ok, Err, ap₂, inl, inr, length, refl, subst, sym}
+use Rattle.std.proofs.Common.{ℕ, ◌≡◌, ◌≤◌, Bool, true, false, List, [], Option, None, Some, IfSome, IfOk, IfErr, Result, Ok, Err, ap₂, inl, inr, length, refl, subst, sym}
 use Rattle.std.specs.Prelude.{◌≢◌, ◌⊎◌, MatchResult}
 use Rattle.std.specs.Global.{Vec}
 use Rattle.tc_program.specs.declared.reply.Answer.{Answer}
 use Rattle.std.specs.Io.KnownBytes.{Keeps}
+use Rattle.tc_command.specs.declared.task.Choice.{Choice}
 use Rattle.tc_command.specs.declared.task.Task.{Task}
 use Rattle.tc_command.specs.declared.task.Task.TheVariants as T
 use Rattle.tc_program.specs.declared.fault.RunFault.{RunFault}
@@ -13,6 +14,7 @@ use Rattle.tc_program.specs.Inside.{Makes, Refuses, WritesTo}
 use Rattle.tc_program.specs.Limits.{limit_of}
 use Rattle.tc_program.specs.Made.{Does, IsMade}
 use Rattle.tc_program.specs.Alone.{IsLeft, IsNotBegun}
+use Rattle.tc_program.specs.Passed.{RefusesRunBy}
 use Rattle.tc_program.specs.Program.{IsCarriedOut, IsDone, IsDoneWhole}
 use Rattle.tc_program.specs.Streams.{Streams}
 use Rattle.tc_program.specs.declared.outcome.Outcome.{Outcome}
@@ -25,6 +27,10 @@ keeps_same (Some xs) = refl
 abbrev pub answer_of : List ℕ → List ℕ → ℕ → Answer
 answer_of out told status = record { out = out; told = told; status = status }
 
+not_run : (left_out : Bool) (choice : Choice) (text : List ℕ) → RefusesRunBy left_out choice text F.Write → ⊥
+not_run true choice text refused = refused
+not_run false choice text refused = refused
+
 -- no text is refused since a writer failed
 not_write : (task : Task) (text : List ℕ) → Refuses task text F.Write → ⊥
 not_write (T.Replay explains) text refused = refused
@@ -33,8 +39,8 @@ not_write (T.Compare None choice) text refused = refused
 not_write (T.Compare (Some form) choice) text refused = refused
 not_write (T.Report form explains) text refused = refused
 not_write (T.Explore histories details states) text refused = refused
-not_write (T.List choice) text refused = refused
-not_write (T.Run o) text refused = refused
+not_write (T.List choice) text refused = not_run choice.failed choice text refused
+not_write (T.Run o) text refused = not_run o.choice.failed o.choice text refused
 not_write T.Serve text refused = refused
 
 -- of a text that is refused nothing is written

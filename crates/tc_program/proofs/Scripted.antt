@@ -31,7 +31,7 @@ use Rattle.tc_program.specs.Fault.{line_of, of_output}
 use Rattle.tc_program.specs.Stderr.{IsRefusal}
 use Rattle.tc_program.specs.declared.outcome.Outcome.{Outcome}
 use Rattle.tc_program.specs.Run.{IsLeft, IsRun, IsUnwritten}
-use Rattle.tc_program.specs.Choosing.{AreChosen}
+use Rattle.tc_program.specs.Passed.{AreToRun}
 use Rattle.tc_program.specs.Program.{LeavesScript, RunsScript}
 use Rattle.tc_program.specs.Streams.{Streams}
 use Rattle.tc_program.specs.Scripted.{CaseView, IsScripted, scripts_of, script_outline}
@@ -115,7 +115,7 @@ module _ (cs : List CaseView) (ks : List (Case ScriptView)) (stop_on : Option Ve
     why = subst (λ os. IsWhy threads (slice_get os (length fs)) ending ⊎ IsWithoutRoom fs ending) same are.why;
   }
 
-module _ (o : RunOptions) (text : List ℕ) (cs : List CaseView) (ks : List (Case ScriptView)) (chosen : AreChosen o.choice text cs) (lawful : All (λ c. IsCase c.1) cs)
+module _ (o : RunOptions) (text : List ℕ) (cs : List CaseView) (ks : List (Case ScriptView)) (chosen : AreToRun o.choice text cs) (lawful : All (λ c. IsCase c.1) cs)
     (each : AllZip IsCaseOf cs ks) where
   -- a run of the test cases that were made of a script is a run of that script
   pub run_done : (streams : Streams) (outcome : Outcome) → IsRun outline_of (IsCalled Acts) ks o streams outcome → RunsScript o text streams outcome

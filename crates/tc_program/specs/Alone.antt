@@ -5,12 +5,12 @@ use Rattle.tc_command.specs.Asked.{IsReading}
 use Rattle.tc_command.specs.declared.task.Task.{Task}
 use Rattle.tc_command.specs.declared.task.Task.TheVariants as T
 use Rattle.tc_script.specs.Campaign.{CampaignView}
-use Rattle.tc_program.specs.declared.limits.TheConstants.{SCRIPT_LIMIT}
 use Rattle.tc_program.specs.declared.outcome.Outcome.{Outcome}
 use Rattle.tc_program.specs.Answer.{IsAnswered}
-use Rattle.tc_program.specs.Choosing.{AreChosen}
 use Rattle.tc_program.specs.Fault.{said}
 use Rattle.tc_program.specs.Input.{IsRead}
+use Rattle.tc_program.specs.Limits.{limit_of}
+use Rattle.tc_program.specs.Passed.{AreToRun}
 use Rattle.tc_program.specs.Stderr.{IsRefusal}
 use Rattle.tc_program.specs.Streams.{Streams}
 
@@ -21,12 +21,12 @@ threads_text = codes "a run needs threads, and there are none here: try explore"
 -- the task is a run of test cases that the text spells: it was not begun, nothing was written, and it is printed that it needs threads
 abbrev pub IsNotBegun : Task → List ℕ → Streams → Outcome → Type 0
 IsNotBegun (T.Run o) text s outcome =
-    ((cases : CampaignView) × AreChosen o.choice text cases) × Keeps s.before s.after × IsRefusal s.untold s.told (said threads_text) outcome
+    ((cases : CampaignView) × AreToRun o.choice text cases) × Keeps s.before s.after × IsRefusal s.untold s.told (said threads_text) outcome
 IsNotBegun task text s outcome = ⊥
 
 -- the task is a run of test cases that the input spells, and was not begun
 abbrev pub IsLeft : Task → Option (List ℕ) → Streams → Outcome → Type 0
-IsLeft task input s outcome = IsRead SCRIPT_LIMIT input (λ text. IsNotBegun task text s outcome)
+IsLeft task input s outcome = IsRead (limit_of task) input (λ text. IsNotBegun task text s outcome)
 
 -- the arguments are answered as the program answers them, or they ask for a run that is not begun
 abbrev pub IsAnsweredAlone : List (List ℕ) → Option (List ℕ) → Streams → Type 0 → Type 0 → Outcome → Type 0

@@ -1,12 +1,14 @@
 -- What the functions inside of the program say, which no public clause names.
-use Rattle.std.specs.Prelude.{ℕ, ◌≡◌, ◌≢◌, ◌≤◌, ◌+◌, nat_lt, slice_get, slice_index_or, All, Bool, true, false, Option, Some, None, Result, Ok, Err, MatchResult, List, [], ◌∷◌, ◌++◌, length, map, reverse, take, codes, if◌then◌else◌}
+use Rattle.std.specs.Prelude.{ℕ, ◌≡◌, ◌≢◌, ◌&&◌, ◌≤◌, ◌+◌, nat_lt, slice_get, slice_index_or, All, Bool, true, false, Option, Some, None, Result, Ok, Err, MatchResult, List, [], ◌∷◌, ◌++◌, length, map, reverse, take, codes, filter, if◌then◌else◌, not}
 use Rattle.std.specs.List.{AllZip, flat_map}
 use Rattle.tc_entry.specs.declared.limits.TheConstants.{BEHAVIOURS}
-use Rattle.tc_script.specs.Names.{has_twice}
+use Rattle.tc_script.specs.Names.{Word, add, among, has_twice}
 use Rattle.tc_program.specs.Compared.{AreJudged, IsCompared, IsJudged, is_late, is_met, missing}
 use Rattle.tc_program.specs.declared.compare.Comparing.{Comparing}
 use Rattle.tc_program.specs.declared.compare.Comparison.{Comparison}
 use Rattle.tc_program.specs.declared.compare.Wrong.{Wrong}
+use Rattle.tc_program.specs.declared.passed.Seen.{Seen}
+use Rattle.tc_program.specs.Passed.{AreToRun, is_passed}
 use Rattle.tc_verdict.specs.declared.verdict.Verdict.{Verdict}
 use Rattle.tc_stream.specs.declared.input.InputFault.{InputFault}
 use Rattle.tc_stream.specs.declared.input.InputFault.TheVariants as I
@@ -254,13 +256,38 @@ RefusesNames have F.Only = have ≡ false
 RefusesNames have F.NoMemory = Unit {0}
 RefusesNames have fault = ⊥
 
--- these are the chosen test cases of the script that the text is, ready to be run
-pub record AreReady (choice : Choice) (text : List ℕ) (ready : List (Case ScriptView)) : Type 0 where
+-- these are test cases of which this holds, ready to be run
+pub record AreReadyAs (Are : CampaignView → Type 0) (ready : List (Case ScriptView)) : Type 0 where
   pub cases : CampaignView
-  pub chosen : AreChosen choice text cases
+  pub chosen : Are cases
   pub distinct : has_twice (map (λ c. c.0) cases) ≡ false
   pub lawful : All (λ c. IsCase c.1) cases
   pub each : AllZip IsCaseOf cases ready
+
+-- the chosen test cases of the script that the text is
+abbrev pub AreReady : Choice → List ℕ → List (Case ScriptView) → Type 0
+AreReady choice text = AreReadyAs (AreChosen choice text)
+
+-- the test cases that a run is asked for
+abbrev pub AreReadyToRun : Choice → List ℕ → List (Case ScriptView) → Type 0
+AreReadyToRun choice text = AreReadyAs (AreToRun choice text)
+
+-- these are the names that the blocks have, by whether their verdict is none or pass
+abbrev pub HasSeen : List Block → Seen → Type 0
+HasSeen blocks s = (name : Word) → (among name s.passed.keys ≡ is_met (filter is_passed blocks) name)
+    × (among name s.failed.keys ≡ is_met (filter (λ b. not (is_passed b)) blocks) name)
+
+-- names, with that of the block if it passes a test
+abbrev pub names_with : (Block → Bool) → Block → List Word → List Word
+names_with test b names = if test b then add b.header.name names else names
+
+-- the names show that the test case of this name has passed
+abbrev pub shows_passed : Seen → Word → Bool
+shows_passed s name = among name s.passed.keys && not (among name s.failed.keys)
+
+-- a test case is kept, if it has not passed
+abbrev pub kept_unless : Bool → Case ScriptView → List (Case ScriptView)
+kept_unless passed k = if not passed then k ∷ [] else []
 
 -- the answer is what a task makes of the text
 abbrev pub Makes : Task → List ℕ → Answer → Type 0

@@ -18,6 +18,7 @@ pub mod Answer
 pub mod Alone
 pub mod Check
 pub mod Compared
+pub mod Passed
 pub mod Inside
 pub mod WrittenHistories
 pub mod Report

@@ -11,16 +11,17 @@ use Rattle.tc_program.specs.declared.fault.RunFault.TheVariants as F
 use Rattle.tc_program.specs.declared.reply.Answer.{Answer}
 use Rattle.tc_program.specs.Check.{IsChecked, RefusesHistory}
 use Rattle.tc_program.specs.Compared.{IsCheckedAgainst, IsReportedAgainst, RefusesAgainst}
-use Rattle.tc_program.specs.Choosing.{AreChosen, RefusesChoice, RefusesScript, list_text}
+use Rattle.tc_program.specs.Choosing.{RefusesScript, list_text}
 use Rattle.tc_program.specs.Explore.{Explores}
 use Rattle.tc_program.specs.Input.{IsRead, IsUnread}
 use Rattle.tc_program.specs.Limits.{limit_of}
+use Rattle.tc_program.specs.Passed.{AreToRun, RefusesRun}
 use Rattle.tc_program.specs.Replay.{RefusesMoves, Replays}
 use Rattle.tc_program.specs.Report.{IsReported}
 
--- the answer is the list of the chosen test cases
+-- the answer is the list of the test cases that would be run
 abbrev pub IsListed : Choice → List ℕ → Answer → Type 0
-IsListed choice text a = (cases : CampaignView) × AreChosen choice text cases × (a ≡ record { out = list_text cases; told = []; status = 0 })
+IsListed choice text a = (cases : CampaignView) × AreToRun choice text cases × (a ≡ record { out = list_text cases; told = []; status = 0 })
 
 -- an answer of which nothing is printed, with such an output and status
 abbrev pub IsSilent : (List ℕ → ℕ → Type 0) → Answer → Type 0
@@ -35,8 +36,8 @@ IsMade (T.Compare None choice) text made = MatchResult made (IsSilent (IsChecked
 IsMade (T.Compare (Some form) choice) text made = MatchResult made (IsReportedAgainst form choice text) (RefusesAgainst choice text)
 IsMade (T.Report form e) text made = MatchResult made (IsReported form text) (RefusesHistory text)
 IsMade (T.Explore h d n) text made = MatchResult made (IsSilent (Explores h d n text)) (RefusesScript text)
-IsMade (T.List choice) text made = MatchResult made (IsListed choice text) (RefusesChoice choice text)
-IsMade (T.Run o) text made = MatchResult made (λ a. ⊥) (RefusesChoice o.choice text)
+IsMade (T.List choice) text made = MatchResult made (IsListed choice text) (RefusesRun choice text)
+IsMade (T.Run o) text made = MatchResult made (λ a. ⊥) (RefusesRun o.choice text)
 IsMade T.Serve text made = ⊥
 
 -- what a call of a task over a reader and a writer returns: the status, and what is made of the input is written; or a

@@ -11,31 +11,31 @@ use Rattle.tc_program.specs.declared.fault.RunFault.{RunFault}
 use Rattle.tc_program.specs.declared.fault.RunFault.TheVariants as F
 use Rattle.tc_program.specs.declared.outcome.Outcome.{Outcome}
 use Rattle.tc_program.specs.declared.reply.Answer.{Answer}
-use Rattle.tc_program.specs.Choosing.{AreChosen}
 use Rattle.tc_program.specs.Explained.{IsExplained}
 use Rattle.tc_program.specs.Fault.{line_of, of_output}
 use Rattle.tc_program.specs.Input.{IsRead, IsUnread}
 use Rattle.tc_program.specs.Limits.{limit_of}
 use Rattle.tc_program.specs.Made.{IsMade}
+use Rattle.tc_program.specs.Passed.{AreToRun}
 use Rattle.tc_program.specs.Run.{IsRun, IsUnwritten}
 use Rattle.tc_program.specs.Scripted.{script_outline, IsScripted}
 use Rattle.tc_program.specs.Serve.{Serves}
 use Rattle.tc_program.specs.Streams.{Streams}
 use Rattle.tc_program.specs.Stderr.{IsRefusal, IsTold}
 
--- The chosen test cases of the campaign that the text spells were run as it is asked for. Their right results were
+-- The test cases that are asked for were run, of the campaign that the text spells, as it is asked for. Their right results were
 -- written, and their status and the line of an aborted campaign are those of the outcome. Each report is of the test
 -- case at its place, and made of what its scripts do.
 pub record RunsScript (o : RunOptions) (text : List ℕ) (streams : Streams) (outcome : Outcome) : Type 0 where
   pub cases : CampaignView
-  pub chosen : AreChosen o.choice text cases
+  pub chosen : AreToRun o.choice text cases
   pub run : IsRun script_outline IsScripted cases o streams outcome
 
--- the chosen test cases were run so, their results were not written whole, and that is printed after what was printed
+-- the test cases were run so, their results were not written whole, and that is printed after what was printed
 -- of them
 pub record LeavesScript (o : RunOptions) (text : List ℕ) (streams : Streams) (outcome : Outcome) : Type 0 where
   pub cases : CampaignView
-  pub chosen : AreChosen o.choice text cases
+  pub chosen : AreToRun o.choice text cases
   pub fault : OutFault
   pub between : Option (List ℕ)
   pub run : IsUnwritten script_outline IsScripted cases o (record streams { told = between }) fault

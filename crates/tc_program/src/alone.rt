@@ -9,12 +9,12 @@ ghost use Rattle.tc_program.specs.Streams.{held};
 
 use crate::answer::{answer_refused, answer_unread};
 use crate::carry_out::made_text;
-use crate::cases::chosen_cases;
 use crate::explained::refuse_text;
 use crate::input::read_text;
 use crate::limits::limit_of;
 use crate::made::finish;
 use crate::outcome::Outcome;
+use crate::passed::cases_to_run;
 use crate::serve::serve_input;
 use crate::stderr::{refuse, refuse_words};
 use std::alloc::Global;
@@ -35,7 +35,7 @@ fn leave_run<W: Write, E: Write>(
     ensures { IsDone task.now text.now (held W.contents writer.old writer.new E.contents errors.old errors.new) result
         ⊎ IsNotBegun task.now text.now (held W.contents writer.old writer.new E.contents errors.old errors.new) result }
 {
-    match chosen_cases(alloc, text, &options.choice) {
+    match cases_to_run(alloc, text, &options.choice) {
         Ok(cases) => drop(cases),
         Err(fault) => return refuse_text(alloc, errors, task, text, fault),
     }

@@ -6,7 +6,6 @@ ghost use Rattle.tc_program.specs.Made.{IsMade};
 ghost use Rattle.tc_program.specs.Program.{IsCarriedOut, IsDone};
 ghost use Rattle.tc_program.specs.Streams.{held};
 
-use crate::cases::ready_cases;
 use crate::check::check_text;
 use crate::compare::{compare_text, report_compared};
 use crate::explained::refuse_text;
@@ -17,6 +16,7 @@ use crate::limits::limit_of;
 use crate::listing::list_text;
 use crate::made::finish;
 use crate::outcome::Outcome;
+use crate::passed::ready_cases;
 use crate::replay::replay_text;
 use crate::reply::Answer;
 use crate::report::report_text;

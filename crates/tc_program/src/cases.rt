@@ -93,8 +93,8 @@ fn jobs_of<R: Wait + Copy + Send + 'static>(
     Ok(jobs)
 }
 
-// The same test cases, with jobs that run their scripts.
-fn with_jobs<R: Wait + Copy + Send + 'static>(
+/// The same test cases, with jobs that run their scripts.
+pub(crate) fn with_jobs<R: Wait + Copy + Send + 'static>(
     rt: &R,
     alloc: Global,
     cases: Vec<Case<Script>>,
@@ -108,18 +108,4 @@ fn with_jobs<R: Wait + Copy + Send + 'static>(
         ready.push(Case { name, names, jobs })?;
     }
     Ok(ready)
-}
-
-/// The chosen test cases of the campaign that the text spells, ready to be run.
-pub(crate) fn ready_cases<R: Wait + Copy + Send + 'static>(
-    rt: &R,
-    alloc: Global,
-    text: &[u8],
-    choice: &Choice,
-) -> Result<Vec<Case<ScriptJob<R>>>, RunFault>
-    ensures chosen { IfOk result (λ cases. AreReady choice.now text.now cases.items) }
-    ensures refused { IfErr result (RefusesChoice choice.now text.now) }
-{
-    let cases = chosen_cases(alloc, text, choice)?;
-    Ok(with_jobs(rt, alloc, cases)?)
 }

@@ -251,8 +251,9 @@ pub(crate) fn compare(
     Ok(Comparison { notes, missing })
 }
 
-// The blocks that the text spells.
-fn read_blocks(alloc: Global, text: &[u8]) -> Result<Sequence<Block>, RunFault>
+/// The blocks that the text spells.
+pub(crate) fn read_blocks(alloc: Global, text: &[u8]) -> Result<Sequence<Block>, RunFault>
+    ensures ok { IfOk result (AreEvidence text.now) }
     ensures only { IfOk result (λ blocks. (all : List AnyBlock) → AreEvidence text.now all → blocks ≡ all) }
     ensures refused { IfErr result (RefusesHistory text.now) }
 {
@@ -274,9 +275,13 @@ fn compare_blocks(
     Ok(compare(alloc, ready, blocks.as_slice())?)
 }
 
-// The chosen test cases of the script that is before the blocks.
+/// The chosen test cases of the script that is before the blocks.
 #[tactic(auto, using(crate::proofs::Beside::script_refused))]
-fn chosen_before(alloc: Global, choice: &Choice, text: &[u8]) -> Result<Vec<Case<Script>>, RunFault>
+pub(crate) fn chosen_before(
+    alloc: Global,
+    choice: &Choice,
+    text: &[u8],
+) -> Result<Vec<Case<Script>>, RunFault>
     ensures ready { IfOk result (λ v. AreReady choice.now (script_part text.now) v.items) }
     ensures refused { IfErr result (RefusesAgainst choice.now text.now) }
 {

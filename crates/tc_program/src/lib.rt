@@ -20,6 +20,7 @@ mod listing;
 mod made;
 pub mod outcome;
 pub mod output;
+mod passed;
 pub mod replay;
 pub mod reply;
 mod report;

@@ -1,12 +1,12 @@
 //! The list of the chosen test cases of a script.
 ghost use Rattle.std.specs.Prelude.{◌≡◌, IfOk, IfErr};
 ghost use Rattle.std.specs.List.{flat_map};
-ghost use Rattle.tc_program.specs.Choosing.{RefusesChoice};
 ghost use Rattle.tc_program.specs.Inside.{case_line};
 ghost use Rattle.tc_program.specs.Made.{IsListed};
+ghost use Rattle.tc_program.specs.Passed.{RefusesRun};
 
-use crate::cases::chosen_cases;
 use crate::fault::RunFault;
+use crate::passed::cases_to_run;
 use crate::reply::Answer;
 use std::alloc::Global;
 use tc_campaign::Case;
@@ -26,12 +26,12 @@ fn list_of<B: Drop>(alloc: Global, cases: &[Case<B>]) -> Result<Vec<u8>, NoMemor
     Ok(text)
 }
 
-/// What `run --list` makes of a script: the names of the test cases of it that are chosen, one a line; nothing is run.
+/// What `run --list` makes of a script: the names of the test cases that a run is asked for, one a line; nothing is run.
 pub(crate) fn list_text(alloc: Global, choice: &Choice, text: &[u8]) -> Result<Answer, RunFault>
     ensures done { IfOk result (IsListed choice.now text.now) }
-    ensures refused { IfErr result (RefusesChoice choice.now text.now) }
+    ensures refused { IfErr result (RefusesRun choice.now text.now) }
 {
-    let cases = chosen_cases(alloc, text, choice)?;
+    let cases = cases_to_run(alloc, text, choice)?;
     let list = list_of(alloc, cases.as_slice())?;
     Ok(Answer {
         out: Sequence::new(list),

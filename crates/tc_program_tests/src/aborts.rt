@@ -88,6 +88,7 @@ fn options(alloc: Global, live: bool, progress: bool) -> RunOptions {
         choice: Choice {
             only: Vec::new(alloc),
             shard: None,
+            failed: false,
         },
         explains: false,
     }

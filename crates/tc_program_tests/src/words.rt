@@ -45,6 +45,9 @@ ttrun run --shard=2/3 --only a => run --only=a --shard=2/3
 ttrun run --list => run --list
 ttrun run --list --only a --only b => run --list --only=a --only=b
 ttrun run --shard 4294967295/4294967295 --list => run --list --shard=4294967295/4294967295
+ttrun run --failed => run --failed
+ttrun run --failed --csv --shard 1/2 --live => run --csv --live --shard=1/2 --failed
+ttrun run --only a --list --failed => run --list --only=a --failed
 ttrun run --explain => run --explain
 ttrun run --csv --explain --live --stop-on fail => run --csv --live --stop-on=fail --explain
 ttrun check --explain => check --explain
@@ -87,7 +90,7 @@ fn append_choice(out: &mut String, choice: &Choice) -> Result<(), Fail> {
         let number = shard.place().saturating_add(1);
         write!(out, " --shard={number}/{}", shard.shards())?;
     }
-    Ok(())
+    Ok(append_if(out, choice.failed, " --failed")?)
 }
 
 fn word_of_form(form: Form) -> &'static str {

@@ -13,7 +13,7 @@ returns-in-Err g c =
 
 pub returns : goal.returns
 returns g c =
-    let are = c.in-Ok.ensures.chosen in
+    let are = c.in-Ok.ensures.are in
     inr (subst (λ task. IsNotBegun task c.args.text.now
     (held g.W.Write.contents c.args.writer.now c.args.writer.now g.E.Write.contents c.args.errors.now c.refuse_words.new.errors) c.refuse_words.result)
     (sym c.requires) ((are.cases, are.chosen), keeps_same (g.W.Write.contents c.args.writer.now), c.refuse_words.ensures))

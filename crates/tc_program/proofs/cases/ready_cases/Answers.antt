@@ -1,6 +1,0 @@
-use Rattle.tc_program.proofs.Chosen.{still_ready}
-use Rattle.tc_program.proofs.cases.ready_cases.Goals as goal
-
-pub returns-clause-chosen : goal.returns-clause-chosen
-returns-clause-chosen g c =
-    still_ready c.args.choice.now c.args.text.now c.in_ok-cases.cases.items c.in_ok-with_jobs.field-0.items c.in_ok-cases.ensures.chosen c.in_ok-with_jobs.ensures

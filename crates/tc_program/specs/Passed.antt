@@ -1,0 +1,46 @@
+-- The test cases that evidence shows to have passed, and those that a run is asked to run.
+use Rattle.std.specs.Prelude.{ℕ, ◌≡◌, ◌==◌, ◌&&◌, Bool, true, false, not, List, filter, reverse}
+use Rattle.tc_command.specs.declared.task.Choice.{Choice}
+use Rattle.tc_evidence.specs.declared.block.Block.{Block}
+use Rattle.tc_evidence.specs.Text.{AreEvidence}
+use Rattle.tc_report.specs.Status.{verdict_status}
+use Rattle.tc_script.specs.Campaign.{CampaignView}
+use Rattle.tc_script.specs.Names.{Word}
+use Rattle.tc_program.specs.Choosing.{AreChosen, RefusesChoice, script_name}
+use Rattle.tc_program.specs.Compared.{RefusesAgainst, blocks_part, is_met, script_part}
+use Rattle.tc_program.specs.declared.fault.RunFault.{RunFault}
+
+-- the verdict of the block is none or pass
+abbrev pub is_passed : Block → Bool
+is_passed b = verdict_status b.verdict == 0
+
+-- one of the blocks of this name has such a verdict, and none has another
+abbrev pub has_passed : List Block → Word → Bool
+has_passed blocks name = is_met (filter is_passed blocks) name && not (is_met (filter (λ b. not (is_passed b)) blocks) name)
+
+-- the text is a script, and histories and evidence after it; these are the chosen test cases of the script but those that
+-- have passed by the blocks
+pub record AreUnpassed (choice : Choice) (text : List ℕ) (cases : CampaignView) : Type 0 where
+  pub all : CampaignView
+  pub chosen : AreChosen choice (script_part text) all
+  pub blocks : List Block
+  pub evidence : AreEvidence (blocks_part text) blocks
+  pub are : (bs : List Block) → AreEvidence (blocks_part text) bs → cases ≡ filter (λ c. not (has_passed (reverse bs) (script_name c))) all
+
+-- these are the test cases that a run is asked for, by whether those that have passed are left out of the chosen ones
+abbrev pub AreToRunBy : Bool → Choice → List ℕ → CampaignView → Type 0
+AreToRunBy true = AreUnpassed
+AreToRunBy false = AreChosen
+
+-- the same by the choice
+abbrev pub AreToRun : Choice → List ℕ → CampaignView → Type 0
+AreToRun choice = AreToRunBy choice.failed choice
+
+-- the text is refused, by whether it has histories and evidence after its script
+abbrev pub RefusesRunBy : Bool → Choice → List ℕ → RunFault → Type 0
+RefusesRunBy true = RefusesAgainst
+RefusesRunBy false = RefusesChoice
+
+-- the same by the choice
+abbrev pub RefusesRun : Choice → List ℕ → RunFault → Type 0
+RefusesRun choice = RefusesRunBy choice.failed choice
