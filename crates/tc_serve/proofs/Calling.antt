@@ -10,7 +10,10 @@ use Rattle.tc_entry.specs.declared.reply.Reply.TheVariants as R
 use Rattle.tc_table.specs.declared.awaited.Awaited.{Awaited}
 use Rattle.tc_table.specs.Answers.{answer}
 use Rattle.tc_table.specs.Standing.{IsReply, Kept, StandsFor, TakesIn}
+use Rattle.tc_table.specs.Laws.{keeps_phases}
+use Rattle.tc_table.specs.Legal.{IsLegal}
 use Rattle.tc_table.specs.Waiting.{awaited, parks, waiting}
+use Rattle.tc_table.proofs.Lemmas.Standing.{legal_for}
 use Rattle.tc_evidence.specs.declared.line.Line.{Line}
 use Rattle.tc_evidence.specs.declared.line.Line.TheVariants as L
 use Rattle.tc_evidence.specs.Block.{ended}
@@ -19,27 +22,31 @@ use Rattle.tc_evidence.specs.Met.{AreMet}
 use Rattle.tc_serve.specs.declared.open_case.OpenCase.{OpenCase}
 use Rattle.tc_serve.specs.declared.refusal.Refusal.{Refusal}
 use Rattle.tc_serve.specs.declared.refusal.Refusal.TheVariants as W
-use Rattle.tc_serve.specs.Protocol.{Played, called, is_parked, is_wake, made, moved, past_of, sleep_of, with_line}
-use Rattle.tc_serve.specs.Inside.{AreAsleep, BecomesAwake, Holds, IsAdded, IsCalled, IsKept, IsOpen, IsText, after_call}
+use Rattle.tc_serve.specs.Protocol.{Played, called, is_parked, is_wake, made, moved, past_of, sleep_of, with_line, woken}
+use Rattle.tc_serve.specs.Inside.{AreAsleep, Becomes, BecomesAwake, Holds, IsAdded, IsCalled, IsKept, IsOpen, IsText, Moves, Rests, after_call, wakes_nobody}
 use Rattle.tc_serve.proofs.Going.{appended, grows, line_more}
+use Rattle.tc_serve.proofs.Settled.{moved_settled, nobody_woken, noted_settled}
 use Rattle.tc_serve.proofs.Sleeping.{asleep_more, asleep_on}
 
 -- ---- a line that is no entry
 
-pub noted : (v w : OpenCase) (p : Played) (l : Line) (closed : List Played) (before out written : List ℕ) → Holds v p closed before out → entry_of l ≡ [] → w.state ≡ v.state → w.sleepers ≡ v.sleepers → ((ls : List Line) → AreMet v.met ls → AreMet w.met (l ∷ ls)) →
-    written ≡ out ++ ended (line_text l) → Holds w (with_line p l) closed before written
+pub noted : (v w : OpenCase) (p : Played) (l : Line) (closed : List Played) (before out written : List ℕ) → Rests v p closed before out → entry_of l ≡ [] → w.state ≡ v.state → w.sleepers ≡ v.sleepers → ((ls : List Line) → AreMet v.met ls → AreMet w.met (l ∷ ls)) →
+    written ≡ out ++ ended (line_text l) → Rests w (with_line p l) closed before written
 noted v w p l closed before out written holds none state sleepers met appends =
     let past : past_of p ≡ past_of (with_line p l) = ap (λ (es : List Entry). es ++ past_of p) (sym none) in
-    let kept = holds.is.kept in
+    let kept = holds.is.opened.kept in
     record {
       is = record {
-        kept = record {
-          behaviours = ap (λ (k : Kept). k.behaviours) state ∙ kept.behaviours;
-          few = kept.few;
-          stands = subst (StandsFor w.state) past (subst (λ (k : Kept). StandsFor k (past_of p)) (sym state) kept.stands);
-          met_are = met p.lines kept.met_are;
+        opened = record {
+          kept = record {
+            behaviours = ap (λ (k : Kept). k.behaviours) state ∙ kept.behaviours;
+            few = kept.few;
+            stands = subst (StandsFor w.state) past (subst (λ (k : Kept). StandsFor k (past_of p)) (sym state) kept.stands);
+            met_are = met p.lines kept.met_are;
+          };
+          asleep = subst (AreAsleep p.behaviours w.sleepers.items) past (rw sleepers holds.is.opened.asleep);
         };
-        asleep = subst (AreAsleep p.behaviours w.sleepers.items) past (rw sleepers holds.is.asleep);
+        settled = noted_settled p l none holds.is.settled;
       };
       text = appended before out written _ _ _ holds.text appends (grows closed p (l ∷ p.lines) (ended (line_text l)) (line_more l p.lines));
     }
@@ -168,3 +175,29 @@ module _ (v w : OpenCase) (caller : Run) (op : Op) (reply : Reply) (out written 
         };
         text = call.text p closed before holds.is.kept holds.text;
       }
+
+-- ---- a call, and who is woken by it
+
+legal : (o : OpenCase) (p : Played) → IsKept o.state o.met p → IsLegal p.behaviours (past_of p)
+legal o p kept = legal_for p.behaviours o.state (past_of p) kept.behaviours kept.stands
+
+some : (o : OpenCase) (p : Played) → IsKept o.state o.met p → 0 < p.behaviours
+some o p kept = omega (arith, kept.few.0)
+
+-- nobody is, and so it was not tried
+pub wakes_none : (v w : OpenCase) (caller : Run) (op : Op) (reply : Reply) (out written : List ℕ) → BecomesAwake caller.0 (λ p. record p { lines = after_call p caller op }) v w out written → ((p : Played) → IsOpen v p → reply ≡ (called p.behaviours p.lines caller op).reply) →
+    wakes_nobody (keeps_phases op) reply ≡ true → Moves caller op v w out written
+wakes_none v w caller op reply out written becomes replied nobody p closed before none settled holds =
+    let kept = holds.is.kept in
+    subst (λ (q : Played). Holds w q closed before written) (nobody_woken p caller op (some v p kept) (legal v p kept) settled (rw (replied p holds.is) at nobody)) (becomes p closed before none holds)
+
+-- all are who can continue
+pub wakes_all : (v w x : OpenCase) (caller : Run) (op : Op) (out mid written : List ℕ) → BecomesAwake caller.0 (λ p. record p { lines = after_call p caller op }) v w out mid →
+    Becomes (λ p. record p { lines = woken p.behaviours p.lines p.behaviours }) w x mid written → Moves caller op v x out written
+wakes_all v w x caller op out mid written asks becomes p closed before none settled holds = becomes (record p { lines = after_call p caller op }) closed before (asks p closed before none holds)
+
+-- nobody is left asleep who can continue
+pub moves_rest : (v w : OpenCase) (caller : Run) (op : Op) (out written : List ℕ) → Moves caller op v w out written → (p : Played) (closed : List Played) (before : List ℕ) → sleep_of p caller.0 ≡ None → Rests v p closed before out → Rests w (moved p caller op) closed before written
+moves_rest v w caller op out written moves p closed before none rests =
+    let holds : Holds w (moved p caller op) closed before written = moves p closed before none rests.is.settled (record { is = rests.is.opened; text = rests.text }) in
+    record { is = record { opened = holds.is; settled = moved_settled p caller op (legal v p rests.is.opened.kept) }; text = holds.text }

@@ -8,7 +8,7 @@ use Rattle.tc_table.specs.Local.{overall}
 use Rattle.tc_evidence.specs.declared.line.Line.{Line}
 use Rattle.tc_evidence.specs.Block.{ended, header_text}
 use Rattle.tc_evidence.specs.Line.{line_text}
-use Rattle.tc_serve.specs.Protocol.{Played, Stand, past_of, with_line, woken}
+use Rattle.tc_serve.specs.Protocol.{Played, Stand, past_of, woken}
 use Rattle.tc_serve.specs.Text.{block, header_of, opening, stand_text}
 use Rattle.tc_serve.specs.Inside.{woken_once}
 

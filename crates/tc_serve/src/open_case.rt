@@ -3,6 +3,7 @@ ghost use Rattle.std.specs.Prelude.{◌≡◌, ◌<◌, ◌++◌, ◌∷◌, [],
 ghost use Rattle.std.specs.Result.{result_err};
 ghost use Rattle.std.specs.Io.{StartsWith};
 ghost use Rattle.tc_entry.specs.Limits.{IsBehaviours};
+ghost use Rattle.tc_table.specs.Laws as laws;
 ghost use Rattle.tc_table.specs.Local as verdicts;
 ghost use Rattle.tc_table.specs.Waiting as waits;
 ghost use Rattle.tc_evidence.specs.declared.line.Line.{Line as AnyLine};
@@ -11,8 +12,8 @@ ghost use Rattle.tc_evidence.specs.Block.{ended};
 ghost use Rattle.tc_evidence.specs.Line.{entry_of, is_met, line_text};
 ghost use Rattle.tc_evidence.specs.Met.{AreMet};
 ghost use Rattle.tc_serve.specs.declared.sleepers.Sleeper.{Sleeper as AnySleeper};
-ghost use Rattle.tc_serve.specs.Inside.{Becomes, BecomesAwake, Changes, IsCalled, IsOpen, IsPassed, after_call, woken_once};
-ghost use Rattle.tc_serve.specs.Protocol.{Played as AnyPlayed, added, is_parked, is_wake as spec_wake, made, moved, named, past_of, sleep_of as spec_sleep, woken};
+ghost use Rattle.tc_serve.specs.Inside.{Becomes, BecomesAwake, Changes, IsCalled, IsOpen, IsPassed, Moves, after_call, wakes_nobody as spec_wakes_nobody, woken_once};
+ghost use Rattle.tc_serve.specs.Protocol.{Played as AnyPlayed, added, called, is_parked, is_wake as spec_wake, made, named, past_of, sleep_of as spec_sleep, woken};
 ghost use Rattle.tc_serve.specs.Refusal.{why_text};
 ghost use Rattle.tc_serve.specs.Text.{counted as spec_counted};
 
@@ -62,6 +63,28 @@ fn parks(awaited: Option<Awaited>, reply: Reply) -> Option<Awaited>
         awaited
     } else {
         None
+    }
+}
+
+// Whether an operation starts, halts and kills nothing.
+fn keeps_phases(op: &Op) -> bool
+    ensures { result ≡ laws.keeps_phases op.now }
+{
+    !matches!(
+        op,
+        Op::Start { .. } | Op::Stop(_) | Op::Kill(_) | Op::StopCase | Op::Finish
+    )
+}
+
+// Whether after an entry with this reply no run can continue that could not before it.
+fn wakes_nobody(keeps_phases: bool, reply: Reply) -> bool
+    ensures { result ≡ spec_wakes_nobody keeps_phases reply }
+{
+    match reply {
+        Reply::Ended => true,
+        Reply::Parked | Reply::Fault(_) => false,
+        Reply::Made(_) | Reply::Ok | Reply::Answer(_) | Reply::Local(_) | Reply::Matched =>
+            keeps_phases,
     }
 }
 
@@ -195,20 +218,24 @@ impl OpenCase {
         Ok(reply)
     }
 
-    // Makes the call of a run that does not sleep, and appends its line; if memory runs out, a part of it.
-    fn ask(&mut self, caller: Run, op: Op, out: &mut Vec<u8>) -> Result<(), NoMemory>
+    // Makes the call of a run that does not sleep, and appends its line; its reply. If memory runs out, a part is appended.
+    fn ask(&mut self, caller: Run, op: Op, out: &mut Vec<u8>) -> Result<Reply, NoMemory>
         ensures ok { OnOk result (BecomesAwake caller.0 (λ p. record p { lines = after_call p caller op }) self.old self.new out.old.items out.new.items) }
+        ensures reply { IfOk result (λ r. (p : AnyPlayed) → IsOpen self.old p → r ≡ (called p.behaviours p.lines caller op).reply) }
         ensures any { StartsWith out.new.items out.old.items }
     {
         let is_own = self.has(caller);
         let awaited = awaited(&op);
         let reply = self.call(caller, op, out)?;
         if !is_own {
-            return Ok(());
+            return Ok(reply);
         }
         match parks(awaited, reply) {
-            Some(awaited) => add(&mut self.sleepers, caller.0, awaited),
-            None => Ok(()),
+            Some(awaited) => {
+                add(&mut self.sleepers, caller.0, awaited)?;
+                Ok(reply)
+            }
+            None => Ok(reply),
         }
     }
 
@@ -245,12 +272,16 @@ impl OpenCase {
         Ok(())
     }
 
-    // Makes the call of a run that does not sleep, and then wakes each run that can continue.
+    // Makes the call of a run that does not sleep, and then wakes each run that can continue, of which none could before.
     fn play(&mut self, caller: Run, op: Op, out: &mut Vec<u8>) -> Result<(), NoMemory>
-        ensures ok { OnOk result (BecomesAwake caller.0 (λ p. moved p caller op) self.old self.new out.old.items out.new.items) }
+        ensures ok { OnOk result (Moves caller op self.old self.new out.old.items out.new.items) }
         ensures any { StartsWith out.new.items out.old.items }
     {
-        self.ask(caller, op, out)?;
+        let keeps_phases = keeps_phases(&op);
+        let reply = self.ask(caller, op, out)?;
+        if wakes_nobody(keeps_phases, reply) {
+            return Ok(());
+        }
         self.wake_all(out)
     }
 

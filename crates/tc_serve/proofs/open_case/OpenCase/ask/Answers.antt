@@ -1,5 +1,4 @@
 use Rattle.std.proofs.Common.{◌∙◌, refl, sym}
-use Rattle.std.proofs.lemmas.Result.{on_ok_weaker}
 use Rattle.tc_serve.proofs.Calling.{goes_nowhere, goes_on, lies_down, parks_by}
 use Rattle.tc_serve.proofs.open_case.OpenCase.ask.Goals as goal
 
@@ -12,10 +11,8 @@ returns-in-None-clause-ok c =
     let waits = sym c.in-None.is ∙ (c.parks.ensures ∙ (rw c.awaited-awaited.ensures (parks_by c.args.op c.in_ok-reply.reply))) in
     goes_on c.args.self.now c.call.new.self c.args.caller c.args.op c.in_ok-reply.reply c.args.out.now.items c.call.new.out.items c.in_ok-reply.ensures.ok waits
 
-pub returns-in-Some-clause-ok : goal.returns-in-Some-clause-ok
-returns-in-Some-clause-ok c =
+pub returns-in_ok-add-in-Some-clause-ok : goal.returns-in_ok-add-in-Some-clause-ok
+returns-in_ok-add-in-Some-clause-ok c =
     let waits = sym c.in-Some.is ∙ (c.parks.ensures ∙ (rw c.awaited-awaited.ensures (parks_by c.args.op c.in_ok-reply.reply))) in
-    on_ok_weaker c.add.result
-    (λ added. lies_down c.args.self.now c.call.new.self c.args.caller c.args.op c.in_ok-reply.reply c.args.out.now.items c.call.new.out.items c.in_ok-reply.ensures.ok
-    (record { state = c.call.new.self.state; sleepers = c.add.new.sleepers; met = c.call.new.self.met }) c.in-Some.awaited refl refl waits (λ p is. sym (c.has-is_own.ensures.is p is) ∙ c.if-not-is_own.false) added)
-    c.add.ensures
+    lies_down c.args.self.now c.call.new.self c.args.caller c.args.op c.in_ok-reply.reply c.args.out.now.items c.call.new.out.items c.in_ok-reply.ensures.ok
+    (record { state = c.call.new.self.state; sleepers = c.add.new.sleepers; met = c.call.new.self.met }) c.in-Some.awaited refl refl waits (λ p is. sym (c.has-is_own.ensures.is p is) ∙ c.if-not-is_own.false) c.in_ok-add-in-Some.ensures
