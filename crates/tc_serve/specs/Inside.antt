@@ -9,6 +9,7 @@ use Rattle.tc_table.specs.Standing.{Kept, StandsFor}
 use Rattle.tc_table.specs.Waiting.{waiting}
 use Rattle.tc_entry.specs.declared.entry.Entry.{Entry}
 use Rattle.tc_entry.specs.declared.op.Op.{Op}
+use Rattle.tc_entry.specs.declared.op.Op.TheVariants as Ops
 use Rattle.tc_entry.specs.declared.reply.Reply.{Reply}
 use Rattle.tc_entry.specs.declared.reply.Reply.TheVariants as R
 use Rattle.tc_evidence.specs.declared.met.MetRuns.{MetRuns}
@@ -94,6 +95,15 @@ IsText p closed before out = before ++ out ≡ stand_text (record { closed = clo
 pub record Holds (o : OpenCase) (p : Played) (closed : List Played) (before out : List ℕ) : Type 0 where
   pub is : IsOpen o p
   pub text : IsText p closed before out
+
+-- an entry
+abbrev pub entry : Run → Op → Reply → Entry
+entry caller op reply = record { caller = caller; op = op; reply = reply }
+
+-- the run that the operation starts
+abbrev pub started : Op → Option Run
+started (Ops.Start c run args) = Some run
+started _ = None
 
 -- the lines after a call, before any run is woken
 abbrev pub after_call : Played → Run → Op → List Line
