@@ -86,7 +86,10 @@ pub(crate) fn read_short_move(text: &[u8]) -> Option<(Run, ShortOp)>
     ensures fits { IfSome result (λ r. (r.0.0 < 2 ^ 16) × IsOp (op_of r.1)) }
 {
     let (one, rest) = take_short_move(text)?;
-    if rest.is_empty() { Some(one) } else { None }
+    if !rest.is_empty() {
+        return None;
+    }
+    Some(one)
 }
 
 // What the line asks for, if it is neither a move nor a remark.
