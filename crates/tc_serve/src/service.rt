@@ -33,7 +33,7 @@ pub struct Ending {
     pub told: bool,
 }
 
-/// The answers and the reports of a turn. They are kept for the next turn, whose answers mostly fit into the same memory.
+/// The answers and the reports of a turn. They are kept for the next turn, whose answers usually fit into the same memory.
 #[derive(Drop)]
 struct Texts {
     out: Vec<u8>,
