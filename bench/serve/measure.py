@@ -36,6 +36,9 @@ MIXED = 60_000
 BEHAVIOURS, MOST = 64, 256
 FEW, MANY = 100_000, 2_000_000
 CHUNK = 4_000
+TRACED = 3_000
+CALLGRIND = ("valgrind", "--tool=callgrind", "--callgrind-out-file=/dev/null")
+KINDS = ("getverdict", "setverdict pass", "running {0}", "alive all", "done any", "setverdict inconc", "killed {0}", "getverdict")
 
 
 def median(rounds: int, figure: Callable[[], float]) -> float:
@@ -70,33 +73,37 @@ def cpp_rate(built: str, command: Sequence[str], callers: int) -> float:
     return CALLS / float(ran.stdout)
 
 
+def ask_alone(served: "subprocess.Popen[bytes]", calls: int) -> float:
+    """Makes calls over two pipes, each after the answer to the one before; their seconds. The input ends then."""
+    def ask(line: bytes) -> bytes:
+        os.write(served.stdin.fileno(), line)
+        return os.read(served.stdout.fileno(), 4096)
+
+    ask(b"case t_bare 1\n")
+    began = time.perf_counter()
+    for _ in range(calls):
+        if ask(b"0 getverdict\n") != b"0 getverdict -> none\n":
+            sys.exit("another answer")
+    seconds = time.perf_counter() - began
+    ask(b"0 finish\n")
+    ask(b"end\n")
+    served.stdin.close()
+    return seconds
+
+
 def bare_rate(command: Sequence[str]) -> float:
     """Round trips a second over two pipes, without a client and without threads."""
     with subprocess.Popen(list(command), bufsize=0, stdin=subprocess.PIPE, stdout=subprocess.PIPE) as served:
-        def ask(line: bytes) -> bytes:
-            os.write(served.stdin.fileno(), line)
-            return os.read(served.stdout.fileno(), 4096)
-
-        ask(b"case t_bare 1\n")
-        began = time.perf_counter()
-        for _ in range(CALLS):
-            if ask(b"0 getverdict\n") != b"0 getverdict -> none\n":
-                sys.exit("another answer")
-        seconds = time.perf_counter() - began
-        ask(b"0 finish\n")
-        ask(b"end\n")
-        served.stdin.close()
-    return CALLS / seconds
+        return CALLS / ask_alone(served, CALLS)
 
 
 def mixed_moves() -> Iterator[str]:
     """Moves of 64 behaviours, none of which waits."""
     for run in range(1, BEHAVIOURS):
         yield from (f"0 create named c_{run}", f"0 start {run} {run}")
-    kinds = ("getverdict", "setverdict pass", "running {0}", "alive all", "done any", "setverdict inconc", "killed {0}", "getverdict")
     for at in range(MIXED):
         run = at % BEHAVIOURS
-        yield f"{run} {kinds[at // BEHAVIOURS % len(kinds)].format((run * 7 + 1) % BEHAVIOURS or 1)}"
+        yield f"{run} {KINDS[at // BEHAVIOURS % len(KINDS)].format((run * 7 + 1) % BEHAVIOURS or 1)}"
     yield from (f"{run} finish" for run in reversed(range(BEHAVIOURS)))
 
 
@@ -104,6 +111,15 @@ def lone_moves() -> Iterator[str]:
     """Moves of one behaviour."""
     yield from ("0 getverdict" for _ in range(ALONE))
     yield "0 finish"
+
+
+def sleeping_moves() -> Iterator[str]:
+    """Moves of one behaviour while all others sleep, each until the next one is done."""
+    others = range(1, MOST)
+    for run in others:
+        yield from (f"0 create named c_{run}", f"0 start {run} {run}")
+    yield from (f"{run} wait done {run % len(others) + 1}" for run in others)
+    yield from (f"0 {KINDS[at % len(KINDS)].format(at % len(others) + 1)}" for at in range(MIXED))
 
 
 def processor_time(words: Sequence[str], text: str) -> Tuple[float, str]:
@@ -124,11 +140,25 @@ def texts_of(moves: Sequence[str], behaviours: int) -> Tuple[str, str]:
     return f"case t_moves {behaviours}\n{lines}end\n", f"behaviours {behaviours}\n{lines}"
 
 
+def collected(told: bytes) -> float:
+    """The number of instructions that callgrind prints."""
+    return float(re.search(rb"Collected : (\d+)", told)[1])
+
+
 def instructions(words: Sequence[str], text: str) -> float:
     """How many instructions a program takes for a text, by callgrind."""
-    command = ["valgrind", "--tool=callgrind", "--callgrind-out-file=/dev/null", *words]
-    ran = subprocess.run(command, input=text.encode(), stdout=subprocess.DEVNULL, stderr=subprocess.PIPE, check=False)
-    return float(re.search(rb"Collected : (\d+)", ran.stderr)[1])
+    ran = subprocess.run([*CALLGRIND, *words], input=text.encode(), stdout=subprocess.DEVNULL, stderr=subprocess.PIPE, check=False)
+    return collected(ran.stderr)
+
+
+def instructions_alone(command: Sequence[str]) -> float:
+    """How many instructions a call takes that is sent after the answer to the one before, by callgrind."""
+    def counted(calls: int) -> float:
+        with subprocess.Popen([*CALLGRIND, *command], bufsize=0, stdin=subprocess.PIPE, stdout=subprocess.PIPE, stderr=subprocess.PIPE) as served:
+            ask_alone(served, calls)
+            return collected(served.stderr.read())
+
+    return (counted(2 * TRACED) - counted(TRACED)) / TRACED
 
 
 def next_to_replay(program: str, rounds: int, moves: Sequence[str], behaviours: int) -> Tuple[float, float]:
@@ -197,16 +227,19 @@ def rates(command: Sequence[str], rounds: int) -> None:
 def times(program: str, rounds: int) -> None:
     """Prints the processor time a move, and instructions if they can be counted."""
     print("| a move | serve, ns | replay, ns | ratio | serve, instructions | replay, instructions | ratio |\n|---|---|---|---|---|---|---|")
-    lone, mixed = list(lone_moves()), list(mixed_moves())
+    lone, mixed, sleeping = list(lone_moves()), list(mixed_moves()), list(sleeping_moves())
     for name, moves, behaviours in ((f"{ALONE:,} getverdict of one behaviour", lone, 1),
                                     (f"{MIXED:,} mixed moves of {BEHAVIOURS} behaviours", mixed, BEHAVIOURS),
-                                    (f"the same, in a test case of {MOST} behaviours, as the clients open it", mixed, MOST)):
+                                    (f"the same, in a test case of {MOST} behaviours, as the clients open it", mixed, MOST),
+                                    (f"{MIXED:,} mixed moves of one behaviour while {MOST - 1} of {MOST} sleep", sleeping, MOST)):
         one, other = next_to_replay(program, rounds, moves, behaviours)
         counted = "| | |"
         if shutil.which("valgrind"):
             serve, replay = (instructions([program, word], text) / len(moves) for word, text in zip(("serve", "replay"), texts_of(moves, behaviours)))
             counted = f"{serve:,.0f} | {replay:,.0f} | {serve / replay:.1f} |"
         print(f"| {name} | {one:.0f} | {other:.0f} | {one / other:.1f} | {counted}", flush=True)
+    if shutil.which("valgrind"):
+        print(f"\na call that is sent after the answer to the one before: {instructions_alone([program, 'serve']):,.0f} instructions")
     print()
 
 

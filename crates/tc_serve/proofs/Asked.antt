@@ -11,7 +11,7 @@ use Rattle.tc_evidence.specs.declared.line.Line.TheVariants as L
 use Rattle.tc_evidence.specs.Line.{entries_of}
 use Rattle.tc_serve.specs.declared.order.Order.{Order}
 use Rattle.tc_serve.specs.declared.order.Order.TheVariants as O
-use Rattle.tc_serve.specs.Protocol.{AreServed, Came, Played, Sent, Stand, called, is_parked, is_wake, moved, sleep_of, wake_op, with_current, woken, woken_from}
+use Rattle.tc_serve.specs.Protocol.{Played, Stand, called, is_parked, is_wake, moved, sleep_of, wake_op, with_current, woken, woken_from}
 use Rattle.tc_serve.specs.Inside.{after_call}
 use Rattle.tc_serve.specs.Laws.{EvidenceIsAsked, asked_by, asked_in, asked_of, done_by}
 use Rattle.tc_serve.proofs.Changes.{Changed, changes, may_ask}

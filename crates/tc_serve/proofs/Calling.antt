@@ -1,45 +1,54 @@
 -- What one more line does to what is kept of a test case.
-use Rattle.std.proofs.Common.{ℕ, ◌≡◌, ◌∙◌, ◌<◌, nat_lt, if◌then◌else◌, is_some, Bool, true, false, Option, Some, None, Result, Ok, Err, MatchResult, List, [], ◌∷◌, ◌++◌, refl, ap, sym, subst, arith}
+use Rattle.std.proofs.Common.{ℕ, ◌≡◌, ◌∙◌, ◌<◌, ◌==◌, ◌||◌, append_assoc, nat_lt, if◌then◌else◌, is_some, Bool, true, false, Option, Some, None, Result, Ok, Err, MatchResult, List, [], ◌∷◌, ◌++◌, refl, ap, sym, subst, arith}
 use Rattle.std.specs.Result.{result_err}
 use Rattle.std.proofs.lemmas.Bool.Decides.{nat_tests}
 use Rattle.tc_verdict.specs.declared.run.Run.{Run}
 use Rattle.tc_entry.specs.declared.entry.Entry.{Entry}
 use Rattle.tc_entry.specs.declared.op.Op.{Op}
+use Rattle.tc_entry.specs.declared.op.Op.TheVariants as Ops
 use Rattle.tc_entry.specs.declared.reply.Reply.{Reply}
 use Rattle.tc_entry.specs.declared.reply.Reply.TheVariants as R
 use Rattle.tc_table.specs.declared.awaited.Awaited.{Awaited}
 use Rattle.tc_table.specs.Answers.{answer}
 use Rattle.tc_table.specs.Standing.{IsReply, Kept, StandsFor, TakesIn}
+use Rattle.tc_table.specs.Laws.{keeps_phases}
+use Rattle.tc_table.specs.Legal.{IsLegal}
 use Rattle.tc_table.specs.Waiting.{awaited, parks, waiting}
+use Rattle.tc_table.proofs.Lemmas.Standing.{legal_for}
 use Rattle.tc_evidence.specs.declared.line.Line.{Line}
 use Rattle.tc_evidence.specs.declared.line.Line.TheVariants as L
 use Rattle.tc_evidence.specs.Block.{ended}
-use Rattle.tc_evidence.specs.Line.{entry_of, line_text}
+use Rattle.tc_evidence.specs.Line.{entry_of, is_met, line_text, starts}
+use Rattle.tc_evidence.specs.declared.met.MetRuns.{MetRuns}
 use Rattle.tc_evidence.specs.Met.{AreMet}
 use Rattle.tc_serve.specs.declared.open_case.OpenCase.{OpenCase}
 use Rattle.tc_serve.specs.declared.refusal.Refusal.{Refusal}
 use Rattle.tc_serve.specs.declared.refusal.Refusal.TheVariants as W
-use Rattle.tc_serve.specs.Protocol.{Played, called, is_parked, is_wake, made, moved, past_of, sleep_of, with_line}
-use Rattle.tc_serve.specs.Inside.{AreAsleep, BecomesAwake, Holds, IsAdded, IsCalled, IsKept, IsOpen, IsText, after_call}
+use Rattle.tc_serve.specs.Protocol.{Played, called, is_parked, is_wake, made, moved, past_of, sleep_of, with_line, woken}
+use Rattle.tc_serve.specs.Inside.{AreAsleep, Becomes, BecomesAwake, Holds, IsAdded, IsCalled, IsKept, IsOpen, IsText, Moves, Rests, after_call, entry, started, wakes_nobody}
 use Rattle.tc_serve.proofs.Going.{appended, grows, line_more}
+use Rattle.tc_serve.proofs.Settled.{moved_settled, nobody_woken, noted_settled}
 use Rattle.tc_serve.proofs.Sleeping.{asleep_more, asleep_on}
 
 -- ---- a line that is no entry
 
-pub noted : (v w : OpenCase) (p : Played) (l : Line) (closed : List Played) (before out written : List ℕ) → Holds v p closed before out → entry_of l ≡ [] → w.state ≡ v.state → w.sleepers ≡ v.sleepers → ((ls : List Line) → AreMet v.met ls → AreMet w.met (l ∷ ls)) →
-    written ≡ out ++ ended (line_text l) → Holds w (with_line p l) closed before written
+pub noted : (v w : OpenCase) (p : Played) (l : Line) (closed : List Played) (before out written : List ℕ) → Rests v p closed before out → entry_of l ≡ [] → w.state ≡ v.state → w.sleepers ≡ v.sleepers → ((ls : List Line) → AreMet v.met ls → AreMet w.met (l ∷ ls)) →
+    written ≡ out ++ ended (line_text l) → Rests w (with_line p l) closed before written
 noted v w p l closed before out written holds none state sleepers met appends =
     let past : past_of p ≡ past_of (with_line p l) = ap (λ (es : List Entry). es ++ past_of p) (sym none) in
-    let kept = holds.is.kept in
+    let kept = holds.is.opened.kept in
     record {
       is = record {
-        kept = record {
-          behaviours = ap (λ (k : Kept). k.behaviours) state ∙ kept.behaviours;
-          few = kept.few;
-          stands = subst (StandsFor w.state) past (subst (λ (k : Kept). StandsFor k (past_of p)) (sym state) kept.stands);
-          met_are = met p.lines kept.met_are;
+        opened = record {
+          kept = record {
+            behaviours = ap (λ (k : Kept). k.behaviours) state ∙ kept.behaviours;
+            few = kept.few;
+            stands = subst (StandsFor w.state) past (subst (λ (k : Kept). StandsFor k (past_of p)) (sym state) kept.stands);
+            met_are = met p.lines kept.met_are;
+          };
+          asleep = subst (AreAsleep p.behaviours w.sleepers.items) past (rw sleepers holds.is.opened.asleep);
         };
-        asleep = subst (AreAsleep p.behaviours w.sleepers.items) past (rw sleepers holds.is.asleep);
+        settled = noted_settled p l none holds.is.settled;
       };
       text = appended before out written _ _ _ holds.text appends (grows closed p (l ∷ p.lines) (ended (line_text l)) (line_more l p.lines));
     }
@@ -61,16 +70,43 @@ module _ (t : Bool) (r : Result Played Refusal) (e : Refusal) (P : Played → Ty
 
 -- ---- a call
 
+or_no : (t : Bool) → (t || false) ≡ t
+or_no true = refl
+or_no false = refl
+
 -- what the caller waits for after its call
 pub parks_by : (op : Op) (r : Reply) → (if is_parked r then awaited op else None) ≡ parks op r
 parks_by op R.Parked = refl
 parks_by op _ = refl
 
-abbrev pub make : Run → Op → Reply → Entry
-make caller op reply = record { caller = caller; op = op; reply = reply }
+-- the line is whole with what follows its move
+pub line_whole : (text move outcome out written : List ℕ) → out ≡ text ++ move → written ≡ out ++ (outcome ++ 10 ∷ []) → written ≡ text ++ ((move ++ outcome) ++ 10 ∷ [])
+line_whole text move outcome out written begun is =
+    is ∙ (ap (λ (l : List ℕ). l ++ (outcome ++ 10 ∷ [])) begun ∙ (append_assoc text move (outcome ++ 10 ∷ []) ∙ ap (λ (l : List ℕ). text ++ l) (sym (append_assoc move outcome (10 ∷ [])))))
 
-pub call_made : (v w : OpenCase) (caller : Run) (op : Op) (reply : Reply) (out written : List ℕ) → IsReply v.state caller op reply → TakesIn v.state (make caller op reply) w.state → w.state.behaviours ≡ v.state.behaviours → w.sleepers ≡ v.sleepers →
-    ((ls : List Line) → AreMet v.met ls → AreMet w.met (L.Entry (make caller op reply) ∷ ls)) → written ≡ out ++ ended (line_text (L.Entry (make caller op reply))) → IsCalled caller op reply v w out written
+-- the line of a call is about the runs of two refused lines
+pub met_none : (met : MetRuns) (caller : Run) (op : Op) (reply : Reply) (ls : List Line) → None ≡ started op → AreMet met (L.Refused caller [] ∷ ls) → AreMet met (L.Entry (entry caller op reply) ∷ ls)
+met_none met caller op reply ls none are b d less = are b d less ∙ by_op op none
+  where
+    by_op : (o : Op) → None ≡ started o → ((caller.0 == b) || is_met b ls) ≡ (((caller.0 == b) || starts b o) || is_met b ls)
+    by_op (Ops.Start c run args) e = absurd cc
+    by_op _ e = ap (λ (t : Bool). t || is_met b ls) (sym (or_no (caller.0 == b)))
+
+pub met_some : (met : MetRuns) (caller run : Run) (op : Op) (reply : Reply) (ls : List Line) → Some run ≡ started op → AreMet met (L.Refused run [] ∷ L.Refused caller [] ∷ ls) → AreMet met (L.Entry (entry caller op reply) ∷ ls)
+met_some met caller run op reply ls some are b d less = are b d less ∙ by_op op some
+  where
+    turned : (x y z : Bool) → (x || (y || z)) ≡ ((y || x) || z)
+    turned true true z = refl
+    turned true false z = refl
+    turned false true z = refl
+    turned false false z = refl
+
+    by_op : (o : Op) → Some run ≡ started o → ((run.0 == b) || ((caller.0 == b) || is_met b ls)) ≡ (((caller.0 == b) || starts b o) || is_met b ls)
+    by_op (Ops.Start c r args) e = let same : run ≡ r = cc in ap (λ (k : Run). (k.0 == b) || ((caller.0 == b) || is_met b ls)) same ∙ turned (r.0 == b) (caller.0 == b) (is_met b ls)
+    by_op _ e = absurd cc
+
+pub call_made : (v w : OpenCase) (caller : Run) (op : Op) (reply : Reply) (out written : List ℕ) → IsReply v.state caller op reply → TakesIn v.state (entry caller op reply) w.state → w.state.behaviours ≡ v.state.behaviours → w.sleepers ≡ v.sleepers →
+    ((ls : List Line) → AreMet v.met ls → AreMet w.met (L.Entry (entry caller op reply) ∷ ls)) → written ≡ out ++ ended (line_text (L.Entry (entry caller op reply))) → IsCalled caller op reply v w out written
 call_made v w caller op reply out written replied takes behaviours sleepers met appends = record {
   same = sleepers;
   replied = answered;
@@ -81,14 +117,14 @@ call_made v w caller op reply out written replied takes behaviours sleepers met 
     met_are = met p.lines kept.met_are;
   });
   text = λ p closed before kept text. subst (λ (e : Entry). IsText (record p { lines = L.Entry e ∷ p.lines }) closed before written) (entry_is p kept)
-      (appended before out written _ _ _ text appends (grows closed p (L.Entry (make caller op reply) ∷ p.lines) _ (line_more (L.Entry (make caller op reply)) p.lines)));
+      (appended before out written _ _ _ text appends (grows closed p (L.Entry (entry caller op reply) ∷ p.lines) _ (line_more (L.Entry (entry caller op reply)) p.lines)));
 }
   where
     answered : (p : Played) → IsKept v.state v.met p → reply ≡ answer p.behaviours (past_of p) caller.0 op
     answered p kept = replied (past_of p) kept.stands ∙ ap (λ (n : ℕ). answer n (past_of p) caller.0 op) kept.behaviours
 
-    entry_is : (p : Played) → IsKept v.state v.met p → make caller op reply ≡ called p.behaviours p.lines caller op
-    entry_is p kept = ap (make caller op) (answered p kept)
+    entry_is : (p : Played) → IsKept v.state v.met p → entry caller op reply ≡ called p.behaviours p.lines caller op
+    entry_is p kept = ap (entry caller op) (answered p kept)
 
 -- ---- the caller of a call that is no wake
 
@@ -168,3 +204,29 @@ module _ (v w : OpenCase) (caller : Run) (op : Op) (reply : Reply) (out written 
         };
         text = call.text p closed before holds.is.kept holds.text;
       }
+
+-- ---- a call, and who is woken by it
+
+legal : (o : OpenCase) (p : Played) → IsKept o.state o.met p → IsLegal p.behaviours (past_of p)
+legal o p kept = legal_for p.behaviours o.state (past_of p) kept.behaviours kept.stands
+
+some : (o : OpenCase) (p : Played) → IsKept o.state o.met p → 0 < p.behaviours
+some o p kept = omega (arith, kept.few.0)
+
+-- nobody is, and so it was not tried
+pub wakes_none : (v w : OpenCase) (caller : Run) (op : Op) (reply : Reply) (out written : List ℕ) → BecomesAwake caller.0 (λ p. record p { lines = after_call p caller op }) v w out written → ((p : Played) → IsOpen v p → reply ≡ (called p.behaviours p.lines caller op).reply) →
+    wakes_nobody (keeps_phases op) reply ≡ true → Moves caller op v w out written
+wakes_none v w caller op reply out written becomes replied nobody p closed before none settled holds =
+    let kept = holds.is.kept in
+    subst (λ (q : Played). Holds w q closed before written) (nobody_woken p caller op (some v p kept) (legal v p kept) settled (rw (replied p holds.is) at nobody)) (becomes p closed before none holds)
+
+-- all are who can continue
+pub wakes_all : (v w x : OpenCase) (caller : Run) (op : Op) (out mid written : List ℕ) → BecomesAwake caller.0 (λ p. record p { lines = after_call p caller op }) v w out mid →
+    Becomes (λ p. record p { lines = woken p.behaviours p.lines p.behaviours }) w x mid written → Moves caller op v x out written
+wakes_all v w x caller op out mid written asks becomes p closed before none settled holds = becomes (record p { lines = after_call p caller op }) closed before (asks p closed before none holds)
+
+-- nobody is left asleep who can continue
+pub moves_rest : (v w : OpenCase) (caller : Run) (op : Op) (out written : List ℕ) → Moves caller op v w out written → (p : Played) (closed : List Played) (before : List ℕ) → sleep_of p caller.0 ≡ None → Rests v p closed before out → Rests w (moved p caller op) closed before written
+moves_rest v w caller op out written moves p closed before none rests =
+    let holds : Holds w (moved p caller op) closed before written = moves p closed before none rests.is.settled (record { is = rests.is.opened; text = rests.text }) in
+    record { is = record { opened = holds.is; settled = moved_settled p caller op (legal v p rests.is.opened.kept) }; text = holds.text }

@@ -17,7 +17,7 @@ use Rattle.tc_serve.specs.declared.refusal.Refusal.{Refusal}
 use Rattle.tc_serve.specs.declared.refusal.Refusal.TheVariants as W
 use Rattle.tc_serve.specs.Order.{IsOrder}
 use Rattle.tc_serve.specs.Refusal.{why_text}
-use Rattle.tc_serve.specs.Protocol.{AreServed, Came, Comes, Played, Sent, Stand, added, finished, is_wake, made, moved, named, refused, sleep_of, start, taken, was_done, was_lost, was_refused, with_current, with_line, with_open}
+use Rattle.tc_serve.specs.Protocol.{AreServed, Came, Comes, Played, Sent, Stand, added, is_wake, made, moved, named, sleep_of, taken, was_done, was_lost, was_refused, with_current, with_line, with_open}
 use Rattle.tc_serve.specs.Laws.{AllServed, EachOf, asked_by, done_by}
 
 abbrev pub new : List ℕ → ℕ → Played

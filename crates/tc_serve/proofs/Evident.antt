@@ -40,7 +40,7 @@ use Rattle.tc_serve.specs.Text.{block, header_of, stand_text}
 use Rattle.tc_serve.specs.Inside.{after_call}
 use Rattle.tc_serve.specs.Laws.{EachOf, ServedIsEvidence, block_of, blocks_of}
 use Rattle.tc_serve.specs.Refusal.{why_text}
-use Rattle.tc_serve.proofs.Changes.{IsNote, all_served, closing, may_add, without}
+use Rattle.tc_serve.proofs.Changes.{IsNote, all_served, closing, may_add}
 use Rattle.tc_serve.proofs.Going.{lines_text}
 
 -- ---- the numbers of entries are those of their types

@@ -1,26 +1,24 @@
 -- Bytes that are fed, and the lines that they are.
-use Rattle.std.proofs.Common.{ℕ, ◌≡◌, ◌≢◌, ◌∙◌, ◌==◌, ◌&&◌, ◌||◌, ◌+◌, ◌-◌, ◌<◌, ◌≤◌, ◌^◌, ◌⊎◌, inl, inr, if◌then◌else◌, Bool, true, false, is_some, Option, Some, None, Result, Ok, Err, MatchResult, List, [], ◌∷◌, ◌++◌, codes, zero, suc, length, take, get_or, refl, ap, sym, subst, append_assoc, arith}
+use Rattle.std.proofs.Common.{ℕ, ◌≡◌, ◌≢◌, ◌∙◌, ◌==◌, ◌&&◌, ◌||◌, ◌+◌, ◌-◌, ◌<◌, ◌≤◌, ◌^◌, inl, inr, if◌then◌else◌, Bool, true, false, is_some, Option, Some, None, Result, Ok, Err, MatchResult, List, [], ◌∷◌, ◌++◌, codes, zero, suc, length, take, get_or, refl, ap, sym, subst, append_assoc, arith}
 use Rattle.std.specs.Result.{result_unwrap_or}
-use Rattle.std.specs.List.{list_all, list_any}
+use Rattle.std.specs.List.{list_all}
 use Rattle.std.specs.Io.KnownBytes.{IsAtEnd}
 use Rattle.std.proofs.lemmas.List.{append-nil, length-append, take_more}
 use Rattle.std.specs.Fmt.{decimal}
-use Rattle.tc_verdict.specs.declared.run.Run.{Run}
 use Rattle.tc_serve.specs.declared.fault.ServeFault.{ServeFault}
 use Rattle.tc_serve.specs.declared.fault.ServeFault.TheVariants as F
-use Rattle.tc_serve.specs.declared.order.Order.{Order}
 use Rattle.tc_serve.specs.declared.order.Order.TheVariants as O
 use Rattle.tc_serve.specs.declared.refusal.Refusal.{Refusal}
 use Rattle.tc_serve.specs.declared.server.Server.{Server}
 use Rattle.tc_serve.specs.declared.service.Served.{Served}
 use Rattle.tc_serve.specs.declared.serving.Serving.{Serving}
 use Rattle.tc_serve.specs.declared.order.TheConstants.{LINE_BYTES}
-use Rattle.tc_serve.specs.Protocol.{AllEnded, AreServed, Asks, Came, Comes, IsNobodys, IsOf, NoLf, Refuses, Sent, Stand, finished, refused, seen, taken, was_done, was_lost, was_refused}
+use Rattle.tc_serve.specs.Protocol.{AllEnded, Asks, Came, Comes, IsNobodys, IsOf, NoLf, Refuses, Sent, Stand, finished, seen, taken, was_done, was_lost, was_refused}
 use Rattle.tc_serve.specs.Refusal.{why_text}
-use Rattle.tc_serve.specs.Text.{bytes_of, end_told, is_refused, lost_text, refusal_text, stand_text, told_at_end, told_of, worst_of}
+use Rattle.tc_serve.specs.Text.{bytes_of, end_told, is_refused, lost_text, refusal_text, told_of, worst_of}
 use Rattle.tc_serve.specs.Serve.{IsWhy}
 use Rattle.tc_serve.specs.Inside.{Closes, Counts, Fails, Feeds, Finishes, IsAtLine, IsBadLine, IsEnd, IsFed, Serves, StandsAs, Stops, StopsIn, TakesPiece, TellsRun, Tries, TriesLine}
-use Rattle.tc_serve.proofs.Going.{appended, nothing}
+use Rattle.tc_serve.proofs.Going.{appended}
 
 -- ---- lines
 

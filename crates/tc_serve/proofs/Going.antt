@@ -1,14 +1,15 @@
 -- How the text grows.
-use Rattle.std.proofs.Common.{◌≡◌, ◌∙◌, ◌+◌, None, Some, [], ◌∷◌, ◌++◌, ℕ, List, reverse, ap, sym, append_assoc, add-one}
+use Rattle.std.proofs.Common.{◌≡◌, ◌∙◌, ◌+◌, None, Some, [], ◌∷◌, ◌++◌, ℕ, List, reverse, ap, sym, append_assoc, add-one, length, take, drop, take_at, refl}
 use Rattle.std.specs.List.{flat_map}
-use Rattle.std.proofs.lemmas.List.{append-nil, reverse-append}
+use Rattle.std.specs.Io.{StartsWith}
+use Rattle.std.proofs.lemmas.List.{append-nil, reverse-append, take-append-drop}
 use Rattle.std.proofs.lemmas.List.Concat.{flat_map-append}
 use Rattle.tc_history.specs.Block.{end_text}
 use Rattle.tc_table.specs.Local.{overall}
 use Rattle.tc_evidence.specs.declared.line.Line.{Line}
 use Rattle.tc_evidence.specs.Block.{ended, header_text}
 use Rattle.tc_evidence.specs.Line.{line_text}
-use Rattle.tc_serve.specs.Protocol.{Played, Stand, past_of, with_line, woken}
+use Rattle.tc_serve.specs.Protocol.{Played, Stand, past_of, woken}
 use Rattle.tc_serve.specs.Text.{block, header_of, opening, stand_text}
 use Rattle.tc_serve.specs.Inside.{woken_once}
 
@@ -20,6 +21,13 @@ woken_next n lines k = ap (λ i. woken n lines i) (add-one k)
 pub appended : (before out written text more grown : List ℕ) → before ++ out ≡ text → written ≡ out ++ more → grown ≡ text ++ more → before ++ written ≡ grown
 appended before out written text more grown is appends grows =
     ap (λ (l : List ℕ). before ++ l) appends ∙ (sym (append_assoc before out more) ∙ (ap (λ (l : List ℕ). l ++ more) is ∙ sym grows))
+
+-- what begins with a text and more begins with the text
+pub begun_before : (out move begun written : List ℕ) → begun ≡ out ++ move → StartsWith written begun → StartsWith written out
+begun_before out move begun written is begins =
+    let behind = drop (length begun) written in
+    let parts : written ≡ out ++ (move ++ behind) = sym (take-append-drop (length begun) written) ∙ (ap (λ (l : List ℕ). l ++ behind) (begins ∙ is) ∙ append_assoc out move behind) in
+    ap (take (length out)) parts ∙ take_at out (move ++ behind) (length out) refl
 
 -- nothing is
 pub nothing : (before out text : List ℕ) → before ++ out ≡ text → before ++ out ≡ text ++ []

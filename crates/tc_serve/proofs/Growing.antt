@@ -12,7 +12,6 @@ use Rattle.tc_evidence.specs.Line.{entries_of, line_text}
 use Rattle.tc_serve.specs.declared.order.Order.{Order}
 use Rattle.tc_serve.specs.Protocol.{Played, Stand, called, is_parked, past_of, wake_op, with_current, woken, woken_from}
 use Rattle.tc_serve.specs.Text.{header_of, stand_text}
-use Rattle.tc_serve.specs.Inside.{after_call}
 use Rattle.tc_serve.specs.Laws.{TextGrows}
 use Rattle.tc_serve.proofs.Changes.{Changed, changes, new}
 use Rattle.tc_serve.proofs.Going.{begins, ends, grows, line_more, lines_text}

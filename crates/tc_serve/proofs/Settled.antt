@@ -1,5 +1,5 @@
 -- No run that can continue is left asleep: one pass over the runs, in the order of their numbers, wakes all that can.
-use Rattle.std.proofs.Common.{ℕ, ◌≡◌, ◌≢◌, ◌<◌, ◌==◌, ◌&&◌, ◌||◌, ◌⊎◌, inl, inr, not, if◌then◌else◌, zero, suc, Bool, true, false, Option, Some, None, List, [], ◌∷◌, ◌++◌, drop, refl, ap, sym, subst, ◌∙◌, arith}
+use Rattle.std.proofs.Common.{ℕ, ◌≡◌, ◌≢◌, ◌<◌, ◌≤◌, ◌==◌, ◌&&◌, ◌||◌, ◌⊎◌, inl, inr, not, if◌then◌else◌, zero, suc, Bool, true, false, Option, Some, None, List, [], ◌∷◌, ◌++◌, drop, refl, ap, sym, subst, ◌∙◌, arith}
 use Rattle.std.specs.List.{list_any, list_all}
 use Rattle.std.proofs.lemmas.Bool.Decides.{nat_tests}
 use Rattle.tc_verdict.specs.declared.run.Run.{Run}
@@ -11,16 +11,18 @@ use Rattle.tc_entry.specs.declared.op.Target.{Target}
 use Rattle.tc_entry.specs.declared.op.Target.TheVariants as T
 use Rattle.tc_entry.specs.declared.phase.Phase.{Phase}
 use Rattle.tc_entry.specs.declared.phase.Phase.TheVariants as P
+use Rattle.tc_entry.specs.declared.reply.Fault.{Fault}
 use Rattle.tc_entry.specs.declared.reply.Fault.TheVariants as F
 use Rattle.tc_entry.specs.declared.reply.Reply.{Reply}
 use Rattle.tc_entry.specs.declared.reply.Reply.TheVariants as R
 use Rattle.tc_table.specs.declared.awaited.Awaited.{Awaited}
-use Rattle.tc_table.specs.History.{comp_of, comps, exists, is_alive_type}
+use Rattle.tc_table.specs.History.{add_new, comp_of, comps, created, exists, is_alive_type}
 use Rattle.tc_table.specs.Phases.{phase, phase_if_not_killed, last_run, was_halted, was_killed}
 use Rattle.tc_table.specs.Status.{done, is_done, is_killed, is_running, killed}
 use Rattle.tc_table.specs.Waiting.{holds, is_still, is_stuck, parks, waiting, waits_in_vain}
 use Rattle.tc_table.specs.Faults.{all_exist, asks_many, fault, target_names}
-use Rattle.tc_table.specs.Answers.{answer, is_active, is_active_on, is_run_of}
+use Rattle.tc_table.specs.Answers.{answer, answer_unless, is_active, is_active_on, is_run_of, local_reply, plain_answer}
+use Rattle.tc_table.specs.Laws.{is_quiet, keeps_phases}
 use Rattle.tc_table.specs.Legal.{IsLegal}
 use Rattle.tc_table.proofs.Lemmas.Deciding.{and_left, and_no, and_right, equal_if, first_alone, self_equal}
 use Rattle.tc_table.proofs.Lemmas.Going.{last_on_it}
@@ -29,16 +31,20 @@ use Rattle.tc_table.proofs.Lemmas.Quiet.{quiet_wakes_nobody}
 use Rattle.tc_table.proofs.Lemmas.Sound.{plain_if}
 use Rattle.tc_evidence.specs.declared.line.Line.{Line}
 use Rattle.tc_evidence.specs.Line.{entries_of, entry_of}
-use Rattle.tc_serve.specs.Protocol.{Played, moved, past_of, wake_op, with_line, woken, woken_from}
-use Rattle.tc_serve.specs.Inside.{after_call}
+use Rattle.tc_serve.specs.Protocol.{Played, called, moved, past_of, wake_op, with_line, woken, woken_from}
+use Rattle.tc_serve.specs.Inside.{after_call, wakes_nobody}
 use Rattle.tc_serve.specs.Laws.{AllServed, EachOf, IsSettled, IsSound}
-use Rattle.tc_serve.proofs.Changes.{all_served, may_ask}
-use Rattle.tc_serve.proofs.Sound.{Sound, all_woken, called_sound, move_sound, no_entry, note_sound}
+use Rattle.tc_serve.proofs.Changes.{all_served}
+use Rattle.tc_serve.proofs.Sound.{all_legal, move_sound, no_entry, note_sound}
 
--- ---- a wake that is replied Ended changes nothing for the others
+-- ---- a call that is replied Ended changes nothing for the others
 
-abbrev ended_wake : Run → Awaited → Entry
-ended_wake r a = record { caller = r; op = wake_op a; reply = R.Ended }
+abbrev ended_call : Run → Op → Entry
+ended_call r op = record { caller = r; op = op; reply = R.Ended }
+
+none_made : (op : Op) → created op R.Ended ≡ None
+none_made (Ops.Create alive name) = refl
+none_made _ = refl
 
 none_of : (n : ℕ) (past : List Entry) (c : ℕ) → 0 < n → IsLegal n past → exists past c ≡ false → last_run past c ≡ None
 none_of n past c some legal gone = by_last (last_run past c) refl
@@ -49,19 +55,19 @@ none_of n past c some legal gone = by_last (last_run past c) refl
         let there : exists past c ≡ true = on_existing n past a.0 (record { 0 = c }) legal (last_on_it n past c a some legal is).0 in
         absurd (let e : false ≡ true = sym gone ∙ there in cc)
 
-same_phase : (n : ℕ) (past : List Entry) (r : Run) (a : Awaited) (c : ℕ) → 0 < n → IsLegal n past → phase (ended_wake r a ∷ past) c ≡ phase past c
+same_phase : (n : ℕ) (past : List Entry) (r : Run) (op : Op) (c : ℕ) → 0 < n → IsLegal n past → phase (ended_call r op ∷ past) c ≡ phase past c
 unfolding phase
-same_phase n past r a c some legal = by_test (exists past c) refl
+same_phase n past r op c some legal = by_test (exists past c) refl
   where
     by_test : (t : Bool) → exists past c ≡ t →
-        (if was_killed (ended_wake r a ∷ past) c then P.Killed else phase_if_not_killed (last_run past c) (was_halted past c) (is_alive_type (ended_wake r a ∷ past) c))
+        (if was_killed (ended_call r op ∷ past) c then P.Killed else phase_if_not_killed (last_run past c) (was_halted past c) (is_alive_type (ended_call r op ∷ past) c))
         ≡ (if was_killed past c then P.Killed else phase_if_not_killed (last_run past c) (was_halted past c) (is_alive_type past c))
     by_test true x =
-        let k : was_killed (ended_wake r a ∷ past) c ≡ was_killed past c = rw (and_no (exists past c)) refl in
-        let t : is_alive_type (ended_wake r a ∷ past) c ≡ is_alive_type past c = rw x refl in
+        let k : was_killed (ended_call r op ∷ past) c ≡ was_killed past c = rw (and_no (exists past c)) refl in
+        let t : is_alive_type (ended_call r op ∷ past) c ≡ is_alive_type past c = rw x refl in
         rw (k, t) refl
     by_test false x =
-        let k : was_killed (ended_wake r a ∷ past) c ≡ was_killed past c = rw (and_no (exists past c)) refl in
+        let k : was_killed (ended_call r op ∷ past) c ≡ was_killed past c = rw (and_no (exists past c)) refl in
         rw (k, none_of n past c some legal x) refl
 
 any_ext : (f g : ℕ → Bool) (cs : List ℕ) → ((c : ℕ) → g c ≡ f c) → list_any g cs ≡ list_any f cs
@@ -72,31 +78,38 @@ all_ext : (f g : ℕ → Bool) (cs : List ℕ) → ((c : ℕ) → g c ≡ f c) �
 all_ext f g [] same = refl
 all_ext f g (c ∷ cs) same = rw (same c) (ap (λ (t : Bool). f c && t) (all_ext f g cs same))
 
-module _ (n : ℕ) (past : List Entry) (r : Run) (a : Awaited) (some : 0 < n) (legal : IsLegal n past) where
-  same : (c : ℕ) → phase (ended_wake r a ∷ past) c ≡ phase past c
-  same c = same_phase n past r a c some legal
+module _ (n : ℕ) (past : List Entry) (r : Run) (op : Op) (some : 0 < n) (legal : IsLegal n past) where
+  same_comps : comps (ended_call r op ∷ past) ≡ comps past
+  same_comps = ap (λ (o : Option Comp). add_new o (comps past)) (none_made op)
 
-  same_done : (t : Target) → done (ended_wake r a ∷ past) t ≡ done past t
+  same : (c : ℕ) → phase (ended_call r op ∷ past) c ≡ phase past c
+  same c = same_phase n past r op c some legal
+
+  same_done : (t : Target) → done (ended_call r op ∷ past) t ≡ done past t
   unfolding done
   same_done (T.One c) = ap is_done (same c.0)
-  same_done T.Any = any_ext (λ c. is_done (phase past c)) (λ c. is_done (phase (ended_wake r a ∷ past) c)) (drop 1 (comps past)) (λ c. ap is_done (same c))
-  same_done T.All = all_ext (λ c. not (is_running (phase past c))) (λ c. not (is_running (phase (ended_wake r a ∷ past) c))) (drop 1 (comps past)) (λ c. ap (λ (p : Phase). not (is_running p)) (same c))
+  same_done T.Any = ap (λ (cs : List ℕ). list_any (λ c. is_done (phase (ended_call r op ∷ past) c)) (drop 1 cs)) same_comps
+      ∙ any_ext (λ c. is_done (phase past c)) (λ c. is_done (phase (ended_call r op ∷ past) c)) (drop 1 (comps past)) (λ c. ap is_done (same c))
+  same_done T.All = ap (λ (cs : List ℕ). list_all (λ c. not (is_running (phase (ended_call r op ∷ past) c))) (drop 1 cs)) same_comps
+      ∙ all_ext (λ c. not (is_running (phase past c))) (λ c. not (is_running (phase (ended_call r op ∷ past) c))) (drop 1 (comps past)) (λ c. ap (λ (p : Phase). not (is_running p)) (same c))
 
-  same_killed : (t : Target) → killed (ended_wake r a ∷ past) t ≡ killed past t
+  same_killed : (t : Target) → killed (ended_call r op ∷ past) t ≡ killed past t
   unfolding killed
   same_killed (T.One c) = ap is_killed (same c.0)
-  same_killed T.Any = any_ext (λ c. is_killed (phase past c)) (λ c. is_killed (phase (ended_wake r a ∷ past) c)) (drop 1 (comps past)) (λ c. ap is_killed (same c))
-  same_killed T.All = all_ext (λ c. is_killed (phase past c)) (λ c. is_killed (phase (ended_wake r a ∷ past) c)) (drop 1 (comps past)) (λ c. ap is_killed (same c))
+  same_killed T.Any = ap (λ (cs : List ℕ). list_any (λ c. is_killed (phase (ended_call r op ∷ past) c)) (drop 1 cs)) same_comps
+      ∙ any_ext (λ c. is_killed (phase past c)) (λ c. is_killed (phase (ended_call r op ∷ past) c)) (drop 1 (comps past)) (λ c. ap is_killed (same c))
+  same_killed T.All = ap (λ (cs : List ℕ). list_all (λ c. is_killed (phase (ended_call r op ∷ past) c)) (drop 1 cs)) same_comps
+      ∙ all_ext (λ c. is_killed (phase past c)) (λ c. is_killed (phase (ended_call r op ∷ past) c)) (drop 1 (comps past)) (λ c. ap is_killed (same c))
 
-  same_holds : (b : Awaited) → holds (ended_wake r a ∷ past) b ≡ holds past b
+  same_holds : (b : Awaited) → holds (ended_call r op ∷ past) b ≡ holds past b
   unfolding holds
   same_holds b = by_kind b.killed
     where
-      by_kind : (k : Bool) → (if k then killed (ended_wake r a ∷ past) b.target else done (ended_wake r a ∷ past) b.target) ≡ (if k then killed past b.target else done past b.target)
+      by_kind : (k : Bool) → (if k then killed (ended_call r op ∷ past) b.target else done (ended_call r op ∷ past) b.target) ≡ (if k then killed past b.target else done past b.target)
       by_kind true = same_killed b.target
       by_kind false = same_done b.target
 
-  same_vain : (o : Option Awaited) → waits_in_vain (ended_wake r a ∷ past) o ≡ waits_in_vain past o
+  same_vain : (o : Option Awaited) → waits_in_vain (ended_call r op ∷ past) o ≡ waits_in_vain past o
   same_vain None = refl
   same_vain (Some b) = ap not (same_holds b)
 
@@ -119,40 +132,41 @@ module _ (n : ℕ) (past : List Entry) (r : Run) (a : Awaited) (some : 0 < n) (l
   unfolding is_active
   running_active c run is = rw ((last_on_it n past c run some legal (running_last c run is)).0, is) (self_equal run.0)
 
-  same_still : (c : ℕ) → is_active past r.0 ≡ false → is_still (ended_wake r a ∷ past) (phase (ended_wake r a ∷ past) c) ≡ is_still past (phase past c)
-  same_still c idle = ap (is_still (ended_wake r a ∷ past)) (same c) ∙ by_phase (phase past c) refl
+  same_still : (c : ℕ) → is_active past r.0 ≡ false → is_still (ended_call r op ∷ past) (phase (ended_call r op ∷ past) c) ≡ is_still past (phase past c)
+  same_still c idle = ap (is_still (ended_call r op ∷ past)) (same c) ∙ by_phase (phase past c) refl
     where
-      by_same : (run : Run) (t : Bool) → phase past c ≡ P.Running run → (r.0 == run.0) ≡ t → waits_in_vain (ended_wake r a ∷ past) (if t then None else waiting past run.0) ≡ waits_in_vain past (waiting past run.0)
+      by_same : (run : Run) (t : Bool) → phase past c ≡ P.Running run → (r.0 == run.0) ≡ t → waits_in_vain (ended_call r op ∷ past) (if t then None else waiting past run.0) ≡ waits_in_vain past (waiting past run.0)
       by_same run false is test = same_vain (waiting past run.0)
       by_same run true is test =
           let active : is_active past run.0 ≡ true = running_active c run is in
           let this : r.0 ≡ run.0 = equal_if r.0 run.0 test in
           absurd (let e : false ≡ true = sym idle ∙ (ap (is_active past) this ∙ active) in cc)
 
-      by_phase : (p : Phase) → phase past c ≡ p → is_still (ended_wake r a ∷ past) p ≡ is_still past p
+      by_phase : (p : Phase) → phase past c ≡ p → is_still (ended_call r op ∷ past) p ≡ is_still past p
       by_phase (P.Running run) is = by_same run (r.0 == run.0) is refl
       by_phase P.Inactive is = refl
       by_phase P.Stopped is = refl
       by_phase P.Killed is = refl
 
-  same_stuck : is_active past r.0 ≡ false → is_stuck (ended_wake r a ∷ past) ≡ is_stuck past
+  same_stuck : is_active past r.0 ≡ false → is_stuck (ended_call r op ∷ past) ≡ is_stuck past
   unfolding is_stuck
   same_stuck idle =
-      all_ext (λ c. is_still past (phase past c)) (λ c. is_still (ended_wake r a ∷ past) (phase (ended_wake r a ∷ past) c)) (comps past) (λ c. same_still c idle)
+      ap (λ (cs : List ℕ). list_all (λ c. is_still (ended_call r op ∷ past) (phase (ended_call r op ∷ past) c)) cs) same_comps
+      ∙ all_ext (λ c. is_still past (phase past c)) (λ c. is_still (ended_call r op ∷ past) (phase (ended_call r op ∷ past) c)) (comps past) (λ c. same_still c idle)
 
-  same_on : (b : ℕ) (o : Option Comp) → is_active_on (ended_wake r a ∷ past) b o ≡ is_active_on past b o
+  same_on : (b : ℕ) (o : Option Comp) → is_active_on (ended_call r op ∷ past) b o ≡ is_active_on past b o
   same_on b None = refl
   same_on b (Some c) = ap (is_run_of b) (same c.0)
 
-  same_active : (b : ℕ) → is_active (ended_wake r a ∷ past) b ≡ is_active past b
+  same_active : (b : ℕ) → is_active (ended_call r op ∷ past) b ≡ is_active past b
   unfolding is_active
-  same_active b = ap (is_active_on (ended_wake r a ∷ past) b) (first_alone (comp_of past b)) ∙ same_on b (comp_of past b)
+  same_active b = ap (is_active_on (ended_call r op ∷ past) b) (first_alone (comp_of past b)) ∙ same_on b (comp_of past b)
 
-  same_fault : (b : ℕ) (w : Awaited) → fault n (ended_wake r a ∷ past) b (wake_op w) ≡ fault n past b (wake_op w)
+  same_fault : (b : ℕ) (w : Awaited) → fault n (ended_call r op ∷ past) b (wake_op w) ≡ fault n past b (wake_op w)
   unfolding fault all_exist exists
-  same_fault b w = refl
+  same_fault b w = rw (none_made op) refl
 
-  same_answer : (b : ℕ) (w : Awaited) → is_active past r.0 ≡ false → answer n (ended_wake r a ∷ past) b (wake_op w) ≡ answer n past b (wake_op w)
+  same_answer : (b : ℕ) (w : Awaited) → is_active past r.0 ≡ false → answer n (ended_call r op ∷ past) b (wake_op w) ≡ answer n past b (wake_op w)
   unfolding answer
   same_answer b w idle = rw (same_active b, same_fault b w, same_holds w, same_stuck idle) refl
 
@@ -276,7 +290,7 @@ pass_one n lines k (Some a) some legal is before = by_kind (kind n (entries_of l
   where
     by_kind : Kind n (entries_of lines) k a → AreSettled n (entries_of (woken_from n lines k (Some a))) (suc k)
     by_kind (inl ended) =
-        rw ended.0 (settled_woken n (entries_of lines) k a R.Ended refl (λ b w less parked. same_answer n (entries_of lines) (record { 0 = k }) a some legal b w ended.1 ∙ parked) before)
+        rw ended.0 (settled_woken n (entries_of lines) k a R.Ended refl (λ b w less parked. same_answer n (entries_of lines) (record { 0 = k }) (wake_op a) some legal b w ended.1 ∙ parked) before)
     by_kind (inr (inl matched)) =
         let e : Entry = record { caller = record { 0 = k }; op = wake_op a; reply = R.Matched } in
         let law = quiet_wakes_nobody n (entries_of lines) e (sym matched, legal) refl in
@@ -286,26 +300,113 @@ pass_one n lines k (Some a) some legal is before = by_kind (kind n (entries_of l
     by_kind (inr (inr (inr parked))) =
         rw parked (settled_more n (entries_of lines) k before (λ w waits. let same : w ≡ a = some_is w a (sym waits ∙ is) in rw same parked))
 
-pass_all : (n : ℕ) (lines : List Line) (k : ℕ) → 0 < n → (so : Sound n lines) → AreSettled n (entries_of (woken n lines k)) k
-pass_all n lines zero some so = λ b a less. absurd (omega (arith, less))
-pass_all n lines (suc k) some so =
-    pass_one n (woken n lines k) k (waiting (entries_of (woken n lines k)) k) some (all_woken n lines k so).legal refl (pass_all n lines k some so)
+pass_all : (n : ℕ) (lines : List Line) (k : ℕ) → 0 < n → IsLegal n (entries_of lines) → AreSettled n (entries_of (woken n lines k)) k
+pass_all n lines zero some legal = λ b a less. absurd (omega (arith, less))
+pass_all n lines (suc k) some legal =
+    pass_one n (woken n lines k) k (waiting (entries_of (woken n lines k)) k) some (all_legal n lines k legal) refl (pass_all n lines k some legal)
+
+-- ---- a call after which nobody is woken
+
+-- an entry whose caller does not sleep, and by which no other is woken
+settled_on : (n : ℕ) (past : List Entry) (e : Entry) → parks e.op e.reply ≡ None → ((b : ℕ) (w : Awaited) → answer n past b (wake_op w) ≡ R.Parked → answer n (e ∷ past) b (wake_op w) ≡ R.Parked) → AreSettled n past n → AreSettled n (e ∷ past) n
+settled_on n past e awake keeps before b a less waits = by_test (e.caller.0 == b) waits
+  where
+    by_test : (t : Bool) → (if t then parks e.op e.reply else waiting past b) ≡ Some a → answer n (e ∷ past) b (wake_op a) ≡ R.Parked
+    by_test true is = never_some a _ (sym awake ∙ is)
+    by_test false is = keeps b a (before b a less is)
+
+plain_not_ended : (past : List Entry) (b : ℕ) (op : Op) → is_active_on past b (comp_of past b) ≡ true → plain_answer past b op ≡ R.Ended → ⊥
+plain_not_ended past b (Ops.Wait k t) active e = by_test (holds past (record { killed = k; target = t })) e
+  where
+    by_test : (h : Bool) → (if h then R.Matched else R.Parked) ≡ R.Ended → ⊥
+    by_test true e = cc
+    by_test false e = cc
+plain_not_ended past b (Ops.Wake k t) active e = by_tests (holds past (record { killed = k; target = t })) ((b == 0) && is_stuck past) e
+  where
+    by_tests : (h z : Bool) → (if h then R.Matched else if z then R.Fault F.Stuck else R.Parked) ≡ R.Ended → ⊥
+    by_tests true z e = cc
+    by_tests false true e = cc
+    by_tests false false e = cc
+plain_not_ended past b Ops.GetVerdict active e = by_comp (comp_of past b) active e
+  where
+    by_comp : (o : Option Comp) → is_active_on past b o ≡ true → local_reply past o ≡ R.Ended → ⊥
+    by_comp (Some c) active e = cc
+    by_comp None active e = cc
+plain_not_ended past b _ active e = cc
+
+-- a run whose call is replied Ended is not active
+ended_idle : (n : ℕ) (past : List Entry) (b : ℕ) (op : Op) → answer n past b op ≡ R.Ended → is_active past b ≡ false
+unfolding answer is_active
+ended_idle n past b op e = by_active (is_active_on past b (comp_of past b)) refl e
+  where
+    by_fault : (o : Option Fault) → is_active_on past b (comp_of past b) ≡ true → answer_unless o (plain_answer past b op) ≡ R.Ended → ⊥
+    by_fault (Some f) active e = cc
+    by_fault None active e = plain_not_ended past b op active e
+
+    by_active : (t : Bool) → is_active_on past b (comp_of past b) ≡ t → (if t then answer_unless (fault n past b op) (plain_answer past b op) else R.Ended) ≡ R.Ended → t ≡ false
+    by_active false active e = refl
+    by_active true active e = absurd (by_fault (fault n past b op) active e)
+
+module _ (n : ℕ) (past : List Entry) (caller : Run) (op : Op) (some : 0 < n) (legal : IsLegal n past) (settled : AreSettled n past n) where
+  by_ended : answer n past caller.0 op ≡ R.Ended → AreSettled n (ended_call caller op ∷ past) n
+  by_ended is = settled_on n past (ended_call caller op) refl (λ b w parked. same_answer n past caller op some legal b w (ended_idle n past caller.0 op is) ∙ parked) settled
+
+  by_quiet : (reply : Reply) → reply ≡ answer n past caller.0 op → parks op reply ≡ None → is_quiet op reply ≡ true → AreSettled n (record { caller = caller; op = op; reply = reply } ∷ past) n
+  by_quiet reply is awake quiet =
+      let e : Entry = record { caller = caller; op = op; reply = reply } in
+      let law = quiet_wakes_nobody n past e (is, legal) quiet in
+      settled_on n past e awake (λ b w parked. law.parked b w.killed w.target parked) settled
+
+  keeps_on : (k : Bool) → k ≡ true → (k && true) ≡ true
+  keeps_on k is = rw is refl
+
+  by_reply : (reply : Reply) → reply ≡ answer n past caller.0 op → wakes_nobody (keeps_phases op) reply ≡ true → AreSettled n (record { caller = caller; op = op; reply = reply } ∷ past) n
+  by_reply R.Ended is nobody = by_ended (sym is)
+  by_reply R.Parked is nobody = absurd cc
+  by_reply (R.Fault f) is nobody = absurd cc
+  by_reply (R.Made c) is nobody = by_quiet (R.Made c) is refl (keeps_on _ nobody)
+  by_reply R.Ok is nobody = by_quiet R.Ok is refl (keeps_on _ nobody)
+  by_reply (R.Answer t) is nobody = by_quiet (R.Answer t) is refl (keeps_on _ nobody)
+  by_reply (R.Local v) is nobody = by_quiet (R.Local v) is refl (keeps_on _ nobody)
+  by_reply R.Matched is nobody = by_quiet R.Matched is refl (keeps_on _ nobody)
+
+  -- nobody sleeps who can continue after a call that wakes nobody, if nobody did before it
+  still_settled : wakes_nobody (keeps_phases op) (answer n past caller.0 op) ≡ true → AreSettled n (record { caller = caller; op = op; reply = answer n past caller.0 op } ∷ past) n
+  still_settled nobody = by_reply (answer n past caller.0 op) refl nobody
+
+-- if nobody sleeps who can continue, none of the first k runs is woken
+none_woken : (n : ℕ) (lines : List Line) (k : ℕ) → k ≤ n → AreSettled n (entries_of lines) n → woken n lines k ≡ lines
+none_woken n lines zero few settled = refl
+none_woken n lines (suc k) few settled =
+    ap (λ (ls : List Line). woken_from n ls k (waiting (entries_of ls) k)) (none_woken n lines k (omega (arith, few)) settled) ∙ sleeps_on (waiting (entries_of lines) k) refl
+  where
+    sleeps_on : (o : Option Awaited) → waiting (entries_of lines) k ≡ o → woken_from n lines k o ≡ lines
+    sleeps_on None is = refl
+    sleeps_on (Some a) is = let parked : answer n (entries_of lines) k (wake_op a) ≡ R.Parked = settled k a (omega (arith, few)) is in rw parked refl
+
+-- after such a call nobody is woken
+pub nobody_woken : (p : Played) (caller : Run) (op : Op) → 0 < p.behaviours → IsLegal p.behaviours (past_of p) → IsSettled p → wakes_nobody (keeps_phases op) (called p.behaviours p.lines caller op).reply ≡ true → record p { lines = after_call p caller op } ≡ moved p caller op
+nobody_woken p caller op some legal settled nobody =
+    let none = none_woken p.behaviours (after_call p caller op) p.behaviours (omega arith) (still_settled p.behaviours (past_of p) caller op some legal settled nobody) in
+    ap (λ (ls : List Line). record p { lines = ls }) (sym none)
 
 -- ---- all that is served
 
-made : (p : Played) (caller : Run) (op : Op) → may_ask p caller op ≡ true → IsSound p → IsSettled (moved p caller op)
-made p caller op may sound b a less waits =
-    pass_all p.behaviours (after_call p caller op) p.behaviours (omega (arith, less)) (called_sound p caller op may (record { legal = sound.legal; wakes = sound.wakes })) b a less waits
+pub new_settled : (name : List ℕ) (n : ℕ) → IsSettled (record { name = name; behaviours = n; lines = [] })
+new_settled name n b a less waits = never_some a (answer n [] b (wake_op a) ≡ R.Parked) waits
 
-noted : (p : Played) (l : Line) → entry_of l ≡ [] → IsSettled p → IsSettled (with_line p l)
-noted p l none so =
+pub moved_settled : (p : Played) (caller : Run) (op : Op) → IsLegal p.behaviours (past_of p) → IsSettled (moved p caller op)
+moved_settled p caller op legal b a less waits = pass_all p.behaviours (after_call p caller op) p.behaviours (omega (arith, less)) (refl, legal) b a less waits
+
+pub noted_settled : (p : Played) (l : Line) → entry_of l ≡ [] → IsSettled p → IsSettled (with_line p l)
+noted_settled p l none so =
     let same : past_of p ≡ past_of (with_line p l) = sym (ap (λ (es : List Entry). es ++ past_of p) none) in
     subst (λ (es : List Entry). (b : ℕ) (a : Awaited) → b < p.behaviours → waiting es b ≡ Some a → answer p.behaviours es b (wake_op a) ≡ R.Parked) same so
 
 both : AllServed (λ p. IsSound p × IsSettled p)
-both = all_served (λ p. IsSound p × IsSettled p) (λ name n name_is few. (record { legal = tt; wakes = tt }, λ b a less waits. never_some a (answer n [] b (wake_op a) ≡ R.Parked) waits))
-    (λ p l may note so. (note_sound p l may so.0, noted p l (no_entry p l may) so.1))
-    (λ p caller op may low fits so. (move_sound p caller op may so.0, made p caller op may so.0))
+both = all_served (λ p. IsSound p × IsSettled p) (λ name n name_is few. (record { legal = tt; wakes = tt }, new_settled name n))
+    (λ p l may note so. (note_sound p l may so.0, noted_settled p l (no_entry p l may) so.1))
+    (λ p caller op may low fits so. (move_sound p caller op may so.0, moved_settled p caller op so.0.legal))
 
 second : (ps : List Played) → EachOf (λ p. IsSound p × IsSettled p) ps → EachOf IsSettled ps
 second [] so = tt

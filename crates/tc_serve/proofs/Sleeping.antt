@@ -1,13 +1,12 @@
 -- The runs that sleep, in the order of their numbers.
-use Rattle.std.proofs.Common.{ℕ, ◌≡◌, ◌≢◌, ◌∙◌, ◌+◌, ◌==◌, ◌<◌, ◌≤◌, zero, suc, nat_lt, if◌then◌else◌, Bool, true, false, Option, Some, None, List, [], ◌∷◌, ◌++◌, length, get_or, take, drop, drop-cons, drop_at, take_all, take_at, take-take, length-take-le, add-one, refl, ap, sym, subst, arith}
-use Rattle.std.specs.Prelude.{insert, remove}
+use Rattle.std.proofs.Common.{ℕ, ◌≡◌, ◌≢◌, ◌∙◌, ◌+◌, ◌==◌, ◌<◌, ◌≤◌, zero, suc, nat_lt, if◌then◌else◌, Bool, true, false, Some, None, List, [], ◌∷◌, ◌++◌, length, get_or, take, drop, drop-cons, drop_at, take_all, take_at, take-take, length-take-le, add-one, refl, ap, sym, subst, arith}
+use Rattle.std.specs.Prelude.{remove}
 use Rattle.std.proofs.lemmas.Bool.Decides.{nat_tests}
 use Rattle.std.proofs.lemmas.List.{append-nil, take-append-drop, take_more}
 use Rattle.tc_entry.specs.declared.entry.Entry.{Entry}
 use Rattle.tc_entry.specs.declared.op.Op.{Op}
 use Rattle.tc_entry.specs.declared.reply.Reply.{Reply}
 use Rattle.tc_entry.specs.declared.reply.Reply.TheVariants as R
-use Rattle.tc_table.specs.declared.awaited.Awaited.{Awaited}
 use Rattle.tc_table.specs.Waiting.{parks, waiting}
 use Rattle.tc_serve.specs.declared.sleepers.Sleeper.{Sleeper}
 use Rattle.tc_serve.specs.Protocol.{Played, is_parked, past_of, sleep_of}
@@ -115,27 +114,15 @@ found r (x ∷ xs) s ys none same = by_test (x.run == r) none (λ n. found r xs 
     by_test true none rest = absurd cc
     by_test false none rest = rest none
 
-not_found : (r : ℕ) (xs : List Sleeper) (s : Sleeper) → sleep_in xs r ≡ None → (s.run == r) ≡ false → sleep_in (xs ++ s ∷ []) r ≡ None
-not_found r [] s none other = rw other refl
-not_found r (x ∷ xs) s none other = by_test (x.run == r) none (λ n. not_found r xs s n other)
-  where
-    by_test : (t : Bool) → (if t then Some x.awaited else sleep_in xs r) ≡ None → (sleep_in xs r ≡ None → sleep_in (xs ++ s ∷ []) r ≡ None) → (if t then Some x.awaited else sleep_in (xs ++ s ∷ []) r) ≡ None
-    by_test true none rest = absurd cc
-    by_test false none rest = rest none
-
 self_test : (a : ℕ) → (a == a) ≡ true
 self_test a = grind (arith, nat_tests)
 
 -- the one at a place is it
-pub found_at : (r : ℕ) (ss : List Sleeper) (i : ℕ) (d : Sleeper) → i < length ss → (get_or ss i d).run ≡ r → sleep_in (take i ss) r ≡ None → Some (get_or ss i d).awaited ≡ sleep_in ss r
+found_at : (r : ℕ) (ss : List Sleeper) (i : ℕ) (d : Sleeper) → i < length ss → (get_or ss i d).run ≡ r → sleep_in (take i ss) r ≡ None → Some (get_or ss i d).awaited ≡ sleep_in ss r
 found_at r ss i d within same none =
     sym (ap (λ l. sleep_in l r) (sym (take-append-drop i ss) ∙ ap (λ l. take i ss ++ l) (drop-cons ss i d within)) ∙ found r (take i ss) (get_or ss i d) (drop (suc i) ss) none (ap (λ (k : ℕ). k == r) same ∙ self_test r))
 
--- or it is not
-pub not_at : (r : ℕ) (ss : List Sleeper) (i : ℕ) (d : Sleeper) → i < length ss → (get_or ss i d).run ≢ r → sleep_in (take i ss) r ≡ None → sleep_in (take (i + 1) ss) r ≡ None
-not_at r ss i d within other none = ap (λ l. sleep_in l r) (take_more ss i d within) ∙ not_found r (take i ss) (get_or ss i d) none (other_test (get_or ss i d).run r other)
-
-pub not_there : (r : ℕ) (ss : List Sleeper) (i : ℕ) → length ss ≤ i → sleep_in (take i ss) r ≡ None → None ≡ sleep_in ss r
+not_there : (r : ℕ) (ss : List Sleeper) (i : ℕ) → length ss ≤ i → sleep_in (take i ss) r ≡ None → None ≡ sleep_in ss r
 not_there r ss i beyond none = sym (ap (λ l. sleep_in l r) (sym (take_all i ss beyond)) ∙ none)
 
 -- those from a place on
@@ -145,8 +132,34 @@ from_there ss i d r within less order =
     let behind : AreInOrder 0 (get_or ss i d ∷ drop (suc i) ss) = subst (AreInOrder 0) here (order_right 0 (take i ss) (drop i ss) (subst (AreInOrder 0) (sym (take-append-drop i ss)) order)) in
     subst (AreInOrder r) (sym here) (less, behind.1)
 
-pub below_one : (k : ℕ) (ss : List Sleeper) (i : ℕ) (d : Sleeper) → i < length ss → (get_or ss i d).run < k → AllBelow k (take i ss) → AllBelow k (take (i + 1) ss)
+below_one : (k : ℕ) (ss : List Sleeper) (i : ℕ) (d : Sleeper) → i < length ss → (get_or ss i d).run < k → AllBelow k (take i ss) → AllBelow k (take (i + 1) ss)
 below_one k ss i d within less below = subst (AllBelow k) (sym (take_more ss i d within)) (below_both k (take i ss) (get_or ss i d ∷ []) below (less, tt))
+
+-- those up to one that comes before the run do too
+pub below_up_to : (r : ℕ) (ss : List Sleeper) (i : ℕ) (d : Sleeper) → i < length ss → (get_or ss i d).run < r → AreInOrder 0 ss → AllBelow r (take (i + 1) ss)
+below_up_to r ss i d within less order =
+    let parts = sym (take-append-drop i ss) ∙ ap (λ l. take i ss ++ l) (drop-cons ss i d within) in
+    let before = all_before 0 (take i ss) (get_or ss i d) (drop (suc i) ss) (subst (AreInOrder 0) parts order) in
+    below_one r ss i d within less (below_more (get_or ss i d).run r (take i ss) (omega (arith, less)) before)
+
+-- nobody is found among those that come before
+none_in : (r : ℕ) (xs : List Sleeper) → AllBelow r xs → sleep_in xs r ≡ None
+none_in r xs below = ap (λ l. sleep_in l r) (sym (append-nil xs)) ∙ none_from r r xs [] below (omega arith)
+
+-- the run is the one at its place, or it is none of them
+pub there : (r : ℕ) (ss : List Sleeper) (i : ℕ) (d : Sleeper) → i < length ss → (get_or ss i d).run ≡ r → AllBelow r (take i ss) → Some (get_or ss i d).awaited ≡ sleep_in ss r
+there r ss i d within same below = found_at r ss i d within same (none_in r (take i ss) below)
+
+pub at_end : (r : ℕ) (ss : List Sleeper) (i : ℕ) → length ss ≤ i → AllBelow r (take i ss) → None ≡ sleep_in ss r
+at_end r ss i beyond below = not_there r ss i beyond (none_in r (take i ss) below)
+
+pub other_there : (r : ℕ) (ss : List Sleeper) (i : ℕ) (d : Sleeper) → i < length ss → (get_or ss i d).run ≢ r → AllBelow r (take i ss) → AreInOrder r (drop i ss) → None ≡ sleep_in ss r
+other_there r ss i d within other below from =
+    let here = drop-cons ss i d within in
+    let order : AreInOrder r (get_or ss i d ∷ drop (suc i) ss) = subst (AreInOrder r) here from in
+    let first = order.0 in
+    let behind : AreInOrder (r + 1) (drop i ss) = subst (AreInOrder (r + 1)) (sym here) (omega (arith, first, other), order.1) in
+    sym (ap (λ l. sleep_in l r) (sym (take-append-drop i ss)) ∙ nobody_between r (r + 1) r (take i ss) (drop i ss) below behind (omega arith) (omega arith))
 
 -- ---- what a call does to who sleeps
 
@@ -182,7 +195,7 @@ module _ (n : ℕ) (s : Sleeper) (ss ss' : List Sleeper) (past : List Entry) (e 
   all_few = subst (AllBelow n) (sym joined) so.few
 
   none_there : sleep_in back s.run ≡ None
-  none_there = sym (none_from s.run s.run front back added.below (omega arith)) ∙ (ap (λ l. sleep_in l s.run) joined ∙ (so.sleeps s.run (omega (arith, own, within)) ∙ (ap (waiting past) own ∙ awake)))
+  none_there = sym (none_from s.run s.run front back (added.below so.order) (omega arith)) ∙ (ap (λ l. sleep_in l s.run) joined ∙ (so.sleeps s.run (omega (arith, own, within)) ∙ (ap (waiting past) own ∙ awake)))
 
   not_it : (z : Sleeper) (zs : List Sleeper) (t : Bool) → (z.run == s.run) ≡ t → (if t then Some z.awaited else sleep_in zs s.run) ≡ None → z.run ≢ s.run
   not_it z zs true test none = absurd cc
@@ -203,9 +216,9 @@ module _ (n : ℕ) (s : Sleeper) (ss ss' : List Sleeper) (past : List Entry) (e 
 
   pub asleep_more : AreAsleep n ss' (e ∷ past)
   asleep_more = subst (λ l. AreAsleep n l (e ∷ past)) (sym added.is) (record {
-    order = in_order 0 s.run front (s ∷ back) (omega arith) (order_left 0 front back in_all) added.below (omega arith, from_next back (added.from so.order) none_there);
+    order = in_order 0 s.run front (s ∷ back) (omega arith) (order_left 0 front back in_all) (added.below so.order) (omega arith, from_next back (added.from so.order) none_there);
     few = below_both n front (s ∷ back) (below_left n front back all_few) (omega (arith, own, within), below_right n front back all_few);
-    sleeps = λ b less. with_one b front s back added.below ∙ who b less (s.run == b) (e.caller.0 == b) refl refl;
+    sleeps = λ b less. with_one b front s back (added.below so.order) ∙ who b less (s.run == b) (e.caller.0 == b) refl refl;
   })
 
 -- the one at a place

@@ -15,31 +15,43 @@ use Rattle.tc_serve.specs.Laws.{AllServed, IsSound, NoIdleWake}
 use Rattle.tc_serve.proofs.Changes.{all_served, may_add, may_ask}
 
 -- the entries among the lines are legal, and no wake is replied parked
-pub record Sound (n : ℕ) (lines : List Line) : Type 0 where
-  pub legal : IsLegal n (entries_of lines)
-  pub wakes : NoIdleWake (entries_of lines)
+record Sound (n : ℕ) (lines : List Line) : Type 0 where
+  legal : IsLegal n (entries_of lines)
+  wakes : NoIdleWake (entries_of lines)
 
-one_woken : (n : ℕ) (lines : List Line) (b : ℕ) (o : Option Awaited) → Sound n lines → Sound n (woken_from n lines b o)
-one_woken n lines b None so = so
-one_woken n lines b (Some a) so = by_test (is_parked (called n lines (record { 0 = b }) (wake_op a)).reply) refl
+one_legal : (n : ℕ) (lines : List Line) (b : ℕ) (o : Option Awaited) → IsLegal n (entries_of lines) → IsLegal n (entries_of (woken_from n lines b o))
+one_legal n lines b None legal = legal
+one_legal n lines b (Some a) legal = by_test (is_parked (called n lines (record { 0 = b }) (wake_op a)).reply)
   where
-    by_test : (t : Bool) → is_parked (called n lines (record { 0 = b }) (wake_op a)).reply ≡ t → Sound n (if t then lines else L.Entry (called n lines (record { 0 = b }) (wake_op a)) ∷ lines)
-    by_test true parked = so
-    by_test false goes = record { legal = (refl, so.legal); wakes = (λ _. goes, so.wakes) }
+    by_test : (t : Bool) → IsLegal n (entries_of (if t then lines else L.Entry (called n lines (record { 0 = b }) (wake_op a)) ∷ lines))
+    by_test true = legal
+    by_test false = (refl, legal)
 
-pub all_woken : (n : ℕ) (lines : List Line) (k : ℕ) → Sound n lines → Sound n (woken n lines k)
-all_woken n lines zero so = so
-all_woken n lines (suc k) so = one_woken n (woken n lines k) k (waiting (entries_of (woken n lines k)) k) (all_woken n lines k so)
+pub all_legal : (n : ℕ) (lines : List Line) (k : ℕ) → IsLegal n (entries_of lines) → IsLegal n (entries_of (woken n lines k))
+all_legal n lines zero legal = legal
+all_legal n lines (suc k) legal = one_legal n (woken n lines k) k (waiting (entries_of (woken n lines k)) k) (all_legal n lines k legal)
+
+one_wakes : (n : ℕ) (lines : List Line) (b : ℕ) (o : Option Awaited) → NoIdleWake (entries_of lines) → NoIdleWake (entries_of (woken_from n lines b o))
+one_wakes n lines b None wakes = wakes
+one_wakes n lines b (Some a) wakes = by_test (is_parked (called n lines (record { 0 = b }) (wake_op a)).reply) refl
+  where
+    by_test : (t : Bool) → is_parked (called n lines (record { 0 = b }) (wake_op a)).reply ≡ t → NoIdleWake (entries_of (if t then lines else L.Entry (called n lines (record { 0 = b }) (wake_op a)) ∷ lines))
+    by_test true parked = wakes
+    by_test false goes = (λ _. goes, wakes)
+
+all_wakes : (n : ℕ) (lines : List Line) (k : ℕ) → NoIdleWake (entries_of lines) → NoIdleWake (entries_of (woken n lines k))
+all_wakes n lines zero wakes = wakes
+all_wakes n lines (suc k) wakes = one_wakes n (woken n lines k) k (waiting (entries_of (woken n lines k)) k) (all_wakes n lines k wakes)
 
 no_wake : (a b : Bool) → (not a && b) ≡ true → a ≡ true → ⊥
 no_wake true b may wake = absurd cc
 no_wake false b may wake = absurd cc
 
-pub called_sound : (p : Played) (caller : Run) (op : Op) → may_ask p caller op ≡ true → Sound p.behaviours p.lines → Sound p.behaviours (after_call p caller op)
-called_sound p caller op may so = record { legal = (refl, so.legal); wakes = (λ wake. absurd (no_wake (is_wake op) _ may wake), so.wakes) }
-
 made_sound : (p : Played) (caller : Run) (op : Op) → may_ask p caller op ≡ true → Sound p.behaviours p.lines → Sound p.behaviours (moved p caller op).lines
-made_sound p caller op may so = all_woken p.behaviours (after_call p caller op) p.behaviours (called_sound p caller op may so)
+made_sound p caller op may so = record {
+  legal = all_legal p.behaviours (after_call p caller op) p.behaviours (refl, so.legal);
+  wakes = all_wakes p.behaviours (after_call p caller op) p.behaviours (λ wake. absurd (no_wake (is_wake op) _ may wake), so.wakes);
+}
 
 noted : (n : ℕ) (lines : List Line) (l : Line) → entry_of l ≡ [] → Sound n lines → Sound n (l ∷ lines)
 noted n lines l none so =

@@ -18,9 +18,10 @@ use Rattle.tc_serve.specs.declared.server.Server.{Server}
 use Rattle.tc_serve.specs.Order.{IsOrder, order_text}
 use Rattle.tc_serve.specs.Protocol.{Asks, IsNobodys, IsOf, IsWhyNothing, Played, Refuses, Stand, added, past_of, refused, taken, with_current, with_line, with_open}
 use Rattle.tc_serve.specs.Refusal.{why_text}
-use Rattle.tc_serve.specs.Text.{block, counted, header_of, opening, stand_text}
-use Rattle.tc_serve.specs.Inside.{Changes, Holds, IsCurrent, IsOpen, StandsAs, TellsRun, Tries, TriesLine}
-use Rattle.tc_serve.proofs.Going.{appended, begins, closed_text, ends, open_stand}
+use Rattle.tc_serve.specs.Text.{counted, header_of, stand_text}
+use Rattle.tc_serve.specs.Inside.{Changes, IsCurrent, IsOpen, Rests, StandsAs, TellsRun, Tries, TriesLine}
+use Rattle.tc_serve.proofs.Going.{appended, begins, ends}
+use Rattle.tc_serve.proofs.Settled.{new_settled}
 
 abbrev pub server : Option OpenCase → Verdict → Server
 server c w = record { current = c; worst = w }
@@ -56,7 +57,7 @@ module _ (v : Server) (held after : OpenCase) (ask : Played → Result Played Re
       Yes t = (why ≡ None) × StandsAs (server (Some after) v.worst) t before written
 
       by_change : (p : Played) (r : Result Played Refusal) → s.current ≡ Some p →
-          MatchResult r (λ q. (why ≡ None) × Holds after q s.closed before written) (λ e. (why ≡ Some e) × Holds after p s.closed before written) → MatchResult (result_map_both (with_current s) (λ (e : Refusal). e) r) Yes No
+          MatchResult r (λ q. (why ≡ None) × Rests after q s.closed before written) (λ e. (why ≡ Some e) × Rests after p s.closed before written) → MatchResult (result_map_both (with_current s) (λ (e : Refusal). e) r) Yes No
       by_change p (Err e) current so =
           (so.0, record { current = subst (IsCurrent (Some after)) (sym current) so.1.is; worst = stands.worst; text = so.1.text ∙ sym (text_is s (Some p) current) })
       by_change p (Ok q) current so = (so.0, record { current = so.1.is; worst = stands.worst; text = so.1.text })
@@ -103,7 +104,7 @@ begun v held name n out written none kept appends s before stands =
     subst (λ (t : Bool). MatchResult (beginning s (new name n) t) (λ t. (◌≡◌ {A = Option Refusal} None None) × StandsAs (server (Some held) v.worst) t before written) (λ e. (◌≡◌ {A = Option Refusal} None (Some e)) × StandsAs (server (Some held) v.worst) s before written)) (sym free) (
       refl,
       record {
-        current = kept;
+        current = record { opened = kept; settled = new_settled name n };
         worst = stands.worst;
         text = appended before out written (stand_text s) _ _ stands.text appends (begins s.closed (new name n) refl ∙ ap (λ (l : List ℕ). l ++ ended (header_text (header_of (new name n)))) (sym (text_is s None (none_is s.current free))));
       },
@@ -139,8 +140,8 @@ closing v held left own all out written is none owns alls appends s before stand
           refl,
           record {
             current = subst (λ (c : Option OpenCase). IsCurrent c None) (sym none) tt;
-            worst = alls p kept ∙ ap (λ (w : Verdict). worse w (counted p)) stands.worst;
-            text = appended before out written (stand_text s) _ _ stands.text (appends ∙ ap (λ (w : Verdict). out ++ ended (end_text w)) (owns p kept))
+            worst = alls p kept.opened ∙ ap (λ (w : Verdict). worse w (counted p)) stands.worst;
+            text = appended before out written (stand_text s) _ _ stands.text (appends ∙ ap (λ (w : Verdict). out ++ ended (end_text w)) (owns p kept.opened))
                 (ends s.closed p ∙ ap (λ (l : List ℕ). l ++ ended (end_text (overall (past_of p)))) (sym (text_is s (Some p) current)));
           },
         )

@@ -1,5 +1,5 @@
 -- What is read and written, and what goes to standard error, turn by turn.
-use Rattle.std.proofs.Common.{ℕ, ◌≡◌, ◌≢◌, ◌∙◌, ◌+◌, ◌-◌, ◌<◌, ◌≤◌, ◌^◌, ◌⊎◌, ◌↔◌, inl, inr, if◌then◌else◌, Bool, true, false, MatchOption, Option, Some, None, Result, Ok, Err, IfErr, IfOk, List, [], ◌∷◌, ◌++◌, length, take, zero-add, suc-add, refl, ap, sym, subst, append_assoc, arith}
+use Rattle.std.proofs.Common.{ℕ, ◌≡◌, ◌≢◌, ◌∙◌, ◌+◌, ◌-◌, ◌<◌, ◌≤◌, ◌^◌, ◌↔◌, inl, inr, Bool, true, false, MatchOption, Option, Some, None, Result, Ok, Err, IfErr, IfOk, List, [], ◌∷◌, ◌++◌, length, take, zero-add, suc-add, refl, ap, sym, subst, append_assoc, arith}
 use Rattle.std.specs.Io.KnownBytes.{Appends, Consumes, IsAtEnd, Keeps}
 use Rattle.std.proofs.lemmas.Grind.{common_steps}
 use Rattle.std.proofs.lemmas.List.{append-nil, length-append, take_all}
@@ -8,8 +8,7 @@ use Rattle.tc_serve.specs.declared.fault.ServeFault.{ServeFault}
 use Rattle.tc_serve.specs.declared.fault.ServeFault.TheVariants as F
 use Rattle.tc_serve.specs.declared.service.Served.{Served}
 use Rattle.tc_serve.specs.declared.serving.Serving.{Serving}
-use Rattle.tc_serve.specs.Protocol.{AllEnded, AreServed, Sent, Stand, finished}
-use Rattle.tc_serve.specs.Text.{bytes_of, stand_text, told_at_end, told_of}
+use Rattle.tc_serve.specs.Text.{bytes_of, stand_text}
 use Rattle.tc_serve.specs.Serve.{Devices, IsServed, IsStopped, IsTaken, IsWhy, devices}
 use Rattle.tc_serve.specs.Inside.{Finishes, Hears, IsAt, IsFed, IsOwn, Stops}
 

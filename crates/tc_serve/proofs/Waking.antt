@@ -1,15 +1,13 @@
 -- Runs that sleep and can continue.
-use Rattle.std.proofs.Common.{ℕ, ◌≡◌, ◌∙◌, ◌+◌, ◌-◌, ◌<◌, ◌≤◌, if◌then◌else◌, zero, suc, Bool, true, false, Option, Some, None, List, [], ◌∷◌, ◌++◌, length, take, drop, take_all, refl, ap, sym, subst, arith}
+use Rattle.std.proofs.Common.{ℕ, ◌≡◌, ◌∙◌, ◌+◌, ◌-◌, ◌<◌, ◌≤◌, if◌then◌else◌, zero, suc, Bool, true, false, None, List, [], ◌∷◌, ◌++◌, length, take, drop, take_all, refl, ap, sym, subst, arith}
 use Rattle.std.specs.Prelude.{remove}
 use Rattle.std.proofs.lemmas.List.{append-nil, length-drop, take-append-drop}
-use Rattle.tc_entry.specs.declared.entry.Entry.{Entry}
 use Rattle.tc_entry.specs.declared.reply.Reply.{Reply}
 use Rattle.tc_table.specs.declared.awaited.Awaited.{Awaited}
 use Rattle.tc_table.specs.Answers.{answer}
 use Rattle.tc_table.specs.Standing.{IsReply, Kept}
-use Rattle.tc_table.specs.Waiting.{parks, waiting}
+use Rattle.tc_table.specs.Waiting.{waiting}
 use Rattle.tc_evidence.specs.declared.line.Line.{Line}
-use Rattle.tc_evidence.specs.declared.line.Line.TheVariants as L
 use Rattle.tc_evidence.specs.declared.met.MetRuns.{MetRuns}
 use Rattle.tc_evidence.specs.Line.{entries_of}
 use Rattle.tc_serve.specs.declared.open_case.OpenCase.{OpenCase}

@@ -1,5 +1,5 @@
 -- What the functions inside say.
-use Rattle.std.specs.Prelude.{ℕ, ◌≡◌, ◌≢◌, ◌+◌, ◌-◌, ◌<◌, ◌≤◌, ◌^◌, ◌⊎◌, ◌==◌, suc, if◌then◌else◌, Bool, true, false, is_some, Option, Some, None, Result, Ok, List, [], ◌∷◌, ◌++◌, length, take, drop, insert, MatchResult}
+use Rattle.std.specs.Prelude.{ℕ, ◌≡◌, ◌+◌, ◌-◌, ◌<◌, ◌≤◌, ◌^◌, ◌⊎◌, ◌==◌, suc, if◌then◌else◌, Bool, true, false, is_some, Option, Some, None, Result, Ok, List, [], ◌∷◌, ◌++◌, length, take, drop, insert, MatchResult}
 use Rattle.std.specs.List.{list_any}
 use Rattle.std.specs.Io.KnownBytes.{Appends, Consumes, IsAtEnd}
 use Rattle.tc_verdict.specs.declared.run.Run.{Run}
@@ -9,7 +9,9 @@ use Rattle.tc_table.specs.Standing.{Kept, StandsFor}
 use Rattle.tc_table.specs.Waiting.{waiting}
 use Rattle.tc_entry.specs.declared.entry.Entry.{Entry}
 use Rattle.tc_entry.specs.declared.op.Op.{Op}
+use Rattle.tc_entry.specs.declared.op.Op.TheVariants as Ops
 use Rattle.tc_entry.specs.declared.reply.Reply.{Reply}
+use Rattle.tc_entry.specs.declared.reply.Reply.TheVariants as R
 use Rattle.tc_evidence.specs.declared.met.MetRuns.{MetRuns}
 use Rattle.tc_evidence.specs.declared.line.Line.{Line}
 use Rattle.tc_evidence.specs.declared.line.Line.TheVariants as L
@@ -25,7 +27,8 @@ use Rattle.tc_serve.specs.declared.server.Server.{Server}
 use Rattle.tc_serve.specs.declared.service.Served.{Served}
 use Rattle.tc_serve.specs.declared.serving.Serving.{Serving}
 use Rattle.tc_serve.specs.declared.sleepers.Sleeper.{Sleeper}
-use Rattle.tc_serve.specs.Protocol.{AllEnded, AreServed, Asks, Came, IsNobodys, IsOf, NoLf, Played, Refuses, Sent, Stand, called, finished, past_of, refused, seen, sleep_of, taken, woken_from}
+use Rattle.tc_serve.specs.Laws.{IsSettled}
+use Rattle.tc_serve.specs.Protocol.{AllEnded, AreServed, Asks, Came, IsNobodys, IsOf, NoLf, Played, Refuses, Sent, Stand, called, finished, moved, past_of, refused, seen, sleep_of, taken, woken_from}
 use Rattle.tc_serve.specs.Serve.{Devices, IsTaken, IsWhy}
 use Rattle.tc_serve.specs.Text.{bytes_of, is_refused, stand_text, told_at_end, told_of, worst_of}
 
@@ -62,7 +65,7 @@ pub record AreAsleep (n : ℕ) (ss : List Sleeper) (past : List Entry) : Type 0 
 pub record IsAdded (s : Sleeper) (ss ss' : List Sleeper) : Type 0 where
   pub place : ℕ
   pub is : ss' ≡ insert ss place s
-  pub below : AllBelow s.run (take place ss)
+  pub below : AreInOrder 0 ss → AllBelow s.run (take place ss)
   pub from : AreInOrder 0 ss → AreInOrder s.run (drop place ss)
 
 -- the one at this place may be removed, and the one after it is at the next place
@@ -93,6 +96,15 @@ pub record Holds (o : OpenCase) (p : Played) (closed : List Played) (before out 
   pub is : IsOpen o p
   pub text : IsText p closed before out
 
+-- an entry
+abbrev pub entry : Run → Op → Reply → Entry
+entry caller op reply = record { caller = caller; op = op; reply = reply }
+
+-- the run that the operation starts
+abbrev pub started : Op → Option Run
+started (Ops.Start c run args) = Some run
+started _ = None
+
 -- the lines after a call, before any run is woken
 abbrev pub after_call : Played → Run → Op → List Line
 after_call p caller op = L.Entry (called p.behaviours p.lines caller op) ∷ p.lines
@@ -116,19 +128,40 @@ Becomes change o o' out written = (p : Played) (closed : List Played) (before : 
 abbrev pub BecomesAwake : ℕ → (Played → Played) → OpenCase → OpenCase → List ℕ → List ℕ → Type 0
 BecomesAwake b change o o' out written = (p : Played) (closed : List Played) (before : List ℕ) → sleep_of p b ≡ None → Holds o p closed before out → Holds o' (change p) closed before written
 
+-- after an entry with this reply, whose operation keeps the phases or may not, no run can continue that could not before
+abbrev pub wakes_nobody : Bool → Reply → Bool
+wakes_nobody keeps R.Ended = true
+wakes_nobody keeps R.Parked = false
+wakes_nobody keeps (R.Fault f) = false
+wakes_nobody keeps _ = keeps
+
+-- a run that does not sleep makes a call while nobody sleeps who can continue, and then all are woken who can
+abbrev pub Moves : Run → Op → OpenCase → OpenCase → List ℕ → List ℕ → Type 0
+Moves caller op o o' out written = (p : Played) (closed : List Played) (before : List ℕ) → sleep_of p caller.0 ≡ None → IsSettled p → Holds o p closed before out → Holds o' (moved p caller op) closed before written
+
+-- between two lines it is kept so, and nobody sleeps who can continue
+pub record IsAtRest (o : OpenCase) (p : Played) : Type 0 where
+  pub opened : IsOpen o p
+  pub settled : IsSettled p
+
+-- it is at rest, and its text is
+pub record Rests (o : OpenCase) (p : Played) (closed : List Played) (before out : List ℕ) : Type 0 where
+  pub is : IsAtRest o p
+  pub text : IsText p closed before out
+
 -- it becomes another, or is refused that, and nothing changes
 abbrev pub Changes : (Played → Result Played Refusal) → Option Refusal → OpenCase → OpenCase → List ℕ → List ℕ → Type 0
-Changes change why o o' out written = (p : Played) (closed : List Played) (before : List ℕ) → Holds o p closed before out
-    → MatchResult (change p) (λ q. (why ≡ None) × Holds o' q closed before written) (λ e. (why ≡ Some e) × Holds o' p closed before written)
+Changes change why o o' out written = (p : Played) (closed : List Played) (before : List ℕ) → Rests o p closed before out
+    → MatchResult (change p) (λ q. (why ≡ None) × Rests o' q closed before written) (λ e. (why ≡ Some e) × Rests o' p closed before written)
 
 -- ---- the server
 
--- a test case is kept so, or none is open
+-- a test case is kept so and at rest, or none is open
 abbrev pub IsCurrent : Option OpenCase → Option Played → Type 0
 IsCurrent None None = Unit {0}
 IsCurrent None (Some p) = ⊥
 IsCurrent (Some o) None = ⊥
-IsCurrent (Some o) (Some p) = IsOpen o p
+IsCurrent (Some o) (Some p) = IsAtRest o p
 
 -- this is the server's state, whose text is what was written before and this
 pub record StandsAs (v : Server) (s : Stand) (before out : List ℕ) : Type 0 where

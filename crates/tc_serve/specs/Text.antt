@@ -13,7 +13,7 @@ use Rattle.tc_evidence.specs.declared.header.Header.{Header}
 use Rattle.tc_evidence.specs.declared.header.Kind.TheVariants as K
 use Rattle.tc_evidence.specs.Line.{line_text}
 use Rattle.tc_evidence.specs.Block.{ended, header_text}
-use Rattle.tc_serve.specs.Protocol.{Came, Played, Sent, Stand, past_of, was_done, was_lost, was_refused}
+use Rattle.tc_serve.specs.Protocol.{Came, Played, Sent, Stand, past_of, was_done, was_lost}
 use Rattle.tc_serve.specs.declared.refusal.Refusal.{Refusal}
 use Rattle.tc_serve.specs.Refusal.{why_text}
 

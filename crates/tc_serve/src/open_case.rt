@@ -3,6 +3,11 @@ ghost use Rattle.std.specs.Prelude.{◌≡◌, ◌<◌, ◌++◌, ◌∷◌, [],
 ghost use Rattle.std.specs.Result.{result_err};
 ghost use Rattle.std.specs.Io.{StartsWith};
 ghost use Rattle.tc_entry.specs.Limits.{IsBehaviours};
+ghost use Rattle.tc_entry.specs.declared.op.Op.{Op as AnyOp};
+ghost use Rattle.tc_entry.specs.declared.reply.Reply.{Reply as AnyReply};
+ghost use Rattle.tc_text.specs.Spelling.{move_text};
+ghost use Rattle.tc_history.specs.Block.{outcome_text};
+ghost use Rattle.tc_table.specs.Laws as laws;
 ghost use Rattle.tc_table.specs.Local as verdicts;
 ghost use Rattle.tc_table.specs.Waiting as waits;
 ghost use Rattle.tc_evidence.specs.declared.line.Line.{Line as AnyLine};
@@ -11,17 +16,18 @@ ghost use Rattle.tc_evidence.specs.Block.{ended};
 ghost use Rattle.tc_evidence.specs.Line.{entry_of, is_met, line_text};
 ghost use Rattle.tc_evidence.specs.Met.{AreMet};
 ghost use Rattle.tc_serve.specs.declared.sleepers.Sleeper.{Sleeper as AnySleeper};
-ghost use Rattle.tc_serve.specs.Inside.{Becomes, BecomesAwake, Changes, IsCalled, IsOpen, IsPassed, after_call, woken_once};
-ghost use Rattle.tc_serve.specs.Protocol.{Played as AnyPlayed, added, is_parked, is_wake as spec_wake, made, moved, named, past_of, sleep_of as spec_sleep, woken};
+ghost use Rattle.tc_serve.specs.Inside.{Becomes, BecomesAwake, Changes, IsCalled, IsOpen, IsPassed, Moves, after_call, entry, started as spec_started, wakes_nobody as spec_wakes_nobody, woken_once};
+ghost use Rattle.tc_serve.specs.Protocol.{Played as AnyPlayed, added, called, is_parked, is_wake as spec_wake, made, named, past_of, sleep_of as spec_sleep, woken};
 ghost use Rattle.tc_serve.specs.Refusal.{why_text};
 ghost use Rattle.tc_serve.specs.Text.{counted as spec_counted};
 
 use crate::refusal::Refusal;
 use crate::sleepers::{Sleeper, add, awaited_by};
 use std::alloc::Global;
-use tc_entry::{Entry, Name, NoMemory, Op, Reply, Run, Verdict};
+use tc_entry::{Name, NoMemory, Op, Reply, Run, Verdict};
 use tc_evidence::{Line, MetRuns, append_line, append_said};
 use tc_table::{Awaited, CaseState};
+use tc_text::{append_text, write_move, write_reply};
 
 /// A test case that is open: what is kept of it besides its evidence.
 #[derive(Drop)]
@@ -47,6 +53,38 @@ fn awaited(op: &Op) -> Option<Awaited>
     }
 }
 
+// The run that the operation starts, if it starts one.
+fn started(op: &Op) -> Option<Run>
+    ensures { result ≡ spec_started op.now }
+{
+    match op {
+        Op::Start { run, .. } => Some(*run),
+        _ => None,
+    }
+}
+
+// Adds the runs that the line of a call is about: its caller, as for a line that is refused, and the run that it starts.
+fn meet(met: &mut MetRuns, caller: Run, started: Option<Run>)
+    ensures { (op : AnyOp) (reply : AnyReply) (ls : List AnyLine) → started ≡ spec_started op → AreMet met.old ls → AreMet met.new (lines.Entry (entry caller op reply) ∷ ls) }
+{
+    met.add_refused(caller);
+    let Some(run) = started else {
+        return;
+    };
+    met.add_refused(run);
+}
+
+// Appends what follows the move of an entry; if memory runs out, a part of it.
+fn append_outcome(out: &mut Vec<u8>, reply: Reply) -> Result<(), NoMemory>
+    ensures ok { OnOk result (out.new.items ≡ out.old.items ++ ended (outcome_text reply)) }
+    ensures any { StartsWith out.new.items out.old.items }
+{
+    append_text(out, " -> ")?;
+    write_reply(out, &reply)?;
+    out.push(b'\n')?;
+    Ok(())
+}
+
 // Whether the reply says that the caller sleeps.
 fn is_parked_reply(reply: Reply) -> bool
     ensures { result ≡ is_parked reply }
@@ -62,6 +100,28 @@ fn parks(awaited: Option<Awaited>, reply: Reply) -> Option<Awaited>
         awaited
     } else {
         None
+    }
+}
+
+// Whether an operation starts, halts and kills nothing.
+fn keeps_phases(op: &Op) -> bool
+    ensures { result ≡ laws.keeps_phases op.now }
+{
+    !matches!(
+        op,
+        Op::Start { .. } | Op::Stop(_) | Op::Kill(_) | Op::StopCase | Op::Finish
+    )
+}
+
+// Whether after an entry with this reply no run can continue that could not before it.
+fn wakes_nobody(keeps_phases: bool, reply: Reply) -> bool
+    ensures { result ≡ spec_wakes_nobody keeps_phases reply }
+{
+    match reply {
+        Reply::Ended => true,
+        Reply::Parked | Reply::Fault(_) => false,
+        Reply::Made(_) | Reply::Ok | Reply::Answer(_) | Reply::Local(_) | Reply::Matched =>
+            keeps_phases,
     }
 }
 
@@ -185,30 +245,45 @@ impl OpenCase {
         Ok(None)
     }
 
-    // Makes the call, and appends its line; if memory runs out, a part of it.
+    // Makes the call whose move was appended, and appends the rest of its line; if memory runs out, a part of that.
     fn call(&mut self, caller: Run, op: Op, out: &mut Vec<u8>) -> Result<Reply, NoMemory>
-        ensures ok { IfOk result (λ r. IsCalled caller op r self.old self.new out.old.items out.new.items) }
+        ensures ok { IfOk result (λ r. (text : List ℕ) → out.old.items ≡ text ++ move_text caller.0 op → IsCalled caller op r self.old self.new text out.new.items) }
         ensures any { StartsWith out.new.items out.old.items }
     {
-        let reply = self.state.play(caller, op.copy())?;
-        self.append(&Line::Entry(Entry { caller, op, reply }), out)?;
+        let started = started(&op);
+        let reply = self.state.play(caller, op)?;
+        meet(&mut self.met, caller, started);
+        append_outcome(out, reply)?;
         Ok(reply)
     }
 
-    // Makes the call of a run that does not sleep, and appends its line; if memory runs out, a part of it.
-    fn ask(&mut self, caller: Run, op: Op, out: &mut Vec<u8>) -> Result<(), NoMemory>
+    // Makes the call that the line asks for, of a run that does not sleep, and appends its entry; its reply. If memory runs
+    // out, a part is appended.
+    fn ask(
+        &mut self,
+        caller: Run,
+        op: Op,
+        line: &[u8],
+        out: &mut Vec<u8>,
+    ) -> Result<Reply, NoMemory>
+        requires { line.now ≡ move_text caller.0 op }
         ensures ok { OnOk result (BecomesAwake caller.0 (λ p. record p { lines = after_call p caller op }) self.old self.new out.old.items out.new.items) }
+        ensures reply { IfOk result (λ r. (p : AnyPlayed) → IsOpen self.old p → r ≡ (called p.behaviours p.lines caller op).reply) }
         ensures any { StartsWith out.new.items out.old.items }
     {
         let is_own = self.has(caller);
         let awaited = awaited(&op);
+        out.extend_from_slice(line)?;
         let reply = self.call(caller, op, out)?;
         if !is_own {
-            return Ok(());
+            return Ok(reply);
         }
         match parks(awaited, reply) {
-            Some(awaited) => add(&mut self.sleepers, caller.0, awaited),
-            None => Ok(()),
+            Some(awaited) => {
+                add(&mut self.sleepers, caller.0, awaited)?;
+                Ok(reply)
+            }
+            None => Ok(reply),
         }
     }
 
@@ -228,6 +303,7 @@ impl OpenCase {
         if is_parked_reply(self.state.would(Run(run), &op)) {
             return Ok(place + 1);
         }
+        write_move(out, Run(run), &op)?;
         self.call(Run(run), op, out)?;
         self.sleepers.remove(place);
         Ok(place)
@@ -245,30 +321,38 @@ impl OpenCase {
         Ok(())
     }
 
-    // Makes the call of a run that does not sleep, and then wakes each run that can continue.
-    fn play(&mut self, caller: Run, op: Op, out: &mut Vec<u8>) -> Result<(), NoMemory>
-        ensures ok { OnOk result (BecomesAwake caller.0 (λ p. moved p caller op) self.old self.new out.old.items out.new.items) }
+    // Makes the call that the line asks for, of a run that does not sleep, and then wakes each run that can continue, of
+    // which none could before.
+    fn play(&mut self, caller: Run, op: Op, line: &[u8], out: &mut Vec<u8>) -> Result<(), NoMemory>
+        requires { line.now ≡ move_text caller.0 op }
+        ensures ok { OnOk result (Moves caller op self.old self.new out.old.items out.new.items) }
         ensures any { StartsWith out.new.items out.old.items }
     {
-        self.ask(caller, op, out)?;
+        let keeps_phases = keeps_phases(&op);
+        let reply = self.ask(caller, op, line, out)?;
+        if wakes_nobody(keeps_phases, reply) {
+            return Ok(());
+        }
         self.wake_all(out)
     }
 
-    /// Makes the call, and appends its line, and those of the wakes; why it is refused, if it is. If memory runs out, a part
-    /// of these lines is appended.
+    /// Makes the call that the line asks for, and appends its entry, and those of the wakes; why it is refused, if it is. If
+    /// memory runs out, a part of these is appended.
     pub fn make(
         &mut self,
         caller: Run,
         op: Op,
+        line: &[u8],
         out: &mut Vec<u8>,
     ) -> Result<Option<Refusal>, NoMemory>
+        requires { line.now ≡ move_text caller.0 op }
         ensures ok { IfOk result (λ why. Changes (made caller op) why self.old self.new out.old.items out.new.items) }
         ensures any { StartsWith out.new.items out.old.items }
     {
         if let Some(why) = self.bar(caller, &op) {
             return Ok(Some(why));
         }
-        self.play(caller, op, out)?;
+        self.play(caller, op, line, out)?;
         Ok(None)
     }
 

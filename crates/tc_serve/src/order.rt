@@ -5,6 +5,8 @@ ghost use Rattle.tc_entry.specs.Limits.{IsBehaviours};
 ghost use Rattle.tc_entry.specs.Name.{IsName};
 ghost use Rattle.tc_evidence.specs.Line.{naming_text, said_text};
 ghost use Rattle.tc_evidence.specs.Sentence.{IsSentence};
+ghost use Rattle.tc_text.specs.Spelling.{IsOp, move_text};
+ghost use Rattle.tc_text.specs.Reading.{op_of};
 ghost use Rattle.tc_serve.specs.Order.{case_text, order_text, IsOrder};
 ghost use Rattle.tc_serve.specs.Inside.{IsOther};
 ghost use Rattle.tc_serve.specs.Protocol.{IsWhyNothing};
@@ -15,7 +17,9 @@ use crate::refusal::Refusal;
 use std::alloc::Global;
 use tc_entry::{Name, NoMemory, Op, Run};
 use tc_evidence::Sentence;
-use tc_text::{after, as_behaviours, read_move, read_number, take_name, take_number};
+use tc_text::{
+    ShortOp, after, as_behaviours, read_move, read_number, take_name, take_number, take_short_move,
+};
 
 /// How many bytes of a line are looked at: one more than any line has that asks for something.
 pub(crate) const LINE_BYTES: usize = 209;
@@ -73,6 +77,19 @@ fn read_remark(text: &[u8]) -> Option<(Run, &[u8])>
     let sentence = after(rest, b" # ")?;
     let number = u16::try_from(number).ok()?;
     Some((Run(number), sentence))
+}
+
+/// The move that the line spells, if its operation has neither arguments nor a name.
+#[inline(always)]
+pub(crate) fn read_short_move(text: &[u8]) -> Option<(Run, ShortOp)>
+    ensures spelled { IfSome result (λ r. text.now ≡ move_text r.0.0 (op_of r.1)) }
+    ensures fits { IfSome result (λ r. (r.0.0 < 2 ^ 16) × IsOp (op_of r.1)) }
+{
+    let (one, rest) = take_short_move(text)?;
+    if !rest.is_empty() {
+        return None;
+    }
+    Some(one)
 }
 
 // What the line asks for, if it is neither a move nor a remark.

@@ -1,16 +1,17 @@
 //! What is done with a line.
-ghost use Rattle.std.specs.Prelude.{◌≡◌, ◌<◌, ◌^◌, [], ℕ, List, is_some, Some, IfOk, MatchOption};
+ghost use Rattle.std.specs.Prelude.{◌≡◌, ◌<◌, ◌^◌, [], ℕ, List, is_some, true, Some, IfOk, MatchOption};
 ghost use Rattle.std.specs.Io.{StartsWith};
 ghost use Rattle.tc_entry.specs.Limits.{IsBehaviours};
 ghost use Rattle.tc_evidence.specs.declared.line.Line.TheVariants as lines;
 ghost use Rattle.tc_serve.specs.declared.order.Order.TheVariants as orders;
 ghost use Rattle.tc_serve.specs.Inside.{StandsAs, TellsRun, Tries, TriesLine};
-ghost use Rattle.tc_serve.specs.Order.{IsOrder};
+ghost use Rattle.tc_serve.specs.Order.{IsOrder, order_text};
+ghost use Rattle.tc_text.specs.Spelling.{move_text};
 ghost use Rattle.tc_serve.specs.Protocol.{IsOf, Stand as AnyStand, added, made, named, start as spec_start, taken, with_open};
 ghost use Rattle.tc_serve.specs.Text.{worst_of};
 
 use crate::open_case::OpenCase;
-use crate::order::{Order, read_order};
+use crate::order::{Order, read_order, read_short_move};
 use crate::refusal::Refusal;
 use std::alloc::Global;
 use tc_entry::{Name, NoMemory, Op, Run, Verdict};
@@ -102,13 +103,20 @@ impl Server {
         }
     }
 
-    // Makes a call in the test case that is open; why it is refused, if it is.
-    fn make(&mut self, caller: Run, op: Op, out: &mut Vec<u8>) -> Result<Option<Refusal>, NoMemory>
+    // Makes the call that the line asks for in the test case that is open; why it is refused, if it is.
+    fn make(
+        &mut self,
+        caller: Run,
+        op: Op,
+        line: &[u8],
+        out: &mut Vec<u8>,
+    ) -> Result<Option<Refusal>, NoMemory>
+        requires { line.now ≡ move_text caller.0 op }
         ensures ok { IfOk result (λ why. Tries (λ s. with_open s (made caller op)) why self.old self.new out.old.items out.new.items) }
         ensures any { StartsWith out.new.items out.old.items }
     {
         match &mut self.current {
-            Some(held) => held.make(caller, op, out),
+            Some(held) => held.make(caller, op, line, out),
             None => Ok(Some(Refusal::NoCase)),
         }
     }
@@ -142,28 +150,51 @@ impl Server {
         Ok(None)
     }
 
-    // Does what is asked; why it is refused, if it is. If memory runs out, a part of its text may have been appended.
+    // Does what the line asks for; why it is refused, if it is. If memory runs out, a part of its text may have been
+    // appended.
     fn take(
         &mut self,
         alloc: Global,
         order: Order,
+        line: &[u8],
         out: &mut Vec<u8>,
     ) -> Result<Option<Refusal>, NoMemory>
-        requires { IsOrder order }
+        requires fits { IsOrder order }
+        requires spelled { line.now ≡ order_text order }
         ensures ok { IfOk result (λ why. Tries (λ s. taken s order) why self.old self.new out.old.items out.new.items) }
         ensures any { StartsWith out.new.items out.old.items }
     {
         match order {
             Order::Case { name, behaviours } => self.begin(alloc, name, behaviours, out),
             Order::Named { run, name } => self.name(run, name, out),
-            Order::Move { caller, op } => self.make(caller, op, out),
+            Order::Move { caller, op } => self.make(caller, op, line, out),
             Order::Remark { run, sentence } => self.remark(run, sentence, out),
             Order::End => self.close(out),
         }
     }
 
+    // Does what the line asks for, and appends its text; why it is refused, if it is. If memory runs out, a part of the text
+    // may have been appended.
+    #[inline(never)]
+    fn try_any(
+        &mut self,
+        alloc: Global,
+        line: &[u8],
+        out: &mut Vec<u8>,
+    ) -> Result<Option<Refusal>, NoMemory>
+        ensures ok { IfOk result (λ why. TriesLine true line.now why self.old self.new out.old.items out.new.items) }
+        ensures any { StartsWith out.new.items out.old.items }
+    {
+        match read_order(alloc, line)? {
+            Ok(order) => self.take(alloc, order, line, out),
+            Err(why) => Ok(Some(why)),
+        }
+    }
+
     /// Does what the line asks for, and appends its text; why it is refused, if it is. A line that LF did not end asks
     /// for nothing. If memory runs out, a part of the text may have been appended.
+    ///
+    /// Most lines are moves whose operation is small, and so quickly passed on: they are tried first.
     pub fn try_line(
         &mut self,
         alloc: Global,
@@ -177,10 +208,10 @@ impl Server {
         if !ended {
             return Ok(Some(Refusal::Unended));
         }
-        match read_order(alloc, line)? {
-            Ok(order) => self.take(alloc, order, out),
-            Err(why) => Ok(Some(why)),
+        if let Some((caller, op)) = read_short_move(line) {
+            return self.make(caller, op.op(), line, out);
         }
+        self.try_any(alloc, line, out)
     }
 
     /// The run that the refused line begins with gets the refusal, if it is one of a test case that is open. If memory

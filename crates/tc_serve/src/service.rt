@@ -33,6 +33,13 @@ pub struct Ending {
     pub told: bool,
 }
 
+/// The answers and the reports of a turn. They are kept for the next turn, whose answers usually fit into the same memory.
+#[derive(Drop)]
+struct Texts {
+    out: Vec<u8>,
+    told: Vec<u8>,
+}
+
 /// A writer that takes texts whole and flushed, and none after one that failed. The library has no ghost word for a failed
 /// flush, so this has one for a failed text. That a text fails only by a write or a flush is in `write_flushed`, and tested.
 trait FlushedWrite {
@@ -117,6 +124,7 @@ fn tell<E: CountedWrite>(errors: &mut E, heard: bool, text: &[u8]) -> bool
 fn turn<R: CountedRead, W: FlushedWrite, E: CountedWrite>(
     alloc: Global,
     chunk: &mut [u8],
+    texts: &mut Texts,
     serving: &mut Serving,
     reader: &mut R,
     writer: &mut W,
@@ -146,12 +154,12 @@ fn turn<R: CountedRead, W: FlushedWrite, E: CountedWrite>(
     let Ok(count) = reader.read(chunk) else {
         return Err(ServeFault::Read);
     };
-    let mut out = Vec::new(alloc);
-    let mut told = Vec::new(alloc);
-    let end = serving.take_read(alloc, &chunk[..count], &mut out, &mut told);
-    let taken = tell(errors, *heard, told.as_slice());
+    texts.out.clear();
+    texts.told.clear();
+    let end = serving.take_read(alloc, &chunk[..count], &mut texts.out, &mut texts.told);
+    let taken = tell(errors, *heard, texts.told.as_slice());
     *heard = taken;
-    match writer.put(out.as_slice()) {
+    match writer.put(texts.out.as_slice()) {
         Ok(()) => end,
         Err(WriteFault) => Err(ServeFault::Write),
     }
@@ -161,6 +169,7 @@ fn turn<R: CountedRead, W: FlushedWrite, E: CountedWrite>(
 // and `Write` exactly if a text could not be written or flushed.
 fn serve_lines<R: CountedRead, W: FlushedWrite, E: CountedWrite>(
     alloc: Global,
+    texts: &mut Texts,
     serving: &mut Serving,
     reader: &mut R,
     writer: &mut W,
@@ -184,7 +193,9 @@ fn serve_lines<R: CountedRead, W: FlushedWrite, E: CountedWrite>(
 {
     let mut chunk = [0u8; 4096];
     for _turns in 0..u64::MAX {
-        match turn(alloc, &mut chunk, serving, reader, writer, errors, heard) {
+        match turn(
+            alloc, &mut chunk, texts, serving, reader, writer, errors, heard,
+        ) {
             Ok(Some(served)) => return Ok(served),
             Ok(None) => (),
             Err(fault) => return Err(fault),
@@ -204,10 +215,15 @@ pub fn serve<R: Read, W: Write, E: Write>(
     ensures { IsEnding (devices (R.remaining reader.old) (W.contents writer.old) (E.contents errors.old))
         (devices (R.remaining reader.new) (W.contents writer.new) (E.contents errors.new)) result }
 {
+    let mut texts = Texts {
+        out: Vec::new(alloc),
+        told: Vec::new(alloc),
+    };
     let mut serving = Serving::new(alloc);
     let mut told = true;
     let outcome = serve_lines(
         alloc,
+        &mut texts,
         &mut serving,
         &mut CountedReader::new(reader),
         &mut FlushedWriter::new(writer),

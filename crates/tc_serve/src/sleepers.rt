@@ -16,27 +16,32 @@ pub(crate) struct Sleeper {
 // How many of these, which are in the order of their numbers, come before the run.
 fn place_of(sleepers: &[Sleeper], run: u16) -> usize
     ensures within { result ≤ length sleepers.now }
-    ensures below { AllBelow run (take result sleepers.now) }
+    ensures below { AreInOrder 0 sleepers.now → AllBelow run (take result sleepers.now) }
     ensures from { AreInOrder 0 sleepers.now → AreInOrder run (drop result sleepers.now) }
 {
-    for (place, sleeper) in sleepers.iter().enumerate() {
-        if sleeper.run >= run {
-            return place;
+    let mut start = 0;
+    let mut end = sleepers.len();
+    while start < end {
+        let middle = start + (end - start) / 2;
+        if sleepers[middle].run < run {
+            start = middle + 1;
+        } else {
+            end = middle;
         }
     }
-    sleepers.len()
+    start
 }
 
-/// What the run waits for, if it is one of these.
+/// What the run waits for, if it is one of these, which are in the order of their numbers.
 pub(crate) fn awaited_by(sleepers: &[Sleeper], run: u16) -> Option<Awaited>
-    ensures { result ≡ sleep_in sleepers.now run }
+    ensures { AreInOrder 0 sleepers.now → result ≡ sleep_in sleepers.now run }
 {
-    for sleeper in sleepers {
-        if sleeper.run == run {
-            return Some(sleeper.awaited);
-        }
+    let sleeper = sleepers.get(place_of(sleepers, run))?;
+    if sleeper.run == run {
+        Some(sleeper.awaited)
+    } else {
+        None
     }
-    None
 }
 
 /// Adds the run to these, which are in the order of their numbers.

@@ -10,7 +10,7 @@ returns-in-Ok-put-clause-served g c =
     (λ end so from turns at_.
     going from _ _ _ _ _ _ _ _ turns c.args.serving.now c.take_read-end.new.self _ _ _ at_ c.in-Ok.ensures.bytes.0 (rw c.as_slice.ensures.value at c.tell-taken.ensures.taken) end
     (λ none. c.in-Ok.ensures.bytes.1 (omega (arith, none, c.in-Ok.ensures.bound.1)) (search rules))
-    (rw (c.new-out.ensures.items, c.new-told.ensures.items) at (so at_.bytes at_.before at_.before') at_.fed) (rw c.as_slice-2.ensures.value at c.in-Ok-put.ensures.all))
+    (rw (c.clear.ensures.items, c.clear-2.ensures.items) at (so at_.bytes at_.before at_.before') at_.fed) (rw c.as_slice-2.ensures.value at c.in-Ok-put.ensures.all))
     c.take_read-end.ensures.ok
 
 pub returns-in-Ok-put-clause-stopped : goal.returns-in-Ok-put-clause-stopped
@@ -18,17 +18,17 @@ returns-in-Ok-put-clause-stopped g c =
     IfErr-weaker c.take_read-end.result _ _
     (λ f so from turns at_.
     stops_on from _ _ _ _ _ _ _ _ turns c.args.serving.now c.take_read-end.new.self _ _ _ at_ c.in-Ok.ensures.bytes.0 (rw c.as_slice.ensures.value at c.tell-taken.ensures.taken) f
-    ((rw (c.new-out.ensures.items, c.new-told.ensures.items) at (so at_.bytes at_.before at_.before')) _
+    ((rw (c.clear.ensures.items, c.clear-2.ensures.items) at (so at_.bytes at_.before at_.before')) _
     (λ none. c.in-Ok.ensures.bytes.1 (omega (arith, none, c.in-Ok.ensures.bound.1)) (search rules)) at_.fed)
     (rw c.as_slice-2.ensures.value at c.in-Ok-put.ensures.all))
     c.take_read-end.ensures.stopped
 
-pub returns-clause-stopped : goal.returns-clause-stopped
-returns-clause-stopped g c = λ from turns at_.
+pub returns-in-Err-clause-stopped : goal.returns-in-Err-clause-stopped
+returns-in-Err-clause-stopped g c = λ from turns at_.
     unwritten from _ _ _ _ _ _ _ _ turns c.args.serving.now c.take_read-end.new.self _ _ _ at_ c.in-Ok.ensures.bytes.0 (rw c.as_slice.ensures.value at c.tell-taken.ensures.taken) c.take_read-end.result
     (λ none. c.in-Ok.ensures.bytes.1 (omega (arith, none, c.in-Ok.ensures.bound.1)) (search rules))
-    (IfOk-weaker c.take_read-end.result _ _ (λ end so. rw (c.new-out.ensures.items, c.new-told.ensures.items) at (so at_.bytes at_.before at_.before') at_.fed) c.take_read-end.ensures.ok)
-    (IfErr-weaker c.take_read-end.result _ _ (λ f so. (rw (c.new-out.ensures.items, c.new-told.ensures.items) at (so at_.bytes at_.before at_.before')) _
+    (IfOk-weaker c.take_read-end.result _ _ (λ end so. rw (c.clear.ensures.items, c.clear-2.ensures.items) at (so at_.bytes at_.before at_.before') at_.fed) c.take_read-end.ensures.ok)
+    (IfErr-weaker c.take_read-end.result _ _ (λ f so. (rw (c.clear.ensures.items, c.clear-2.ensures.items) at (so at_.bytes at_.before at_.before')) _
     (λ none. c.in-Ok.ensures.bytes.1 (omega (arith, none, c.in-Ok.ensures.bound.1)) (search rules)) at_.fed) c.take_read-end.ensures.stopped)
     (rw c.as_slice-2.ensures.value at c.in-Err.ensures.part)
 

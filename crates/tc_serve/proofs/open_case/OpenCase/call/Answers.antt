@@ -1,12 +1,13 @@
-use Rattle.std.proofs.Common.{◌∙◌, ap}
-use Rattle.tc_table.specs.Standing.{Kept}
-use Rattle.tc_serve.proofs.Calling.{call_made}
+use Rattle.std.proofs.Common.{refl}
+use Rattle.tc_history.specs.Block.{outcome_text}
+use Rattle.tc_text.specs.Spelling.{move_text}
+use Rattle.tc_serve.proofs.Calling.{call_made, line_whole}
 use Rattle.tc_serve.proofs.open_case.OpenCase.call.Goals as goal
 
 pub returns-clause-ok : goal.returns-clause-ok
-returns-clause-ok c =
-    let by = c.append.ensures in
-    let takes = rw c.copy.ensures at c.in_ok-reply.ensures.stands in
-    let replied = rw c.copy.ensures at c.in_ok-reply.ensures.reply in
-    call_made c.args.self.now c.append.new.self c.args.caller c.args.op c.in_ok-reply.reply c.args.out.now.items c.append.new.out.items replied (rw by.state takes) (ap (λ (k : Kept). k.behaviours) by.state ∙ c.in_ok-reply.ensures.behaviours) by.sleepers
-    by.met c.in_ok-append.ensures.ok
+returns-clause-ok c text begun =
+    let played = c.in_ok-reply.ensures in
+    let reply = c.in_ok-reply.reply in
+    call_made c.args.self.now (record { state = c.play.new.self; sleepers = c.args.self.now.sleepers; met = c.meet.new.met }) c.args.caller c.args.op reply text c.append_outcome.new.out.items played.reply played.stands played.behaviours refl
+    (λ ls met. c.meet.ensures c.args.op reply ls c.started-started.ensures met)
+    (line_whole text (move_text c.args.caller.0 c.args.op) (outcome_text reply) c.args.out.now.items c.append_outcome.new.out.items begun c.in_ok-append_outcome.ensures.ok)

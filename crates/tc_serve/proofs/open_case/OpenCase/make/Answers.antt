@@ -1,11 +1,12 @@
 use Rattle.std.proofs.Common.{◌∙◌, refl, sym}
-use Rattle.tc_serve.proofs.Calling.{made_not, made_so, may_be_awake}
+use Rattle.tc_serve.proofs.Calling.{made_not, made_so, may_be_awake, moves_rest}
 use Rattle.tc_serve.proofs.open_case.OpenCase.make.Goals as goal
 
 pub returns-in-Some-clause-ok : goal.returns-in-Some-clause-ok
-returns-in-Some-clause-ok c p closed before holds = made_not c.in-Some.why p c.args.caller c.args.op _ _ (sym c.in-Some.is ∙ c.bar.ensures p holds.is) (refl, holds)
+returns-in-Some-clause-ok c p closed before rests = made_not c.in-Some.why p c.args.caller c.args.op _ _ (sym c.in-Some.is ∙ c.bar.ensures p rests.is.opened) (refl, rests)
 
 pub returns-clause-ok : goal.returns-clause-ok
-returns-clause-ok c p closed before holds =
-    let free = sym c.in_default.is ∙ c.bar.ensures p holds.is in
-    made_so p c.args.caller c.args.op free _ _ (refl, c.in_ok-play.ensures.ok p closed before (may_be_awake p c.args.caller c.args.op free) holds)
+returns-clause-ok c p closed before rests =
+    let free = sym c.in_default.is ∙ c.bar.ensures p rests.is.opened in
+    made_so p c.args.caller c.args.op free _ _
+    (refl, moves_rest c.args.self.now c.play.new.self c.args.caller c.args.op c.args.out.now.items c.play.new.out.items c.in_ok-play.ensures.ok p closed before (may_be_awake p c.args.caller c.args.op free) rests)

@@ -8,11 +8,11 @@ use Rattle.tc_serve.proofs.open_case.OpenCase.name.Goals as goal
 
 pub returns-then-has_met-clause-ok : goal.returns-then-has_met-clause-ok
 returns-then-has_met-clause-ok c p closed before holds =
-    is_barred _ (added c.args.run (L.Named c.args.run c.args.name) p) W.LateName _ _ (sym (c.has_met.ensures p holds.is) ∙ c.if-has_met.true) (refl, holds)
+    is_barred _ (added c.args.run (L.Named c.args.run c.args.name) p) W.LateName _ _ (sym (c.has_met.ensures p holds.is.opened) ∙ c.if-has_met.true) (refl, holds)
 
 pub returns-clause-ok : goal.returns-clause-ok
 returns-clause-ok c =
     IfOk-weaker c.add.result _ _
     (λ why change p closed before holds.
-    is_free _ (added c.args.run (L.Named c.args.run c.args.name) p) W.LateName _ _ (sym (c.has_met.ensures p holds.is) ∙ c.if-has_met.false) (change p closed before holds))
+    is_free _ (added c.args.run (L.Named c.args.run c.args.name) p) W.LateName _ _ (sym (c.has_met.ensures p holds.is.opened) ∙ c.if-has_met.false) (change p closed before holds))
     c.add.ensures.ok

@@ -8,10 +8,10 @@ use Rattle.tc_serve.proofs.open_case.OpenCase.refuse.Goals as goal
 
 pub returns-then-not-has-clause-ok : goal.returns-then-not-has-clause-ok
 returns-then-not-has-clause-ok c p closed before holds =
-    may_not _ (Ok (with_line p (L.Refused c.args.run (why_text c.args.why)))) W.NoRun _ _ (sym (c.has.ensures.is p holds.is) ∙ c.if-not-has.true) (refl, holds)
+    may_not _ (Ok (with_line p (L.Refused c.args.run (why_text c.args.why)))) W.NoRun _ _ (sym (c.has.ensures.is p holds.is.opened) ∙ c.if-not-has.true) (refl, holds)
 
 pub returns-clause-ok : goal.returns-clause-ok
 returns-clause-ok c p closed before holds =
     let appends = rw (c.as_bytes.ensures.value, c.text.ensures) at c.in_ok-append_said.ensures.ok in
-    may_change _ (Ok (with_line p (L.Refused c.args.run (why_text c.args.why)))) W.NoRun _ _ (sym (c.has.ensures.is p holds.is) ∙ c.if-not-has.false)
+    may_change _ (Ok (with_line p (L.Refused c.args.run (why_text c.args.why)))) W.NoRun _ _ (sym (c.has.ensures.is p holds.is.opened) ∙ c.if-not-has.false)
     (refl, noted c.args.self.now _ p (L.Refused c.args.run (why_text c.args.why)) closed before c.args.out.now.items c.append_said.new.out.items holds refl refl refl (λ ls met. c.add_refused.ensures ls (why_text c.args.why) met) appends)

@@ -1,19 +1,19 @@
-use Rattle.std.proofs.Common.{Bool, Some, subst, sym, true}
+use Rattle.std.proofs.Common.{Bool, subst, sym}
 use Rattle.std.proofs.lemmas.Result.{IfOk-weaker}
+use Rattle.tc_text.specs.Reading.{op_of}
+use Rattle.tc_serve.specs.declared.order.Order.TheVariants as O
 use Rattle.tc_serve.specs.Inside.{TriesLine}
-use Rattle.tc_serve.proofs.Trying.{asked_by, nothing_asked}
+use Rattle.tc_serve.proofs.Trying.{asked_by}
 use Rattle.tc_serve.proofs.server.Server.try_line.Goals as goal
 
-pub returns-in-Ok-clause-ok : goal.returns-in-Ok-clause-ok
-returns-in-Ok-clause-ok c =
-    let found = rw c.in-Ok.is at c.in_ok-order.ensures.spelled in
-    let fits = rw c.in-Ok.is at c.in_ok-order.ensures.fits in
-    IfOk-weaker c.take.result _ _
-    (λ why tries. subst (λ (t : Bool). TriesLine t c.args.line.now why c.args.self.now c.take.new.self c.args.out.now.items c.take.new.out.items) (sym c.if-not-ended.false)
-    (asked_by c.args.line.now c.in-Ok.order why c.args.self.now c.take.new.self c.args.out.now.items c.take.new.out.items fits found tries)) c.take.ensures.ok
+pub returns-in-Some-clause-ok : goal.returns-in-Some-clause-ok
+returns-in-Some-clause-ok c =
+    IfOk-weaker c.make.result _ _
+    (λ why tries. subst (λ (t : Bool). TriesLine t c.args.line.now why c.args.self.now c.make.new.self c.args.out.now.items c.make.new.out.items) (sym c.if-not-ended.false)
+    (asked_by c.args.line.now (O.Move c.in-Some.caller (op_of c.in-Some.op)) why c.args.self.now c.make.new.self c.args.out.now.items c.make.new.out.items c.in-Some.ensures.fits c.in-Some.ensures.spelled tries))
+    (rw c.op.ensures at c.make.ensures.ok)
 
-pub returns-in-Err-clause-ok : goal.returns-in-Err-clause-ok
-returns-in-Err-clause-ok c =
-    let is = rw c.in-Err.is at c.in_ok-order.ensures.why in
-    subst (λ (t : Bool). TriesLine t c.args.line.now (Some c.in-Err.why) c.args.self.now c.args.self.now c.args.out.now.items c.args.out.now.items) (sym c.if-not-ended.false)
-    (nothing_asked true c.args.line.now c.in-Err.why c.args.self.now c.args.out.now.items (λ o asks. let same = rw c.in-Err.is at (c.in_ok-order.ensures.only o asks.1 asks.2) in cc) is)
+pub returns-clause-ok : goal.returns-clause-ok
+returns-clause-ok c =
+    IfOk-weaker c.try_any.result _ _
+    (λ why tries. subst (λ (t : Bool). TriesLine t c.args.line.now why c.args.self.now c.try_any.new.self c.args.out.now.items c.try_any.new.out.items) (sym c.if-not-ended.false) tries) c.try_any.ensures.ok

@@ -1,0 +1,11 @@
+use Rattle.std.proofs.Common.{◌∙◌, [], ◌∷◌, sym}
+use Rattle.tc_evidence.specs.declared.line.Line.TheVariants as L
+use Rattle.tc_serve.proofs.Calling.{met_none, met_some}
+use Rattle.tc_serve.proofs.open_case.meet.Goals as goal
+
+pub returns-in_default : goal.returns-in_default
+returns-in_default c op reply ls is met = met_none _ c.args.caller op reply ls (sym c.in_default.is ∙ is) (c.add_refused.ensures ls [] met)
+
+pub returns : goal.returns
+returns c op reply ls is met =
+    met_some _ c.args.caller c.in-Some.run' op reply ls (sym c.in-Some.is ∙ is) (c.add_refused-2.ensures (L.Refused c.args.caller [] ∷ ls) [] (c.add_refused.ensures ls [] met))
