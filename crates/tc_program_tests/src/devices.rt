@@ -6,9 +6,10 @@ use std::process::Abort;
 use std::sync::Wait;
 use std::test::Fail;
 use std::thread::Threads;
-use tc_campaign::{CampaignEnd, Results};
+use tc_book::{Closed, RunLog};
+use tc_campaign::{CampaignEnd, Finished, Results};
 use tc_command::{Form, Task};
-use tc_entry::{Name, Sequence};
+use tc_entry::{Comp, Entry, Name, Op, Reply, Run, Sequence, Verdict};
 use tc_exec::CaseError;
 use tc_program::fault::{RunFault, abort_line};
 use tc_program::outcome::Outcome;
@@ -127,11 +128,45 @@ fn fail_task<R: Abort + Threads + Wait + Copy + Send + 'static>(
     Ok(fail_each(rt, alloc, &task, input.as_slice(), whole.as_slice()))
 }
 
-/// The results of no test case, of a campaign that was aborted at the test case a.
+/// The one call of a test case.
+fn finish() -> Entry {
+    Entry {
+        caller: Run(0),
+        op: Op::Finish,
+        reply: Reply::Ok,
+    }
+}
+
+/// The report of a test case in which nothing was done.
+fn report_of_nothing(alloc: Global) -> Result<Closed, Fail> {
+    let log = RunLog {
+        run: Run(0),
+        comp: Comp(0),
+        entries: Sequence::new(vec![in alloc; finish()]?),
+    };
+    Ok(Closed {
+        behaviours: 1,
+        history: Sequence::new(vec![in alloc; finish()]?),
+        logs: Sequence::new(vec![in alloc; log]?),
+        locals: Sequence::new(vec![in alloc; Verdict::None]?),
+        verdict: Verdict::None,
+    })
+}
+
+/// The test case b.
+fn finished(alloc: Global) -> Result<Finished, Fail> {
+    Ok(Finished {
+        name: Name::read("b").ok_or("a name")?,
+        names: Sequence::new(vec![in alloc; Name::read("main").ok_or("a name")?]?),
+        report: report_of_nothing(alloc)?,
+    })
+}
+
+/// The results of a campaign that was aborted at the test case a, after the test case b.
 fn aborted(alloc: Global) -> Result<Results, Fail> {
     let name = Name::read("a").ok_or("a name")?;
     Ok(Results {
-        finished: Sequence::new(Vec::new(alloc)),
+        finished: Sequence::new(vec![in alloc; finished(alloc)?]?),
         ending: CampaignEnd::Aborted {
             name,
             why: CaseError::NoThread,
@@ -179,14 +214,17 @@ fn failing_devices(rt: HostRuntime) -> Result<(), Fail> {
     for (form, starts) in [
         (
             Form::Text,
-            "cases 0 none 0 pass 0 inconc 0 fail 0 error 0\naborted at a: no thread\n",
+            "testcase b\nrun 0 main on 0\n  finish -> ok\nlocal 0 none\nverdict none\ncases 1 none 1 pass 0 inconc 0 fail 0 error 0\naborted at a: no thread\n",
         ),
         (
             Form::Csv,
-            "testcase,components,none,pass,inconc,fail,error,verdict\n",
+            "testcase,components,none,pass,inconc,fail,error,verdict\nb,1,1,0,0,0,0,none\n",
         ),
-        (Form::History, ""),
-        (Form::Evidence, ""),
+        (Form::History, "history 2 b 1\n0 finish -> ok\nend none\n"),
+        (
+            Form::Evidence,
+            "evidence 1 b 1\nbehaviour 0 main\n0 finish -> ok\nend none\n",
+        ),
         (Form::Junit, "<?xml version=\"1.0\" encoding=\"UTF-8\"?>\n"),
     ] {
         give_each(&rt, rt.alloc(), &results, form, starts);

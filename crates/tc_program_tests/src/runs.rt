@@ -58,7 +58,7 @@ fn is_row<R: Abort + Threads + Wait + Copy + Send + 'static>(
     is_shown(rt, alloc, Ok(words), input.as_slice(), wanted)
 }
 
-const STORED: &str =
+pub(crate) const STORED: &str =
     "# two test cases;testcase t_pass;behaviour main;  create p;  start p worker mtc;  wait done p;  getverdict;end;behaviour worker boss;  alive boss;  setverdict pass;end;end;testcase t_again;behaviour main;  create p alive;  start p first;  wait done p;  start p second p;  wait done p;  kill all;  killed all;end;behaviour first;  setverdict pass;end;behaviour second me;  getverdict;  setverdict none;  running me;end;end;";
 
 const STORED_REPORT: &str =

@@ -2,12 +2,14 @@
 //! After what is written comes the status; a row that is refused has only its line.
 use crate::calls::{in_lines, replay};
 use crate::checks::{holds, is};
+use crate::runs::STORED;
 use std::alloc::{AllocError, Global};
 use std::process::Abort;
 use std::test::Fail;
 use tc_program::check::check;
 use tc_program::fault::{RunFault, fault_line};
 use tc_program::script::take_script;
+use tc_stream::devices::SlowReader;
 
 /// What a row is given to.
 #[derive(Clone, Copy)]
@@ -297,15 +299,21 @@ testcase t;behaviour main;setverdict pass; => ttrun: line 4: text ends too early
     are_rows(&rt, rt.alloc(), Call::TakeScript, rows)
 }
 
-/// What comes of a script of that many bytes, nearly all of which are a comment.
+/// What comes of the stored script after a comment, of that many bytes together.
 fn taken(alloc: Global, length: usize) -> Result<Vec<u8>, Fail> {
-    let script = b"\ntestcase t\nbehaviour main\nend\nend\n".as_slice();
-    let comment = length.checked_sub(script.len()).ok_or("a length")?;
+    let script = in_lines(alloc, STORED)?;
+    let comment = length.checked_sub(script.len() + 1).ok_or("a length")?;
     let mut input = Vec::from_elem(alloc, b'#', comment)?;
-    input.extend_from_slice(script)?;
+    input.push(b'\n')?;
+    input.extend_from_slice(script.as_slice())?;
     let mut out = Vec::new(alloc);
     show(alloc, Call::TakeScript, input.as_slice(), &mut out)?;
     Ok(out)
+}
+
+/// Why no script is taken of a reader that gives a byte at each read.
+fn refusal_of(alloc: Global, reader: &mut SlowReader) -> Option<RunFault> {
+    take_script(alloc, reader).err()
 }
 
 #[test]
@@ -315,6 +323,11 @@ fn longest_script(rt: HostRuntime) -> Result<(), Fail> {
     let more = taken(rt.alloc(), 1_048_577)?;
     let wanted = b"ttrun: input too long\n".as_slice();
     is(&rt, "a byte more", more.as_slice(), wanted);
+    let endless = Vec::from_elem(rt.alloc(), b'#', 2_097_152)?;
+    let mut reader = SlowReader::new(endless.as_slice(), usize::MAX);
+    let refused = refusal_of(rt.alloc(), &mut reader);
+    is(&rt, "an endless one", refused, Some(RunFault::TooLong));
+    is(&rt, "the reads", reader.reads, 1_048_577);
     Ok(())
 }
 
