@@ -1,4 +1,4 @@
-use Rattle.std.proofs.Common.{◌≡◌, ◌∙◌, List, reverse, subst, sym}
+use Rattle.std.proofs.Common.{rules, ◌≡◌, ◌∙◌, List, reverse, subst, sym}
 use Rattle.tc_evidence.specs.Text.{AreEvidence}
 use Rattle.tc_evidence.specs.declared.block.Block.{Block}
 use Rattle.tc_program.specs.Compared.{blocks_part, missing}
@@ -9,7 +9,7 @@ pub returns-clause-done : goal.returns-clause-done
 returns-clause-done c =
     let ready = c.in_ok-ready.ensures.ready in
     let done = c.in_ok-reporting.ensures.done in
-    let part = c.split.ensures.blocks in
+    let part : c.split.result.1.now ≡ blocks_part c.args.text.now = search rules in
     let found = c.in_ok-notes.field-0 in
     let missing_is = c.in_ok-notes.missing-is in
     let lent = c.as_slice.ensures.value in
