@@ -1,8 +1,8 @@
 """The public calls of the libraries: where each is refused memory, or made with none.
 
 A call that can answer that memory ran out has each of its growths refused in turn, and one that cannot is made with every growth
-refused. `crates/refused_memory` names its calls where a refusal begins, and in the rows of those that take no memory. What it does not
-make is in tests/hostile/whole.py, each with a reason. `python3 tests/claims/memory.py` prints the public calls and where each is made.
+refused. `crates/refused_memory` names its calls where a refusal begins. What it does not make is in tests/hostile/whole.py, each with
+a reason. `python3 tests/claims/memory.py` prints the public calls and where each is made.
 With --plant each is taken out of its list in turn, and must be missed.
 """
 from __future__ import annotations
@@ -32,10 +32,9 @@ IMPL = re.compile(r"^(?:unsafe )?(?:impl|pub trait|trait)\b")
 USE = re.compile(r"(?ms)^pub use ([^;]*);")
 MODULE = re.compile(r"(?m)^pub mod (\w+);")
 CALLED = re.compile(r"\b(\w+)(?:::<[^(]*?>)?\(")
-# A function of the program; where a refusal begins, each growth by `begin_each`, up to its end; a row of a call that takes no memory.
+# A function of the program; where a refusal begins, each growth by `begin_each`, up to its end.
 FUNCTION = re.compile(r"(?ms)^ *(?:pub(?:\(crate\))? )?fn (\w+)(.*?)(?=^ *(?:pub(?:\(crate\))? )?fn |\Z)")
 REGION = re.compile(r'(?s)\.begin(_each)?\(\s*"([^"]*)",?\s*\)(.*?)\.end\(\)')
-ROW = re.compile(r'(?s)\.holds\(\s*"([\w:]+)",(.*?)\);\n')
 
 
 class Call(NamedTuple):
@@ -163,31 +162,17 @@ class Lists:
         functions = [(file, *it) for file, text in texts.items() for it in FUNCTION.findall(text)]
         for _, name, body in functions:
             self.makes[name] |= set(CALLED.findall(body))
-        unfed: Set[str] = set()
         for file, _, body in functions:
-            unfed |= self.read_regions(file, body)
-        for file, name, body in functions:
-            self.read_rows(file, name, body, unfed)
+            self.read_regions(file, body)
 
-    def read_regions(self, file: str, body: str) -> Set[str]:
-        """The beginning of a refusal, up to its end. What is called while each growth is refused."""
-        unfed: Set[str] = set()
+    def read_regions(self, file: str, body: str) -> None:
+        """The beginnings of refusals, each up to its end."""
         for each, names, region in REGION.findall(body):
             made = self.all_made(set(CALLED.findall(region)))
-            unfed |= made if each else set()
             for name in names.replace("\\", " ").split():
                 (self.quiet if each else self.refused)[name].append(file)
                 if name.split("::")[-1] not in made:
                     self.faults.append(f"{file}: {name} is not called where a refusal begins that names it")
-        return unfed
-
-    def read_rows(self, file: str, function: str, body: str, unfed: Set[str]) -> None:
-        """The rows of a function that take in what a call answers, which is made where each growth is refused."""
-        regions = "".join(region for each, _, region in REGION.findall(body) if each)
-        for name, row in ROW.findall(body if function in unfed else regions):
-            self.quiet[name].append(file)
-            if not re.search(rf"\b{name.split('::')[-1]}\(", row):
-                self.faults.append(f"{file}: {name} is not called in the row that names it")
 
     def all_made(self, names: Set[str]) -> Set[str]:
         """What is called, and what the functions of the program call that are."""

@@ -36,7 +36,7 @@ from sweeps import Sweep
 from lanes import lanes
 
 # What must be met in the gate, by the tests that refuse something, and by those of texts.
-REFUSING_FLOORS = {"right": 900, "refused": 1000, "aborted": 800, "served in part": 60}
+REFUSING_FLOORS = {"right": 900, "refused": 5000, "aborted": 2000, "served in part": 60}
 DEVICE_FLOORS = {"reads failed": 300, "writes failed": 200, "right": 100, "long inputs": 3}
 TEXT_FLOORS = {"accepted": 100, "refused text": 4000}
 CROWD_FLOORS = {"right": 145, "aborted": 39}

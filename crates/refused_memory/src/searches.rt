@@ -3,18 +3,16 @@ ghost use Rattle.std.specs.Prelude.{◌≤◌, length};
 ghost use Rattle.tc_entry.specs.declared.limits.TheConstants.{BEHAVIOURS};
 ghost use Rattle.tc_explore.specs.Found.{AreLegal};
 
-use crate::outcome::{Outcome, told};
-use crate::stock::Stock;
-use crate::tells::tell_explored;
-use crate::texts::HEAD;
+use crate::texts::{HEAD, append_part};
+use crate::told::made;
 use crate::trial::Trial;
 use std::alloc::Global;
 use tc_entry::{BEHAVIOURS, Name, NoMemory};
 use tc_explore::{Explored, explore, is_course};
-use tc_script::Script;
+use tc_script::{Campaign, Script, read_campaign};
 
 /// A test case of two verdicts, in which two runs may wait in vain, with a step that is never carried out.
-pub const RACE: &str = "testcase race
+const RACE: &str = "testcase race
 behaviour main
 create worker alive
 create watcher
@@ -38,108 +36,101 @@ end
 /// How many states are looked at, at most.
 const STATES: usize = 1_000;
 
-/// What is asked of what was found.
-fn ask(trial: &mut Trial, explored: &Explored) -> Outcome {
-    trial.begin_each("");
-    trial.holds("Explored::status", explored.status() == 1);
-    trial.end();
-    Outcome::Told
+/// No test case here has more scripts.
+const MOST: usize = 4;
+
+/// Takes the scripts of the first test case out of a campaign.
+fn add_scripts(campaign: &mut Campaign, scripts: &mut Vec<Script>) {
+    if let Some((_, mut case)) = campaign.take_first() {
+        for _ in 0..MOST {
+            if let Some((_, script)) = case.take_first() {
+                let _ = scripts.push(script);
+            }
+        }
+        drop(case);
+    }
 }
 
-/// Appends the line, the witnesses or the details of a search.
-fn append(
-    alloc: Global,
-    out: &mut Vec<u8>,
-    place: usize,
-    scripts: &[Script],
-    explored: &Explored,
-    name: &Name,
-) -> Result<(), NoMemory>
+/// The scripts of the first test case of this text; none if memory runs out.
+fn scripts_of(alloc: Global, text: &str) -> Vec<Script> {
+    let mut scripts = Vec::new(alloc);
+    if let Ok(mut campaign) = read_campaign(alloc, text.as_bytes()) {
+        add_scripts(&mut campaign, &mut scripts);
+        drop(campaign);
+    }
+    scripts
+}
+
+/// The line, the witnesses and the details of a search, each of which may leave a part.
+fn tell(trial: &mut Trial, scripts: &[Script], explored: &Explored)
     requires few { length scripts.now ≤ BEHAVIOURS }
     requires legal { AreLegal scripts.now explored.now.found }
 {
-    match place {
-        1 => explored.append_line(out, name),
-        2 => explored.append_witnesses(out, name, 3),
-        _ => explored.append_details(alloc, out, scripts),
+    if let Some((mut page, name)) = HEAD.to_vec(trial.alloc).ok().zip(Name::read("race")) {
+        trial.begin("Explored::append_line Explored::append_witnesses Explored::append_details");
+        let line = explored.append_line(&mut page, &name);
+        append_part(trial, &page, line);
+        page.clear();
+        let witnesses = explored.append_witnesses(&mut page, &name, 3);
+        append_part(trial, &page, witnesses);
+        page.clear();
+        let details = explored.append_details(trial.alloc, &mut page, scripts);
+        append_part(trial, &page, details);
+        trial.end();
     }
 }
 
-/// Appends the line, the witnesses or the details of a search with a growth refused.
-fn tell(
-    trial: &mut Trial,
-    place: usize,
-    scripts: &[Script],
-    explored: &Explored,
-    name: &Name,
-) -> Option<Outcome>
+/// Whether a witness of a search is a course.
+fn follow(trial: &mut Trial, scripts: &[Script], explored: &Explored)
+    requires few { length scripts.now ≤ BEHAVIOURS }
+{
+    if let Some(witness) = explored.found.as_slice().first()
+        && !scripts.is_empty()
+    {
+        trial.begin("is_course");
+        match is_course(
+            trial.alloc,
+            scripts,
+            witness.history.as_slice(),
+            witness.verdict,
+        ) {
+            Ok(is_course) => trial.holds(is_course),
+            Err(NoMemory) => trial.refuse(true),
+        }
+        trial.end_call();
+        trial.end();
+    }
+}
+
+/// What is done with what a search has found.
+fn use_found(trial: &mut Trial, scripts: &[Script], explored: &Explored)
     requires few { length scripts.now ≤ BEHAVIOURS }
     requires legal { AreLegal scripts.now explored.now.found }
 {
-    let mut out = HEAD.to_vec(trial.alloc).ok()?;
-    trial.begin("Explored::append_line Explored::append_witnesses Explored::append_details");
-    let answer = append(trial.alloc, &mut out, place, scripts, explored, name);
+    trial.begin_each("Explored::status");
+    trial.holds(explored.status() == 1);
     trial.end();
-    trial.tell_bytes(&out);
-    Some(match answer {
-        Ok(()) => Outcome::Told,
-        Err(NoMemory) => Outcome::Part,
-    })
+    tell(trial, scripts, explored);
+    follow(trial, scripts, explored);
 }
 
-/// Whether a witness of a search is a course, with a growth refused.
-fn follow(trial: &mut Trial, scripts: &[Script], explored: &Explored) -> Option<Outcome>
+/// A search, its line, its witnesses and its details, what is asked of it, and whether a witness is a course.
+fn search(trial: &mut Trial, scripts: &[Script])
     requires few { length scripts.now ≤ BEHAVIOURS }
 {
-    let witness = explored.found.as_slice().first()?;
-    if scripts.is_empty() {
-        return None;
-    }
-    let history = witness.history.as_slice();
-    trial.begin("is_course");
-    let answer = is_course(trial.alloc, scripts, history, witness.verdict);
+    trial.begin("explore");
+    made(explore(trial.alloc, scripts, STATES), NoMemory, trial);
     trial.end();
-    Some(match answer {
-        Ok(true) => Outcome::Told,
-        Ok(false) => Outcome::Wrong("a witness is no course"),
-        Err(NoMemory) => Outcome::Refused,
-    })
-}
-
-/// The text of a search in this place, or what is asked of it.
-fn tell_in(
-    trial: &mut Trial,
-    place: usize,
-    scripts: &[Script],
-    explored: &Explored,
-    name: &Name,
-) -> Option<Outcome>
-    requires few { length scripts.now ≤ BEHAVIOURS }
-    requires legal { AreLegal scripts.now explored.now.found }
-{
-    match place {
-        0 => Some(told(tell_explored(&mut trial.out, explored, name))),
-        1..=3 => tell(trial, place, scripts, explored, name),
-        4 => Some(ask(trial, explored)),
-        5 => follow(trial, scripts, explored),
-        _ => None,
+    if let Ok(explored) = explore(trial.alloc, scripts, STATES) {
+        use_found(trial, scripts, &explored);
+        drop(explored);
     }
 }
 
-/// The search, its line, its witnesses and its details, what is asked of it, and whether a witness is a course.
-pub(crate) fn make(trial: &mut Trial, stock: &Stock, place: usize) -> Option<Outcome> {
-    let scripts = stock.scripts.as_slice();
-    if scripts.len() > BEHAVIOURS {
-        return None;
-    }
-    let name = Name::read("race")?;
-    if place == 0 {
-        trial.begin("explore");
-    }
-    let answer = explore(trial.alloc, scripts, STATES);
-    trial.end();
-    match &answer {
-        Ok(explored) => tell_in(trial, place, scripts, explored, &name),
-        Err(NoMemory) => Some(Outcome::Refused),
+/// The search of the scripts.
+pub(crate) fn make(trial: &mut Trial) {
+    let scripts = scripts_of(trial.alloc, RACE);
+    if scripts.len() <= BEHAVIOURS {
+        search(trial, &scripts);
     }
 }

@@ -1,15 +1,12 @@
 //! Calls on a table, on the state of a case, and on histories.
-ghost use Rattle.std.specs.Prelude.{IfSome};
-ghost use Rattle.tc_entry.specs.Limits.{IsBehaviours};
-
-use crate::outcome::{Outcome, told};
 use crate::stock::Stock;
-use crate::tells::{tell_entries, tell_verdicts};
+use crate::tells::{tell_entries, tell_number};
+use crate::told::{Called, Told, call_again, call_all, made};
 use crate::trial::Trial;
 use std::alloc::Global;
 use tc_entry::{BEHAVIOURS, Comp, Entry, NoMemory, Op, Reply, Run, Sequence};
 use tc_table::{CaseState, CheckFault, Table, copied_entries, replay, replay_check};
-use tc_text::write_reply;
+use tc_text::{read_move, write_reply};
 
 /// Moves of all kinds, enough that each list of a table grows more than once.
 pub const MOVES: &str = "behaviours 8
@@ -53,410 +50,259 @@ pub const MOVES: &str = "behaviours 8
 0 create
 ";
 
-/// What moves are played on.
-pub(crate) trait Plays: Drop + Sized {
-    /// That of a new case.
-    fn begin(alloc: Global, behaviours: u16) -> Result<Self, NoMemory>
-        requires { IsBehaviours behaviours };
+/// The most behaviours.
+pub(crate) const MOST: u16 = BEHAVIOURS as u16;
 
-    /// A copy.
-    fn copied(&self, alloc: Global) -> Result<Self, NoMemory>;
+/// How many moves room is made for.
+const ROOMS: [usize; 3] = [1, 40, 5000];
 
-    /// Plays a move.
-    fn play(&mut self, run: Run, op: &Op) -> Result<Reply, NoMemory>;
-
-    /// The reply to a move.
-    fn would(&self, run: Run, op: &Op) -> Reply;
-
-    /// The entries, where they are kept.
-    fn kept(&self) -> Option<&[Entry]>;
-}
-
-impl Plays for Table {
-    fn begin(alloc: Global, behaviours: u16) -> Result<Table, NoMemory> {
-        Table::new(alloc, behaviours)
-    }
-
-    fn copied(&self, alloc: Global) -> Result<Table, NoMemory> {
-        Table::copied(self, alloc)
-    }
-
-    fn play(&mut self, run: Run, op: &Op) -> Result<Reply, NoMemory> {
-        Table::play(self, run, op.copy())
-    }
-
-    fn would(&self, run: Run, op: &Op) -> Reply {
-        Table::would(self, run, op)
-    }
-
-    fn kept(&self) -> Option<&[Entry]> {
-        Some(self.history())
+/// Appends the reply to a call. Whether there was memory for it.
+fn tell_reply(out: &mut Vec<u8>, reply: Result<Reply, NoMemory>) -> bool {
+    match reply {
+        Ok(reply) => write_reply(out, &reply).is_ok(),
+        Err(NoMemory) => false,
     }
 }
 
-impl Plays for CaseState {
-    fn begin(alloc: Global, behaviours: u16) -> Result<CaseState, NoMemory> {
-        CaseState::new(alloc, behaviours)
-    }
-
-    fn copied(&self, alloc: Global) -> Result<CaseState, NoMemory> {
-        CaseState::copied(self, alloc)
-    }
-
-    fn play(&mut self, run: Run, op: &Op) -> Result<Reply, NoMemory> {
-        CaseState::play(self, run, op.copy())
-    }
-
-    fn would(&self, run: Run, op: &Op) -> Reply {
-        CaseState::would(self, run, op)
-    }
-
-    fn kept(&self) -> Option<&[Entry]> {
-        None
+impl Told for Table {
+    fn tell(&self, out: &mut Vec<u8>) {
+        for line in MOVES.lines() {
+            if let Some((run, op)) = read_move(line.as_bytes()) {
+                let _ = write_reply(out, &self.would(run, &op));
+            }
+        }
+        tell_entries(out, 0, self.history());
     }
 }
 
-/// Plays these moves, up to one that is refused. Whether none was.
-fn play_all<T: Plays>(on: &mut T, moves: &[(Run, Op)]) -> bool {
-    for (run, op) in moves {
-        if on.play(*run, op).is_err() {
-            return false;
+impl Told for CaseState {
+    fn tell(&self, out: &mut Vec<u8>) {
+        for line in MOVES.lines() {
+            if let Some((run, op)) = read_move(line.as_bytes()) {
+                let _ = write_reply(out, &self.would(run, &op));
+            }
         }
     }
-    true
 }
 
-/// That of a new case, after these moves.
-pub(crate) fn played<T: Plays>(alloc: Global, moves: &[(Run, Op)]) -> Option<T> {
-    let mut on = T::begin(alloc, BEHAVIOURS as u16).ok()?;
-    if play_all(&mut on, moves) {
-        Some(on)
-    } else {
-        None
+impl Called<(Run, Op)> for Table {
+    fn call(&mut self, with: &(Run, Op), out: &mut Vec<u8>) -> bool {
+        let (run, op) = with;
+        tell_reply(out, self.play(*run, op.copy()))
     }
 }
 
-/// The replies to these moves, and the entries that are kept.
-fn tell<T: Plays>(out: &mut Vec<u8>, on: &T, moves: &[(Run, Op)]) -> Result<(), NoMemory> {
-    for (run, op) in moves {
-        write_reply(out, &on.would(*run, op))?;
-        out.push(b'\n')?;
-    }
-    match on.kept() {
-        Some(entries) => tell_entries(out, 0, entries),
-        None => Ok(()),
+impl Called<(Run, Op)> for CaseState {
+    fn call(&mut self, with: &(Run, Op), out: &mut Vec<u8>) -> bool {
+        let (run, op) = with;
+        tell_reply(out, self.play(*run, op.copy()))
     }
 }
 
-/// What came of a call that makes what moves are played on.
-fn told_of<T: Plays>(trial: &mut Trial, stock: &Stock, answer: &Result<T, NoMemory>) -> Outcome {
+impl Called<usize> for Table {
+    fn call(&mut self, with: &usize, out: &mut Vec<u8>) -> bool {
+        let is_made = self.make_room(*with).is_ok();
+        if is_made {
+            let _ = out.push(u8::from(self.room() < *with));
+        }
+        is_made
+    }
+}
+
+impl Told for Sequence<Entry> {
+    fn tell(&self, out: &mut Vec<u8>) {
+        tell_entries(out, 0, self.as_slice());
+    }
+}
+
+impl Called<Entry> for Sequence<Entry> {
+    fn call(&mut self, with: &Entry, _out: &mut Vec<u8>) -> bool {
+        self.push(with.copy()).is_ok()
+    }
+}
+
+/// Makes the calls of these lines, one after the other.
+pub(crate) fn call_lines<C: Called<(Run, Op)>>(trial: &mut Trial, on: &mut C, lines: &str) {
+    for line in lines.lines() {
+        if let Some(with) = read_move(line.as_bytes()) {
+            call_again(trial, on, &with);
+        }
+    }
+}
+
+/// The moves on a table or a state, if there was memory for it.
+fn play_on<C: Called<(Run, Op)>>(trial: &mut Trial, answer: Result<C, NoMemory>) {
     match answer {
-        Ok(on) => told(tell(&mut trial.out, on, stock.moves.moves.as_slice())),
-        Err(NoMemory) => Outcome::Refused,
+        Ok(on) => {
+            let mut on = on;
+            call_lines(trial, &mut on, MOVES);
+            drop(on);
+        }
+        Err(NoMemory) => trial.is_wrong = true,
     }
 }
 
-/// How many behaviours there are in a place.
-pub(crate) fn behaviours_in(place: usize) -> Option<u16>
-    ensures { IfSome result IsBehaviours }
-{
-    match place {
-        0 => Some(1),
-        1 => Some(7),
-        2 => Some(BEHAVIOURS as u16),
-        _ => None,
-    }
-}
-
-/// That of a new case of one, some or the most behaviours.
-pub(crate) fn open<T: Plays>(trial: &mut Trial, stock: &Stock, place: usize) -> Option<Outcome> {
-    let behaviours = behaviours_in(place)?;
-    trial.begin("Table::new CaseState::new");
-    let answer = T::begin(trial.alloc, behaviours);
+/// The moves, each after those before it.
+pub(crate) fn play(trial: &mut Trial) {
+    let table = Table::new(trial.alloc, MOST);
+    trial.begin("Table::play");
+    play_on(trial, table);
     trial.end();
-    Some(told_of(trial, stock, &answer))
 }
 
-/// Plays a move with a growth refused, and then again.
-fn play_on<T: Plays>(
-    trial: &mut Trial,
-    on: &mut T,
-    moves: &[(Run, Op)],
-    run: Run,
-    op: &Op,
-) -> Result<Outcome, NoMemory> {
-    tell(&mut trial.out, on, moves)?;
-    trial.begin("Table::play CaseState::play");
-    let first = on.play(run, op);
+/// The moves on a state, each after those before it.
+pub(crate) fn play_state(trial: &mut Trial) {
+    let state = CaseState::new(trial.alloc, MOST);
+    trial.begin("CaseState::play");
+    play_on(trial, state);
     trial.end();
-    if let Ok(reply) = first {
-        write_reply(&mut trial.out, &reply)?;
-        tell(&mut trial.out, on, moves)?;
-        return Ok(Outcome::Told);
-    }
-    tell(&mut trial.out, on, moves)?;
-    if !trial.is_told_twice() {
-        return Ok(Outcome::Wrong("a refused move leaves something"));
-    }
-    write_reply(&mut trial.out, &on.play(run, op)?)?;
-    tell(&mut trial.out, on, moves)?;
-    Ok(Outcome::Repeated)
 }
 
-/// Each of the moves, after those before it.
-pub(crate) fn play<T: Plays>(trial: &mut Trial, stock: &Stock, place: usize) -> Option<Outcome> {
-    let moves = stock.moves.moves.as_slice();
-    let (run, op) = moves.get(place)?;
-    let mut on: T = played(trial.alloc, moves.get(..place)?)?;
-    play_on(trial, &mut on, moves, *run, op).ok()
-}
-
-/// A copy, after all moves.
-pub(crate) fn copy<T: Plays>(trial: &mut Trial, stock: &Stock) -> Option<Outcome> {
-    let one: T = played(trial.alloc, stock.moves.moves.as_slice())?;
-    trial.begin("Table::copied CaseState::copied");
-    let answer = one.copied(trial.alloc);
+/// Tables of one, some and the most behaviours.
+pub(crate) fn open(trial: &mut Trial) {
+    trial.begin("Table::new");
+    made(Table::new(trial.alloc, 1), NoMemory, trial);
+    made(Table::new(trial.alloc, 7), NoMemory, trial);
+    made(Table::new(trial.alloc, MOST), NoMemory, trial);
     trial.end();
-    Some(told_of(trial, stock, &answer))
 }
 
-/// Makes room for this many moves on a table.
-fn make_room_on(
-    trial: &mut Trial,
-    table: &mut Table,
-    moves: &[(Run, Op)],
-    more: usize,
-) -> Result<Outcome, NoMemory> {
-    tell(&mut trial.out, table, moves)?;
-    trial.begin("Table::make_room");
-    let made = table.make_room(more);
-    trial.end();
-    tell(&mut trial.out, table, moves)?;
-    if !trial.is_told_twice() {
-        return Ok(Outcome::Wrong("room changes a table"));
+/// Plays all moves on a table.
+fn play_all(table: &mut Table) {
+    for line in MOVES.lines() {
+        if let Some((run, op)) = read_move(line.as_bytes()) {
+            let _ = table.play(run, op);
+        }
     }
-    if made.is_err() {
-        table.make_room(more)?;
-    }
-    Ok(match made {
-        _ if table.room() < more => Outcome::Wrong("the room was not made"),
-        Ok(()) => Outcome::Told,
-        Err(NoMemory) => Outcome::Repeated,
-    })
+}
+
+/// A table after all moves, and the state that they leave.
+pub(crate) fn played(alloc: Global) -> Option<(Table, CaseState)> {
+    let mut table = Table::new(alloc, MOST).ok()?;
+    play_all(&mut table);
+    let state = replay(alloc, MOST, table.history()).ok();
+    Some(table).zip(state)
 }
 
 /// Room for one, some and many moves, on a table with moves.
-pub(crate) fn make_room(trial: &mut Trial, stock: &Stock, place: usize) -> Option<Outcome> {
-    let more = [1usize, 40, 5000].get(place).copied()?;
-    let moves = stock.moves.moves.as_slice();
-    let mut table: Table = played(trial.alloc, moves)?;
-    make_room_on(trial, &mut table, moves, more).ok()
+pub(crate) fn make_room(trial: &mut Trial, stock: &Stock) {
+    if let Ok(mut table) = stock.table.copied(trial.alloc) {
+        trial.begin("Table::make_room");
+        call_all(trial, &mut table, &ROOMS);
+        trial.end();
+        drop(table);
+    }
+}
+
+/// Takes in what comes of a history, that it is not legal too.
+fn checked<T: Told>(answer: Result<T, CheckFault>, trial: &mut Trial) {
+    if let Err(CheckFault::Differs { at, reply }) = &answer {
+        tell_number(&mut trial.out, *at);
+        let _ = write_reply(&mut trial.out, reply);
+        trial.end_call();
+        return;
+    }
+    made(answer, CheckFault::NoMemory, trial);
 }
 
 /// The history of the moves, and one that lacks its first entry, which is not legal.
-fn history_in(stock: &Stock, place: usize) -> Option<&[Entry]> {
-    match place {
-        0 => Some(stock.history.as_slice()),
-        1 => stock.history.as_slice().get(1..),
-        _ => None,
-    }
+fn histories(stock: &Stock) -> (&[Entry], &[Entry]) {
+    let history = stock.table.history();
+    (history, history.get(1..).unwrap_or(history))
 }
 
-/// The check of each of these histories.
-pub(crate) fn check(trial: &mut Trial, stock: &Stock, place: usize) -> Option<Outcome> {
-    let checked = history_in(stock, place)?;
+/// The checks of both histories.
+pub(crate) fn check(trial: &mut Trial, stock: &Stock) {
+    let (history, rest) = histories(stock);
     trial.begin("replay_check");
-    let answer = replay_check(trial.alloc, BEHAVIOURS as u16, checked);
+    checked(replay_check(trial.alloc, MOST, history), trial);
+    checked(replay_check(trial.alloc, MOST, rest), trial);
     trial.end();
-    Some(match answer {
-        Err(CheckFault::NoMemory) => Outcome::Refused,
-        Ok(verdict) if place == 0 => told(tell_verdicts(&mut trial.out, &[verdict])),
-        Err(CheckFault::Differs { at: 0, reply }) if place == 1 => {
-            told(write_reply(&mut trial.out, &reply))
-        }
-        _ => Outcome::Wrong("a history is judged otherwise"),
-    })
 }
 
-/// The replay of each of these histories.
-fn play_again(trial: &mut Trial, stock: &Stock, place: usize) -> Option<Outcome> {
-    let checked = history_in(stock, place)?;
-    trial.begin("tc_table::replay");
-    let answer = replay(trial.alloc, BEHAVIOURS as u16, checked);
+/// States of one, some and the most behaviours, a copy of one, and the replays of both histories.
+pub(crate) fn make_state(trial: &mut Trial, stock: &Stock) {
+    let (history, rest) = histories(stock);
+    trial.begin("CaseState::new CaseState::copied tc_table::replay");
+    made(CaseState::new(trial.alloc, 1), NoMemory, trial);
+    made(CaseState::new(trial.alloc, 7), NoMemory, trial);
+    made(CaseState::new(trial.alloc, MOST), NoMemory, trial);
+    made(stock.state.copied(trial.alloc), NoMemory, trial);
+    checked(replay(trial.alloc, MOST, history), trial);
+    checked(replay(trial.alloc, MOST, rest), trial);
     trial.end();
-    Some(match &answer {
-        Err(CheckFault::NoMemory) => Outcome::Refused,
-        Ok(state) if place == 0 => told(tell(&mut trial.out, state, stock.moves.moves.as_slice())),
-        Err(CheckFault::Differs { at: 0, reply }) if place == 1 => {
-            told(write_reply(&mut trial.out, reply))
-        }
-        _ => Outcome::Wrong("a history leaves another state"),
-    })
 }
 
-/// A copy of the history.
-fn copy_history(trial: &mut Trial, stock: &Stock) -> Outcome {
-    trial.begin("copied_entries");
-    let answer = copied_entries(trial.alloc, stock.history.as_slice());
+/// A copy of a table and of a history, and a list to which the entries of that are pushed.
+pub(crate) fn copy(trial: &mut Trial, stock: &Stock) {
+    let mut list = Sequence::new(Vec::new(trial.alloc));
+    trial.begin("Table::copied copied_entries Sequence::push");
+    made(stock.table.copied(trial.alloc), NoMemory, trial);
+    made(
+        copied_entries(trial.alloc, stock.table.history()),
+        NoMemory,
+        trial,
+    );
+    call_all(trial, &mut list, stock.table.history());
     trial.end();
-    match &answer {
-        Ok(copy) => told(tell_entries(&mut trial.out, 0, copy)),
-        Err(NoMemory) => Outcome::Refused,
-    }
 }
 
-/// Pushes an entry after these.
-fn push_on(
-    trial: &mut Trial,
-    entries: &mut Sequence<Entry>,
-    last: &Entry,
-) -> Result<Outcome, NoMemory> {
-    tell_entries(&mut trial.out, 0, entries.as_slice())?;
-    trial.begin("Sequence::push");
-    let pushed = entries.push(last.copy());
+/// Plays a move, with no growth given but to a create, where there is room for it.
+fn play_one_in_room(trial: &mut Trial, table: &mut Table, with: &(Run, Op)) {
+    let _ = table.make_room(1);
+    if !matches!(with.1, Op::Create { .. }) {
+        trial.begin_each("Table::play Table::make_room");
+    }
+    call_again(trial, table, with);
+    call_again(trial, table, &0usize);
     trial.end();
-    if pushed.is_ok() {
-        tell_entries(&mut trial.out, 0, entries.as_slice())?;
-        return Ok(Outcome::Told);
-    }
-    tell_entries(&mut trial.out, 0, entries.as_slice())?;
-    if !trial.is_told_twice() {
-        return Ok(Outcome::Wrong("a refused push changes its list"));
-    }
-    entries.push(last.copy())?;
-    tell_entries(&mut trial.out, 0, entries.as_slice())?;
-    Ok(Outcome::Repeated)
-}
-
-/// Pushes the last entry of the history after a list of those before it.
-fn push(trial: &mut Trial, stock: &Stock) -> Option<Outcome> {
-    let (last, before) = stock.history.as_slice().split_last()?;
-    let mut entries: Sequence<Entry> = Sequence::new(copied_entries(trial.alloc, before).ok()?);
-    push_on(trial, &mut entries, last).ok()
-}
-
-/// The state of a new case, a copy of one, and the replay of a history.
-pub(crate) fn make_state(trial: &mut Trial, stock: &Stock, place: usize) -> Option<Outcome> {
-    match place {
-        0..=2 => open::<CaseState>(trial, stock, place),
-        3 => copy::<CaseState>(trial, stock),
-        _ => play_again(trial, stock, place.checked_sub(4)?),
-    }
-}
-
-/// A copy of a table and of a history, and an entry after those of a list.
-pub(crate) fn copy_in(trial: &mut Trial, stock: &Stock, place: usize) -> Option<Outcome> {
-    match place {
-        0 => copy::<Table>(trial, stock),
-        1 => Some(copy_history(trial, stock)),
-        2 => push(trial, stock),
-        _ => None,
-    }
-}
-
-/// Plays a move, with no growth given but to a create, where there is room for it. Whether there is room then too.
-fn play_one_in_room(
-    trial: &mut Trial,
-    table: &mut Table,
-    run: Run,
-    op: &Op,
-) -> Result<(), NoMemory> {
-    let wanted = Ok(table.would(run, op));
-    if matches!(op, Op::Create { .. }) {
-        table.play(run, op.copy())?;
-        return Ok(());
-    }
-    table.make_room(1)?;
-    trial.begin_each("Table::play Table::make_room");
-    let reply = table.play(run, op.copy());
-    let made = table.make_room(0);
-    trial.end();
-    trial.is_wrong = trial.is_wrong || reply != wanted;
-    made
-}
-
-/// Plays each of the moves but the creates, after those before it, where there is room for it.
-fn play_all_in_room(
-    trial: &mut Trial,
-    table: &mut Table,
-    moves: &[(Run, Op)],
-) -> Result<(), NoMemory> {
-    for (run, op) in moves {
-        play_one_in_room(trial, table, *run, op)?;
-    }
-    tell(&mut trial.out, table, moves)
 }
 
 /// Each of the moves but the creates, after those before it, where there is room for it.
-pub(crate) fn play_in_room(trial: &mut Trial, stock: &Stock) -> Option<Outcome> {
-    let mut table = Table::new(trial.alloc, BEHAVIOURS as u16).ok()?;
-    Some(told(play_all_in_room(trial, &mut table, stock.moves.moves.as_slice())))
-}
-
-/// What is asked of a component of a table and of a state after the same moves.
-fn hold_component(trial: &mut Trial, table: &Table, state: &CaseState, comp: Comp) {
-    trial.holds(
-        "Table::phase_of",
-        table.phase_of(comp) == state.phase_of(comp),
-    );
-    trial.holds("Table::local", table.local(comp) == state.local(comp));
-    trial.holds(
-        "Table::last_run",
-        table.last_run(comp) == state.last_run(comp),
-    );
-    trial.holds(
-        "Table::is_alive_type",
-        table.is_alive_type(comp) == state.is_alive_type(comp),
-    );
-}
-
-/// What is asked of a table and of a state after the same moves, of which one more would be replied so.
-fn hold_replies(trial: &mut Trial, table: &Table, state: &CaseState, moves: &[(Run, Op)]) {
-    for (run, op) in moves {
-        trial.holds(
-            "Table::would",
-            table.would(*run, op) == state.would(*run, op),
-        );
-        trial.holds(
-            "Table::is_active",
-            table.is_active(*run) == state.is_active(*run),
-        );
+pub(crate) fn play_in_room(trial: &mut Trial) {
+    if let Ok(mut table) = Table::new(trial.alloc, MOST) {
+        for line in MOVES.lines() {
+            if let Some(with) = read_move(line.as_bytes()) {
+                play_one_in_room(trial, &mut table, &with);
+            }
+        }
+        drop(table);
     }
 }
 
-/// What is asked of a table and of a state after the same moves, which are these.
-fn hold_all(trial: &mut Trial, table: &Table, state: &CaseState, moves: &[(Run, Op)]) {
+/// Whether a table and a state after the same moves answer the same about a component.
+fn are_alike_on(table: &Table, state: &CaseState, comp: Comp) -> bool {
+    (table.phase_of(comp) == state.phase_of(comp))
+        & (table.local(comp) == state.local(comp))
+        & (table.last_run(comp) == state.last_run(comp))
+        & (table.is_alive_type(comp) == state.is_alive_type(comp))
+}
+
+/// Whether a table and a state after the same moves answer the same.
+fn are_alike(table: &Table, state: &CaseState) -> bool {
+    (table.components() == state.components())
+        & (table.overall() == state.overall())
+        & (table.is_over() == state.is_over())
+        & (table.behaviours() == state.behaviours())
+        & (table.is_active(Run(2)) == state.is_active(Run(2)))
+        & (table.room() < 1_000)
+}
+
+/// What is asked of a table and of a state after the same moves.
+pub(crate) fn ask(trial: &mut Trial, stock: &Stock) {
+    let (table, state) = (&stock.table, &stock.state);
     trial.begin_each(
         "\
+Table::phase_of Table::local Table::last_run Table::is_alive_type Table::is_active Table::would Table::room \
+Table::components Table::overall Table::is_over Table::behaviours Table::history \
 CaseState::phase_of CaseState::local CaseState::last_run CaseState::is_alive_type CaseState::is_active \
 CaseState::components CaseState::overall CaseState::is_over CaseState::behaviours CaseState::would",
     );
-    trial.holds("Table::history", table.history().len() == moves.len());
-    trial.holds("Table::room", table.room() < 1_000);
-    trial.holds(
-        "Table::components",
-        table.components() == state.components(),
-    );
-    trial.holds("Table::overall", table.overall() == state.overall());
-    trial.holds("Table::is_over", table.is_over() == state.is_over());
-    trial.holds(
-        "Table::behaviours",
-        table.behaviours() == state.behaviours(),
-    );
-    hold_replies(trial, table, state, moves);
+    table.tell(&mut trial.out);
+    state.tell(&mut trial.out);
+    trial.holds(are_alike(table, state));
     for comp in 0..table.components().saturating_add(2) {
-        hold_component(trial, table, state, Comp(comp));
+        trial.holds(are_alike_on(table, state, Comp(comp)));
     }
     trial.end();
-}
-
-/// What is asked of a table and of a state after the first moves.
-pub(crate) fn ask(trial: &mut Trial, stock: &Stock) -> Option<Outcome> {
-    let moves = stock.moves.moves.as_slice().get(..12)?;
-    let (table, state): (Table, CaseState) = played(trial.alloc, moves).zip(played(
-        trial.alloc,
-        moves,
-    ))?;
-    hold_all(trial, &table, &state, moves);
-    Some(Outcome::Told)
 }
