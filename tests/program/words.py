@@ -29,7 +29,7 @@ ALL_OPTIONS = ("runs the campaign of a script, and writes its report\n",
                "  --list               prints the names of the test cases, and runs none\n",
                "  --only <NAME>        runs this test case; may be given again, for others\n",
                "  --shard <K/N>        runs the K-th of N shards of the test cases\n",
-               "  --failed             reads evidence after the script, and leaves out what passed\n",
+               "  --failed             leaves out what passed by evidence after the script\n",
                "  --explain            " + EXPLAIN,
                "Standard input is a script: ttrun run < FILE. Standard output is the report.\n"
                "With --failed it is a script, and after it histories or evidence of its test\n"

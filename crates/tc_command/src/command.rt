@@ -180,7 +180,7 @@ const RUN_OPTIONS: [OptionRow; 12] = [
     OptionRow(
         "failed",
         Takes::Nothing,
-        "reads evidence after the script, and leaves out what passed",
+        "leaves out what passed by evidence after the script",
     ),
     EXPLAIN,
 ];
