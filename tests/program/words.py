@@ -53,9 +53,9 @@ REPORT = ("reads histories, and writes them in one of these forms\n",
           "  --only <NAME>  awaits this test case; may be given again, for others\n",
           "  --shard <K/N>  awaits the K-th of N shards of the test cases\n", "  --explain      " + EXPLAIN,
           "Standard input is histories or evidence: ttrun report --csv < FILE. Nothing is\n"
-          "written to standard output if one of them is not legal. With --script it is what\n"
-          "check --script reads, and --only and --shard choose as there. Test cases that\n"
-          "are missing come last, and the lines of check --script go to standard error.\n",
+          "written to standard output if one of them is not legal. With --script it is\n"
+          "what check --script reads, and --only and --shard choose as there. Test cases\n"
+          "that are missing come last, and the lines of check --script go to standard\nerror.\n",
           "Status: 0 for none and pass, 1 for inconc and fail, 2 for error and for a test\n"
           "case that is not over, 3 if a history is not legal, for such a line, or for a\nrefusal.\n")
 CHECK = ("replays histories and evidence, and says which are legal\n",

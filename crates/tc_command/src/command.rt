@@ -50,9 +50,10 @@ search met its limit, or for a refusal.";
 // What the help of `report` says at its end.
 const REPORT_HELP: &str = "\
 Standard input is histories or evidence: ttrun report --csv < FILE. Nothing is
-written to standard output if one of them is not legal. With --script it is what
-check --script reads, and --only and --shard choose as there. Test cases that
-are missing come last, and the lines of check --script go to standard error.
+written to standard output if one of them is not legal. With --script it is
+what check --script reads, and --only and --shard choose as there. Test cases
+that are missing come last, and the lines of check --script go to standard
+error.
 Status: 0 for none and pass, 1 for inconc and fail, 2 for error and for a test
 case that is not over, 3 if a history is not legal, for such a line, or for a
 refusal.";
