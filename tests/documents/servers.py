@@ -116,7 +116,7 @@ def gitlab_job(server: Server, job: Dict, kept: Files, **names: str) -> Done:
     cache = job.get("cache", {})
     put(room, server.cache.get(str(cache.get("key")), {}))
     ran = server.run(room, "".join(f"{it.rstrip()}\n" for it in job["script"]), **names)
-    done = Done(ran.status, ran.output)
+    done = Done(ran.status, ran.output + ran.errors)
     if cache:
         server.cache[cache["key"]] = collected(room, cache["paths"])
     artifacts = job.get("artifacts", {})
@@ -181,7 +181,7 @@ def github_job(server: Server, job: Dict, store: Dict[str, Files], names: Dict[s
                     put(room, files)
         else:
             ran = server.run(room, filled(it["run"], names))
-            done.output += ran.output
+            done.output += ran.output + ran.errors
             done.status = done.status or ran.status
     for key, path in saving:
         if not done.status and key not in server.cache:
@@ -219,7 +219,7 @@ def jenkins_part(server: Server, room: Room, text: str, **names: str) -> Done:
     done = Done()
     for is_caught, command in commands(text):
         ran = server.run(room, command + "\n", **names)
-        done.output += ran.output
+        done.output += ran.output + ran.errors
         done.status = done.status or ran.status
         if ran.status and not is_caught:
             break
