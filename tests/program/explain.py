@@ -11,7 +11,7 @@ REPLIES = "made ok true false none pass inconc fail error matched parked ended"
 ERRORS = "no-component not-main start-main already-running not-startable no-behaviour too-many stuck"
 IN_BEHAVIOUR = ("  a behaviour began in line 2", "  a test case began in line 1")
 IN_HISTORY = ("  a history began in line 1",)
-RETURN = "a carriage return; a line ends with a line feed alone"
+RETURN = "a carriage return; a line ends with a line feed only"
 
 # Name, line 3 of a script, fault, what is printed about the line.
 STEP_LINES: List[Tuple[str, str, str, Tuple[str, ...]]] = [
@@ -90,9 +90,9 @@ ENTRY_LINES: List[Tuple[str, str, Tuple[str, ...]]] = [
 TEXTS: List[Tuple[str, Tuple[str, ...], bytes, Tuple[str, ...]]] = [
     ("no_text", ("run",), b"", ("line 1: text ends too early", "the text is empty")),
     ("a_test_case_without_its_end", ("run",), b"testcase t\nbehaviour b\nend\n",
-     ("line 4: text ends too early", "the text ends behind line 3", "a test case began in line 1")),
+     ("line 4: text ends too early", "the text ends after line 3", "a test case began in line 1")),
     ("a_behaviour_without_its_end", ("run",), b"# x\ntestcase t\nbehaviour b\nend\nbehaviour c\n",
-     ("line 6: text ends too early", "the text ends behind line 5", "a behaviour began in line 5", "a test case began in line 2")),
+     ("line 6: text ends too early", "the text ends after line 5", "a behaviour began in line 5", "a test case began in line 2")),
     ("an_end_too_early", ("run",), b"testcase t\nend\n",
      ("line 2: not allowed here", "line: `end`", "column 1: `end`", "understood there: behaviour", "a test case began in line 1")),
     ("an_end_too_many", ("run",), b"testcase t\nbehaviour b\nend\nend\nend\n",
@@ -125,7 +125,7 @@ TEXTS: List[Tuple[str, Tuple[str, ...], bytes, Tuple[str, ...]]] = [
     ("too_many_behaviours", ("replay",), b"behaviours 257\n",
      ("line 1: bad first line", "line: `behaviours 257`", "understood there: behaviours N, with N from 1 to 256")),
     ("a_history_without_its_end", ("report", "--csv"), b"history 2 a 1\n0 finish -> ok\n",
-     ("line 3: text ends too early", "the text ends behind line 2", "a history began in line 1")),
+     ("line 3: text ends too early", "the text ends after line 2", "a history began in line 1")),
     ("a_long_line", ("run",), b"testcase " + b"1" * 1000 + b"\n",
      ("line 1: bad name", "line: `testcase " + "1" * 51 + "`..", "column 10: `" + "1" * 60 + "`..",
       "understood there: the name of a test case")),

@@ -6,7 +6,7 @@ use tc_verdict::NoMemory;
 // The name of what begins with an odd byte, if it has one.
 fn name_of(bytes: &[u8]) -> Option<&'static str> {
     match bytes {
-        [13, ..] => Some("a carriage return; a line ends with a line feed alone"),
+        [13, ..] => Some("a carriage return; a line ends with a line feed only"),
         [9, ..] => Some("a tab"),
         [0, ..] => Some("a zero byte, as UTF-16 has them"),
         [239, 187, 191, ..] => Some("a byte order mark"),

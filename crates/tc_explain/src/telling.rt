@@ -295,7 +295,7 @@ fn append_ended(alloc: Global, out: &mut Vec<u8>, number: usize) -> Result<(), N
     if number <= 1 {
         return append_note(alloc, out, "the text is empty");
     }
-    append_numbered(alloc, out, "the text ends behind line", number - 1)
+    append_numbered(alloc, out, "the text ends after line", number - 1)
 }
 
 // Appends the line with its fault, or that the text ends before it.

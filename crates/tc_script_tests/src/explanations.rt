@@ -320,7 +320,7 @@ fn odd_bytes(rt: HostRuntime) -> Result<(), Fail> {
     let lines: [(&[u8], &str); 7] = [
         (
             b"testcase t\r\nend",
-            "  line: `testcase t\\x0D`\n  column 11: a carriage return; a line ends with a line feed alone\n",
+            "  line: `testcase t\\x0D`\n  column 11: a carriage return; a line ends with a line feed only\n",
         ),
         (b"\tend", "  line: `\\x09end`\n  column 1: a tab\n"),
         (
@@ -358,7 +358,7 @@ fn what_is_open(rt: HostRuntime) -> Result<(), Fail> {
         b"# x\ntestcase t\n\nbehaviour b\nend\nbehaviour c\n",
         7,
         early,
-        "  the text ends behind line 6\n  a behaviour began in line 6\n  a test case began in line 2\n",
+        "  the text ends after line 6\n  a behaviour began in line 6\n  a test case began in line 2\n",
     )?;
     expect(
         &rt,
@@ -374,7 +374,7 @@ fn what_is_open(rt: HostRuntime) -> Result<(), Fail> {
         b"history 1 a 1\nend none\nhistory 1 b 1\n",
         4,
         Refusal::Histories(TextKind::Early),
-        "  the text ends behind line 3\n  a history began in line 3\n",
+        "  the text ends after line 3\n  a history began in line 3\n",
     )
 }
 
