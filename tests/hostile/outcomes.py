@@ -54,7 +54,8 @@ class Task:
     def campaign(self) -> Campaign:
         """The test cases that are run: those after `--only`, or all, and of these the shard's."""
         only = self.behind("--only")
-        cases = [it for it in read_script(self.given) if not only or it.name in only]
+        script = re.split(rb"(?m)^(?=history |evidence )", self.given, maxsplit=1)[0]
+        cases = [it for it in read_script(script) if not only or it.name in only]
         for shard in self.behind("--shard"):
             number, shards = map(int, shard.split("/"))
             cases = cases[number - 1::shards]

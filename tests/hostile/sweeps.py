@@ -60,6 +60,10 @@ def tasks() -> List[Task]:
     found += [Task("evidence", words, evidence) for words in (("check",), ("report", "--csv"), ("report", "--html"))]
     reported = [(name, form) for name in ("pumps", "supervisor") for form in ("--csv", "--junit", "--html")]
     found += [Task(name, ("report", form), bytes_of(f"{name}.history")) for name, form in reported]
+    for name, kept in (("supervisor", "supervisor"), ("restart", "pumps")):
+        given = bytes_of(f"{name}.script") + bytes_of(f"{kept}.history")
+        found += [Task(f"{kept}_after_{name}", words, given)
+                  for words in (("check", "--script"), ("report", "--script", "--csv"), ("report", "--script", "--junit"), ("run", "--list", "--failed"))]
     found.append(Task("a_session", ("serve",), SESSION))
     words = (("--help",), ("run", "--help"), ("frobnicate",), ("run", "--stop-on", "maybe"))
     return found + [Task("words_alone", it) for it in words]

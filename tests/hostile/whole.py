@@ -11,9 +11,9 @@ Exempt = Tuple[Tuple[str, ...], str]
 # Each growth of these is refused in turn by the sweeps of the whole program, which goes through them in each of its tasks.
 REFUSED_BY_THE_PROGRAM = ("explain", "html_page", "read_task", "answer", "carry_out", "tc_program::replay",
                           "check", "take_script", "run_cases", "give", "fault_line", "abort_line", "Progress::end", "serve",
-                          "run_case_with", "run_campaign_with", "choose")
+                          "run_case_with", "run_campaign_with", "choose", "read_evidence", "Block::history")
 # The tasks by which nothing else refuses these calls each growth: in the gate too each one is refused.
-EACH = ("--explain", "--html", "serve", "--live", "--shard")
+EACH = ("--explain", "--html", "serve", "--live", "--shard", "--script", "--failed")
 # These can answer that memory ran out, and are refused none by themselves.
 UNREFUSED: Tuple[Exempt, ...] = (
     (("read_counted",), "read_input is this call over a reader that is counted"),
@@ -30,7 +30,7 @@ UNREFUSED: Tuple[Exempt, ...] = (
     (("append_said", "append_refusal"), "serve makes them"),
     (("append_entry", "append_entries", "append_end"), "write_block makes them"),
     (("read_evidence_into",), "check and report make it"),
-    (("read_evidence", "append_whole_block", "Block::history"), "no program keeps or writes whole blocks of evidence yet"),
+    (("append_whole_block",), "no program writes whole blocks of evidence"),
     (("answer_alone",), "it makes the calls of answer; tests/play takes the memory from it"),
     (("stop_word",), "it is handed no allocator: its one fault is that the word names no verdict"),
 )
