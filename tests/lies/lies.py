@@ -279,4 +279,80 @@ LIES = (
     Lie("the_help_of_serve_opens_smaller_test_cases", (
         ("""opens a test case of N behaviours, 1 to 256""", """opens a test case of N behaviours, 1 to 64"""),
     ), shown="help_"),
+    Lie("names_of_many_behaviours_are_starved", (
+        ("""\
+    let mut run = 0;
+    let mut rest = names;
+    while let Some((name, others)) = rest.split_first() {
+        append_naming(out, run, name)?;
+""", """\
+    if 64 < names.len() {
+        return Err(NoMemory);
+    }
+    let mut run = 0;
+    let mut rest = names;
+    while let Some((name, others)) = rest.split_first() {
+        append_naming(out, run, name)?;
+"""),
+    ), shown="jobs_evidence"),
+    Lie("a_long_course_is_starved", (
+        ("""\
+    let mut course = Course::opening(alloc, scripts.len() as u16)?;
+    for entry in history {
+""", """\
+    if 65_535 < history.len() {
+        return Err(NoMemory);
+    }
+    let mut course = Course::opening(alloc, scripts.len() as u16)?;
+    for entry in history {
+"""),
+    ), shown="a_long_case_compared"),
+    Lie("a_search_of_many_behaviours_is_starved", (
+        ("""\
+    let mut found = no_findings(alloc, scripts)?;
+    if scripts.is_empty() {
+""", """\
+    if 64 < scripts.len() {
+        return Err(NoMemory);
+    }
+    let mut found = no_findings(alloc, scripts)?;
+    if scripts.is_empty() {
+"""),
+    ), shown="jobs_searched"),
+    Lie("many_sleepers_are_starved", (
+        ("""\
+    let place = place_of(sleepers.as_slice(), run);
+    sleepers.insert(place, Sleeper { run, awaited })?;
+""", """\
+    if 64 <= sleepers.len() {
+        return Err(NoMemory);
+    }
+    let place = place_of(sleepers.as_slice(), run);
+    sleepers.insert(place, Sleeper { run, awaited })?;
+"""),
+    ), shown="all_runs_wait_for_the_last"),
+    Lie("a_junit_report_of_many_is_starved", (
+        ("""\
+    let mut out = Vec::new(alloc);
+    append_suites(&mut out, version, cases)?;
+""", """\
+    if 255 < cases.len() {
+        return Err(NoMemory);
+    }
+    let mut out = Vec::new(alloc);
+    append_suites(&mut out, version, cases)?;
+"""),
+    ), shown="in_junit"),
+    Lie("a_live_run_of_many_is_starved", (
+        ("""\
+        let tally = with_case(&self.tally, case)?;
+        let text = part_text(self.alloc, self.form, case)?;
+""", """\
+        let tally = with_case(&self.tally, case)?;
+        if 255 < self.tally.fail {
+            return Err(OutFault::NoMemory);
+        }
+        let text = part_text(self.alloc, self.form, case)?;
+"""),
+    ), shown="a_thousand_test_cases_live"),
 )

@@ -6,9 +6,9 @@ usage: tests/lies/run.py [--by prover|tests] [--only WORD] [--jobs N] [--rt COMM
 It is no part of the gate. The prover is shown the lies of tests/lies/edits/CRATE, in the form of the edits of
 crates/CRATE/must-fail: each must be refused by a clause, which its line names. It takes a proof of each crate that has some,
 and 10 to 60 seconds for each lie. The tests are shown those of lies.py. The program is built without a proof once for each of
-them, and once as it is, which takes about a minute each. Some of tests/program that need only a plain standard input are run by
-`rt try --cases`, with those that a lie names: at least one must fail. If a lie names a crate of tests, `rt try --test` runs that
-one's tests in their place. The last line is 'N passed, M failed'.
+them, and once as it is, which takes about a minute each. Some of tests/program that need only a plain standard input, and some
+rows of tests/serve, are run by `rt try --cases`, with those that a lie names: at least one must fail. If a lie names a crate of
+tests, `rt try --test` runs that one's tests in their place. The last line is 'N passed, M failed'.
 """
 from __future__ import annotations
 
@@ -25,7 +25,7 @@ from typing import Iterator, List, Set, Tuple
 
 sys.dont_write_bytecode = True
 TOP = os.path.dirname(os.path.dirname(os.path.dirname(os.path.abspath(__file__))))
-sys.path.append(os.path.join(TOP, "tests", "program"))
+sys.path += [os.path.join(TOP, "tests", it) for it in ("program", "serve")]
 
 import documents_run
 import examples
@@ -33,6 +33,7 @@ import explain
 import prover
 import rows
 import scripts
+import served_rows
 import sizes
 import words
 from case import Case, Ran, faults_of
@@ -50,17 +51,25 @@ SECONDS = "40"
 
 def is_plain(case: object) -> bool:
     """Whether a test is made of nothing but a file and words."""
-    return (isinstance(case, Case) and not (case.redirect or case.limit or case.is_broken) and len(case.given) < LONGEST
+    return (isinstance(case, Case) and not (case.redirect or case.limit or case.is_broken or case.stays_open)
             and all(isinstance(word, str) and word for word in case.words))
 
 
+def is_served(row: served_rows.Row) -> Case:
+    """The test of a text that `ttrun serve` is given whole."""
+    return Case(row.name, ("serve",), row.given, row.output, row.errors, row.status)
+
+
 def plain_cases(shown: Set[str]) -> List[Case]:
-    """The tests that a file and words make: all of examples/ and of the sizes, and of the others some, and those with one of these in
-    their names."""
+    """The tests that a file and words make: all of examples/ and of the sizes, and of the others some, if they are not too long; and
+    those with one of these in their names."""
     every: List[Case] = []
-    for group, step in ((examples, 1), (documents_run, 1), (sizes, 1), (rows, EVERY), (scripts, EVERY), (words, EVERY), (explain, EVERY)):
-        plain = [it for it in group.cases() if is_plain(it)]
-        every += [it for at, it in enumerate(plain) if at % step == 0 or any(word in it.name for word in shown)]
+    groups = [(it.cases(), step) for it, step in ((examples, 1), (documents_run, 1), (sizes, 1), (rows, EVERY), (scripts, EVERY),
+                                                  (words, EVERY), (explain, EVERY))]
+    for group, step in (*groups, (map(is_served, served_rows.rows()), EVERY)):
+        plain = [it for it in group if is_plain(it)]
+        every += [it for at, it in enumerate(plain)
+                  if any(word in it.name for word in shown) or (at % step == 0 and len(it.given) < LONGEST)]
     return every
 
 

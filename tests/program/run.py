@@ -50,7 +50,7 @@ GROUPS = (
     ("scripts", scripts.cases, 100),
     ("words", words.cases, 60),
     ("devices", devices.cases, 75),
-    ("sizes", sizes.cases, 45),
+    ("sizes", sizes.cases, 57),
     ("states", sizes.racing, 1),
     ("terminal", terminal.cases, 19),
     ("live", live.cases, 40),

@@ -13,6 +13,11 @@ PASSING = text("testcase t;behaviour main;setverdict pass;end;end")
 PASSED = (CSV_HEADER + csv_of_verdict("t", "pass")).encode()
 
 
+def many_of(*lines: str) -> str:
+    """These lines."""
+    return "".join(f"{line}\n" for line in lines)
+
+
 def padded_script(length: int) -> bytes:
     """A script of that many bytes: one test case after a comment."""
     return b"#" + b" " * (length - len(PASSING) - 2) + b"\n" + PASSING
@@ -124,6 +129,10 @@ def counted() -> Iterator[Case]:
     yield Case("sixty_four_jobs", ("run",), many_behaviours(64), report_of_many(64))
     yield Case("two_hundred_and_fifty_six_jobs", ("run",), many_behaviours(256), report_of_many(256))
     yield Case("two_hundred_and_fifty_six_jobs_live", ("run", "--live"), many_behaviours(256), report_of_many(256))
+    yield Case("two_hundred_and_fifty_six_jobs_evidence", ("run", "--evidence"), many_behaviours(256),
+               SomeText(tuple(f"behaviour {at} w{at}\n" for at in range(1, 256))))
+    unstarted = single(["setverdict pass"])[:-len("end\n")] + text(";".join(f"behaviour w{at};end" for at in range(1, 256)) + ";end")
+    yield Case("two_hundred_and_fifty_six_jobs_searched", ("explore",), unstarted, text("t pass complete"))
     yield Case("one_behaviour_too_many", ("run",), many_behaviours(257), status=3, errors=b"ttrun: line 1282: too many\n")
     passed = ["setverdict pass"]
     calls = "  setverdict pass -> ok;" * 1000
@@ -165,6 +174,26 @@ def long_report() -> Iterator[Case]:
     yield Case("page_of_a_long_history", ("report", "--html"), given, SomeText((given.decode(),)), status=1)
 
 
+def long_case() -> Iterator[Case]:
+    """A test case of more entries than 16 bits count: 66 behaviours make a thousand calls each."""
+    names = [f"w{at}" for at in range(1, 67)]
+    calls = ["getverdict -> none"] * 999 + ["setverdict pass -> ok"]
+    others = [line for it in names for line in (f"behaviour {it}", *["getverdict"] * 999, "setverdict pass", "end")]
+    script = many_of("testcase t", "behaviour main", *(line for it in names for line in (f"create p_{it}", f"start p_{it} {it}")),
+                     "wait done all", "end", *others, "end")
+    logs = [many_of(f"run {at} {it} on {at}", *(f"  {call}" for call in calls), "  finish -> ok") for at, it in enumerate(names, 1)]
+    entries = [many_of(*(f"{at} {call}" for call in calls)) for at, _ in enumerate(names, 1)]
+    starts = [line for at, _ in enumerate(names, 1) for line in (f"0 create -> made {at}", f"0 start {at} {at} -> ok")]
+    history = many_of("history 2 t 67", *starts) + "".join(f"{it}{at} finish -> ok\n" for at, it in enumerate(entries, 1))
+    for words in ((), ("--live",)):
+        yield Case("_".join(["a_long_case", *(it.strip("-") for it in words)]), ("run", *words), script.encode(),
+                   SomeText((*logs, "cases 1 none 0 pass 1 inconc 0 fail 0 error 0\ncomplete\n")))
+    for form in ("history", "evidence"):
+        yield Case(f"a_long_case_{form}", ("run", f"--{form}"), script.encode(), SomeText((*entries, "0 finish -> ok\nend pass\n")))
+    yield Case("a_long_case_compared", ("check", "--script"), (script + history + "0 wait done all -> matched\n0 finish -> ok\nend pass\n").encode(),
+               text(f"legal t {66 * 1003 + 2} pass"))
+
+
 def crowded() -> Iterator[Case]:
     """As many test cases as may be, all of which fail, in what else is done with them."""
     names = [f"t{at}" for at in range(1000)]
@@ -173,6 +202,12 @@ def crowded() -> Iterator[Case]:
     records = CSV_HEADER.encode() + b"".join(csv_of_verdict(it, "fail").encode() for it in names)
     told = text(";".join([*(f"{it} fail" for it in names), *(f"failed: {it} fail" for it in names)]))
     yield Case("a_thousand_lines_of_progress", ("run", "--csv", "--progress"), text(script), records, told, 1)
+    suite = SomeText(('tests="1000" failures="1000"', *(f'testcase name="{it}"' for it in names)))
+    yield Case("a_thousand_test_cases_in_junit", ("run", "--junit"), text(script), suite, status=1)
+    yield Case("a_thousand_histories_in_junit", ("report", "--junit"), text(blocks), suite, status=1)
+    yield Case("a_thousand_histories_in_a_page", ("report", "--html"), text(blocks), SomeText((text(blocks).decode(),)), status=1)
+    yield Case("a_thousand_test_cases_live", ("run", "--live", "--csv"), text(script), records, status=1)
+    yield Case("a_thousand_histories", ("run", "--history"), text(script), text(blocks), status=1)
     yield Case("a_thousand_names", ("run", "--list", *(word for it in names for word in ("--only", it))), text(script), text(";".join(names)))
     yield Case("a_thousand_test_cases_compared", ("check", "--script"), text(f"{script};{blocks}"),
                text(";".join(f"legal {it} 2 fail" for it in names)))
@@ -211,4 +246,4 @@ def refused() -> Iterator[Case]:
 
 def cases() -> List[Case]:
     """All of them, except for the search of many states."""
-    return [*longest(), *counted(), *long_report(), *crowded(), *refused()]
+    return [*longest(), *counted(), *long_report(), *long_case(), *crowded(), *refused()]

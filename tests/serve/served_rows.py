@@ -205,9 +205,31 @@ BYTES: List[Row] = [
 ]
 
 
+def all_wait() -> Row:
+    """A row in which every run but the last waits for that one, and is woken by its end."""
+    others, last = range(1, 256), 255
+    starts = [(f"0 create{it}", f"0 create{it} -> made {run}") for run in others for it in (" alive" if run % 2 else "",)]
+    starts += [(f"0 start {run} {run}", f"0 start {run} {run} -> ok") for run in others]
+    waits = [(f"{run} wait done {last}", f"{run} wait done {last} -> parked") for run in (*reversed(range(1, last)), 0)]
+    wakes = [f"{run} wake done {last} -> matched" for run in range(last)]
+    lines = ["case t 256", *(it for it, _ in (*starts, *waits)), f"{last} finish", "0 finish", "end"]
+    output = ["evidence 1 t 256", *(it for _, it in (*starts, *waits)), f"{last} finish -> ok", *wakes, "0 finish -> ok", "end none"]
+    return Row("all_runs_wait_for_the_last", "".join(f"{it}\n" for it in lines).encode(), "".join(f"{it}\n" for it in output).encode(), b"", 0)
+
+
+def many_cases(count: int) -> Row:
+    """A row of that many test cases, the first of which fails."""
+    given = "".join(f"case t{at} 1\n0 setverdict {'pass' if at else 'fail'}\n0 finish\nend\n" for at in range(count))
+    output = "".join(f"evidence 1 t{at} 1\n0 setverdict {it} -> ok\n0 finish -> ok\nend {it}\n"
+                     for at in range(count) for it in ("pass" if at else "fail",))
+    return Row("more_cases_than_16_bits_count", given.encode(), output.encode(), b"", 1)
+
+
 def rows() -> Iterator[Row]:
     """All rows."""
     for name, given, output, errors, status in TABLE:
         told = "".join(f"ttrun: {line}\n" for line in text_of(errors).splitlines())
         yield Row(name, text_of(given).encode(), text_of(output).encode(), told.encode(), status)
     yield from BYTES
+    yield all_wait()
+    yield many_cases(70_000)

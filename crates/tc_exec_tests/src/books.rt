@@ -33,6 +33,17 @@ fn closed_by_another<R: Abort + Wait>(rt: &R, alloc: Global) -> Option<CloseFaul
     close_of_one(rt, alloc, first, left).err()
 }
 
+/// How a case is refused whose run has set a verdict, and that is closed by what the run of another case left.
+fn closed_without_its_setting<R: Abort + Wait>(rt: &R, alloc: Global) -> Option<CloseFault> {
+    let (first, first_pass, _) = got(rt, open(alloc, 1));
+    let (_, second_pass, _) = got(rt, open(alloc, 1));
+    let mut first_pass = first_pass;
+    calls(rt, &mut first_pass, "0 setverdict fail => ok");
+    leave(rt, first_pass);
+    let left = leave(rt, second_pass);
+    close_of_one(rt, alloc, first, left).err()
+}
+
 /// How a case of two behaviours is refused that is closed by what one of them left.
 fn closed_by_one_of_two<R: Abort + Wait>(rt: &R, alloc: Global) -> Option<CloseFault> {
     let (shared, pass, _) = got(rt, open(alloc, 2));
@@ -98,6 +109,8 @@ fn torn_closes(rt: HostRuntime) {
     let torn = Some(CloseFault::Torn);
     let another = closed_by_another(&rt, rt.alloc());
     is(&rt, "what another left", another, torn);
+    let unset = closed_without_its_setting(&rt, rt.alloc());
+    is(&rt, "a log without a setting", unset, torn);
     let one = closed_by_one_of_two(&rt, rt.alloc());
     is(&rt, "what one of two left", one, torn);
     let told = closed_by_another_reply(&rt, rt.alloc());
