@@ -355,4 +355,18 @@ LIES = (
         let text = part_text(self.alloc, self.form, case)?;
 """),
     ), shown="a_thousand_test_cases_live"),
+    Lie("a_setting_that_is_lost_is_told_as_no_memory", (
+        ("""\
+        if !are_placed(behaviours, &self.starts, &lefts) || !all_agreed(&self.words, &lefts) {
+            return Err(CloseFault::Torn);
+        }
+""", """\
+        if !are_placed(behaviours, &self.starts, &lefts) {
+            return Err(CloseFault::Torn);
+        }
+        if !all_agreed(&self.words, &lefts) {
+            return Err(CloseFault::NoMemory);
+        }
+"""),
+    ), "tc_exec_tests"),
 )
