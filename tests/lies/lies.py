@@ -369,4 +369,8 @@ LIES = (
         }
 """),
     ), "tc_exec_tests"),
+    Lie("a_campaign_has_no_workers", (
+        ("""run_campaign_with(rt, alloc, cases, stop_on, threads, &mut kept);""",
+         """run_campaign_with(rt, alloc, cases, stop_on, 0, &mut kept);"""),
+    ), "tc_campaign_tests"),
 )
