@@ -355,4 +355,22 @@ LIES = (
         let text = part_text(self.alloc, self.form, case)?;
 """),
     ), shown="a_thousand_test_cases_live"),
+    Lie("a_setting_that_is_lost_is_told_as_no_memory", (
+        ("""\
+        if !are_placed(behaviours, &self.starts, &lefts) || !all_agreed(&self.words, &lefts) {
+            return Err(CloseFault::Torn);
+        }
+""", """\
+        if !are_placed(behaviours, &self.starts, &lefts) {
+            return Err(CloseFault::Torn);
+        }
+        if !all_agreed(&self.words, &lefts) {
+            return Err(CloseFault::NoMemory);
+        }
+"""),
+    ), "tc_exec_tests"),
+    Lie("a_campaign_has_no_workers", (
+        ("""run_campaign_with(rt, alloc, cases, stop_on, threads, &mut kept);""",
+         """run_campaign_with(rt, alloc, cases, stop_on, 0, &mut kept);"""),
+    ), "tc_campaign_tests"),
 )
