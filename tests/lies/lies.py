@@ -373,4 +373,36 @@ LIES = (
         ("""run_campaign_with(rt, alloc, cases, stop_on, threads, &mut kept);""",
          """run_campaign_with(rt, alloc, cases, stop_on, 0, &mut kept);"""),
     ), "tc_campaign_tests"),
+    Lie("a_long_history_is_not_written", (
+        ("""\
+pub fn append_entries(out: &mut Vec<u8>, entries: &[Entry]) -> Result<(), NoMemory>
+    ensures ok { OnOk result (out.new.items ≡ out.old.items ++ flat_map entry_line entries.now) }
+    ensures err { OnErr result (StartsWith out.new.items out.old.items) }
+{
+""", """\
+pub fn append_entries(out: &mut Vec<u8>, entries: &[Entry]) -> Result<(), NoMemory>
+    ensures ok { OnOk result (out.new.items ≡ out.old.items ++ flat_map entry_line entries.now) }
+    ensures err { OnErr result (StartsWith out.new.items out.old.items) }
+{
+    if 65_535 < entries.len() {
+        return Err(NoMemory);
+    }
+"""),
+    ), "tc_parts_tests"),
+    Lie("a_long_history_is_not_read", (
+        ("""\
+        let Some((entry, behind)) = take_entry_line(header.format, rest) else {
+            return Err(TextFault::at(line, TextKind::Entry));
+        };
+        entries.push(entry)?;
+""", """\
+        let Some((entry, behind)) = take_entry_line(header.format, rest) else {
+            return Err(TextFault::at(line, TextKind::Entry));
+        };
+        if 65_535 < entries.as_slice().len() {
+            return Err(TextFault::NoMemory);
+        }
+        entries.push(entry)?;
+"""),
+    ), "tc_parts_tests"),
 )

@@ -84,10 +84,11 @@ fn is_read_and_written(
     out: &mut Vec<u8>,
     text: &[u8],
     blocks: &[Block],
+    entries: usize,
 ) -> Result<(), NoMemory> {
     let block = first(rt, blocks);
     is(rt, "blocks", blocks.len(), 1);
-    is(rt, "entries", block.entries.as_slice().len(), 460);
+    is(rt, "entries", block.entries.as_slice().len(), entries);
     append_again(out, block)?;
     is(rt, "its text", out.as_slice(), text);
     Ok(())
@@ -100,5 +101,23 @@ fn lines_of_a_written_history(rt: HostRuntime) -> Result<(), NoMemory> {
     append_history(&mut text)?;
     let blocks = blocks(&rt, rt.alloc(), text.as_slice());
     let mut out = Vec::new(rt.alloc());
-    is_read_and_written(&rt, &mut out, text.as_slice(), &blocks)
+    is_read_and_written(&rt, &mut out, text.as_slice(), &blocks, 460)
+}
+
+/// Appends a history of more entries than 16 bits count.
+fn append_long(out: &mut Vec<u8>) -> Result<(), NoMemory> {
+    append_text(out, "history 2 t 1\n")?;
+    for _ in 0..70_000u32 {
+        append_entry(out, "getverdict", "none")?;
+    }
+    append_text(out, "end none\n")
+}
+
+#[test]
+fn lines_of_a_long_history(rt: HostRuntime) -> Result<(), NoMemory> {
+    let mut text = Vec::new(rt.alloc());
+    append_long(&mut text)?;
+    let blocks = blocks(&rt, rt.alloc(), text.as_slice());
+    let mut out = Vec::new(rt.alloc());
+    is_read_and_written(&rt, &mut out, text.as_slice(), &blocks, 70_000)
 }
