@@ -88,7 +88,7 @@ def of_random_campaigns(seed: int) -> Judgement:
                     met["missing"] += sum(all(it.name != name for it in read) for name in names)
                 if ran != wanted:
                     return [f"came {ran}, and {wanted} is wanted", f"the choice: {asked}", f"the text: {(script + behind).decode()}"]
-        return below(met, [("lists", 100), ("left out", 80), ("failed", 40), ("missing", 20)])
+        return below(met, [("lists", 100), ("left out", 40), ("failed", 40), ("missing", 8)])
 
     return Judgement(f"runs_of_what_failed_{seed}", "ttrun run --list --failed < (random scripts and runs)", judge)
 
