@@ -31,6 +31,7 @@ from filskeam import Run, Server
 
 CALLERS = (1, 8)
 CALLS = 16_000
+CPP_CALLS = 64_000
 ALONE = 80_000
 MIXED = 60_000
 BEHAVIOURS, MOST = 64, 256
@@ -69,8 +70,8 @@ def python_rate(command: Sequence[str], callers: int) -> float:
 
 def cpp_rate(built: str, command: Sequence[str], callers: int) -> float:
     """Calls a second of the C++ client."""
-    ran = subprocess.run([built, str(callers), str(CALLS), *command], stdout=subprocess.PIPE, check=True)
-    return CALLS / float(ran.stdout)
+    ran = subprocess.run([built, str(callers), str(CPP_CALLS), *command], stdout=subprocess.PIPE, check=True)
+    return CPP_CALLS / float(ran.stdout)
 
 
 def ask_alone(served: "subprocess.Popen[bytes]", calls: int) -> float:

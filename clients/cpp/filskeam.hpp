@@ -141,19 +141,19 @@ inline std::string plain(std::string_view text) {
         }
         if (is_space) out += ' ';
         is_space = false;
-        std::array<char, 5> escape{};
-        std::snprintf(escape.data(), escape.size(), "\\x%02x", static_cast<unsigned>(byte));
-        out += byte > 32 && byte < 127 ? std::string(1, it) : std::string(escape.data());
+        std::array<char, 5> escape{it};
+        if (byte < 33 || byte > 126) std::snprintf(escape.data(), escape.size(), "\\x%02x", static_cast<unsigned>(byte));
+        out += escape.data();
     }
     return out.size() <= most_of_a_remark ? out : out.substr(0, most_of_a_remark - 2) + "..";
 }
 
-// A line inside evidence: a naming (b), an entry (e), a remark (#) or a refused line (!).
+// A line inside evidence: a naming (b), an entry (e), a remark (#) or a refused line (!). It is a view of what was read.
 struct Line {
     char kind;
     int run;
-    std::string text;
-    std::string reply;
+    std::string_view text;
+    std::string_view reply;
 };
 
 inline std::optional<int> take_number(std::string_view& text) {
@@ -170,35 +170,27 @@ inline std::optional<Line> parsed(std::string_view text) {
     if (is_naming) text.remove_prefix(10);
     auto run = take_number(text);
     if (!run || text.empty()) return std::nullopt;
-    if (is_naming) return Line{'b', *run, std::string(text), ""};
+    if (is_naming) return Line{'b', *run, text, ""};
     bool is_plain = std::all_of(text.begin(), text.end(), [](char it) { return it >= 32 && it < 127; });
     if (text.size() > 2 && text.size() <= 2 + most_of_a_remark && is_plain && (text[0] == '#' || text[0] == '!') && text[1] == ' ')
-        return Line{text[0], *run, std::string(text.substr(2)), ""};
+        return Line{text[0], *run, text.substr(2), ""};
     auto arrow = text.find(" -> ");
     if (arrow == std::string_view::npos) return std::nullopt;
-    return Line{'e', *run, std::string(text.substr(0, arrow)), std::string(text.substr(arrow + 4))};
+    return Line{'e', *run, text.substr(0, arrow), text.substr(arrow + 4)};
 }
 
-inline std::vector<std::string> words_of(const std::string& text) {
-    std::vector<std::string> words;
-    std::size_t at = 0;
-    for (auto end = text.find(' '); end != std::string::npos; end = text.find(' ', at)) {
-        words.push_back(text.substr(at, end - at));
-        at = end + 1;
-    }
-    words.push_back(text.substr(at));
-    return words;
-}
+inline std::string_view first_word(std::string_view text) { return text.substr(0, text.find(' ')); }
+inline std::string_view last_word(std::string_view text) { return text.substr(text.rfind(' ') + 1); }
 
-inline bool is_error(const std::string& reply) { return reply.rfind("error ", 0) == 0; }
+inline bool is_error(std::string_view reply) { return reply.substr(0, 6) == "error "; }
 
-inline bool is_made(const std::string& reply) {
-    return reply.size() > 5 && reply.size() < 10 && reply.rfind("made ", 0) == 0 && std::all_of(reply.begin() + 5, reply.end(), is_digit);
+inline bool is_made(std::string_view reply) {
+    return reply.size() > 5 && reply.size() < 10 && reply.substr(0, 5) == "made " && std::all_of(reply.begin() + 5, reply.end(), is_digit);
 }
 
 // Whether the table may reply so to this call.
-inline bool suits(const std::string& call, const std::string& reply) {
-    const std::string verb = words_of(call)[0];
+inline bool suits(std::string_view call, std::string_view reply) {
+    const auto verb = first_word(call);
     if (reply == "ended" || is_error(reply)) return true;
     if (verb == "create") return is_made(reply);
     if (verb == "getverdict") return rank(reply) < verdicts.size();
@@ -215,16 +207,29 @@ inline bool ends_case(const Line& line) {
 
 // Whether somebody may have been stopped by this entry, or be done.
 inline bool may_halt(const Line& line) {
-    const std::string verb = words_of(line.text)[0];
+    const auto verb = first_word(line.text);
     return is_error(line.reply) || (line.reply == "ok" && (verb == "finish" || verb == "stop" || verb == "kill" || verb == "stopcase"));
 }
 
 // What the lines of a test case say: names, local verdicts, and the entry that made the overall verdict.
 class Findings {
 public:
-    explicit Findings(const std::vector<std::string>& texts) {
-        for (const auto& text : texts)
-            if (auto line = parsed(text)) take(*line);
+    void take(const Line& line) {
+        if (line.kind == 'b') behaviours_[line.run] = line.text;
+        if (line.kind == '#') said_[line.run] = line.text;
+        if (line.kind != 'e') return;
+        const auto verb = first_word(line.text);
+        if (verb == "create" && is_made(line.reply)) {
+            int made = std::atoi(line.reply.data() + 5);
+            locals[made] = "none";
+            names[made] = line.text.find(" named ") != std::string_view::npos ? last_word(line.text) : "";
+        } else if (verb == "start" && line.reply == "ok") {
+            char* rest = nullptr;
+            const auto component = static_cast<int>(std::strtol(line.text.data() + 6, &rest, 10));
+            component_of_.emplace(std::atoi(rest), component);
+        }
+        judge(line, verb);
+        said_.erase(line.run);
     }
 
     std::string overall() const {
@@ -239,28 +244,12 @@ public:
     std::string why = "no behaviour set a verdict";
 
 private:
-    void take(const Line& line) {
-        if (line.kind == 'b') behaviours_[line.run] = line.text;
-        if (line.kind == '#') said_[line.run] = line.text;
-        if (line.kind != 'e') return;
-        const auto words = words_of(line.text);
-        if (words[0] == "create" && is_made(line.reply)) {
-            int made = std::atoi(line.reply.c_str() + 5);
-            locals[made] = "none";
-            names[made] = words.size() > 2 ? words.back() : "";
-        } else if (words[0] == "start" && line.reply == "ok") {
-            component_of_.emplace(std::atoi(words[2].c_str()), std::atoi(words[1].c_str()));
-        }
-        judge(line, words);
-        said_.erase(line.run);
-    }
-
-    void judge(const Line& line, const std::vector<std::string>& words) {
-        std::string given = "none";
-        if (is_error(line.reply) || (line.text == "stopcase" && line.reply == "ok")) given = "error";
-        else if (words[0] == "setverdict" && line.reply == "ok") given = words[1];
+    void judge(const Line& line, std::string_view verb) {
+        std::string_view given = "none";
+        if (is_error(line.reply) || (verb == "stopcase" && line.reply == "ok")) given = "error";
+        else if (verb == "setverdict" && line.reply == "ok") given = last_word(line.text);
         auto component = component_of_.find(line.run);
-        if (component == component_of_.end()) return;
+        if (given == "none" || component == component_of_.end()) return;
         if (rank(given) > rank(overall())) why = reason(line, component->second);
         auto& local = locals[component->second];
         if (rank(given) > rank(local)) local = given;
@@ -270,8 +259,8 @@ private:
         std::string place = "mtc";
         if (component != 0) place = "component " + std::to_string(component) + (names[component].empty() ? "" : " " + names[component]);
         auto said = said_.find(line.run);
-        return "run " + std::to_string(line.run) + " " + behaviours_[line.run] + " on " + place + ": " + line.text +
-               (line.reply == "ok" ? "" : " -> " + line.reply) + (said == said_.end() ? "" : ": " + said->second);
+        return "run " + std::to_string(line.run) + " " + behaviours_[line.run] + " on " + place + ": " + std::string(line.text) +
+               (line.reply == "ok" ? "" : " -> " + std::string(line.reply)) + (said == said_.end() ? "" : ": " + said->second);
     }
 
     std::map<int, std::string> behaviours_;
@@ -314,20 +303,27 @@ public:
         }
     }
 
-    // The next line, without its line feed; nothing at the end, also if the last line is cut.
-    std::optional<std::string> read() {
-        auto end = kept_.find('\n');
-        while (end == std::string::npos && kept_.size() < most_of_a_line) {
-            std::array<char, 4096> chunk;
-            auto size = ::read(out_, chunk.data(), chunk.size());
-            if (size < 0 && errno == EINTR) continue;
-            if (size <= 0) return std::nullopt;
-            kept_.append(chunk.data(), static_cast<std::size_t>(size));
-            end = kept_.find('\n');
-        }
-        std::string line = kept_.substr(0, end);
-        kept_.erase(0, end == std::string::npos ? kept_.size() : end + 1);
-        return line;
+    // Reads more of what it writes; false if nothing came for so long. Throws ServerEnded at its end.
+    bool read(std::optional<Seconds> limit) {
+        if (limit && !is_ready(out_, POLLIN, *limit)) return false;
+        std::array<char, 16384> chunk;
+        ssize_t size = -1;
+        do size = ::read(out_, chunk.data(), chunk.size());
+        while (size < 0 && errno == EINTR);
+        if (size <= 0) throw ServerEnded(how_it_ended());
+        kept_.erase(0, taken_);
+        taken_ = 0;
+        kept_.append(chunk.data(), static_cast<std::size_t>(size));
+        return true;
+    }
+
+    // The next line that was read, without its line feed, or what is too long for one. It is valid until more is read.
+    std::optional<std::string_view> line() {
+        const auto rest = std::string_view(kept_).substr(taken_);
+        const auto size = std::min(rest.find('\n'), most_of_a_line);
+        if (rest.size() <= size) return std::nullopt;
+        taken_ += size + 1;
+        return rest.substr(0, size);
     }
 
     // How it ended, by its own last line.
@@ -420,6 +416,7 @@ private:
     bool is_waited_ = false;
     std::mutex waiting_;
     std::string kept_;
+    std::size_t taken_ = 0;
 };
 
 class Case;
@@ -560,10 +557,8 @@ private:
     }
 
     std::string exchange(const std::string& words, const std::string& before, std::optional<Seconds> limit);
-    std::string heard(std::optional<Seconds> limit);
-    bool expects(const detail::Line& line);
-    void take(const detail::Line& line);
-    void answer(const std::string& text);
+    bool expects(const detail::Line& line) const;
+    bool take(const detail::Line& line);
     void stop_case_from_outside(const std::string& reason, Seconds limit);
 
     std::shared_ptr<detail::Case> case_;
@@ -576,7 +571,7 @@ private:
     std::atomic<bool> is_parked_{false};
     long seen_ = 0;
     std::timed_mutex calling_;
-    std::mutex answering_;
+    // What it has asked and what is answered, for who holds the news of the test case.
     std::condition_variable answered_;
     std::string asked_;
     std::optional<std::string> answer_;
@@ -584,9 +579,8 @@ private:
 
 namespace detail {
 
-// What comes for a fault and for a refused line, next to the replies of the table.
-inline const std::string lost = "! lost ";
-inline const std::string refused = "! refused ";
+// How often is looked whether there is something to read that nobody waits for.
+inline constexpr Seconds now_and_then(0.01);
 
 // A test case while it runs. Each thread of it keeps it alive.
 class Case : public std::enable_shared_from_this<Case> {
@@ -597,7 +591,6 @@ public:
     Result play(const std::string& behaviour, Behaviour main, std::optional<Seconds> timeout) {
         auto run = new_run(behaviour, 0);
         send("case " + name_ + " " + std::to_string(most_behaviours) + "\n" + naming(*run));
-        std::thread reader([self = shared_from_this()] { self->read(); });
         begin(run, std::move(main));
         auto is_over = [&] { return is_over_ || run->is_done_ || !fault_.empty(); };
         bool is_timed_out = !await(is_over, timeout);
@@ -605,7 +598,6 @@ public:
         await([&] { return going_on().empty(); }, grace_);
         for (const auto& it : locked([&] { return going_on(); })) hung_.push_back(it->text());
         close();
-        reader.join();
         Result found = result(is_timed_out);
         locked([&] { runs_.clear(); });  // each of them keeps the test case alive
         return found;
@@ -613,7 +605,7 @@ public:
 
     std::shared_ptr<Run> new_run(const std::string& behaviour, int component) {
         std::lock_guard<std::mutex> hold(news_);
-        if (is_closed_) throw Ended("the test case is closed");
+        check_open();
         int number = static_cast<int>(runs_.size());
         runs_.push_back(std::shared_ptr<Run>(new Run(shared_from_this(), number, checked_name(behaviour), component)));
         return runs_.back();
@@ -635,16 +627,26 @@ public:
         std::unique_lock<std::timed_mutex> hold(sending_, std::defer_lock);
         if (limit && !hold.try_lock_for(*limit)) return;
         if (!limit) hold.lock();
-        const std::string fault = locked([&] { return fault_; });
-        if (!fault.empty()) throw ServerEnded(fault);
-        if (is_closed_) throw Ended("the test case is closed");
+        if (is_closed_) locked([&] { check_open(); });
         program_->write(lines, limit);
     }
 
-    // How many entries there are that may have stopped somebody.
-    long changes() {
-        return locked([&] { return changes_; });
+    // Writes lines with a call of a run, and waits for its answer.
+    std::string ask(Run& run, const std::string& words, const std::string& lines, std::optional<Seconds> limit) {
+        locked([&] { run.asked_ = words; });
+        send(lines, limit);
+        std::unique_lock<std::mutex> hold(news_);
+        auto is_there = [&] { return run.answer_ || is_ended_ || !fault_.empty(); };
+        if (!read_until(hold, run.answered_, [&] { return is_there() || run.is_parked_; }, limit)) throw ServerEnded("the server does not answer");
+        run.answered_.wait(hold, is_there);  // a run that is parked does not read: whose call lets it continue reads its wake too
+        if (!run.answer_) check_open();
+        std::string found = std::move(run.answer_.value());
+        run.answer_.reset();
+        return found;
     }
+
+    // How many entries there are that may have stopped somebody.
+    long changes() { return locked([&] { return changes_; }); }
 
     // Waits until there are more; false if the time passed before.
     bool await_change(long seen, std::chrono::steady_clock::time_point deadline) {
@@ -659,12 +661,44 @@ private:
         return get();
     }
 
+    // Throws if the server or the test case has ended; for who holds the news.
+    void check_open() const {
+        if (!fault_.empty()) throw ServerEnded(fault_);
+        if (is_closed_) throw Ended("the test case is closed");
+    }
+
+    // Waits until it is so; false if the time passed before. What nobody else waits for is read here.
     template <typename Is>
     bool await(Is is_so, std::optional<Seconds> limit) {
+        const auto began = std::chrono::steady_clock::now();
         std::unique_lock<std::mutex> hold(news_);
-        if (limit) return told_.wait_for(hold, *limit, is_so);
-        told_.wait(hold, is_so);
+        while (!told_.wait_for(hold, now_and_then, is_so)) {
+            if (limit && std::chrono::steady_clock::now() - began > *limit) return false;
+            while (!is_read_ && !is_ended_ && fault_.empty() && read(hold, Seconds(0))) {}
+            hand_on();
+        }
         return true;
+    }
+
+    // Waits until it is so, and reads for all while nobody else does; false if the time passed before.
+    template <typename Is>
+    bool read_until(std::unique_lock<std::mutex>& hold, std::condition_variable& told, Is is_so, std::optional<Seconds> limit) {
+        const auto began = std::chrono::steady_clock::now();
+        while (!is_so() && !(limit && std::chrono::steady_clock::now() - began > *limit)) {
+            if (is_read_) {
+                waiting_.push_back(&told);
+                if (limit) told.wait_for(hold, *limit);
+                else told.wait(hold);
+                waiting_.erase(std::find(waiting_.begin(), waiting_.end(), &told));
+            } else read(hold, limit);
+        }
+        hand_on();
+        return is_so();
+    }
+
+    // Wakes one who waits, if nobody reads: it reads, or it has its answer and does the same.
+    void hand_on() {
+        if (!is_read_ && !waiting_.empty()) waiting_.front()->notify_all();
     }
 
     // Runs a behaviour to its end, and reports that to the table.
@@ -705,57 +739,60 @@ private:
         return found;
     }
 
-    // Hands each answer to the run that asked, to the end of the test case.
-    void read() {
+    // Reads what comes, for who holds the news while nobody reads, and gives each line to its run; false if nothing came.
+    bool read(std::unique_lock<std::mutex>& hold, std::optional<Seconds> limit) {
+        bool is_more = false;
+        std::string fault;
+        is_read_ = true;
+        hold.unlock();
         try {
-            while (locked([&] { return !is_ended_ && fault_.empty(); })) {
-                auto line = program_->read();
-                if (!line) return lose(program_->how_it_ended());
-                if (!take(*line)) {
-                    program_->kill();
-                    return lose("the server wrote what it may not write here: " + plain(*line));
-                }
-            }
+            is_more = program_->read(limit);
+            hold.lock();
+            for (std::optional<std::string_view> text; !is_ended_ && fault_.empty() && (text = program_->line());) take(*text);
+            hold.unlock();  // who wakes takes it at once
+            for (auto* it : answered_) it->notify_all();
+            answered_.clear();
+        } catch (const Ended& ended) {
+            fault = ended.what();
         } catch (const std::exception& error) {  // as no memory: nobody may wait for an answer that nobody reads
-            program_->kill();
-            lose("the client cannot read on: " + std::string(error.what()));
+            fault = "the client cannot read on: " + std::string(error.what());
         }
+        if (!hold.owns_lock()) hold.lock();
+        is_read_ = false;
+        if (!fault.empty()) lose(fault);
+        return is_more;
     }
 
-    bool take(const std::string& text) {
-        auto line = parsed(text);
-        std::shared_ptr<Run> run;
-        if (line) run = locked([&] { return line->run < static_cast<int>(runs_.size()) ? runs_[static_cast<std::size_t>(line->run)] : nullptr; });
+    void take(std::string_view text) {
+        const auto line = parsed(text);
+        Run* run = line && line->run < static_cast<int>(runs_.size()) ? runs_[static_cast<std::size_t>(line->run)].get() : nullptr;
         bool is_right = false;
-        if (lines_.empty()) is_right = text == "evidence 1 " + name_ + " " + std::to_string(most_behaviours);
-        else if (!run) is_right = is_closed_ && text == "end " + Findings(lines_).overall();
+        if (evidence_.empty()) is_right = text == "evidence 1 " + name_ + " " + std::to_string(most_behaviours);
+        else if (!run) is_right = is_closed_ && text == "end " + findings_.overall();
         else is_right = line->kind == 'b' || line->kind == '#' || run->expects(*line);
-        if (is_right) {
-            lines_.push_back(text);
-            spread(line, run.get(), text.rfind("end ", 0) == 0);
-        }
-        return is_right;
+        if (!is_right) throw ServerEnded("the server wrote what it may not write here: " + plain(text));
+        evidence_.append(text) += '\n';
+        is_ended_ = text.substr(0, 4) == "end ";
+        if (line) findings_.take(*line);
+        is_over_ = is_over_ || (line && ends_case(*line));
+        if (is_ended_ || (line && may_halt(*line))) tell_change();
+        if (run != nullptr && run->take(*line)) answered_.push_back(&run->answered_);
     }
 
-    // Reports a line: first to all runs what it changes, then to its run the answer.
-    void spread(const std::optional<Line>& line, Run* run, bool is_end) {
-        if (is_end || (line && line->kind == 'e' && may_halt(*line))) {
-            std::lock_guard<std::mutex> hold(news_);
-            ++changes_;
-            is_ended_ = is_end;
-            is_over_ = is_over_ || (line && ends_case(*line));
-            told_.notify_all();
-        }
-        if (run != nullptr) run->take(*line);
-    }
-
-    // Reports to all runs that there is no server any more. The first reason counts.
-    void lose(const std::string& fault) {
-        std::lock_guard<std::mutex> hold(news_);
-        if (fault_.empty()) fault_ = fault;
+    // Reports a change to all, and an end also to the runs that wait.
+    void tell_change() {
         ++changes_;
         told_.notify_all();
-        for (const auto& run : runs_) run->answer(lost + fault_);
+        if (is_ended_ || !fault_.empty())
+            for (const auto& run : runs_) run->answered_.notify_all();
+    }
+
+    // Ends the server, and reports to all that there is none any more; for who holds the news. The first reason counts.
+    void lose(const std::string& fault) {
+        program_->kill();
+        if (fault_.empty()) fault_ = fault;
+        is_closed_ = true;
+        tell_change();
     }
 
     // Ends the test case through the table, with the verdict error, instead of a run that does not wait in it.
@@ -777,32 +814,35 @@ private:
             program_->write("end\n", grace_);
             sending_.unlock();
         }
-        if (await([&] { return is_ended_ || !fault_.empty(); }, grace_)) return;
-        lose("the server does not answer");
-        program_->kill();
-        std::lock_guard<std::timed_mutex> hold(sending_);  // who still writes is done with the program now
-        is_closed_ = true;
+        std::unique_lock<std::mutex> hold(news_);
+        if (!read_until(hold, told_, [&] { return is_ended_ || !fault_.empty(); }, grace_)) lose("the server does not answer");
+        hold.unlock();
+        std::lock_guard<std::timed_mutex> writing(sending_);  // who still writes or reads is done with the program now
+        await([&] { return !is_read_; }, std::nullopt);
     }
 
     Result result(bool is_timed_out) {
         std::lock_guard<std::mutex> hold(news_);
-        Findings findings(lines_);
-        std::string evidence;
-        for (const auto& line : lines_) evidence += line + "\n";
-        std::string verdict = is_ended_ ? lines_.back().substr(4) : "error";
-        std::string why = fault_.empty() ? findings.why : fault_;
-        return Result{name_, verdict, why, findings.locals, findings.names, evidence, raised_, hung_, is_timed_out, fault_};
+        const std::string verdict = is_ended_ ? findings_.overall() : "error";
+        const std::string why = fault_.empty() ? findings_.why : fault_;
+        return Result{name_, verdict, why, findings_.locals, findings_.names, evidence_, raised_, hung_, is_timed_out, fault_};
     }
 
     const std::string name_;
     Program* program_;
     const Seconds grace_;
-    // It reports an end, a fault and changes. Its holder writes nothing: the server may wait for its reader.
-    std::mutex news_;
-    std::condition_variable told_;
     std::timed_mutex sending_;
+    // For what follows, and for what the runs have asked. Its holder writes nothing: the server may wait for its reader.
+    std::mutex news_;
+    // It reports an end, a fault and changes.
+    std::condition_variable told_;
+    // Whether somebody reads, who waits for its answer meanwhile, and who is woken next since it has one.
+    bool is_read_ = false;
+    std::vector<std::condition_variable*> waiting_;
+    std::vector<std::condition_variable*> answered_;
     std::vector<std::shared_ptr<Run>> runs_;
-    std::vector<std::string> lines_;
+    Findings findings_;
+    std::string evidence_;
     std::vector<std::string> raised_;
     std::vector<std::string> hung_;
     bool is_over_ = false;
@@ -857,48 +897,27 @@ inline bool Run::wait(const std::string& status, const Target& target, Seconds l
 
 // The same as `ask`, for who holds the lock of the calls, and may wait for so long.
 inline std::string Run::exchange(const std::string& words, const std::string& before, std::optional<Seconds> limit) {
-    {
-        std::lock_guard<std::mutex> hold(answering_);
-        asked_ = words;
-    }
-    case_->send(before + std::to_string(number_) + " " + words + "\n", limit);
-    const std::string found = heard(limit);
-    if (found.rfind(detail::lost, 0) == 0) throw ServerEnded(found.substr(detail::lost.size()));
-    if (found.rfind(detail::refused, 0) == 0) throw Refused("the server refused a line of " + text() + ": " + found.substr(detail::refused.size()));
+    const std::string found = case_->ask(*this, words, before + std::to_string(number_) + " " + words + "\n", limit);
+    if (found.rfind("! ", 0) == 0) throw Refused("the server refused a line of " + text() + ": " + found.substr(2));
     if (found == "ended") throw Ended(text() + " has ended");
     if (detail::is_error(found)) throw DynamicError(words + " -> " + found);
     return found;
 }
 
-inline std::string Run::heard(std::optional<Seconds> limit) {
-    std::unique_lock<std::mutex> hold(answering_);
-    auto is_there = [&] { return answer_.has_value(); };
-    if (!limit) answered_.wait(hold, is_there);
-    else if (!answered_.wait_for(hold, *limit, is_there)) throw ServerEnded("the server does not answer");
-    std::string found = std::move(*answer_);
-    answer_.reset();
-    return found;
+inline bool Run::expects(const detail::Line& line) const {
+    return !asked_.empty() && (line.kind == '!' || (line.text == asked_ && detail::suits(asked_, line.reply)));
 }
 
-inline bool Run::expects(const detail::Line& line) {
-    std::lock_guard<std::mutex> hold(answering_);
-    if (asked_.empty()) return false;
-    const std::string wanted = is_parked_ ? "wake" + asked_.substr(4) : asked_;
-    return line.kind == '!' || (line.text == wanted && detail::suits(wanted, line.reply));
-}
-
-inline void Run::take(const detail::Line& line) {
-    if (line.kind == '!') answer(detail::refused + line.text);
-    else if (line.kind == 'e' && line.reply == "parked") is_parked_ = true;
-    else if (line.kind == 'e') answer(line.reply);
-}
-
-inline void Run::answer(const std::string& text) {
-    std::lock_guard<std::mutex> hold(answering_);
-    asked_.clear();
-    is_parked_ = false;
-    answer_ = text;
-    answered_.notify_one();
+inline bool Run::take(const detail::Line& line) {
+    if (line.kind != 'e' && line.kind != '!') return false;
+    is_parked_ = line.reply == "parked";
+    if (is_parked_) {
+        asked_.replace(0, 4, "wake");
+    } else {
+        asked_.clear();
+        answer_ = line.kind == '!' ? "! " + std::string(line.text) : std::string(line.reply);
+    }
+    return true;
 }
 
 // Stops the test case instead of the behaviour, unless it waits or is just making a call.

@@ -187,7 +187,7 @@ void reports(Server& server) {
         pid_t server_process = 0;
         std::ifstream(std::getenv("SERVER_PROCESS")) >> server_process;
         kill(server_process, SIGKILL);
-        while (true) run.get_verdict();
+        run.sleep(Seconds(30));  // its end is noticed while nobody calls
     });
     std::cout << result.report(0) << "== " << result.evidence.substr(0, 20) << "\n";
     std::cout << server.run("t_next", [](Run& run) { run.set_verdict("pass"); }).report();
@@ -196,6 +196,34 @@ void reports(Server& server) {
 // Test cases one after the other, none of which may leave anything.
 void leaves(Server& server) {
     for (int at = 0; at < 20; ++at) server.run("t", alone([](Run& run) { run.set_verdict("pass", "a reason"); }));
+}
+
+// Eight behaviours that make each call at the same time, and the next once all have their answers. At last each waits for the one before it.
+void meets(Server& server) {
+    const int callers = 8, rounds = 300;
+    struct Meeting {
+        std::mutex lock;
+        std::condition_variable all;
+        int there = 0;
+    };
+    const auto began = std::chrono::steady_clock::now();
+    auto result = server.run("t", [](Run& run) {
+        auto meeting = std::make_shared<Meeting>();
+        for (int at = 0; at < callers; ++at) {
+            run.start(run.create(), "meets", [meeting](Run& it) {
+                for (int round = 1; round <= rounds; ++round) {
+                    it.get_verdict();
+                    std::unique_lock<std::mutex> hold(meeting->lock);
+                    if (++meeting->there == round * callers) meeting->all.notify_all();
+                    else meeting->all.wait(hold, [&] { return meeting->there >= round * callers; });
+                }
+                if (it.me() > 1) it.wait_done(it.me() - 1);
+            });
+        }
+        run.wait_done("all");
+    }, Seconds(15));
+    const Seconds took = std::chrono::steady_clock::now() - began;
+    std::cout << "rate " << callers << " " << static_cast<int>(callers * rounds / took.count()) << " " << result.verdict << "\n";
 }
 
 void speed(Server& server) {
@@ -216,7 +244,7 @@ void speed(Server& server) {
 int main(int count, char** words_given) {
     const std::map<std::string, void (*)(Server&)> cases = {
         {"raises", raises}, {"watchdog", watchdog}, {"late", late}, {"waits", waits}, {"stops", stops},
-        {"words", words}, {"loses", loses}, {"random", random_cases}, {"reports", reports}, {"leaves", leaves}, {"speed", speed},
+        {"words", words}, {"loses", loses}, {"random", random_cases}, {"reports", reports}, {"leaves", leaves}, {"meets", meets}, {"speed", speed},
     };
     int status = 0;
     {

@@ -41,12 +41,12 @@ LIES = (
     Lie("remarks_are_cut_late", HEADER, "out.substr(0, most_of_a_remark - 2)", "out.substr(0, most_of_a_remark - 1)", "wrong_words_are_not_sent"),
     Lie("a_signal_ends_the_bench", HEADER, "send(in_, text.data(), text.size(), MSG_NOSIGNAL)", "send(in_, text.data(), text.size(), 0)",
         "a_server_that_ends_or_writes_nonsense"),
-    Lie("half_a_line_is_evidence", HEADER, "            if (size <= 0) return std::nullopt;\n            kept_", "            if (size <= 0 && kept_.empty()) return std::nullopt;\n"
-        "            if (size <= 0) break;\n            kept_", "a_server_that_ends_or_writes_nonsense"),
+    Lie("half_a_line_is_evidence", HEADER, "        if (size <= 0) throw", "        if (size <= 0 && taken_ < kept_.size()) return !(kept_ += '\\n').empty();\n"
+        "        if (size <= 0) throw", "a_server_that_ends_or_writes_nonsense"),
     Lie("the_first_line_is_told", HEADER, "told.rfind(\"error: \", 0) != 0) told = line;", "told.empty()) told = line;",
         "a_server_that_ends_or_writes_nonsense"),
-    Lie("any_reply_is_believed", HEADER, "line.text == wanted && detail::suits(wanted, line.reply)", "line.text == wanted", "a_server_that_ends_or_writes_nonsense"),
-    Lie("any_end_is_believed", HEADER, "is_closed_ && text == \"end \" + Findings(lines_).overall()", "text.rfind(\"end \", 0) == 0",
+    Lie("any_reply_is_believed", HEADER, "line.text == asked_ && detail::suits(asked_, line.reply)", "line.text == asked_", "a_server_that_ends_or_writes_nonsense"),
+    Lie("any_end_is_believed", HEADER, "is_closed_ && text == \"end \" + findings_.overall()", "text.rfind(\"end \", 0) == 0",
         "a_server_that_ends_or_writes_nonsense"),
     Lie("the_header_is_not_compared", HEADER, "is_right = text == \"evidence 1 \" + name_", "is_right = !text.empty() || text == \"evidence 1 \" + name_",
         "a_server_that_ends_or_writes_nonsense"),
@@ -56,6 +56,11 @@ LIES = (
     Lie("a_report_has_the_first_entries", HEADER, "if (line + most >= lines) text", "if (line < most) text", "a_result_says_who_and_why"),
     Lie("a_cut_block_spoils_the_file", HEADER, "append(evidence_ + (result.fault.empty() ? \"\" : \".cut\"), result.evidence);",
         "append(evidence_, result.evidence);", "a_result_says_who_and_why"),
+    Lie("the_reading_is_not_handed_on", HEADER, "waiting_.front()->notify_all();", "return;", "callers_that_wait_for_one_another"),
+    Lie("who_has_its_answer_reads_on", HEADER, "} else read(hold, limit);", "} else if (read(hold, limit)) read(hold, limit);",
+        "callers_that_wait_for_one_another"),
+    Lie("nobody_reads_while_nobody_calls", HEADER, "while (!is_read_ && !is_ended_ && fault_.empty() && read(hold, Seconds(0))) {}", "",
+        "a_result_says_who_and_why"),
     Lie("a_test_case_keeps_itself", HEADER, "        locked([&] { runs_.clear(); });", "        locked([&] { runs_.push_back(runs_[0]); });", "nothing_is_left_behind"),
 )
 

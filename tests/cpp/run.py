@@ -278,8 +278,10 @@ def random_cases_are_legal(place: Place) -> str:
 def a_result_says_who_and_why(place: Place) -> str:
     """Its report, local verdicts by names; the file has the evidence of whole test cases, and one next to it that which was cut."""
     process, path = os.path.join(place.room, "process"), os.path.join(place.room, "run.evidence")
+    began = time.monotonic()
     _, text = place.bench("reports", ["sh", "-c", 'echo $$ > "$SERVER_PROCESS"; exec "$@"', "sh", *place.command],
                           SERVER_PROCESS=process, EVIDENCE=path)
+    hold(time.monotonic() - began < 15, "that the server was killed is noticed late")
     lines = text.splitlines()
     same(lines[:2], ["test case t_report: fail", "why: run 2 sets on component 2 pump: setverdict fail: a reason"])
     same(lines[2:7], ["local 0 mtc: none", "local 1 pump: inconc", "local 2 pump: fail", "local 3 pump: pass", "local 4 spare: none"])
@@ -308,6 +310,23 @@ def nothing_is_left_behind(place: Place) -> str:
         for name in ("leaves", "raises", "random"):
             other.bench(name)
     return "3 benches"
+
+
+@test
+def callers_that_wait_for_one_another(place: Place) -> str:
+    """Eight at once, of which one reads for all: none waits for an answer that nobody reads, or reads when its own has come."""
+    with open(os.path.join(CLIENT, "filskeam.hpp"), encoding="utf-8") as file:
+        text = file.read()
+    same(text.count("now_and_then(0.01)"), 1)
+    with tempfile.TemporaryDirectory(prefix="filskeam-cpp-") as room:
+        with open(os.path.join(room, "filskeam.hpp"), "w", encoding="utf-8") as file:
+            file.write(text.replace("now_and_then(0.01)", "now_and_then(1)"))  # who helps out when nobody reads comes late here
+        other = Place(room, place.command)
+        other.build("c++", os.path.join(HERE, "bench.cpp"), "-iquote", room)
+        _, shown = other.bench("meets")
+    rates = re.findall(r"^rate 8 (\d+) none$", shown, re.MULTILINE)
+    hold(len(rates) == 1 and int(rates[0]) > 500, shown)
+    return f"{rates[0]} calls a second"
 
 
 @test
