@@ -325,7 +325,7 @@ def callers_that_wait_for_one_another(place: Place) -> str:
         other.build("c++", os.path.join(HERE, "bench.cpp"), "-iquote", room)
         _, shown = other.bench("meets")
     rates = re.findall(r"^rate 8 (\d+) none$", shown, re.MULTILINE)
-    hold(len(rates) == 1 and int(rates[0]) > 500, shown)
+    hold(len(rates) == 1 and int(rates[0]) > 2_000, shown)
     return f"{rates[0]} calls a second"
 
 
