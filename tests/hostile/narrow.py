@@ -28,7 +28,10 @@ def narrow_tasks() -> Iterator[Task]:
 
 
 def told_of(task: Task, ample: Ran, written: int) -> bytes:
-    """What is printed about test cases where that many bytes are out: live, of those up to the one that is not out whole, otherwise of all."""
+    """What is printed about test cases where that many bytes are out: live, of those up to the one that is not out whole, otherwise of all. What
+    `report` prints comes after its output."""
+    if task.words[0] == "report":
+        return b""
     if not task.has(PROGRESS) or not task.has("--live"):
         return ample.errors
     ends = accumulate(map(len, pieces_of(task, ample.output)))
