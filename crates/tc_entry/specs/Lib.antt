@@ -4,3 +4,5 @@ pub mod Name
 pub mod Group
 pub mod Reply
 pub mod Shard
+pub mod Pattern
+pub mod Inside

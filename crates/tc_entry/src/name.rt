@@ -29,7 +29,8 @@ impl Model for Name {
     ghost invariant = { λ n. IsName n.bytes.items };
 }
 
-fn is_name_byte(byte: u8) -> bool
+/// Whether the byte may be in a name.
+pub(crate) fn is_name_byte(byte: u8) -> bool
     ensures { result ≡ is_allowed byte }
 {
     byte.is_ascii_alphanumeric() || byte == b'_'
