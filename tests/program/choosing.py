@@ -1,7 +1,8 @@
-"""Test cases that are chosen: `--list`, `--only` and `--shard` against a choice made here, on random scripts."""
+"""Test cases that are chosen: `--list`, `--only` and `--shard` of run and explore against a choice made here, on random scripts."""
 from __future__ import annotations
 
 import random
+import re
 from dataclasses import dataclass
 from typing import Dict, List, Optional, Tuple
 
@@ -10,7 +11,8 @@ from judged import Judgement
 
 # How many scripts are drawn, and the fewest choices, of each kind, that they have to reach.
 SCRIPTS = 12
-FEWEST = {"choices": 100, "empty choices": 5, "names": 40, "shards": 40, "names and shards": 15, "unknown names": 4, "live": 20}
+FEWEST = {"choices": 100, "empty choices": 5, "names": 40, "shards": 40, "names and shards": 15, "unknown names": 4, "live": 20, "stars": 30,
+          "stars that take some": 15}
 
 ONLY = b"ttrun: --only takes the name of a test case of the script\n"
 STATUS = {"none": 0, "pass": 0, "inconc": 1, "fail": 1, "error": 2}
@@ -34,7 +36,7 @@ class Script:
 
 @dataclass(frozen=True)
 class Choice:
-    """The words of a choice."""
+    """The words of a choice; a `*` in a name stands for any letters, or none."""
 
     only: Tuple[str, ...]
     shard: Optional[Tuple[int, int]]
@@ -49,11 +51,24 @@ class Choice:
 
     def of(self, names: List[str]) -> List[str]:
         """The names that it takes of these."""
-        named = [name for name in names if not self.only or name in self.only]
+        named = [name for name in names if not self.only or any(takes(it, name) for it in self.only)]
         if self.shard is None:
             return named
         number, shards = self.shard
         return named[number - 1::shards]
+
+
+def takes(pattern: str, name: str) -> bool:
+    """Whether the pattern matches the name."""
+    return re.fullmatch(pattern.replace("*", ".*"), name) is not None
+
+
+def starred(source: random.Random, name: str) -> str:
+    """A pattern that the name or another one like it matches: a part of the name is a star, or two are, or a star is put in."""
+    for _ in range(source.randint(1, 2)):
+        at = source.randint(0, len(name))
+        name = name[:at] + "*" + name[source.randint(at, len(name)):]
+    return name
 
 
 def script(source: random.Random) -> Script:
@@ -78,6 +93,7 @@ def choice(source: random.Random, names: List[str]) -> Choice:
         only.append(source.choice(only))
     if source.random() < 0.15:
         only.insert(source.randint(0, len(only)), source.choice(("t100", "T", "t")))
+    only = [starred(source, name) if source.random() < 0.3 else name for name in only]
     shards = source.randint(1, 5)
     return Choice(tuple(only), (source.randint(1, shards), shards) if source.random() < 0.6 else None)
 
@@ -114,17 +130,22 @@ def faults_of_choice(program: str, given: Script, asked: Choice, source: random.
                          ("names and shards", bool(asked.only) and asked.shard is not None)):
         met[kind] += is_met
     shown = " ".join(words)
-    if any(name not in given.verdicts for name in asked.only):
+    explored = on(program, given.text, "explore", *words)
+    met["stars"] += any("*" in it for it in asked.only)
+    if not all(any(takes(it, name) for name in names) for it in asked.only):
         met["unknown names"] += 1
         wanted = Ran(b"", ONLY, 3)
-        return [f"{shown}: {it}" for it in (listed, ran) if it != wanted]
+        return [f"{shown}: {it}" for it in (listed, ran, explored) if it != wanted]
     chosen = asked.of(names)
     met["empty choices"] += not chosen
+    met["stars that take some"] += any("*" in it for it in asked.only) and 0 < len(chosen) < len(names)
     faults: List[str] = []
     if listed != Ran("".join(f"{name}\n" for name in chosen).encode(), b"", 0):
         faults.append(f"{shown}: the list is {listed}")
     if list(blocks_of(ran.output)) != chosen or ran.errors or ran.status != status_of([given.verdicts[it] for it in chosen]):
         faults.append(f"{shown}: the run gave {ran}, where {chosen} were chosen")
+    if explored != Ran("".join(f"{it} {given.verdicts[it]} complete\n" for it in chosen).encode(), b"", 0):
+        faults.append(f"{shown}: explore gave {explored}, where {chosen} were chosen")
     return faults
 
 
@@ -160,4 +181,4 @@ def judgements(seed: int) -> List[Judgement]:
             faults += faults_of_shards(program, given, source.randint(1, 5))
         return faults + [f"only {met[kind]} {kind}, fewer than {fewest}" for kind, fewest in FEWEST.items() if met[kind] < fewest]
 
-    return [Judgement(f"chosen_test_cases_{seed}", "ttrun run [--list] [--only NAME].. [--shard K/N] < (random scripts)", judge)]
+    return [Judgement(f"chosen_test_cases_{seed}", "ttrun run [--list], explore [--only NAME].. [--shard K/N] < (random scripts)", judge)]

@@ -18,6 +18,7 @@ from typing import List, Union
 sys.dont_write_bytecode = True
 
 import choosing
+import chosen_rows
 import compared
 import compared_reports
 import details
@@ -52,7 +53,7 @@ GROUPS = (
     ("devices", devices.cases, 75),
     ("sizes", sizes.cases, 57),
     ("states", sizes.racing, 1),
-    ("terminal", terminal.cases, 19),
+    ("terminal", terminal.cases, 31),
     ("live", live.cases, 40),
     ("progress", progress.cases, 30),
     ("examples", examples.cases, 42),
@@ -61,6 +62,7 @@ GROUPS = (
     ("compared", compared.cases, 59),
     ("compared reports", compared_reports.cases, 34),
     ("failed", failed.cases, 50),
+    ("chosen", chosen_rows.cases, 55),
     ("explain", explain.cases, 100),
     ("documents", documents_run.cases, 2),
 )

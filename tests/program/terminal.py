@@ -1,4 +1,5 @@
-"""The program at a terminal: a person sees what a pipe gets, byte by byte, and before an input that is typed one line, which says what is read."""
+"""The program at a terminal: a person sees what a pipe gets with --explain, byte by byte, and before an input that is typed one line, which
+says what is read."""
 from __future__ import annotations
 
 import os
@@ -13,6 +14,8 @@ import examples
 from case import SECONDS, Case, difference, run
 from judged import Judgement
 
+# A history that is refused, behind its script.
+BEHIND = b"testcase a\nbehaviour m\nend\nend\nhistory 2 a 1\n0 crate\nend none\n"
 # Each with its words, what is typed, or nothing for an input from a file, and that input.
 CALLS: List[Tuple[str, Tuple[str, ...], bool, bytes]] = [
     ("help", ("--help",), False, b""),
@@ -21,6 +24,17 @@ CALLS: List[Tuple[str, Tuple[str, ...], bool, bytes]] = [
     ("report", ("run",), False, examples.bytes_of("restart.script")),
     ("table", ("run", "--csv"), False, examples.bytes_of("restart.script")),
     ("refused_script", ("run",), False, b"testcase\n"),
+    ("refused_script_of_a_list", ("run", "--list"), False, b"testcase t\nbehavior b\n"),
+    ("refused_script_of_a_search", ("explore",), False, b"testcase t\nbehavior b\n"),
+    ("refused_script_not_explained", ("run", "--no-explain"), False, b"testcase\n"),
+    ("refused_history", ("check",), False, b"history 2 a 1\n0 crate\n"),
+    ("refused_history_not_explained", ("check", "--no-explain"), False, b"history 2 a 1\n0 crate\n"),
+    ("refused_history_of_a_report", ("report", "--junit"), False, b"history 2 a 1\n0 crate\n"),
+    ("refused_history_behind_a_script", ("check", "--script"), False, BEHIND),
+    ("refused_history_of_a_report_behind_a_script", ("report", "--csv", "--script"), False, BEHIND),
+    ("refused_history_of_what_failed", ("run", "--failed"), False, BEHIND),
+    ("refused_script_before_a_history", ("check", "--script"), False, b"testcase a\nbehaviour m\nsetverdct pass\nend\nend\nhistory 2 a 1\nend none\n"),
+    ("refused_moves", ("replay",), False, b"behaviours 1\n0 crate\n"),
     ("replies", ("replay",), False, b"behaviours 1\n"),
     ("typed_script", ("run",), True, examples.bytes_of("restart.script")),
     ("typed_without_a_word", (), True, examples.bytes_of("restart.script")),
@@ -49,6 +63,14 @@ def awaited(name: str, words: Tuple[str, ...], typed: bool) -> bytes:
     if not typed or name in UNREAD:
         return b""
     return AWAITED.get(words[0], SCRIPT) if words else SCRIPT
+
+
+def explained(words: Tuple[str, ...]) -> Tuple[str, ...]:
+    """The words for a pipe, where nothing is explained unless that is asked for."""
+    if not words:
+        return ("run", "--explain")
+    takes = words[0] in ("run", "check", "replay", "report", "explore")
+    return words + ("--explain",) if takes and "--no-explain" not in words else words
 
 
 def seen(program: str, words: Tuple[str, ...], typed: bool, given: bytes) -> Tuple[bytes, int]:
@@ -83,7 +105,7 @@ def judgement(name: str, words: Tuple[str, ...], typed: bool, given: bytes) -> J
     """A run whose texts are on one stream."""
 
     def judge(program: str) -> List[str]:
-        ran = run(Case("", words, given), program)
+        ran = run(Case("", explained(words), given), program)
         output, status = seen(program, words, typed, given)
         faults = ["the pipes got nothing, or both got something"] if bool(ran.output) == bool(ran.errors) else []
         faults += [f"status {status}, and {ran.status} without a terminal"] if status != ran.status else []
@@ -93,6 +115,20 @@ def judgement(name: str, words: Tuple[str, ...], typed: bool, given: bytes) -> J
     return Judgement(f"at_a_terminal_{name}", " ".join(["ttrun", *words]), judge)
 
 
+def only_output() -> Judgement:
+    """At a terminal that standard error is not at, nothing is explained."""
+
+    def judge(program: str) -> List[str]:
+        master, slave = pty.openpty()
+        ran = subprocess.run([program, "run"], input=b"testcase\n", stdout=slave, stderr=subprocess.PIPE, timeout=SECONDS, check=False)
+        os.close(slave)
+        os.close(master)
+        wanted = run(Case("", ("run",), b"testcase\n"), program)
+        return difference("standard error", wanted.errors, ran.stderr)
+
+    return Judgement("a_terminal_without_standard_error", "ttrun run", judge)
+
+
 def cases() -> List[Judgement]:
     """All of them."""
-    return [judgement(*it) for it in CALLS]
+    return [judgement(*it) for it in CALLS] + [only_output()]

@@ -17,6 +17,7 @@ COMMANDS = ("run", "serve", "check", "replay", "explore", "report", "\n  ttrun r
             " or that the arguments or the input were refused, memory ran out, or\n"
             "standard input or output failed: standard error says which.\n")
 EXPLAIN = "says more of the fault of a refused text\n"
+NO_EXPLAIN = "says no more of it, also at a terminal\n"
 # A line for each option, as it is in the help.
 ALL_OPTIONS = ("runs the campaign of a script, and writes its report\n",
                "  --csv                writes the report as CSV\n",
@@ -30,21 +31,26 @@ ALL_OPTIONS = ("runs the campaign of a script, and writes its report\n",
                "  --only <NAME>        runs this test case; may be given again, for others\n",
                "  --shard <K/N>        runs the K-th of N shards of the test cases\n",
                "  --failed             leaves out what passed by evidence after the script\n",
-               "  --explain            " + EXPLAIN,
+               "  --explain            " + EXPLAIN, "  --no-explain         " + NO_EXPLAIN,
                "Standard input is a script: ttrun run < FILE. Standard output is the report.\n"
                "With --failed it is a script, and after it histories or evidence of its test\n"
                "cases: cat FILE EVIDENCE | ttrun run --failed runs those that are missing, or\n"
                "have a verdict other than none and pass.\n",
-               "VERDICT is none, pass, inconc, fail or error. --shard K/N runs every N-th of\nthe chosen test cases, from the K-th on."
-               " --list takes no other option than\n--only, --shard and --failed, and --junit is not taken with --live.\n",
+               "VERDICT is none, pass, inconc, fail or error. A * in NAME stands for any\nletters, or none: --only 't_*'."
+               " --shard K/N runs every N-th of the chosen test\ncases, from the K-th on. --list takes no form, no --live, no --progress"
+               " and no\n--stop-on, and --junit is not taken with --live.\n",
                "Status: 0 for none and pass, 1 for inconc and fail, 2 for error, 3 for an\nabort or a refusal.\n")
 EXPLORE = ("looks for every overall verdict that a test case can have\n",
-           "  --history     writes a history for each verdict that was found\n",
-           "  --details     says where schedules part and who waits for whom\n",
-           "  --states <N>  looks at N states of a test case at most\n",
+           "  --history      writes a history for each verdict that was found\n",
+           "  --details      says where schedules part and who waits for whom\n",
+           "  --states <N>   looks at N states of a test case at most\n",
+           "  --only <NAME>  explores this test case; may be given again, for others\n",
+           "  --shard <K/N>  explores the K-th of N shards of the test cases\n",
+           "  --failed       leaves out what passed by evidence after the script\n",
+           "  --explain      " + EXPLAIN, "  --no-explain   " + NO_EXPLAIN,
            "Standard input is a script: ttrun explore < FILE. Standard output is a line\n"
            "for each test case: its name, the verdicts found, and how the search ended.\n"
-           "N is from 1 to 1000000, and 100000 without --states.\n",
+           "N is from 1 to 1000000, and 100000 without --states. --only, --shard and\n--failed choose test cases as those of run do.\n",
            "Status: 0 if each test case has one verdict, 1 if one has several, 3 if a\nsearch met its limit, or for a refusal.\n")
 REPORT = ("reads histories, and writes them in one of these forms\n",
           "  --csv          writes a table as CSV\n", "  --junit        writes a JUnit suite\n",
@@ -52,6 +58,7 @@ REPORT = ("reads histories, and writes them in one of these forms\n",
           "  --script       reads their script before them, and compares them with it\n",
           "  --only <NAME>  awaits this test case; may be given again, for others\n",
           "  --shard <K/N>  awaits the K-th of N shards of the test cases\n", "  --explain      " + EXPLAIN,
+          "  --no-explain   " + NO_EXPLAIN,
           "Standard input is histories or evidence: ttrun report --csv < FILE. Nothing is\n"
           "written to standard output if one of them is not legal. With --script it is\n"
           "what check --script reads, and --only and --shard choose as there. Test cases\n"
@@ -62,6 +69,7 @@ CHECK = ("replays histories and evidence, and says which are legal\n",
          "  --script       reads their script before them, and compares them with it\n",
          "  --only <NAME>  awaits this test case; may be given again, for others\n",
          "  --shard <K/N>  awaits the K-th of N shards of the test cases\n", "  --explain      " + EXPLAIN,
+         "  --no-explain   " + NO_EXPLAIN,
          "Standard input is histories or evidence: ttrun check < FILE. Standard output\n"
          "has a line for each, and none after the first that is not legal.\n"
          "With --script the input is a script, and after it histories or evidence of its\n"
@@ -73,7 +81,7 @@ CHECK = ("replays histories and evidence, and says which are legal\n",
          "  no course NAME     this is no complete course of the scripts of NAME\n",
          "  missing NAME       there is nothing of NAME\n",
          "Status: 0 if each history is legal, and with --script no such line is printed;\notherwise 3.\n")
-REPLAY = ("replays a list of moves, and prints each reply and the verdict\n", "  --explain  " + EXPLAIN,
+REPLAY = ("replays a list of moves, and prints each reply and the verdict\n", "  --explain     " + EXPLAIN, "  --no-explain  " + NO_EXPLAIN,
           "Standard input is a list of moves: ttrun replay < FILE. Standard output is a\n"
           "line for each reply, and then the overall verdict.\n",
           "Status: 0 for none and pass, 1 for inconc and fail, 2 for error, 3 for a\nrefusal.\n")
@@ -113,12 +121,12 @@ report => one of the arguments '--csv', '--junit' and '--html' is needed
 report -- => one of the arguments '--csv', '--junit' and '--html' is needed
 report --explain => one of the arguments '--csv', '--junit' and '--html' is needed
 check --explain --explain => the argument '--explain' cannot be used multiple times
-check --explain --script => the argument '--script' cannot be used with '--explain'
-check --script --explain => the argument '--script' cannot be used with '--explain'
+check --explain --no-explain => the argument '--explain' cannot be used with '--no-explain'
+check --no-explain --script --explain => the argument '--explain' cannot be used with '--no-explain'
+check --no-explain --no-explain => the argument '--no-explain' cannot be used multiple times
 check --script --script => the argument '--script' cannot be used multiple times
 check --script --shard => a value is required for '--shard <K/N>' but none was supplied
 check --script --shard 1/2 --shard 1/2 => the argument '--shard <K/N>' cannot be used multiple times
-check --script --explain --only a => the argument '--script' cannot be used with '--explain'
 check --only a => the arguments '--only' and '--shard' need '--script'
 check --shard 0/1 => the arguments '--only' and '--shard' need '--script'
 check --shard 1/2 --only a --explain => the arguments '--only' and '--shard' need '--script'
@@ -133,7 +141,7 @@ report --explain --csv --junit => the argument '--csv' cannot be used with '--ju
 report --html --csv => the argument '--csv' cannot be used with '--html'
 report --html --html => the argument '--html' cannot be used multiple times
 report --html --junit => the argument '--junit' cannot be used with '--html'
-report --explain --junit --script => the argument '--script' cannot be used with '--explain'
+report --explain --junit --no-explain => the argument '--explain' cannot be used with '--no-explain'
 report --junit --only a => the arguments '--only' and '--shard' need '--script'
 report --shard 1/2 => the arguments '--only' and '--shard' need '--script'
 report --script --only a => one of the arguments '--csv', '--junit' and '--html' is needed
@@ -151,9 +159,13 @@ run --evidence --evidence => the argument '--evidence' cannot be used multiple t
 run --evidence --history => the argument '--history' cannot be used with '--evidence'
 run --evidence --junit => the argument '--evidence' cannot be used with '--junit'
 run --evidence --list => the argument '--list' cannot be used with '--evidence'
-run --explain --failed => the argument '--failed' cannot be used with '--explain'
+run --no-explain --explain => the argument '--explain' cannot be used with '--no-explain'
 run --failed --failed => the argument '--failed' cannot be used multiple times
-run --explain --list => the argument '--list' cannot be used with '--explain'
+run --explain --list --no-explain => the argument '--explain' cannot be used with '--no-explain'
+replay --explain --no-explain => the argument '--explain' cannot be used with '--no-explain'
+explore --explain --no-explain => the argument '--explain' cannot be used with '--no-explain'
+explore --only => a value is required for '--only <NAME>' but none was supplied
+explore --shard 1/2 --shard 1/2 => the argument '--shard <K/N>' cannot be used multiple times
 run --history --csv => the argument '--csv' cannot be used with '--history'
 run --history --evidence => the argument '--history' cannot be used with '--evidence'
 run --history --history => the argument '--history' cannot be used multiple times
@@ -204,9 +216,7 @@ check --progress => unexpected argument '--progress' found
 check more => unexpected argument 'more' found
 explore --csv => unexpected argument '--csv' found
 explore --evidence => unexpected argument '--evidence' found
-explore --explain => unexpected argument '--explain' found
 explore --progress => unexpected argument '--progress' found
-explore --shard 1/2 => unexpected argument '--shard' found
 explore --stop-on fail => unexpected argument '--stop-on' found
 explore more => unexpected argument 'more' found
 replay --list => unexpected argument '--list' found
@@ -218,6 +228,7 @@ report --history => unexpected argument '--history' found
 report --live => unexpected argument '--live' found
 report more => unexpected argument 'more' found
 serve --explain => unexpected argument '--explain' found
+serve --no-explain => unexpected argument '--no-explain' found
 serve --evidence => unexpected argument '--evidence' found
 serve --history => unexpected argument '--history' found
 serve more => unexpected argument 'more' found
@@ -334,9 +345,9 @@ NEARLY = (("rnu", "run"), ("Run", "run"), ("runn", "run"), ("chec", "check"), ("
 NOT_NEARLY = ("list", "version", "frobnicate", "RUN", "help list", "help more")
 
 # Options that ask for nothing, and the subcommand whose usage is shown.
-USAGES = (("run --csv --junit", "run"), ("run --failed --explain", "run"), ("explore --details --history", "explore"), ("report", "report"),
+USAGES = (("run --csv --junit", "run"), ("run --no-explain --explain", "run"), ("explore --details --history", "explore"), ("report", "report"),
           ("report --csv --html", "report"), ("report --csv --only a", "report"), ("check --shard 1/2", "check"),
-          ("check --script --explain", "check"))
+          ("check --no-explain --explain", "check"))
 
 NOT_UTF8: List[Tuple[str, Tuple[Word, ...]]] = [
     ("a_word_that_is_not_utf8", (b"\xff",)),

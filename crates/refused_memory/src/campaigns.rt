@@ -10,7 +10,7 @@ use std::sync::Wait;
 use std::thread::Threads;
 use tc_book::{Halt, Pass};
 use tc_campaign::{Case, have_all, run_campaign};
-use tc_entry::{BEHAVIOURS, Name};
+use tc_entry::{BEHAVIOURS, Name, Pattern};
 use tc_exec::{Back, Callable, CaseError, Job, run_case};
 use tc_report::{CampaignEnd, Results};
 use tc_text::read_move;
@@ -161,10 +161,10 @@ fn run_kept<R: Threads + Wait + Copy + Send + 'static>(rt: &R, trial: &mut Trial
 
 /// What is asked of test cases before they are run, and runs that are refused, or run nothing, before they take memory.
 pub(crate) fn ask<R: Threads + Wait + Copy + Send + 'static>(rt: &R, trial: &mut Trial) {
-    if let Some((cases, name)) = cases(rt, trial.alloc).zip(Name::read("second")) {
+    if let Some((cases, pattern)) = cases(rt, trial.alloc).zip(Pattern::read("second")) {
         let none: Vec<Case<Caller<R>>> = Vec::new(trial.alloc);
         trial.begin_each("have_all run_campaign");
-        trial.holds(have_all(cases.as_slice(), &[name]));
+        trial.holds(have_all(cases.as_slice(), &[pattern]));
         let results = run_campaign(rt, trial.alloc, none, None, 1);
         tell_number(&mut trial.out, results.finished.as_slice().len());
         trial.end();

@@ -1,13 +1,13 @@
 -- Which test cases of a campaign are chosen.
 use Rattle.std.specs.Prelude.{ℕ, ◌≡◌, ◌+◌, ◌<◌, ◌==◌, ◌||◌, Bool, true, List, [], ◌∷◌, Option, Some, None, filter, if◌then◌else◌, length}
 use Rattle.std.specs.List.{list_all, list_any}
-use Rattle.std.specs.Str.{bytes_eq}
 use Rattle.tc_campaign.specs.declared.case.Case.{Case}
+use Rattle.tc_entry.specs.Pattern.{matches}
 use Rattle.tc_entry.specs.Shard.{IsShard, ShardView, has_place}
 
--- the name is asked for; if none is, each is
+-- one of the patterns that are asked for matches the name; if there is none, each name is asked for
 abbrev pub is_asked : List (List ℕ) → List ℕ → Bool
-is_asked only name = (length only == 0) || list_any (λ word. bytes_eq word name) only
+is_asked only name = (length only == 0) || list_any (λ pattern. matches pattern name) only
 
 -- those of the shard, if the first is at this place
 abbrev pub placed : {C : Type 0} → ShardView → ℕ → List C → List C
@@ -28,9 +28,9 @@ module _ {C : Type 0} (name_of : C → List ℕ) where
   abbrev pub chosen : List (List ℕ) → Option ShardView → List C → List C
   chosen only shard cs = in_shard shard (named only cs)
 
-  -- each name that is asked for is that of a test case
+  -- each pattern that is asked for matches the name of a test case
   abbrev pub have_names : List (List ℕ) → List C → Bool
-  have_names only cs = list_all (λ word. list_any (λ c. bytes_eq word (name_of c)) cs) only
+  have_names only cs = list_all (λ pattern. list_any (λ c. matches pattern (name_of c)) cs) only
 
 -- the name of a test case
 abbrev pub case_name : {B : Type 0} → Case B → List ℕ

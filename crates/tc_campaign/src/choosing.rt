@@ -1,28 +1,22 @@
 //! Which test cases of a campaign are chosen.
 ghost use Rattle.std.specs.Prelude.{◌≡◌, ◌++◌, IfOk, OnOk};
 ghost use Rattle.std.specs.List.{list_any};
-ghost use Rattle.std.specs.Str.{bytes_eq};
+ghost use Rattle.tc_entry.specs.Pattern.{matches};
 ghost use Rattle.tc_campaign.specs.Choosing.{case_name, chosen, have_names, is_asked as spec_asked, named as spec_named, placed};
 
 use crate::case::Case;
 use std::alloc::Global;
-use tc_entry::{Name, NoMemory, Shard};
+use tc_entry::{Name, NoMemory, Pattern, Shard};
 
-fn is_same(name: &Name, other: &Name) -> bool
-    ensures { result ≡ bytes_eq name.now other.now }
-{
-    name.bytes() == other.bytes()
-}
-
-// Whether the name is asked for; if none is, each is.
-fn is_asked(only: &[Name], name: &Name) -> bool
+// Whether the name is asked for; without a pattern each is.
+fn is_asked(only: &[Pattern], name: &Name) -> bool
     ensures { result ≡ spec_asked only.now name.now }
 {
-    only.is_empty() || only.contains(name)
+    only.is_empty() || only.iter().any(|pattern| pattern.matches(name))
 }
 
 // Those whose names are asked for.
-fn named<B: Drop>(cases: Vec<Case<B>>, only: &[Name]) -> Vec<Case<B>>
+fn named<B: Drop>(cases: Vec<Case<B>>, only: &[Pattern]) -> Vec<Case<B>>
     ensures { result.items ≡ spec_named case_name only.now cases.items }
 {
     let mut cases = cases;
@@ -60,12 +54,12 @@ fn sharded<B: Drop>(
     Ok(taken)
 }
 
-/// The test cases whose names are asked for, in their order, and of these the ones in the shard; if no name is asked
-/// for all of them, and without a shard all of these.
+/// The test cases whose names one of the patterns matches, in their order, and of these the ones in the shard; without
+/// a pattern all of them, and without a shard all of these.
 pub fn choose<B: Drop>(
     alloc: Global,
     cases: Vec<Case<B>>,
-    only: &[Name],
+    only: &[Pattern],
     shard: Option<Shard>,
 ) -> Result<Vec<Case<B>>, NoMemory>
     ensures { IfOk result (λ r. r.items ≡ chosen case_name only.now shard cases.items) }
@@ -77,16 +71,16 @@ pub fn choose<B: Drop>(
     }
 }
 
-// Whether a test case has the name.
-fn has_case<B: Drop>(cases: &[Case<B>], name: &Name) -> bool
-    ensures { result ≡ list_any (λ c. bytes_eq name.now (case_name c)) cases.now }
+// Whether the pattern matches the name of a test case.
+fn has_case<B: Drop>(cases: &[Case<B>], pattern: &Pattern) -> bool
+    ensures { result ≡ list_any (λ c. matches pattern.now (case_name c)) cases.now }
 {
-    cases.iter().any(|case| is_same(name, &case.name))
+    cases.iter().any(|case| pattern.matches(&case.name))
 }
 
-/// Whether each of these names is that of a test case.
-pub fn have_all<B: Drop>(cases: &[Case<B>], only: &[Name]) -> bool
+/// Whether each of these patterns matches the name of a test case.
+pub fn have_all<B: Drop>(cases: &[Case<B>], only: &[Pattern]) -> bool
     ensures { result ≡ have_names case_name only.now cases.now }
 {
-    only.iter().all(|name| has_case(cases, name))
+    only.iter().all(|pattern| has_case(cases, pattern))
 }

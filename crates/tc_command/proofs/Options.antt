@@ -2,7 +2,7 @@
 use Rattle.std.proofs.Common.{ℕ, ◌≡◌, ◌∙◌, ◌+◌, ◌<◌, ◌++◌, ◌∷◌, refl, All, ap, get_or, length, map, subst, sym, take, Option, Some, None, List, []}
 use Rattle.std.proofs.lemmas.List.{get_or-map, length-map, map-append, take_more}
 use Rattle.std.proofs.lemmas.List.Elements.{All-push}
-use Rattle.tc_entry.specs.Name.{IsName}
+use Rattle.tc_entry.specs.Pattern.{IsPattern}
 use Rattle.std.specs.Prelude.{find, option_map, option_and_then, unwrap_or}
 use Rattle.std.specs.Borrow.{Bor}
 use Rattle.std.specs.Str.{bytes_eq}
@@ -43,11 +43,11 @@ words_more words i d within =
     ap (map (λ (w : Bor Text). w.now)) (take_more words i d within) ∙ map-append (λ (w : Bor Text). w.now) (take i words) (get_or words i d ∷ [])
 
 -- one more word that is a name
-pub names_more : (words : List (Bor Text)) (i : ℕ) (d : Bor Text) → i < length words → All IsName (map (λ w. w.now) (take i words)) → IsName (get_or words i d).now
-    → All IsName (map (λ w. w.now) (take (i + 1) words))
+pub names_more : (words : List (Bor Text)) (i : ℕ) (d : Bor Text) → i < length words → All IsPattern (map (λ w. w.now) (take i words)) → IsPattern (get_or words i d).now
+    → All IsPattern (map (λ w. w.now) (take (i + 1) words))
 names_more words i d within so one =
-    subst (All IsName) (sym (words_more words i d within)) (All-push IsName (map (λ (w : Bor Text). w.now) (take i words)) (get_or words i d).now so one)
+    subst (All IsPattern) (sym (words_more words i d within)) (All-push IsPattern (map (λ (w : Bor Text). w.now) (take i words)) (get_or words i d).now so one)
 
 -- if all words are names, each is one
-pub name_at : (words : List (Bor Text)) (i : ℕ) (d : Bor Text) → i < length words → All IsName (map (λ w. w.now) words) → IsName (get_or words i d).now
-name_at words i d within all = subst IsName (get_or-map (λ (w : Bor Text). w.now) words i d d.now within) (all i d.now (subst (λ n. i < n) (sym (length-map words (λ (w : Bor Text). w.now))) within))
+pub name_at : (words : List (Bor Text)) (i : ℕ) (d : Bor Text) → i < length words → All IsPattern (map (λ w. w.now) words) → IsPattern (get_or words i d).now
+name_at words i d within all = subst IsPattern (get_or-map (λ (w : Bor Text). w.now) words i d d.now within) (all i d.now (subst (λ n. i < n) (sym (length-map words (λ (w : Bor Text). w.now))) within))

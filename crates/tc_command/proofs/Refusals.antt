@@ -1,6 +1,6 @@
 -- What the words are read as, by what the parse answered and what the options ask for.
 use Rattle.std.proofs.Common.{◌≡◌, ◌∙◌, true, sym, ap, subst, List, [], Result, Ok, Err, inl, inr}
-use Rattle.std.specs.Prelude.{Option}
+use Rattle.std.specs.Prelude.{Bool, Option}
 use Rattle.std.specs.Result.{IsErrAnd}
 use Rattle.clap.specs.Words.{App, HasKind, Row, Text, fault_of, is_simple_and_free, kind_of, subcommand_of}
 use Rattle.clap.specs.Simple.{is_simple}
@@ -16,12 +16,12 @@ use Rattle.tc_command.specs.declared.refusal.Refusal.TheVariants as R
 use Rattle.tc_command.specs.declared.task.Task.{Task}
 
 -- what the parse refuses is refused, for the same reason
-pub parse_refuses : (app : App) (words : List Text) (e : Error) → app ≡ ttrun
-    → (is_simple_and_free app ≡ true → HasKind (fault_of app words) e) → IsReading words (Err (Told.Line e))
-parse_refuses app words e is kinds =
+pub parse_refuses : (at : Bool) (app : App) (words : List Text) (e : Error) → app ≡ ttrun
+    → (is_simple_and_free app ≡ true → HasKind (fault_of app words) e) → IsReading at words (Err (Told.Line e))
+parse_refuses at app words e is kinds =
     first_fails (fault_of ttrun words) _ (kind_of e) (subst (λ a. HasKind (fault_of a words) e) is (kinds (ap is_simple_and_free is)))
 
-module _ (app : App) (words : List Text) (found : Option (Text × List Row)) (is : app ≡ ttrun) (free : is_simple_and_free app ≡ true → fault_of app words ≡ [])
+module _ (at : Bool) (app : App) (words : List Text) (found : Option (Text × List Row)) (is : app ≡ ttrun) (free : is_simple_and_free app ≡ true → fault_of app words ≡ [])
     (same : is_simple app ≡ true → found ≡ subcommand_of app words) where
   -- the line is that of the words
   line_is : line_of found ≡ line_of (subcommand_of ttrun words)
@@ -32,11 +32,11 @@ module _ (app : App) (words : List Text) (found : Option (Text × List Row)) (is
   faults_are = past (fault_of ttrun words) _ (ap (λ x. fault_of x words) (sym is) ∙ free (ap is_simple_and_free is)) ∙ sym (ap option_faults line_is)
 
   -- what its options ask for is read
-  pub task_read : (task : Task) → IsTaken (line_of found) task → IsReading words (Ok task)
-  task_read task taken = (faults_are ∙ taken.0, subst (λ line. Asks line task) line_is taken.1)
+  pub task_read : (task : Task) → IsTaken at (line_of found) task → IsReading at words (Ok task)
+  task_read task taken = (faults_are ∙ taken.0, subst (λ line. Asks at line task) line_is taken.1)
 
   -- what is known of its options is why the words are refused
-  pub refusal_read : (refusal : Refusal) (refused : Refused) → IsRefusedBy (line_of found) refusal → IsToldBy refusal refused → IsReading words (Err refused)
+  pub refusal_read : (refusal : Refusal) (refused : Refused) → IsRefusedBy (line_of found) refusal → IsToldBy refusal refused → IsReading at words (Err refused)
   refusal_read (R.Conflict first second) (Told.Line e) why told = subst (λ k. HasKind k e) (sym (faults_are ∙ why)) (inr (inl told))
   refusal_read (R.Conflict first second) (Told.Word f) why told = absurd told
   refusal_read R.NoForm (Told.Line e) why told = subst (λ k. HasKind k e) (sym (faults_are ∙ why)) (inr (inl told))
@@ -48,6 +48,6 @@ module _ (app : App) (words : List Text) (found : Option (Text × List Row)) (is
   refusal_read R.NoMemory refused why told = absurd told
 
 -- an answer that is this error is read as it is
-pub fails_so : (words : List Text) (r : Result Task Refused) (e : Error) → IsErrAnd r (λ x. x ≡ Told.Line e) → IsReading words (Err (Told.Line e)) → IsReading words r
-fails_so words (Ok x) e is reads = absurd is
-fails_so words (Err x) e is reads = subst (λ r. IsReading words (Err r)) (sym is) reads
+pub fails_so : (at : Bool) (words : List Text) (r : Result Task Refused) (e : Error) → IsErrAnd r (λ x. x ≡ Told.Line e) → IsReading at words (Err (Told.Line e)) → IsReading at words r
+fails_so at words (Ok x) e is reads = absurd is
+fails_so at words (Err x) e is reads = subst (λ r. IsReading at words (Err r)) (sym is) reads

@@ -8,12 +8,13 @@ use Rattle.clap.specs.Kinds.{Kinds, or_else}
 use Rattle.clap.specs.declared.error.kind.ErrorKind.TheVariants.{ArgumentConflict, MissingRequiredArgument}
 use Rattle.clap.specs.declared.parser.matches.ValueSource.{ValueSource}
 use Rattle.clap.specs.declared.parser.matches.ValueSource.TheVariants.{CommandLine}
-use Rattle.tc_entry.specs.Name.{IsName}
+use Rattle.tc_entry.specs.Pattern.{IsPattern}
 use Rattle.tc_command.specs.declared.command.Subcommand.{Subcommand}
 use Rattle.tc_command.specs.declared.command.Subcommand.TheVariants as S
 use Rattle.tc_command.specs.declared.read.Refused.{Refused}
 use Rattle.tc_command.specs.declared.read.Refused.TheVariants as R
 use Rattle.tc_command.specs.declared.task.Choice.{Choice}
+use Rattle.tc_command.specs.declared.task.ExploreOptions.{ExploreOptions}
 use Rattle.tc_command.specs.declared.task.Form.{Form}
 use Rattle.tc_command.specs.declared.task.Form.TheVariants as form
 use Rattle.tc_command.specs.declared.task.ReportForm.{ReportForm}
@@ -60,11 +61,12 @@ apart S.Run =
     ∷ (codes "history", codes "evidence") ∷ (codes "history", codes "junit") ∷ (codes "evidence", codes "junit")
     ∷ (codes "list", codes "csv") ∷ (codes "list", codes "history") ∷ (codes "list", codes "evidence") ∷ (codes "list", codes "junit")
     ∷ (codes "list", codes "live")
-    ∷ (codes "list", codes "progress") ∷ (codes "list", codes "stop-on") ∷ (codes "list", codes "explain") ∷ (codes "junit", codes "live")
-    ∷ (codes "failed", codes "explain") ∷ []
-apart S.Check = (codes "script", codes "explain") ∷ []
-apart S.Explore = (codes "history", codes "details") ∷ []
-apart S.Report = (codes "csv", codes "junit") ∷ (codes "csv", codes "html") ∷ (codes "junit", codes "html") ∷ (codes "script", codes "explain") ∷ []
+    ∷ (codes "list", codes "progress") ∷ (codes "list", codes "stop-on") ∷ (codes "junit", codes "live")
+    ∷ (codes "explain", codes "no-explain") ∷ []
+apart S.Check = (codes "explain", codes "no-explain") ∷ []
+apart S.Replay = (codes "explain", codes "no-explain") ∷ []
+apart S.Explore = (codes "history", codes "details") ∷ (codes "explain", codes "no-explain") ∷ []
+apart S.Report = (codes "csv", codes "junit") ∷ (codes "csv", codes "html") ∷ (codes "junit", codes "html") ∷ (codes "explain", codes "no-explain") ∷ []
 apart subcommand = []
 
 -- both options of a pair are given
@@ -112,6 +114,10 @@ option_faults line =
 abbrev pub faults : List Text → Kinds
 faults words = or_else (fault_of ttrun words) (option_faults (line_of (subcommand_of ttrun words)))
 
+-- faults are explained: if that is asked for, and at a terminal unless it is declined
+abbrev pub is_explained : Bool → List Row → Bool
+is_explained at_terminal rows = is_given rows (codes "explain") || (at_terminal && not (is_given rows (codes "no-explain")))
+
 -- the options choose these test cases
 pub record Chooses (rows : List Row) (c : Choice) : Type 0 where
   pub only : c.only.items ≡ words_of (codes "only") rows
@@ -119,41 +125,52 @@ pub record Chooses (rows : List Row) (c : Choice) : Type 0 where
   pub failed : c.failed ≡ is_given rows (codes "failed")
 
 -- the options ask for a run so
-pub record AsksRun (rows : List Row) (o : RunOptions) : Type 0 where
+pub record AsksRun (at_terminal : Bool) (rows : List Row) (o : RunOptions) : Type 0 where
   pub form : o.form ≡ form_of rows
   pub live : o.live ≡ is_given rows (codes "live")
   pub progress : o.progress ≡ is_given rows (codes "progress")
   pub stop_on : IsRuleOf (first_of (codes "stop-on") rows) o.stop_on
   pub choice : Chooses rows o.choice
-  pub explains : o.explains ≡ is_given rows (codes "explain")
+  pub explains : o.explains ≡ is_explained at_terminal rows
+
+-- the options ask for such an exploration
+pub record AsksExplore (at_terminal : Bool) (rows : List Row) (o : ExploreOptions) : Type 0 where
+  pub histories : o.histories ≡ is_given rows (codes "history")
+  pub details : o.details ≡ is_given rows (codes "details")
+  pub states : IsStatesOf (first_of (codes "states") rows) o.states
+  pub choice : Chooses rows o.choice
+  pub explains : o.explains ≡ is_explained at_terminal rows
 
 -- the subcommand with its options asks for this task
-abbrev pub Asks : Subcommand × List Row → Task → Type 0
-Asks (S.Check, rows) (T.Check explains) = (is_given rows (codes "script") ≡ false) × (explains ≡ is_given rows (codes "explain"))
-Asks (S.Check, rows) (T.Compare None c) = (is_given rows (codes "script") ≡ true) × Chooses rows c
-Asks (S.Replay, rows) (T.Replay explains) = explains ≡ is_given rows (codes "explain")
-Asks (S.Report, rows) (T.Report f explains) = (is_given rows (codes "script") ≡ false) × (report_form_of rows ≡ Some f) × (explains ≡ is_given rows (codes "explain"))
-Asks (S.Report, rows) (T.Compare (Some f) c) = (is_given rows (codes "script") ≡ true) × (report_form_of rows ≡ Some f) × Chooses rows c
-Asks (S.Explore, rows) (T.Explore histories details states) =
-    (histories ≡ is_given rows (codes "history")) × (details ≡ is_given rows (codes "details")) × IsStatesOf (first_of (codes "states") rows) states
-Asks (S.Run, rows) (T.Run o) = (is_given rows (codes "list") ≡ false) × AsksRun rows o
-Asks (S.Run, rows) (T.List c) = (is_given rows (codes "list") ≡ true) × Chooses rows c
-Asks (S.Serve, rows) T.Serve = Unit {0}
-Asks line task = ⊥
+abbrev pub Asks : Bool → Subcommand × List Row → Task → Type 0
+Asks at (S.Check, rows) (T.Check explains) = (is_given rows (codes "script") ≡ false) × (explains ≡ is_explained at rows)
+Asks at (S.Check, rows) (T.Compare None c explains) = (is_given rows (codes "script") ≡ true) × Chooses rows c × (explains ≡ is_explained at rows)
+Asks at (S.Replay, rows) (T.Replay explains) = explains ≡ is_explained at rows
+Asks at (S.Report, rows) (T.Report f explains) =
+    (is_given rows (codes "script") ≡ false) × (report_form_of rows ≡ Some f) × (explains ≡ is_explained at rows)
+Asks at (S.Report, rows) (T.Compare (Some f) c explains) =
+    (is_given rows (codes "script") ≡ true) × (report_form_of rows ≡ Some f) × Chooses rows c × (explains ≡ is_explained at rows)
+Asks at (S.Explore, rows) (T.Explore o) = AsksExplore at rows o
+Asks at (S.Run, rows) (T.Run o) = (is_given rows (codes "list") ≡ false) × AsksRun at rows o
+Asks at (S.Run, rows) (T.List c explains) = (is_given rows (codes "list") ≡ true) × Chooses rows c × (explains ≡ is_explained at rows)
+Asks at (S.Serve, rows) T.Serve = Unit {0}
+Asks at line task = ⊥
 
 -- a value of these options names nothing, and it is the first: that of --shard, then those of --only, and then that of
 -- --stop-on or --states
 abbrev pub HasBadWord : List Row → WordFault → Type 0
 HasBadWord rows W.Shard = IsBad IsShardOf (first_of (codes "shard") rows)
-HasBadWord rows W.Only = IsGood IsShardOf (first_of (codes "shard") rows) × (All IsName (words_of (codes "only") rows) → ⊥)
+HasBadWord rows W.Only = IsGood IsShardOf (first_of (codes "shard") rows) × (All IsPattern (words_of (codes "only") rows) → ⊥)
 HasBadWord rows W.StopOn =
-    IsGood IsShardOf (first_of (codes "shard") rows) × All IsName (words_of (codes "only") rows)
+    IsGood IsShardOf (first_of (codes "shard") rows) × All IsPattern (words_of (codes "only") rows)
     × IsBad IsRuleOf (first_of (codes "stop-on") rows)
-HasBadWord rows W.States = IsBad IsStatesOf (first_of (codes "states") rows)
+HasBadWord rows W.States =
+    IsGood IsShardOf (first_of (codes "shard") rows) × All IsPattern (words_of (codes "only") rows)
+    × IsBad IsStatesOf (first_of (codes "states") rows)
 
 -- what the arguments are read as: the task that they ask for; or clap's error, of the kind of their first fault; or, if
 -- there is none, an option value that names nothing
-abbrev pub IsReading : List Text → Result Task Refused → Type 0
-IsReading words (Ok task) = (faults words ≡ []) × Asks (line_of (subcommand_of ttrun words)) task
-IsReading words (Err (R.Line e)) = HasKind (faults words) e
-IsReading words (Err (R.Word fault)) = (faults words ≡ []) × HasBadWord (line_of (subcommand_of ttrun words)).1 fault
+abbrev pub IsReading : Bool → List Text → Result Task Refused → Type 0
+IsReading at_terminal words (Ok task) = (faults words ≡ []) × Asks at_terminal (line_of (subcommand_of ttrun words)) task
+IsReading at_terminal words (Err (R.Line e)) = HasKind (faults words) e
+IsReading at_terminal words (Err (R.Word fault)) = (faults words ≡ []) × HasBadWord (line_of (subcommand_of ttrun words)).1 fault

@@ -20,31 +20,37 @@ abbrev pub with_rules : App → List Rule → App
 with_rules app [] = app
 with_rules app (rule ∷ rules) = with_rules (with_rule app rule) rules
 
+-- the options of each command that reads a text whole: whether a fault of it is explained
+abbrev pub explaining : List Rule
+explaining = flag_rule (codes "explain") ∷ flag_rule (codes "no-explain") ∷ []
+
 -- the options of `run`: its forms, as it finishes, how it is stopped, which test cases, and whether a fault is explained
 abbrev pub run : App
 run = with_rules (new_app (codes "run")) (
     flag_rule (codes "csv") ∷ flag_rule (codes "history") ∷ flag_rule (codes "evidence") ∷ flag_rule (codes "junit")
     ∷ flag_rule (codes "live") ∷ flag_rule (codes "progress")
     ∷ word_rule (codes "stop-on") ∷ flag_rule (codes "list") ∷ words_rule (codes "only") ∷ word_rule (codes "shard")
-    ∷ flag_rule (codes "failed") ∷ flag_rule (codes "explain") ∷ [])
+    ∷ flag_rule (codes "failed") ∷ explaining)
 
 -- the options of `explore`
 abbrev pub explore : App
-explore = with_rules (new_app (codes "explore")) (flag_rule (codes "history") ∷ flag_rule (codes "details") ∷ word_rule (codes "states") ∷ [])
+explore = with_rules (new_app (codes "explore")) (
+    flag_rule (codes "history") ∷ flag_rule (codes "details") ∷ word_rule (codes "states")
+    ∷ words_rule (codes "only") ∷ word_rule (codes "shard") ∷ flag_rule (codes "failed") ∷ explaining)
 
 -- the options of `report`
 abbrev pub report : App
 report = with_rules (new_app (codes "report")) (
     flag_rule (codes "csv") ∷ flag_rule (codes "junit") ∷ flag_rule (codes "html")
-    ∷ flag_rule (codes "script") ∷ words_rule (codes "only") ∷ word_rule (codes "shard") ∷ flag_rule (codes "explain") ∷ [])
+    ∷ flag_rule (codes "script") ∷ words_rule (codes "only") ∷ word_rule (codes "shard") ∷ explaining)
 
 -- the options of `check`
 abbrev pub check : App
-check = with_rules (new_app (codes "check")) (flag_rule (codes "script") ∷ words_rule (codes "only") ∷ word_rule (codes "shard") ∷ flag_rule (codes "explain") ∷ [])
+check = with_rules (new_app (codes "check")) (flag_rule (codes "script") ∷ words_rule (codes "only") ∷ word_rule (codes "shard") ∷ explaining)
 
--- the option of `replay`
+-- the options of `replay`
 abbrev pub replay : App
-replay = with_rules (new_app (codes "replay")) (flag_rule (codes "explain") ∷ [])
+replay = with_rules (new_app (codes "replay")) explaining
 
 -- a command that prints its version
 abbrev pub with_version : App → App

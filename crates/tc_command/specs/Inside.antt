@@ -44,8 +44,8 @@ IsWordRefused rows R.NoMemory = Unit {0}
 IsWordRefused rows refusal = ⊥
 
 -- options are taken, and ask for this task
-abbrev pub IsTaken : Subcommand × List Row → Task → Type 0
-IsTaken line task = (option_faults line ≡ []) × Asks line task
+abbrev pub IsTaken : Bool → Subcommand × List Row → Task → Type 0
+IsTaken at_terminal line task = (option_faults line ≡ []) × Asks at_terminal line task
 
 -- how the refusal is said: by an error of its kind, or as a value that names nothing
 abbrev pub IsToldBy : Refusal → Refused → Type 0

@@ -33,9 +33,10 @@ With --failed it is a script, and after it histories or evidence of its test
 cases: cat FILE EVIDENCE | ttrun run --failed runs those that are missing, or
 have a verdict other than none and pass.
 
-VERDICT is none, pass, inconc, fail or error. --shard K/N runs every N-th of
-the chosen test cases, from the K-th on. --list takes no other option than
---only, --shard and --failed, and --junit is not taken with --live.
+VERDICT is none, pass, inconc, fail or error. A * in NAME stands for any
+letters, or none: --only 't_*'. --shard K/N runs every N-th of the chosen test
+cases, from the K-th on. --list takes no form, no --live, no --progress and no
+--stop-on, and --junit is not taken with --live.
 Status: 0 for none and pass, 1 for inconc and fail, 2 for error, 3 for an
 abort or a refusal.";
 
@@ -43,7 +44,8 @@ abort or a refusal.";
 const EXPLORE_HELP: &str = "\
 Standard input is a script: ttrun explore < FILE. Standard output is a line
 for each test case: its name, the verdicts found, and how the search ended.
-N is from 1 to 1000000, and 100000 without --states.
+N is from 1 to 1000000, and 100000 without --states. --only, --shard and
+--failed choose test cases as those of run do.
 Status: 0 if each test case has one verdict, 1 if one has several, 3 if a
 search met its limit, or for a refusal.";
 
@@ -112,6 +114,19 @@ const EXPLAIN: OptionRow = OptionRow(
     "says more of the fault of a refused text",
 );
 
+const NO_EXPLAIN: OptionRow = OptionRow(
+    "no-explain",
+    Takes::Nothing,
+    "says no more of it, also at a terminal",
+);
+
+// The option of a script with evidence after it.
+const FAILED: OptionRow = OptionRow(
+    "failed",
+    Takes::Nothing,
+    "leaves out what passed by evidence after the script",
+);
+
 // The options of histories next to their script, as `run` was given them.
 const SCRIPT: OptionRow = OptionRow(
     "script",
@@ -131,7 +146,7 @@ const SCRIPT_SHARD: OptionRow = OptionRow(
     "awaits the K-th of N shards of the test cases",
 );
 
-const RUN_OPTIONS: [OptionRow; 12] = [
+const RUN_OPTIONS: [OptionRow; 13] = [
     OptionRow("csv", Takes::Nothing, "writes the report as CSV"),
     OptionRow(
         "history",
@@ -178,15 +193,12 @@ const RUN_OPTIONS: [OptionRow; 12] = [
         Takes::Word("K/N"),
         "runs the K-th of N shards of the test cases",
     ),
-    OptionRow(
-        "failed",
-        Takes::Nothing,
-        "leaves out what passed by evidence after the script",
-    ),
+    FAILED,
     EXPLAIN,
+    NO_EXPLAIN,
 ];
 
-const EXPLORE_OPTIONS: [OptionRow; 3] = [
+const EXPLORE_OPTIONS: [OptionRow; 8] = [
     OptionRow(
         "history",
         Takes::Nothing,
@@ -202,11 +214,24 @@ const EXPLORE_OPTIONS: [OptionRow; 3] = [
         Takes::Word("N"),
         "looks at N states of a test case at most",
     ),
+    OptionRow(
+        "only",
+        Takes::Words("NAME"),
+        "explores this test case; may be given again, for others",
+    ),
+    OptionRow(
+        "shard",
+        Takes::Word("K/N"),
+        "explores the K-th of N shards of the test cases",
+    ),
+    FAILED,
+    EXPLAIN,
+    NO_EXPLAIN,
 ];
 
-const CHECK_OPTIONS: [OptionRow; 4] = [SCRIPT, SCRIPT_ONLY, SCRIPT_SHARD, EXPLAIN];
+const CHECK_OPTIONS: [OptionRow; 5] = [SCRIPT, SCRIPT_ONLY, SCRIPT_SHARD, EXPLAIN, NO_EXPLAIN];
 
-const REPORT_OPTIONS: [OptionRow; 7] = [
+const REPORT_OPTIONS: [OptionRow; 8] = [
     OptionRow("csv", Takes::Nothing, "writes a table as CSV"),
     OptionRow("junit", Takes::Nothing, "writes a JUnit suite"),
     OptionRow("html", Takes::Nothing, "writes a page for a browser"),
@@ -214,6 +239,7 @@ const REPORT_OPTIONS: [OptionRow; 7] = [
     SCRIPT_ONLY,
     SCRIPT_SHARD,
     EXPLAIN,
+    NO_EXPLAIN,
 ];
 
 // An option that takes no value.
@@ -342,7 +368,7 @@ fn replay_command<'a>(alloc: Global) -> Result<Command<'a>, AllocError>
         "replay",
         "replays a list of moves, and prints each reply and the verdict",
     );
-    with_options(alloc, command.after_help(REPLAY_HELP), &[EXPLAIN])
+    with_options(alloc, command.after_help(REPLAY_HELP), &[EXPLAIN, NO_EXPLAIN])
 }
 
 fn serve_command<'a>(alloc: Global) -> Command<'a>

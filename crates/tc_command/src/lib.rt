@@ -10,6 +10,6 @@ mod word;
 
 pub use command::VERSION;
 pub use read::{Refused, read_task};
-pub use task::{Choice, Form, ReportForm, RunOptions, Task};
+pub use task::{Choice, ExploreOptions, Form, ReportForm, RunOptions, Task};
 pub use tc_entry::Shard;
 pub use word::WordFault;

@@ -2,9 +2,9 @@
 ghost use Rattle.std.specs.Prelude.{◌≡◌, All, IfOk, IfErr, List, OnOk, Some, codes, false, map, option_copied, string_bytes, true};
 ghost use Rattle.std.specs.List.{list_any};
 ghost use Rattle.clap.specs.Words.{FailsBy, Row, app_of, fault_of, first_of, found_of, is_simple, is_simple_and_free, rows_of, subcommand_of, subcommand_rows_of};
-ghost use Rattle.tc_entry.specs.Name.{IsName};
+ghost use Rattle.tc_entry.specs.Pattern.{IsPattern};
 ghost use Rattle.tc_command.specs.Command.{ttrun};
-ghost use Rattle.tc_command.specs.Asked.{Asks, AsksRun, Chooses, IsReading, apart as spec_apart, are_both, form_of, is_given, lacks_script as spec_lacks, line_of};
+ghost use Rattle.tc_command.specs.Asked.{Asks, AsksRun, Chooses, IsReading, apart as spec_apart, are_both, form_of, is_explained, is_given, lacks_script as spec_lacks, line_of};
 ghost use Rattle.tc_command.specs.Asked.{report_form_of, subcommand_named as spec_named, words_of};
 ghost use Rattle.tc_command.specs.Words.{IsGood, IsShardOf};
 ghost use Rattle.tc_command.specs.Inside.{IsBadWord, IsClash, IsRefusedBy, IsTaken, IsWordRefused};
@@ -14,12 +14,12 @@ ghost use Rattle.tc_command.specs.declared.word.WordFault.TheVariants as fault;
 use crate::command::{Subcommand, command};
 use crate::refusal::{Refusal, told_of};
 use crate::stray::with_tip;
-use crate::task::{Choice, Form, ReportForm, RunOptions, Task};
+use crate::task::{Choice, ExploreOptions, Form, ReportForm, RunOptions, Task};
 use crate::word::{self, WordFault};
 use clap::parser::ValueSource;
 use clap::{ArgMatches, Command, Error};
 use std::alloc::{AllocError, Global};
-use tc_entry::Name;
+use tc_entry::Pattern;
 
 /// Why arguments ask for no task.
 #[derive(Drop)]
@@ -60,19 +60,18 @@ fn apart(subcommand: Subcommand) -> &'static [(&'static str, &'static str)]
             ("list", "live"),
             ("list", "progress"),
             ("list", "stop-on"),
-            ("list", "explain"),
             ("junit", "live"),
-            ("failed", "explain"),
+            ("explain", "no-explain"),
         ],
-        Subcommand::Explore => &[("history", "details")],
+        Subcommand::Explore => &[("history", "details"), ("explain", "no-explain")],
         Subcommand::Report => &[
             ("csv", "junit"),
             ("csv", "html"),
             ("junit", "html"),
-            ("script", "explain"),
+            ("explain", "no-explain"),
         ],
-        Subcommand::Check => &[("script", "explain")],
-        Subcommand::Replay | Subcommand::Serve => &[],
+        Subcommand::Check | Subcommand::Replay => &[("explain", "no-explain")],
+        Subcommand::Serve => &[],
     }
 }
 
@@ -98,6 +97,13 @@ fn refuse_both(
         }
     }
     Ok(())
+}
+
+// Whether faults are explained: if that is asked for, and at a terminal unless it is declined.
+fn explains(options: &ArgMatches<'_>, at_terminal: bool) -> bool
+    ensures { result ≡ is_explained at_terminal (rows_of (found_of options.now)) }
+{
+    has_option(options, "explain") || (at_terminal && !has_option(options, "no-explain"))
 }
 
 // The value of this option, the first if it has more.
@@ -140,17 +146,17 @@ fn report_form(options: &ArgMatches<'_>) -> Option<ReportForm>
     }
 }
 
-// The names that `--only` is given.
+// The patterns that `--only` is given.
 #[tactic(auto, using(crate::proofs::Options::words_are, crate::proofs::Options::no_words))]
-fn names(alloc: Global, options: &ArgMatches<'_>) -> Result<Vec<Name>, Refusal>
+fn patterns(alloc: Global, options: &ArgMatches<'_>) -> Result<Vec<Pattern>, Refusal>
     ensures taken { IfOk result (λ v. v.items ≡ words_of (codes "only") (rows_of (found_of options.now))) }
-    ensures good { OnOk result (All IsName (words_of (codes "only") (rows_of (found_of options.now)))) }
-    ensures refused { IfErr result (IsBadWord (All IsName (words_of (codes "only") (rows_of (found_of options.now))) → ⊥) fault.Only) }
+    ensures good { OnOk result (All IsPattern (words_of (codes "only") (rows_of (found_of options.now)))) }
+    ensures refused { IfErr result (IsBadWord (All IsPattern (words_of (codes "only") (rows_of (found_of options.now))) → ⊥) fault.Only) }
 {
     match options.get_strs("only") {
         Some(words) => {
             let words = words.to_vec(alloc)?;
-            word::names(alloc, words.as_slice())
+            word::patterns(alloc, words.as_slice())
         }
         None => Ok(Vec::new(alloc)),
     }
@@ -160,11 +166,11 @@ fn names(alloc: Global, options: &ArgMatches<'_>) -> Result<Vec<Name>, Refusal>
 fn choice(alloc: Global, options: &ArgMatches<'_>) -> Result<Choice, Refusal>
     ensures taken { IfOk result (Chooses (rows_of (found_of options.now))) }
     ensures shard { OnOk result (IsGood IsShardOf (first_of (codes "shard") (rows_of (found_of options.now)))) }
-    ensures only { OnOk result (All IsName (words_of (codes "only") (rows_of (found_of options.now)))) }
+    ensures only { OnOk result (All IsPattern (words_of (codes "only") (rows_of (found_of options.now)))) }
     ensures refused { IfErr result (IsWordRefused (rows_of (found_of options.now))) }
 {
     let shard = word::shard(word_of(options, "shard"))?;
-    let only = names(alloc, options)?;
+    let only = patterns(alloc, options)?;
     Ok(Choice {
         only,
         shard,
@@ -173,8 +179,12 @@ fn choice(alloc: Global, options: &ArgMatches<'_>) -> Result<Choice, Refusal>
 }
 
 // How the options ask for a campaign to be run.
-fn run_options(alloc: Global, options: &ArgMatches<'_>) -> Result<RunOptions, Refusal>
-    ensures taken { IfOk result (AsksRun (rows_of (found_of options.now))) }
+fn run_options(
+    alloc: Global,
+    options: &ArgMatches<'_>,
+    at_terminal: bool,
+) -> Result<RunOptions, Refusal>
+    ensures taken { IfOk result (AsksRun at_terminal (rows_of (found_of options.now))) }
     ensures refused { IfErr result (IsWordRefused (rows_of (found_of options.now))) }
 {
     let choice = choice(alloc, options)?;
@@ -185,68 +195,93 @@ fn run_options(alloc: Global, options: &ArgMatches<'_>) -> Result<RunOptions, Re
         progress: has_option(options, "progress"),
         stop_on,
         choice,
-        explains: has_option(options, "explain"),
+        explains: explains(options, at_terminal),
     })
 }
 
 // What the options of `run` ask for.
-fn run_task(alloc: Global, options: &ArgMatches<'_>) -> Result<Task, Refusal>
-    ensures taken { IfOk result (Asks (Run, rows_of (found_of options.now))) }
+fn run_task(
+    alloc: Global,
+    options: &ArgMatches<'_>,
+    at_terminal: bool,
+) -> Result<Task, Refusal>
+    ensures taken { IfOk result (Asks at_terminal (Run, rows_of (found_of options.now))) }
     ensures refused { IfErr result (IsWordRefused (rows_of (found_of options.now))) }
 {
-    let run = run_options(alloc, options)?;
+    let run = run_options(alloc, options, at_terminal)?;
     if has_option(options, "list") {
-        Ok(Task::List(run.choice))
+        Ok(Task::List {
+            choice: run.choice,
+            explains: run.explains,
+        })
     } else {
         Ok(Task::Run(run))
     }
 }
 
 // What the options of `explore` ask for.
-fn explore_task(options: &ArgMatches<'_>) -> Result<Task, Refusal>
-    ensures taken { IfOk result (Asks (Explore, rows_of (found_of options.now))) }
+fn explore_task(
+    alloc: Global,
+    options: &ArgMatches<'_>,
+    at_terminal: bool,
+) -> Result<Task, Refusal>
+    ensures taken { IfOk result (Asks at_terminal (Explore, rows_of (found_of options.now))) }
     ensures refused { IfErr result (IsWordRefused (rows_of (found_of options.now))) }
 {
+    let choice = choice(alloc, options)?;
     let states = word::states(word_of(options, "states"))?;
-    Ok(Task::Explore {
+    Ok(Task::Explore(ExploreOptions {
         histories: has_option(options, "history"),
         details: has_option(options, "details"),
         states,
-    })
+        choice,
+        explains: explains(options, at_terminal),
+    }))
 }
 
 // What the options of `report` ask for, among them this form.
-fn report_task(alloc: Global, options: &ArgMatches<'_>, form: ReportForm) -> Result<Task, Refusal>
+fn report_task(
+    alloc: Global,
+    options: &ArgMatches<'_>,
+    at_terminal: bool,
+    form: ReportForm,
+) -> Result<Task, Refusal>
     requires { report_form_of (rows_of (found_of options.now)) ≡ Some form }
-    ensures taken { IfOk result (Asks (Report, rows_of (found_of options.now))) }
+    ensures taken { IfOk result (Asks at_terminal (Report, rows_of (found_of options.now))) }
     ensures refused { IfErr result (IsWordRefused (rows_of (found_of options.now))) }
 {
     if has_option(options, "script") {
         Ok(Task::Compare {
             form: Some(form),
             choice: choice(alloc, options)?,
+            explains: explains(options, at_terminal),
         })
     } else {
         Ok(Task::Report {
             form,
-            explains: has_option(options, "explain"),
+            explains: explains(options, at_terminal),
         })
     }
 }
 
 // What the options of `check` ask for.
-fn check_task(alloc: Global, options: &ArgMatches<'_>) -> Result<Task, Refusal>
-    ensures taken { IfOk result (Asks (Check, rows_of (found_of options.now))) }
+fn check_task(
+    alloc: Global,
+    options: &ArgMatches<'_>,
+    at_terminal: bool,
+) -> Result<Task, Refusal>
+    ensures taken { IfOk result (Asks at_terminal (Check, rows_of (found_of options.now))) }
     ensures refused { IfErr result (IsWordRefused (rows_of (found_of options.now))) }
 {
     if has_option(options, "script") {
         Ok(Task::Compare {
             form: None,
             choice: choice(alloc, options)?,
+            explains: explains(options, at_terminal),
         })
     } else {
         Ok(Task::Check {
-            explains: has_option(options, "explain"),
+            explains: explains(options, at_terminal),
         })
     }
 }
@@ -269,8 +304,9 @@ fn subcommand_task(
     alloc: Global,
     subcommand: Subcommand,
     options: &ArgMatches<'_>,
+    at_terminal: bool,
 ) -> Result<Task, Refusal>
-    ensures taken { IfOk result (IsTaken (subcommand, rows_of (found_of options.now))) }
+    ensures taken { IfOk result (IsTaken at_terminal (subcommand, rows_of (found_of options.now))) }
     ensures refused { IfErr result (IsRefusedBy (subcommand, rows_of (found_of options.now))) }
 {
     refuse_both(options, apart(subcommand))?;
@@ -278,15 +314,15 @@ fn subcommand_task(
         return Err(Refusal::NoScript);
     }
     match subcommand {
-        Subcommand::Run => run_task(alloc, options),
-        Subcommand::Explore => explore_task(options),
+        Subcommand::Run => run_task(alloc, options, at_terminal),
+        Subcommand::Explore => explore_task(alloc, options, at_terminal),
         Subcommand::Report => match report_form(options) {
-            Some(form) => report_task(alloc, options, form),
+            Some(form) => report_task(alloc, options, at_terminal, form),
             None => Err(Refusal::NoForm),
         },
-        Subcommand::Check => check_task(alloc, options),
+        Subcommand::Check => check_task(alloc, options, at_terminal),
         Subcommand::Replay => Ok(Task::Replay {
-            explains: has_option(options, "explain"),
+            explains: explains(options, at_terminal),
         }),
         Subcommand::Serve => Ok(Task::Serve),
     }
@@ -307,8 +343,8 @@ fn subcommand_named(name: &str) -> Subcommand
 }
 
 // What the line asks for.
-fn task(alloc: Global, matches: &ArgMatches<'_>) -> Result<Task, Refusal>
-    ensures taken { IfOk result (IsTaken (line_of (subcommand_rows_of matches.now))) }
+fn task(alloc: Global, matches: &ArgMatches<'_>, at_terminal: bool) -> Result<Task, Refusal>
+    ensures taken { IfOk result (IsTaken at_terminal (line_of (subcommand_rows_of matches.now))) }
     ensures refused { IfErr result (IsRefusedBy (line_of (subcommand_rows_of matches.now))) }
 {
     match matches.subcommand() {
@@ -322,9 +358,11 @@ fn task(alloc: Global, matches: &ArgMatches<'_>) -> Result<Task, Refusal>
                 shard: None,
                 failed: false,
             },
-            explains: false,
+            explains: at_terminal,
         })),
-        Some((name, options)) => subcommand_task(alloc, subcommand_named(name), options),
+        Some((name, options)) => {
+            subcommand_task(alloc, subcommand_named(name), options, at_terminal)
+        }
     }
 }
 
@@ -358,11 +396,12 @@ fn read_by<'a>(
     alloc: Global,
     command: &mut Command<'a>,
     words: &'a [String],
+    at_terminal: bool,
 ) -> Result<Task, Refused>
-    ensures { app_of command.old ≡ ttrun → IsReading (map string_bytes words.entry.now) result }
+    ensures { app_of command.old ≡ ttrun → IsReading at_terminal (map string_bytes words.entry.now) result }
 {
     let matches = parsed(alloc, command, words)?;
-    match task(alloc, &matches) {
+    match task(alloc, &matches, at_terminal) {
         Ok(task) => Ok(task),
         Err(refusal) => match told_of(alloc, asked(&matches), refusal) {
             Ok(refused) => Err(refused),
@@ -374,12 +413,16 @@ fn read_by<'a>(
 /// What the arguments ask for, the first of which is the program's name; with no further one it is `run`. An error of
 /// the kind DisplayHelp answers arguments that ask for help, one of the kind DisplayVersion those that ask for the
 /// version, any other one arguments that are refused. If each option may be given, and the value of one names nothing,
-/// that value is refused.
-pub fn read_task(alloc: Global, words: &[String]) -> Result<Task, Refused>
-    ensures { IsReading (map string_bytes words.entry.now) result }
+/// that value is refused. Faults are explained at a terminal, unless that is declined; elsewhere if it is asked for.
+pub fn read_task(
+    alloc: Global,
+    words: &[String],
+    at_terminal: bool,
+) -> Result<Task, Refused>
+    ensures { IsReading at_terminal (map string_bytes words.entry.now) result }
 {
     match command(alloc) {
-        Ok(mut command) => read_by(alloc, &mut command, words),
+        Ok(mut command) => read_by(alloc, &mut command, words, at_terminal),
         Err(error) => Err(Refused::Line(Error::from(error))),
     }
 }

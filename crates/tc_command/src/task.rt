@@ -1,5 +1,5 @@
 //! What the program can be asked for.
-use tc_entry::{Name, Shard};
+use tc_entry::{Pattern, Shard};
 use tc_verdict::Verdict;
 
 /// In which form the results are written.
@@ -31,8 +31,8 @@ pub enum ReportForm {
 /// Which test cases of a script are chosen.
 #[derive(Debug, Drop, PartialEq, Eq)]
 pub struct Choice {
-    /// The names of `--only` in their order; without one all test cases are chosen.
-    pub only: Vec<Name>,
+    /// The patterns of `--only` in their order; without one all test cases are chosen.
+    pub only: Vec<Pattern>,
     /// The shard of `--shard`.
     pub shard: Option<Shard>,
     /// Whether the text has histories or evidence after the script, and of the test cases those are left out that it
@@ -57,6 +57,21 @@ pub struct RunOptions {
     pub explains: bool,
 }
 
+/// How test cases are explored.
+#[derive(Debug, Drop, PartialEq, Eq)]
+pub struct ExploreOptions {
+    /// Whether the histories of the witnesses are written.
+    pub histories: bool,
+    /// Whether details are printed.
+    pub details: bool,
+    /// At how many states of a test case the search looks at most.
+    pub states: usize,
+    /// Which test cases are explored.
+    pub choice: Choice,
+    /// Whether a fault of the script is explained.
+    pub explains: bool,
+}
+
 /// What the program is asked for. A task that explains says after the line of a fault what is there.
 #[derive(Debug, Drop, PartialEq, Eq)]
 pub enum Task {
@@ -69,7 +84,10 @@ pub enum Task {
     /// Answer the lines of a client as they come.
     Serve,
     /// Print the names of the test cases, and run none.
-    List(Choice),
+    List {
+        choice: Choice,
+        explains: bool,
+    },
     /// Check histories and evidence.
     Check {
         explains: bool,
@@ -79,17 +97,13 @@ pub enum Task {
     Compare {
         form: Option<ReportForm>,
         choice: Choice,
+        explains: bool,
     },
     /// Report histories in this form.
     Report {
         form: ReportForm,
         explains: bool,
     },
-    /// Explore a campaign: whether the histories of the witnesses are written or details printed, and at how many
-    /// states of a test case it looks at most.
-    Explore {
-        histories: bool,
-        details: bool,
-        states: usize,
-    },
+    /// Explore the chosen test cases of a campaign.
+    Explore(ExploreOptions),
 }

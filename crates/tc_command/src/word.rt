@@ -1,7 +1,7 @@
 //! The values of options, and what they name.
 ghost use Rattle.std.specs.Prelude.{◌≡◌, ◌≤◌, All, IfOk, IfErr, IfSome, IfNone, OnOk, map, option_copied, ℕ};
 ghost use Rattle.std.specs.Fmt.{decimal};
-ghost use Rattle.tc_entry.specs.Name.{IsName};
+ghost use Rattle.tc_entry.specs.Pattern.{IsPattern};
 ghost use Rattle.tc_entry.specs.Shard.{ShardView};
 ghost use Rattle.tc_command.specs.Words.{IsBad, IsRuleOf, IsShardOf, IsShardWord, IsStatesOf, text_of};
 ghost use Rattle.tc_command.specs.Inside.{IsBadWord};
@@ -9,7 +9,7 @@ ghost use Rattle.tc_command.specs.declared.word.WordFault.TheVariants as fault;
 
 use crate::refusal::Refusal;
 use std::alloc::Global;
-use tc_entry::{Name, Shard};
+use tc_entry::{Pattern, Shard};
 use tc_text::{read_number, take_number};
 use tc_verdict::{Verdict, read_name};
 
@@ -111,18 +111,18 @@ pub(crate) fn states(word: Option<&str>) -> Result<usize, WordFault>
     }
 }
 
-/// The names of `--only`.
-pub(crate) fn names(alloc: Global, words: &[&str]) -> Result<Vec<Name>, Refusal>
+/// The patterns of `--only`.
+pub(crate) fn patterns(alloc: Global, words: &[&str]) -> Result<Vec<Pattern>, Refusal>
     ensures taken { IfOk result (λ v. v.items ≡ map (λ w. w.now) words.now) }
-    ensures good { OnOk result (All IsName (map (λ w. w.now) words.now)) }
-    ensures refused { IfErr result (IsBadWord (All IsName (map (λ w. w.now) words.now) → ⊥) fault.Only) }
+    ensures good { OnOk result (All IsPattern (map (λ w. w.now) words.now)) }
+    ensures refused { IfErr result (IsBadWord (All IsPattern (map (λ w. w.now) words.now) → ⊥) fault.Only) }
 {
-    let mut names = Vec::new(alloc);
+    let mut patterns = Vec::new(alloc);
     for word in words {
-        let Some(name) = Name::read(word) else {
+        let Some(pattern) = Pattern::read(word) else {
             return Err(Refusal::Word(WordFault::Only));
         };
-        names.push(name)?;
+        patterns.push(pattern)?;
     }
-    Ok(names)
+    Ok(patterns)
 }

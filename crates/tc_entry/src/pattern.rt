@@ -1,5 +1,7 @@
 //! The patterns of names.
-ghost use Rattle.std.specs.Prelude.{◌≡◌, ◌==◌, ◌+◌, ◌<◌, ◌≤◌, ◌∷◌, ◌↔◌, ◌||◌, [], All, IsSome, IfSome, IsTrue, false, true, length, map};
+ghost use Rattle.std.specs.Prelude.{◌≡◌, ◌==◌, ◌+◌, ◌<◌, ◌≤◌, ◌∷◌, ◌↔◌, ◌||◌, [], All, IsSome, IfSome, IsTrue, false, true, length, map, nat_eq};
+ghost use Rattle.std.specs.Cmp.{partial_equiv_from_equiv};
+ghost use Rattle.std.specs.Cmp.Lexicographic.{pointwise, nat_list_eq_equiv};
 ghost use Rattle.std.specs.List.{list_any};
 ghost use Rattle.tc_entry.specs.Inside.{any_of, behind, passed};
 ghost use Rattle.tc_entry.specs.Name.{is_name_byte as is_allowed};
@@ -35,6 +37,20 @@ impl Model for Pattern {
     ghost view = { λ p. p.bytes.items };
 
     ghost invariant = { λ p. IsPattern p.bytes.items };
+}
+
+impl PartialEq for Pattern {
+    ghost eq = { pointwise nat_eq };
+
+    ghost laws = { partial_equiv_from_equiv nat_list_eq_equiv };
+
+    fn eq(&self, other: &Pattern) -> bool {
+        self.bytes() == other.bytes()
+    }
+}
+
+impl Eq for Pattern {
+    ghost laws = { nat_list_eq_equiv };
 }
 
 // The first place of the name alone.

@@ -309,7 +309,7 @@ few_scripts : (bs : List (Word × ScriptView)) → length (scripts_of bs) ≡ le
 few_scripts [] = refl
 few_scripts (b ∷ bs) = ap suc (few_scripts bs)
 
-few_jobs : (cases : CampaignView) (ready : List (Case ScriptView)) → AllZip IsCaseOf cases ready → All (λ c. IsCase c.1) cases → All (λ k. length k.jobs.items ≤ BEHAVIOURS) ready
+pub few_jobs : (cases : CampaignView) (ready : List (Case ScriptView)) → AllZip IsCaseOf cases ready → All (λ c. IsCase c.1) cases → All (λ k. length k.jobs.items ≤ BEHAVIOURS) ready
 few_jobs [] [] each all = All-nil (λ (k : Case ScriptView). length k.jobs.items ≤ BEHAVIOURS)
 few_jobs [] (k ∷ ks) each all = absurd each
 few_jobs (c ∷ cs) [] each all = absurd each

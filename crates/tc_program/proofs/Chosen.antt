@@ -3,7 +3,7 @@ use Rattle.std.proofs.Common.{ℕ, ◌≡◌, ◌∙◌, ◌+◌, ◌++◌, ◌&
 use Rattle.std.proofs.lemmas.List.Elements.{All-cons, All-head, All-tail}
 use Rattle.std.specs.List.{AllZip, flat_map, list_any}
 use Rattle.std.specs.Prelude.{filter, if◌then◌else◌, map}
-use Rattle.std.specs.Str.{bytes_eq}
+use Rattle.tc_entry.specs.Pattern.{matches}
 use Rattle.tc_entry.specs.Shard.{ShardView, has_place}
 use Rattle.tc_campaign.specs.declared.case.Case.{Case}
 use Rattle.tc_campaign.specs.Choosing.{case_name, chosen, have_names, is_asked, named, placed}
@@ -133,17 +133,17 @@ pub zip_chosen : (only : List (List ℕ)) (shard : Option ShardView) (cs : List 
 zip_chosen only None cs ks each = zip_named only cs ks each
 zip_chosen only (Some s) cs ks each = zip_placed s 0 (named script_name only cs) (named case_name only ks) (zip_named only cs ks each)
 
-same_any : (word : List ℕ) (cs : List CaseView) (ks : List (Case ScriptView)) → AreCases cs ks
-    → list_any (λ c. bytes_eq word (script_name c)) cs ≡ list_any (λ k. bytes_eq word (case_name k)) ks
-same_any word [] [] each = refl
-same_any word [] (k ∷ ks) each = absurd each
-same_any word (c ∷ cs) [] each = absurd each
-same_any word (c ∷ cs) (k ∷ ks) each = ap₂ ◌||◌ (ap (bytes_eq word) (sym each.0.name)) (same_any word cs ks each.1)
+same_any : (pattern : List ℕ) (cs : List CaseView) (ks : List (Case ScriptView)) → AreCases cs ks
+    → list_any (λ c. matches pattern (script_name c)) cs ≡ list_any (λ k. matches pattern (case_name k)) ks
+same_any pattern [] [] each = refl
+same_any pattern [] (k ∷ ks) each = absurd each
+same_any pattern (c ∷ cs) [] each = absurd each
+same_any pattern (c ∷ cs) (k ∷ ks) each = ap₂ ◌||◌ (ap (matches pattern) (sym each.0.name)) (same_any pattern cs ks each.1)
 
 -- the names are those of the script
 pub same_names : (only : List (List ℕ)) (cs : List CaseView) (ks : List (Case ScriptView)) → AreCases cs ks → have_names script_name only cs ≡ have_names case_name only ks
 same_names [] cs ks each = refl
-same_names (word ∷ only) cs ks each = ap₂ ◌&&◌ (same_any word cs ks each) (same_names only cs ks each)
+same_names (pattern ∷ only) cs ks each = ap₂ ◌&&◌ (same_any pattern cs ks each) (same_names only cs ks each)
 
 same_lines : (cs : List CaseView) (ks : List (Case ScriptView)) → AreCases cs ks → flat_map case_line ks ≡ list_text cs
 same_lines [] [] each = refl

@@ -35,11 +35,11 @@ not_run false choice text refused = refused
 not_write : (task : Task) (text : List ℕ) → Refuses task text F.Write → ⊥
 not_write (T.Replay explains) text refused = refused
 not_write (T.Check explains) text refused = refused
-not_write (T.Compare None choice) text refused = refused
-not_write (T.Compare (Some form) choice) text refused = refused
+not_write (T.Compare None choice explains) text refused = refused
+not_write (T.Compare (Some form) choice explains) text refused = refused
 not_write (T.Report form explains) text refused = refused
-not_write (T.Explore histories details states) text refused = refused
-not_write (T.List choice) text refused = not_run choice.failed choice text refused
+not_write (T.Explore o) text refused = not_run o.choice.failed o.choice text refused
+not_write (T.List choice explains) text refused = not_run choice.failed choice text refused
 not_write (T.Run o) text refused = not_run o.choice.failed o.choice text refused
 not_write T.Serve text refused = refused
 

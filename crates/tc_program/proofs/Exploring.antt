@@ -1,10 +1,27 @@
 -- Test cases that are taken one after the other.
-use Rattle.std.proofs.Common.{◌≡◌, ◌∙◌, ◌++◌, List, [], ap, sym, subst}
+use Rattle.std.proofs.Common.{◌≡◌, ◌∙◌, ◌++◌, ◌∷◌, List, [], ap, sym, subst}
 use Rattle.std.specs.List.{AllZip}
 use Rattle.std.proofs.lemmas.List.{append-nil}
 use Rattle.tc_campaign.specs.Inside.{AreDone}
+use Rattle.tc_campaign.specs.declared.case.Case.{Case}
+use Rattle.tc_command.specs.declared.task.ExploreOptions.{ExploreOptions}
+use Rattle.tc_step.specs.Steps.{ScriptView}
+use Rattle.tc_program.specs.Explore.{IsExplored}
+use Rattle.tc_program.specs.Inside.{IsCaseOf, IsExploredOf}
+use Rattle.tc_program.specs.Scripted.{CaseView}
+use Rattle.tc_program.specs.declared.explore.ExploredCase.{ExploredCase}
 
 -- if none is left, all are done
 pub done_all : {A B : Type 0} (R : A → B → Type 0) (all left : List A) (ys : List B) → AreDone R all left ys → left ≡ [] → AllZip R all ys
 done_all R all left ys are none =
     subst (λ l. AllZip R l ys) (sym (are.prefix ∙ (ap (λ l. are.done ++ l) none ∙ append-nil are.done))) are.each
+
+-- each test case of a script was explored, if each that was made of one was
+pub explored_each : (o : ExploreOptions) (cs : List CaseView) (ks : List (Case ScriptView)) (es : List ExploredCase) → AllZip IsCaseOf cs ks
+    → AllZip (IsExploredOf o) ks es → AllZip (IsExplored o) cs es
+explored_each o [] [] [] each are = tt
+explored_each o [] [] (e ∷ es) each are = absurd are
+explored_each o [] (k ∷ ks) es each are = absurd each
+explored_each o (c ∷ cs) [] es each are = absurd each
+explored_each o (c ∷ cs) (k ∷ ks) [] each are = absurd are
+explored_each o (c ∷ cs) (k ∷ ks) (e ∷ es) each are = (are.0 c each.0, explored_each o cs ks es each.1 are.1)

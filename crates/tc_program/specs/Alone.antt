@@ -1,5 +1,5 @@
 -- What the program does where no thread can be started.
-use Rattle.std.specs.Prelude.{ℕ, ◌⊎◌, List, Option, Ok, codes}
+use Rattle.std.specs.Prelude.{ℕ, ◌⊎◌, List, Option, Ok, codes, false}
 use Rattle.std.specs.Io.KnownBytes.{Keeps}
 use Rattle.tc_command.specs.Asked.{IsReading}
 use Rattle.tc_command.specs.declared.task.Task.{Task}
@@ -31,4 +31,4 @@ IsLeft task input s outcome = IsRead (limit_of task) input (λ text. IsNotBegun 
 -- the arguments are answered as the program answers them, or they ask for a run that is not begun
 abbrev pub IsAnsweredAlone : List (List ℕ) → Option (List ℕ) → Streams → Type 0 → Type 0 → Outcome → Type 0
 IsAnsweredAlone words input s Unread Unwritten outcome =
-    IsAnswered words input s Unread Unwritten outcome ⊎ ((task : Task) × IsReading words (Ok task) × IsLeft task input s outcome)
+    IsAnswered false words input s Unread Unwritten outcome ⊎ ((task : Task) × IsReading false words (Ok task) × IsLeft task input s outcome)

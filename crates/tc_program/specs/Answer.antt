@@ -1,5 +1,5 @@
 -- What the program does with its arguments.
-use Rattle.std.specs.Prelude.{ℕ, ◌≡◌, ◌≢◌, ◌⊎◌, List, Option, Result, IfOk, IfErr, OnErr, codes}
+use Rattle.std.specs.Prelude.{ℕ, ◌≡◌, ◌≢◌, ◌⊎◌, Bool, List, Option, Result, IfOk, IfErr, OnErr, codes}
 use Rattle.std.specs.Io.KnownBytes.{Appends, Keeps}
 use Rattle.std.specs.declared.io.ErrorKind.{ErrorKind as IoKind}
 use Rattle.std.specs.declared.io.ErrorKind.TheVariants as IoKinds
@@ -52,9 +52,9 @@ IsRefused (R.Word fault) streams Unwritten outcome = IsRefusal streams.untold st
 
 -- The arguments are read as what they ask for by the rules of the command line. They are a task, which was carried out;
 -- or they ask for no task, and the input was not read.
-pub record IsAnswered (words : List (List ℕ)) (input : Option (List ℕ)) (streams : Streams) (Unread Unwritten : Type 0) (outcome : Outcome) : Type 0 where
+pub record IsAnswered (at_terminal : Bool) (words : List (List ℕ)) (input : Option (List ℕ)) (streams : Streams) (Unread Unwritten : Type 0) (outcome : Outcome) : Type 0 where
   pub answer : Result Task Refused
-  pub reading : IsReading words answer
+  pub reading : IsReading at_terminal words answer
   pub task : IfOk answer (λ task. IsCarriedOut task input streams outcome)
   pub no_task : IfErr answer (λ why. IsRefused why streams Unwritten outcome)
   pub unread : OnErr answer Unread

@@ -1,7 +1,8 @@
 -- What `explore` writes: the overall verdicts that were found of each test case of a script, or the histories that witness them.
 use Rattle.std.specs.Prelude.{ℕ, ◌≡◌, ◌==◌, ◌≤◌, if◌then◌else◌, Bool, true, false, Ok, List, [], ◌++◌, length}
 use Rattle.std.specs.List.{AllZip, flat_map, list_any}
-use Rattle.tc_script.specs.Campaign.{CampaignView, campaign}
+use Rattle.tc_command.specs.declared.task.ExploreOptions.{ExploreOptions}
+use Rattle.tc_script.specs.Campaign.{CampaignView}
 use Rattle.tc_explore.specs.Details.{details as of_details}
 use Rattle.tc_text.specs.Said.{TellsAmong}
 use Rattle.tc_explore.specs.Course.{most_states}
@@ -10,12 +11,13 @@ use Rattle.tc_explore.specs.Found.{AllFound}
 use Rattle.tc_explore.specs.declared.explored.Ending.TheVariants as E
 use Rattle.tc_explore.specs.Told.{explored_line, explored_status, witnesses_text}
 use Rattle.tc_program.specs.declared.explore.ExploredCase.{ExploredCase}
+use Rattle.tc_program.specs.Passed.{AreToRun}
 use Rattle.tc_program.specs.Scripted.{CaseView, scripts_of}
 
 -- A test case was explored, and each verdict that was found has one witness: a complete course of its scripts, which is legal.
 -- If the search says that it is complete, the verdict of each complete course of its scripts was found. If it says that it is
 -- undecided, it looked at as many states as it may. Some course of each run carries out as many steps as it reaches.
-pub record IsExplored (details : Bool) (states : ℕ) (c : CaseView) (e : ExploredCase) : Type 0 where
+pub record IsExplored (o : ExploreOptions) (c : CaseView) (e : ExploredCase) : Type 0 where
   pub name : e.name ≡ c.0
   pub behaviours : e.behaviours ≡ length c.1
   pub sound : AreWitnesses (scripts_of c.1) e.explored.found
@@ -23,9 +25,9 @@ pub record IsExplored (details : Bool) (states : ℕ) (c : CaseView) (e : Explor
   pub once : IsOnce e.explored.found
   pub complete : e.explored.ending ≡ E.Complete → AllFound (scripts_of c.1) e.explored.found
   pub reached : AreReached (scripts_of c.1) e.explored.reached
-  pub most : e.explored.states ≤ most_states (scripts_of c.1) states
-  pub undecided : e.explored.ending ≡ E.Undecided → 1 ≤ length (scripts_of c.1) → e.explored.states ≡ most_states (scripts_of c.1) states
-  pub details_are : TellsAmong (if details then of_details (scripts_of c.1) e.explored else []) [] e.details
+  pub most : e.explored.states ≤ most_states (scripts_of c.1) o.states
+  pub undecided : e.explored.ending ≡ E.Undecided → 1 ≤ length (scripts_of c.1) → e.explored.states ≡ most_states (scripts_of c.1) o.states
+  pub details_are : TellsAmong (if o.details then of_details (scripts_of c.1) e.explored else []) [] e.details
 
 -- what is written of a test case: its line and its details, or the histories of its witnesses
 abbrev pub told_of : Bool → ExploredCase → List ℕ
@@ -41,12 +43,11 @@ has_status status explored = list_any (λ e. explored_status e.explored == statu
 abbrev pub status_of_all : List ExploredCase → ℕ
 status_of_all explored = if has_status 3 explored then 3 else if has_status 1 explored then 1 else 0
 
--- the test cases that the text spells were explored within that many states, and this is what is written of them, with
--- their status
-pub record Explores (histories details : Bool) (states : ℕ) (text out : List ℕ) (status : ℕ) : Type 0 where
+-- the test cases that are asked for were explored so, and this is what is written of them, with their status
+pub record Explores (o : ExploreOptions) (text out : List ℕ) (status : ℕ) : Type 0 where
   pub cases : CampaignView
   pub explored : List ExploredCase
-  pub spelled : campaign text ≡ Ok cases
-  pub each : AllZip (IsExplored details states) cases explored
-  pub out_is : out ≡ flat_map (told_of histories) explored
+  pub asked : AreToRun o.choice text cases
+  pub each : AllZip (IsExplored o) cases explored
+  pub out_is : out ≡ flat_map (told_of o.histories) explored
   pub status_is : status ≡ status_of_all explored

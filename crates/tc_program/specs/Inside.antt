@@ -238,6 +238,14 @@ abbrev pub Summarizes : List Block → List Summary → Option Judgement → Typ
 Summarizes blocks ss None = ((lines : List ℕ) × Feeds blocks lines true) × (ss ≡ map (λ b. block_summary (history_of b)) blocks)
 Summarizes blocks ss (Some j) = IsFirstJudged blocks j
 
+-- a test case with these jobs was explored so, whatever test case of a script it is
+abbrev pub IsExploredOf : ExploreOptions → Case ScriptView → ExploredCase → Type 0
+IsExploredOf o k e = (c : CaseView) → IsCaseOf c k → IsExplored o c e
+
+-- a test case has as few jobs as it may have
+abbrev pub HasFewJobs : Case ScriptView → Type 0
+HasFewJobs k = length k.jobs.items ≤ BEHAVIOURS
+
 -- the details of a test case with these scripts, if they are asked for
 abbrev pub details_if : Bool → List ScriptView → Explored → List Line
 details_if asked scripts e = if asked then of_details scripts e else []
@@ -352,7 +360,7 @@ Compares ready text r = (cases : CampaignView) (blocks : List Block) → AllZip 
 pub record IsWhole (c : Comparing) : Type 0 where
   pub met : length c.met.items ≡ length c.names.keys
   pub ready : length c.ready.items ≡ length c.names.keys
-  pub few : All (λ k. length k.jobs.items ≤ BEHAVIOURS) c.ready.items
+  pub few : All HasFewJobs c.ready.items
 
 -- what is kept of these test cases after these blocks, the newest first
 pub record StandsBeside (cases : CampaignView) (before : List Block) (c : Comparing) : Type 0 where

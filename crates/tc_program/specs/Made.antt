@@ -11,7 +11,7 @@ use Rattle.tc_program.specs.declared.fault.RunFault.TheVariants as F
 use Rattle.tc_program.specs.declared.reply.Answer.{Answer}
 use Rattle.tc_program.specs.Check.{IsChecked, RefusesHistory}
 use Rattle.tc_program.specs.Compared.{IsCheckedAgainst, IsReportedAgainst, RefusesAgainst}
-use Rattle.tc_program.specs.Choosing.{RefusesScript, list_text}
+use Rattle.tc_program.specs.Choosing.{list_text}
 use Rattle.tc_program.specs.Explore.{Explores}
 use Rattle.tc_program.specs.Input.{IsRead, IsUnread}
 use Rattle.tc_program.specs.Limits.{limit_of}
@@ -32,11 +32,11 @@ IsSilent Is a = Is a.out a.status × (a.told ≡ [])
 abbrev pub IsMade : Task → List ℕ → Result Answer RunFault → Type 0
 IsMade (T.Replay e) text made = MatchResult made (IsSilent (Replays text)) (RefusesMoves text)
 IsMade (T.Check e) text made = MatchResult made (IsSilent (IsChecked text)) (RefusesHistory text)
-IsMade (T.Compare None choice) text made = MatchResult made (IsSilent (IsCheckedAgainst choice text)) (RefusesAgainst choice text)
-IsMade (T.Compare (Some form) choice) text made = MatchResult made (IsReportedAgainst form choice text) (RefusesAgainst choice text)
+IsMade (T.Compare None choice e) text made = MatchResult made (IsSilent (IsCheckedAgainst choice text)) (RefusesAgainst choice text)
+IsMade (T.Compare (Some form) choice e) text made = MatchResult made (IsReportedAgainst form choice text) (RefusesAgainst choice text)
 IsMade (T.Report form e) text made = MatchResult made (IsReported form text) (RefusesHistory text)
-IsMade (T.Explore h d n) text made = MatchResult made (IsSilent (Explores h d n text)) (RefusesScript text)
-IsMade (T.List choice) text made = MatchResult made (IsListed choice text) (RefusesRun choice text)
+IsMade (T.Explore o) text made = MatchResult made (IsSilent (Explores o text)) (RefusesRun o.choice text)
+IsMade (T.List choice e) text made = MatchResult made (IsListed choice text) (RefusesRun choice text)
 IsMade (T.Run o) text made = MatchResult made (λ a. ⊥) (RefusesRun o.choice text)
 IsMade T.Serve text made = ⊥
 

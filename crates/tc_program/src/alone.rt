@@ -109,7 +109,7 @@ pub fn answer_alone<I: Read, W: Write, E: Write>(
         Ok(words) => words,
         Err(error) => return answer_unread(alloc, &error, errors),
     };
-    match read_task(alloc, words.as_slice()) {
+    match read_task(alloc, words.as_slice(), false) {
         Ok(task) => carry_out(alloc, &task, reader, writer, errors),
         Err(refused) => answer_refused(alloc, &refused, writer, errors),
     }

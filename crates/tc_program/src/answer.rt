@@ -100,18 +100,20 @@ pub(crate) fn answer_unread<E: Write>(alloc: Global, error: &io::Error, errors: 
     }
 }
 
-/// Does what the arguments ask for, the first of which is the program's name; they may not be available.
+/// Does what the arguments ask for, the first of which is the program's name; they may not be available. Faults of the
+/// input are explained if standard error is at a terminal.
 pub fn answer<R, I: Read, W: Write, E: Write>(
     rt: &R,
     alloc: Global,
     words: io::Result<Vec<String>>,
+    at_terminal: bool,
     reader: &mut I,
     writer: &mut W,
     errors: &mut E,
 ) -> Outcome
 where
     R: Threads + Wait + Copy + Send + 'static,
-    ensures had { IfOk words (λ given. IsAnswered (map string_bytes given.items) (I.remaining reader.old)
+    ensures had { IfOk words (λ given. IsAnswered at_terminal (map string_bytes given.items) (I.remaining reader.old)
         (held W.contents writer.old writer.new E.contents errors.old errors.new)
         (reader.new ≡ reader.old) (writer.new ≡ writer.old) result) }
     ensures not_had { IfErr words (λ error. IsUnread (error_kind error) (E.contents errors.old) (E.contents errors.new) result) }
@@ -122,7 +124,7 @@ where
         Ok(words) => words,
         Err(error) => return answer_unread(alloc, &error, errors),
     };
-    match read_task(alloc, words.as_slice()) {
+    match read_task(alloc, words.as_slice(), at_terminal) {
         Ok(task) => carry_out(rt, alloc, &task, reader, writer, errors),
         Err(refused) => answer_refused(alloc, &refused, writer, errors),
     }

@@ -63,18 +63,17 @@ pub(crate) fn made_text(alloc: Global, task: &Task, text: &[u8]) -> Result<Answe
     match task {
         Task::Replay { .. } => replay_text(alloc, text),
         Task::Check { .. } => check_text(alloc, text),
-        Task::Compare { form: None, choice } => compare_text(alloc, choice, text),
+        Task::Compare {
+            form: None, choice, ..
+        } => compare_text(alloc, choice, text),
         Task::Compare {
             form: Some(form),
             choice,
+            ..
         } => report_compared(alloc, *form, choice, text),
         Task::Report { form, .. } => report_text(alloc, *form, text),
-        Task::Explore {
-            histories,
-            details,
-            states,
-        } => explore_text(alloc, *histories, *details, *states, text),
-        Task::List(choice) => list_text(alloc, choice, text),
+        Task::Explore(options) => explore_text(alloc, options, text),
+        Task::List { choice, .. } => list_text(alloc, choice, text),
         Task::Run(_) | Task::Serve => unreachable!(),
     }
 }

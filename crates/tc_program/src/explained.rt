@@ -1,41 +1,67 @@
 //! What is printed about a text that is refused.
-ghost use Rattle.std.specs.Prelude.{◌≡◌, IfOk, OnOk};
+ghost use Rattle.std.specs.Prelude.{◌≡◌, [], IfOk, OnOk};
 ghost use Rattle.tc_explain.specs.Explanation.{explanation};
 ghost use Rattle.tc_text.specs.Said.{TellsAmong};
-ghost use Rattle.tc_program.specs.Explained.{IsExplained, IsToldOf, explains as spec_explains, notes_of, refusal_at as spec_at, refusal_by as spec_by, refusal_of as spec_refusal};
+ghost use Rattle.tc_program.specs.Explained.{IsExplained, IsToldOf, explains as spec_explains, notes_of, part_by as spec_part_by, part_of as spec_part_of, refusal_at as spec_at, refusal_by as spec_by, refusal_of as spec_refusal};
 
 use crate::fault::{RunFault, fault_line};
+use crate::limits::has_blocks;
 use crate::outcome::Outcome;
+use crate::split::split;
 use crate::stderr::refuse_with;
+use crate::unknown::append_unknown;
 use std::alloc::Global;
 use std::io::Write;
-use tc_command::Task;
+use tc_command::{Choice, Task};
 use tc_entry::NoMemory;
 use tc_explain::{Refusal, explain};
 use tc_text::{TextFault, TextKind};
 
-// What the fault says of the text of the task, and the number of its line, if the task is asked to explain it.
+// Whether the task is asked to explain a fault of its text.
 fn explains(task: &Task) -> bool
     ensures { result ≡ spec_explains task.now }
 {
     match task {
-        Task::Replay { explains } | Task::Check { explains } | Task::Report { explains, .. } => {
-            *explains
-        }
+        Task::Replay { explains }
+        | Task::Check { explains }
+        | Task::Compare { explains, .. }
+        | Task::Report { explains, .. }
+        | Task::List { explains, .. } => *explains,
         Task::Run(options) => options.explains,
-        Task::Compare { .. } | Task::Serve | Task::List(_) | Task::Explore { .. } => false,
+        Task::Explore(options) => options.explains,
+        Task::Serve => false,
     }
 }
 
 // What the text of the task should be, which has a fault of this kind; a script has faults of another.
-fn refusal_by(task: &Task, kind: TextKind) -> Option<Refusal>
+fn refusal_by(task: &Task, kind: TextKind) -> Refusal
     ensures { result ≡ spec_by task.now kind }
 {
     match task {
-        Task::Replay { .. } => Some(Refusal::Moves(kind)),
-        Task::Check { .. } | Task::Report { .. } => Some(Refusal::Histories(kind)),
-        Task::Compare { .. } | Task::Run(_) | Task::Serve | Task::List(_) | Task::Explore { .. } =>
-            None,
+        Task::Replay { .. } => Refusal::Moves(kind),
+        _ => Refusal::Histories(kind),
+    }
+}
+
+// The part of the text that the lines of the fault are counted in: the script, or the blocks after it.
+fn part_by(fault: RunFault, text: &[u8]) -> &[u8]
+    ensures { result.now ≡ spec_part_by fault text.now }
+{
+    let (script, blocks) = split(text);
+    match fault {
+        RunFault::Script(_) => script,
+        _ => blocks,
+    }
+}
+
+// The same of the text of the task.
+fn part_of<'a>(task: &Task, fault: RunFault, text: &'a [u8]) -> &'a [u8]
+    ensures { result.now ≡ spec_part_of task.now fault text.now }
+{
+    if has_blocks(task) {
+        part_by(fault, text)
+    } else {
+        text
     }
 }
 
@@ -45,7 +71,7 @@ fn refusal_at(task: &Task, fault: RunFault) -> Option<(Refusal, usize)>
 {
     match fault {
         RunFault::Text(TextFault::At { line, kind }) => {
-            refusal_by(task, kind).map(|refusal| (refusal, line))
+            Some((refusal_by(task, kind), line))
         }
         RunFault::Script(fault) => Some((Refusal::Script(fault.kind), fault.line)),
         RunFault::Text(TextFault::NoMemory)
@@ -100,13 +126,46 @@ fn append_explained(
     }
 }
 
+// Which test cases the task is asked for, if it is one of a script.
+fn choice_of(task: &Task) -> Option<&Choice> {
+    match task {
+        Task::Compare { choice, .. } | Task::List { choice, .. } => Some(choice),
+        Task::Run(options) => Some(&options.choice),
+        Task::Explore(options) => Some(&options.choice),
+        Task::Replay { .. } | Task::Check { .. } | Task::Report { .. } | Task::Serve => None,
+    }
+}
+
+// Appends which name of `--only` is that of no test case, if that is the fault, and is explained.
+#[tactic(auto, using(tc_text::proofs::Lemmas::Among::among_none))]
+fn append_only(
+    alloc: Global,
+    out: &mut Vec<u8>,
+    task: &Task,
+    text: &[u8],
+    fault: RunFault,
+) -> Result<(), NoMemory>
+    ensures { OnOk result (TellsAmong [] out.old.items out.new.items) }
+{
+    let script = if has_blocks(task) { split(text).0 } else { text };
+    match (fault, choice_of(task)) {
+        (RunFault::Only, Some(choice)) if explains(task) => {
+            append_unknown(alloc, out, choice.only.as_slice(), script)
+        }
+        _ => Ok(()),
+    }
+}
+
 // The fault's line, and after it what is explained of the text.
+#[tactic(auto, using(tc_text::proofs::Lemmas::Among::among_more))]
 fn told_text(alloc: Global, task: &Task, text: &[u8], fault: RunFault) -> Result<Vec<u8>, NoMemory>
     ensures { IfOk result (λ v. IsToldOf task.now text.now fault v.items) }
 {
     let mut out = Vec::new(alloc);
     fault_line(&fault, &mut out)?;
-    append_explained(alloc, &mut out, text, refusal_of(task, fault))?;
+    let part = part_of(task, fault, text);
+    append_explained(alloc, &mut out, part, refusal_of(task, fault))?;
+    append_only(alloc, &mut out, task, text, fault)?;
     Ok(out)
 }
 

@@ -4,19 +4,18 @@ ghost use Rattle.std.specs.List.{AllZip, flat_map};
 ghost use Rattle.tc_entry.specs.declared.limits.TheConstants.{BEHAVIOURS};
 ghost use Rattle.tc_explore.specs.Found.{AreLegal};
 ghost use Rattle.tc_text.specs.Said.{TellsAmong};
-ghost use Rattle.tc_script.specs.Law.{IsCase};
-ghost use Rattle.tc_program.specs.Choosing.{RefusesScript};
-ghost use Rattle.tc_program.specs.Inside.{details_if};
-ghost use Rattle.tc_program.specs.Explore.{Explores, IsExplored, has_status as status_in, status_of_all, told_of};
-ghost use Rattle.tc_program.specs.Scripted.{scripts_of as scripts_in};
+ghost use Rattle.tc_program.specs.Inside.{HasFewJobs, IsExploredOf, details_if};
+ghost use Rattle.tc_program.specs.Explore.{Explores, has_status as status_in, status_of_all, told_of};
+ghost use Rattle.tc_program.specs.Passed.{RefusesRun};
 
 use crate::fault::RunFault;
+use crate::passed::cases_to_run;
 use crate::reply::Answer;
-use crate::script::read_script;
 use std::alloc::Global;
+use tc_campaign::Case;
+use tc_command::ExploreOptions;
 use tc_entry::{Name, Sequence};
 use tc_explore::{Explored, explore};
-use tc_script::{Campaign, CaseScript};
 use tc_step::Script;
 use tc_verdict::NoMemory;
 
@@ -27,18 +26,6 @@ pub(crate) struct ExploredCase {
     pub(crate) behaviours: u16,
     pub(crate) explored: Explored,
     pub(crate) details: Sequence<u8>,
-}
-
-/// The scripts of a test case.
-pub(crate) fn scripts_of(alloc: Global, case: CaseScript) -> Result<Vec<Script>, NoMemory>
-    ensures { IfOk result (λ scripts. scripts.items ≡ scripts_in case) }
-{
-    let mut case = case;
-    let mut scripts = Vec::new(alloc);
-    while let Some((_, script)) = case.take_first() {
-        scripts.push(script)?;
-    }
-    Ok(scripts)
 }
 
 // The details of a test case with these scripts, if they are asked for.
@@ -63,18 +50,17 @@ fn details_of(
 // Explores a test case.
 fn explore_case(
     alloc: Global,
-    name: Name,
-    case: CaseScript,
-    details: bool,
-    states: usize,
+    case: Case<Script>,
+    options: &ExploreOptions,
 ) -> Result<ExploredCase, NoMemory>
-    requires { length case ≤ BEHAVIOURS }
-    ensures { IfOk result (IsExplored details states (name, case)) }
+    requires { length case.jobs.items ≤ BEHAVIOURS }
+    ensures { IfOk result (IsExploredOf options.now case) }
 {
-    let scripts = scripts_of(alloc, case)?;
-    let behaviours = scripts.len() as u16;
-    let explored = explore(alloc, scripts.as_slice(), states)?;
-    let details = details_of(alloc, details, scripts.as_slice(), &explored)?;
+    let Case { name, names, jobs } = case;
+    drop(names);
+    let behaviours = jobs.len() as u16;
+    let explored = explore(alloc, jobs.as_slice(), options.states)?;
+    let details = details_of(alloc, options.details, jobs.as_slice(), &explored)?;
     Ok(ExploredCase {
         name,
         behaviours,
@@ -83,20 +69,18 @@ fn explore_case(
     })
 }
 
-// Explores the test cases of a campaign.
+// Explores test cases.
 fn explore_cases(
     alloc: Global,
-    campaign: Campaign,
-    details: bool,
-    states: usize,
+    cases: Vec<Case<Script>>,
+    options: &ExploreOptions,
 ) -> Result<Vec<ExploredCase>, NoMemory>
-    requires { All (λ t. IsCase t.1) campaign }
-    ensures { IfOk result (λ explored. AllZip (IsExplored details states) campaign explored.items) }
+    requires { All HasFewJobs cases.items }
+    ensures { IfOk result (λ explored. AllZip (IsExploredOf options.now) cases.items explored.items) }
 {
-    let mut campaign = campaign;
     let mut explored = Vec::new(alloc);
-    while let Some((name, case)) = campaign.take_first() {
-        explored.push(explore_case(alloc, name, case, details, states)?)?;
+    for case in cases {
+        explored.push(explore_case(alloc, case, options)?)?;
     }
     Ok(explored)
 }
@@ -143,22 +127,20 @@ fn status_of(explored: &[ExploredCase]) -> u8
     }
 }
 
-/// What `explore` makes of a script: what was found of each test case, and the status. That is 0 if each test case has
-/// one verdict, 1 if some has more, 3 if a search did not come to its end. Details are printed after the line of each
-/// test case.
+/// What `explore` makes of a script: what was found of each test case that is asked for, and the status. That is 0 if
+/// each has one verdict, 1 if some has more, 3 if a search did not come to its end. Details are printed after the line
+/// of each test case.
 pub(crate) fn explore_text(
     alloc: Global,
-    histories: bool,
-    details: bool,
-    states: usize,
+    options: &ExploreOptions,
     text: &[u8],
 ) -> Result<Answer, RunFault>
-    ensures done { IfOk result (λ a. Explores histories details states text.now a.out a.status × (a.told ≡ [])) }
-    ensures refused { IfErr result (RefusesScript text.now) }
+    ensures done { IfOk result (λ a. Explores options.now text.now a.out a.status × (a.told ≡ [])) }
+    ensures refused { IfErr result (RefusesRun options.now.choice text.now) }
 {
-    let campaign = read_script(alloc, text)?;
-    let explored = explore_cases(alloc, campaign, details, states)?;
-    let (out, status) = text_of(alloc, histories, explored.as_slice())?;
+    let cases = cases_to_run(alloc, text, &options.choice)?;
+    let explored = explore_cases(alloc, cases, options)?;
+    let (out, status) = text_of(alloc, options.histories, explored.as_slice())?;
     Ok(Answer {
         out: Sequence::new(out),
         told: Sequence::new(Vec::new(alloc)),

@@ -31,3 +31,4 @@ mod split;
 mod stderr;
 pub mod stop_on;
 pub mod terminal;
+mod unknown;

@@ -34,14 +34,20 @@ pub(crate) fn words_of(alloc: Global, line: &str) -> Result<Vec<String>, AllocEr
     Ok(words)
 }
 
-fn read_words(alloc: Global, words: &[String]) -> Result<Task, Refused> {
-    tc_command::read_task(alloc, words)
+fn read_words(alloc: Global, words: &[String], at_terminal: bool) -> Result<Task, Refused> {
+    tc_command::read_task(alloc, words, at_terminal)
 }
 
-/// The task that a command line asks for.
-pub(crate) fn task_of(alloc: Global, line: &str) -> Result<Task, Fail> {
+/// The task that a command line asks for at a terminal, or elsewhere.
+pub(crate) fn task_at(alloc: Global, line: &str, at_terminal: bool) -> Result<Task, Fail> {
     let words = words_of(alloc, line)?;
-    Ok(read_words(alloc, words.as_slice()).ok().ok_or("a task")?)
+    let task = read_words(alloc, words.as_slice(), at_terminal);
+    Ok(task.ok().ok_or("a task")?)
+}
+
+/// The task that a command line asks for where there is no terminal.
+pub(crate) fn task_of(alloc: Global, line: &str) -> Result<Task, Fail> {
+    task_at(alloc, line, false)
 }
 
 pub(crate) fn replay<W: Write>(
@@ -64,7 +70,7 @@ pub(crate) fn answer<R, I: Read, W: Write, E: Write>(
 where
     R: Threads + Wait + Copy + Send + 'static,
 {
-    tc_program::answer::answer(rt, alloc, words, reader, writer, errors)
+    tc_program::answer::answer(rt, alloc, words, false, reader, writer, errors)
 }
 
 pub(crate) fn carry_out<R, I: Read, W: Write, E: Write>(

@@ -1,11 +1,11 @@
 //! Lines of words, and the task that each asks for.
-use crate::calls::task_of;
+use crate::calls::task_at;
 use crate::checks::is;
 use std::alloc::{AllocError, Global};
 use std::process::Abort;
 use std::str;
 use std::test::Fail;
-use tc_command::{Choice, Form, ReportForm, RunOptions, Task};
+use tc_command::{Choice, ExploreOptions, Form, ReportForm, RunOptions, Task};
 use tc_verdict::name;
 
 /// After each line its task, with each option in one place. Without words the campaign is run.
@@ -50,11 +50,18 @@ ttrun run --failed --csv --shard 1/2 --live => run --csv --live --shard=1/2 --fa
 ttrun run --only a --list --failed => run --list --only=a --failed
 ttrun run --explain => run --explain
 ttrun run --csv --explain --live --stop-on fail => run --csv --live --stop-on=fail --explain
+ttrun run --only a* --only *b_* => run --only=a* --only=*b_*
+ttrun run --list --explain => run --list --explain
+ttrun run --failed --explain => run --failed --explain
+ttrun run --no-explain => run
 ttrun check --explain => check --explain
+ttrun check --no-explain => check
+ttrun check --script --explain => check --script --explain
 ttrun check --script => check --script
 ttrun check --shard 2/3 --script --only b --only a => check --script --only=b --only=a --shard=2/3
 ttrun replay --explain => replay --explain
 ttrun report --explain --junit => report --junit --explain
+ttrun report --explain --script --csv --only a* => report --csv --script --only=a* --explain
 ttrun report --csv => report --csv
 ttrun report --junit => report --junit
 ttrun report --html => report --html
@@ -67,7 +74,32 @@ ttrun explore --history => explore --history --states=100000
 ttrun explore --states 7 => explore --states=7
 ttrun explore --states=1000000 --history => explore --history --states=1000000
 ttrun explore --details => explore --details --states=100000
-ttrun explore --states 7 --details => explore --details --states=7";
+ttrun explore --states 7 --details => explore --details --states=7
+ttrun explore --explain => explore --states=100000 --explain
+ttrun explore --shard 1/3 --only a --only b* --failed => explore --states=100000 --only=a --only=b* --shard=1/3 --failed
+ttrun explore --states 7 --explain --only a --history => explore --history --states=7 --only=a --explain";
+
+/// The same at a terminal.
+const AT_TERMINAL: &str = "\
+ttrun => run --explain
+ttrun run => run --explain
+ttrun run --explain => run --explain
+ttrun run --no-explain => run
+ttrun run --no-explain --csv --failed => run --csv --failed
+ttrun run --list => run --list --explain
+ttrun run --no-explain --list => run --list
+ttrun check => check --explain
+ttrun check --no-explain => check
+ttrun check --script => check --script --explain
+ttrun check --no-explain --script => check --script
+ttrun replay => replay --explain
+ttrun replay --no-explain => replay
+ttrun report --csv => report --csv --explain
+ttrun report --no-explain --csv => report --csv
+ttrun report --script --csv => report --csv --script --explain
+ttrun explore => explore --states=100000 --explain
+ttrun explore --no-explain => explore --states=100000
+ttrun serve => serve";
 
 fn append_if(out: &mut String, is_given: bool, option: &str) -> Result<(), AllocError> {
     if is_given {
@@ -116,7 +148,11 @@ fn append_run(out: &mut String, options: &RunOptions) -> Result<(), Fail> {
     append_if(out, options.progress, " --progress")?;
     append_rule(out, options)?;
     append_choice(out, &options.choice)?;
-    Ok(append_if(out, options.explains, " --explain")?)
+    append_explains(out, options.explains)
+}
+
+fn append_explains(out: &mut String, explains: bool) -> Result<(), Fail> {
+    Ok(append_if(out, explains, " --explain")?)
 }
 
 fn append_list(out: &mut String, choice: &Choice) -> Result<(), Fail> {
@@ -140,19 +176,16 @@ fn append_script(out: &mut String, form: Option<ReportForm>, choice: &Choice) ->
 
 fn append_explaining(out: &mut String, word: &str, explains: bool) -> Result<(), Fail> {
     out.push_str(word)?;
-    Ok(append_if(out, explains, " --explain")?)
+    append_explains(out, explains)
 }
 
-fn append_explore(
-    out: &mut String,
-    histories: bool,
-    details: bool,
-    states: usize,
-) -> Result<(), Fail> {
+fn append_explore(out: &mut String, options: &ExploreOptions) -> Result<(), Fail> {
     out.push_str("explore")?;
-    append_if(out, histories, " --history")?;
-    append_if(out, details, " --details")?;
-    Ok(write!(out, " --states={states}")?)
+    append_if(out, options.histories, " --history")?;
+    append_if(out, options.details, " --details")?;
+    write!(out, " --states={}", options.states)?;
+    append_choice(out, &options.choice)?;
+    append_explains(out, options.explains)
 }
 
 /// Appends a line that asks for the task.
@@ -160,22 +193,28 @@ fn append_task(out: &mut String, task: &Task) -> Result<(), Fail> {
     match task {
         Task::Replay { explains } => append_explaining(out, "replay", *explains),
         Task::Check { explains } => append_explaining(out, "check", *explains),
-        Task::Compare { form, choice } => append_script(out, *form, choice),
+        Task::Compare {
+            form,
+            choice,
+            explains,
+        } => {
+            append_script(out, *form, choice)?;
+            append_explains(out, *explains)
+        }
         Task::Run(options) => append_run(out, options),
         Task::Serve => Ok(out.push_str("serve")?),
-        Task::List(choice) => append_list(out, choice),
+        Task::List { choice, explains } => {
+            append_list(out, choice)?;
+            append_explains(out, *explains)
+        }
         Task::Report { form, explains } => append_explaining(out, word_of_report(*form), *explains),
-        Task::Explore {
-            histories,
-            details,
-            states,
-        } => append_explore(out, *histories, *details, *states),
+        Task::Explore(options) => append_explore(out, options),
     }
 }
 
-fn is_row(rt: &impl Abort, alloc: Global, row: &str) -> Result<(), Fail> {
+fn is_row(rt: &impl Abort, alloc: Global, at_terminal: bool, row: &str) -> Result<(), Fail> {
     let (line, wanted) = row.split_once(" => ").ok_or("a row")?;
-    let task = task_of(alloc, line)?;
+    let task = task_at(alloc, line, at_terminal)?;
     let mut out = String::new(alloc);
     append_task(&mut out, &task)?;
     is(rt, row, out.as_str(), wanted);
@@ -185,7 +224,10 @@ fn is_row(rt: &impl Abort, alloc: Global, row: &str) -> Result<(), Fail> {
 #[test]
 fn lines_and_tasks(rt: HostRuntime) -> Result<(), Fail> {
     for row in LINES.lines() {
-        is_row(&rt, rt.alloc(), row)?;
+        is_row(&rt, rt.alloc(), false, row)?;
+    }
+    for row in AT_TERMINAL.lines() {
+        is_row(&rt, rt.alloc(), true, row)?;
     }
     Ok(())
 }

@@ -29,13 +29,16 @@ fn main(rt: HostRuntime) -> ExitCode {
         errors: rt.stderr(),
         line,
     };
+    let mut errors = rt.stderr();
+    let at_terminal = errors.is_terminal();
     let outcome = answer(
         &rt,
         rt.alloc(),
         words,
+        at_terminal,
         &mut input,
         &mut io::writer(&rt),
-        &mut rt.stderr(),
+        &mut errors,
     );
     ExitCode::from(outcome.status)
 }

@@ -9,20 +9,20 @@ use Rattle.tc_program.specs.Scripted.{scripts_of}
 use Rattle.tc_program.proofs.explore.explore_case.Goals as goal
 
 pub returns : goal.returns
-returns c =
+returns c v of =
     let e = c.in_ok-explored.explored in
     let so = c.in_ok-explored.ensures in
-    let same : c.as_slice.result.now ≡ scripts_of c.args.case = c.as_slice.ensures.value ∙ c.in_ok-scripts.ensures in
+    let same : c.as_slice.result.now ≡ scripts_of v.1 = c.as_slice.ensures.value ∙ of.jobs in
     let as_many : c.len-behaviours.result ≡ length c.as_slice.result.now = cc in
     record {
-      name = search rules;
-      behaviours = as_many ∙ (ap length same ∙ length-map c.args.case _);
+      name = of.name;
+      behaviours = as_many ∙ (ap length same ∙ length-map v.1 _);
       sound = subst (λ (s : List ScriptView). AreWitnesses s e.found) same so.sound;
       legal = subst (λ (s : List ScriptView). AreLegal s e.found) same so.legal;
       once = so.once;
       complete = subst (λ (s : List ScriptView). e.ending ≡ E.Complete → AllFound s e.found) same so.complete;
       reached = subst (λ (s : List ScriptView). AreReached s e.reached) same so.reached;
-      most = subst (λ (s : List ScriptView). e.states ≤ most_states s c.args.states) same so.most;
-      undecided = subst (λ (s : List ScriptView). e.ending ≡ E.Undecided → 1 ≤ length s → e.states ≡ most_states s c.args.states) same so.undecided;
+      most = subst (λ (s : List ScriptView). e.states ≤ most_states s c.args.options.now.states) same so.most;
+      undecided = subst (λ (s : List ScriptView). e.ending ≡ E.Undecided → 1 ≤ length s → e.states ≡ most_states s c.args.options.now.states) same so.undecided;
       details_are = search rules;
     }

@@ -1,25 +1,26 @@
-use Rattle.std.proofs.Common.{All, List, ◌∷◌, subst}
+use Rattle.std.proofs.Common.{rules, ◌∷◌, ◌∙◌, ap, All, arith, length, subst, sym}
 use Rattle.std.proofs.lemmas.List.Elements.{All-head, All-tail}
-use Rattle.tc_script.specs.Law.{IsCase}
-use Rattle.tc_campaign.proofs.Lemmas.Running.{done_more}
-use Rattle.tc_program.specs.Scripted.{CaseView}
+use Rattle.tc_campaign.proofs.Lemmas.Running.{done_more, done_none}
+use Rattle.tc_program.specs.Inside.{HasFewJobs}
 use Rattle.tc_program.proofs.Exploring.{done_all}
 use Rattle.tc_program.proofs.explore.explore_cases.Goals as goal
 
-abbrev AreCases : List CaseView → Type 0
-AreCases cases = All (λ t. IsCase t.1) cases
+pub loop-case-init : goal.loop-case-init
+loop-case-init c = (tt, tt, search rules, done_none _ _ _ (search rules), search rules)
 
-pub loop-name-preserved : goal.loop-name-preserved
-loop-name-preserved c =
-    let one : CaseView = (c.in-Some.name, c.in-Some.case) in
-    let all : AreCases (one ∷ c.take_first.new.self) = subst AreCases c.in-Some.ensures c.loop-name.invariant.1 in
-    (done_more _ _ _ _ _ _ _ _ c.loop-name.invariant.0 c.in-Some.ensures c.in_ok-explore_case.ensures c.in_ok-push.ensures.items, All-tail (λ (t : CaseView). IsCase t.1) one c.take_first.new.self all)
+pub loop-case-preserved : goal.loop-case-preserved
+loop-case-preserved c =
+    let next = c.in-Some.ensures.steps in
+    let few = subst (All HasFewJobs) next.0 c.loop-case.invariant.4 in (
+      tt,
+      tt,
+      omega (arith, next.1, ap length next.0),
+      done_more _ _ _ _ _ _ _ _ c.loop-case.invariant.3 next.0 c.in_ok-explore_case.ensures c.in_ok-push.ensures.items,
+      All-tail HasFewJobs _ _ few,
+    )
 
 pub explore_case-requires : goal.explore_case-requires
-explore_case-requires c =
-    let one : CaseView = (c.in-Some.name, c.in-Some.case) in
-    let all : AreCases (one ∷ c.take_first.new.self) = subst AreCases c.in-Some.ensures c.loop-name.invariant.1 in
-    (All-head (λ (t : CaseView). IsCase t.1) one c.take_first.new.self all).few
+explore_case-requires c = All-head HasFewJobs _ _ (subst (All HasFewJobs) c.in-Some.ensures.steps.0 c.loop-case.invariant.4)
 
 pub returns : goal.returns
-returns c = done_all _ _ _ _ c.loop-name.invariant.0 c.in_default.ensures.0
+returns c = done_all _ _ _ _ c.loop-case.invariant.3 (sym c.loop-case.invariant.2 ∙ c.in-None.ensures.steps.0)

@@ -1,12 +1,14 @@
-use Rattle.std.proofs.Common.{All, length}
-use Rattle.tc_script.specs.Law.{IsCase}
+use Rattle.std.proofs.Common.{◌≡◌, All, length}
+use Rattle.std.specs.Vec.Iter.{into_iter_items, into_iter_len}
 use Rattle.tc_campaign.specs.Inside.{AreDone}
-use Rattle.tc_program.specs.Explore.{IsExplored}
+use Rattle.tc_program.specs.Inside.{HasFewJobs, IsExploredOf}
 use Rattle.tc_program.proofs.explore.explore_cases.Given as goal
 
--- the test cases so far were explored, and those that are left are test cases
-abbrev pub invariant-loop-name : goal.invariant-loop-name
-invariant-loop-name l = AreDone (IsExplored l.details l.states) l.fn.campaign l.campaign l.explored.items × All (λ t. IsCase t.1) l.campaign
-
-abbrev pub decreases-loop-name : goal.decreases-loop-name
-decreases-loop-name l = length l.campaign
+-- the test cases so far were explored, and those that are left have few jobs
+abbrev pub invariant-loop-case : goal.invariant-loop-case
+invariant-loop-case l =
+    goal.iterator-loop-case.can_next l.case-iterator
+    × goal.iterator-loop-case.is_finite l.case-iterator
+    × (into_iter_len l.case-iterator ≡ length (into_iter_items l.case-iterator))
+    × AreDone (IsExploredOf l.fn.options) l.fn.cases.items (into_iter_items l.case-iterator) l.explored.items
+    × All HasFewJobs (into_iter_items l.case-iterator)
