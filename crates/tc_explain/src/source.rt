@@ -1,0 +1,361 @@
+//! Lines of TTCN-3 in a script, and what does the same there.
+use crate::help::{add_line, add_named};
+use crate::slot::KEYWORD;
+use crate::sort::Sort;
+use crate::stop::{is_whole, walk};
+use std::alloc::Global;
+use tc_line::{is_word, read_words};
+use tc_text::append_text;
+use tc_verdict::NoMemory;
+
+// Lines of TTCN-3, without what ends them, and the lines of a script that do the same. In the first `$` is a word that
+// the second has, `_` another one, `*` the last word of each part of a list in brackets, and `..` what is left.
+const FORMS: [(&str, &str); 32] = [
+    ("setverdict ( error ..", "stopcase"),
+    ("setverdict ( $ ..", "setverdict $"),
+    ("setverdict error ..", "stopcase"),
+    ("setverdict $ ..", "setverdict $"),
+    ("$ : = getverdict", "getverdict"),
+    ("testcase . stop ..", "stopcase"),
+    ("testcase $ ..", "testcase $"),
+    ("function $ * ..", "behaviour $ *"),
+    ("function $ runs ..", "behaviour $"),
+    ("$ . start ( $ * )", "start $ $ *"),
+    ("$ . start ( $ )", "start $ $"),
+    ("$ . stop", "stop $"),
+    ("$ . kill", "kill $"),
+    ("$ . done", "wait done $"),
+    ("$ . killed", "wait killed $"),
+    ("$ . running", "running $"),
+    ("$ . alive", "alive $"),
+    ("stop", "stop self"),
+    ("kill", "kill self"),
+    ("$ : = _ . create", "create $"),
+    ("$ : = _ . create alive", "create $ alive"),
+    ("$ : = _ . create ( )", "create $"),
+    ("$ : = _ . create ( ) alive", "create $ alive"),
+    ("$ : = _ . create ( \" $ \" )", "create $ named $"),
+    (
+        "$ : = _ . create ( \" $ \" ) alive",
+        "create $ alive named $",
+    ),
+    ("start *", "start *"),
+    ("start $ $ *", "start $ $ *"),
+    ("stop *", "stop *"),
+    ("kill *", "kill *"),
+    ("create *", "create *"),
+    ("getverdict *", "getverdict"),
+    ("}", "end"),
+];
+
+// Words of TTCN-3, and what a script has instead of them.
+const ABSENT: [(&str, &str); 8] = [
+    (
+        "module import group friend public private encode with",
+        "a script has no modules: it begins with `testcase` and a name",
+    ),
+    (
+        "control execute",
+        "a script has no control part: its test cases are run in the order of the text",
+    ),
+    (
+        "if else for while do alt interleave select case repeat goto label break continue altstep activate deactivate [",
+        "a script has no conditions, loops and alternatives: its calls are made in the order of the text",
+    ),
+    ("timer timeout read", "a script has no timers"),
+    (
+        "port map unmap connect disconnect send receive call reply getcall getreply trigger check catch raise",
+        "a script has no ports and messages",
+    ),
+    (
+        "var const type template modulepar record set enumerated union component signature external value present match",
+        "a script has no types, values and variables: a create makes a component and names it",
+    ),
+    ("log action", "a script has no log and no texts"),
+    ("return", "a behaviour ends with `end`, and returns nothing"),
+];
+
+// Whether the byte is one of a name.
+fn is_name_byte(byte: u8) -> bool {
+    byte.is_ascii_alphanumeric() || byte == b'_'
+}
+
+// The text before the first comment.
+fn before_comment(line: &[u8]) -> &[u8] {
+    let mut slash = false;
+    for (at, byte) in line.iter().enumerate() {
+        if *byte == b'#' {
+            return line.get(..at).unwrap_or(&[]);
+        }
+        if slash && (*byte == b'/' || *byte == b'*') {
+            return line.get(..at.saturating_sub(1)).unwrap_or(&[]);
+        }
+        slash = *byte == b'/';
+    }
+    line
+}
+
+// The first token of a text, which is a word, a space or a mark, and what follows it.
+fn split_token(text: &[u8]) -> (&[u8], &[u8]) {
+    let end = text.iter().position(|byte| !is_name_byte(*byte));
+    let end = end.unwrap_or(text.len()).max(1);
+    text.split_at(end.min(text.len()))
+}
+
+// The tokens of a line but spaces, what follows `//` or `#`, and the word `component` of `all component`.
+fn read_tokens<'t>(line: &'t [u8], tokens: &mut Vec<&'t [u8]>) -> Result<(), NoMemory> {
+    let mut rest = before_comment(line);
+    for _ in 0..line.len() {
+        let (token, others) = split_token(rest);
+        if token.is_empty() {
+            return Ok(());
+        }
+        if !is_word(token, b" ") && !is_word(token, b"component") {
+            tokens.push(token)?;
+        }
+        rest = others;
+    }
+    Ok(())
+}
+
+// Whether the text has this word.
+fn has_word(text: &str, word: &[u8]) -> bool {
+    text.as_bytes()
+        .split(|byte| *byte == b' ')
+        .any(|other| is_word(other, word))
+}
+
+// Whether the two tokens that follow one another are of TTCN-3 only.
+fn is_mark(first: &[u8], second: &[u8]) -> bool {
+    match first {
+        [b';' | b'(' | b')' | b'{' | b'}'] => true,
+        [b':'] => is_word(second, b"="),
+        [b'.'] => has_word(
+            "create start stop done kill killed running alive timeout send receive call",
+            second,
+        ),
+        _ => false,
+    }
+}
+
+// What a script has instead of the first of these tokens that it lacks.
+fn absent(tokens: &[&[u8]]) -> Option<&'static str> {
+    for token in tokens {
+        for (words, text) in &ABSENT {
+            if has_word(words, token) {
+                return Some(text);
+            }
+        }
+    }
+    None
+}
+
+// Whether the line of these tokens seems to be of TTCN-3.
+fn is_source(tokens: &[&[u8]]) -> bool {
+    let mut before: &[u8] = &[];
+    for token in tokens {
+        if is_mark(before, token) || is_mark(token, &[]) {
+            return true;
+        }
+        before = token;
+    }
+    absent(tokens.get(..1).unwrap_or(&[])).is_some() || begins(tokens, b"function")
+}
+
+// Whether the first token is this one.
+fn begins(tokens: &[&[u8]], word: &[u8]) -> bool {
+    match tokens {
+        [first, ..] => is_word(first, word),
+        [] => false,
+    }
+}
+
+// The tokens without what ends a line of TTCN-3, and without the type of a variable.
+fn plain<'a, 't>(tokens: &'a [&'t [u8]]) -> &'a [&'t [u8]] {
+    let skipped = if begins(tokens, b"var") { 2 } else { 0 };
+    let rest = tokens.get(skipped..).unwrap_or(tokens);
+    let mut end = 0;
+    for (at, token) in rest.iter().enumerate() {
+        if !is_word(token, b";") && !is_word(token, b"{") {
+            end = at + 1;
+        }
+    }
+    rest.get(..end).unwrap_or(&[])
+}
+
+// What follows a list in brackets that these tokens begin with. The last word of each of its parts is added to those
+// that were found. None if they begin with none, or if there are brackets in it.
+fn take_list<'a, 't>(
+    tokens: &'a [&'t [u8]],
+    found: &mut Vec<&'t [u8]>,
+) -> Result<Option<&'a [&'t [u8]]>, NoMemory> {
+    if !begins(tokens, b"(") {
+        return Ok(None);
+    }
+    let mut last: Option<&'t [u8]> = None;
+    for (at, token) in tokens.iter().enumerate().skip(1) {
+        let closes = is_word(token, b")");
+        if closes || is_word(token, b",") {
+            if let Some(word) = last {
+                found.push(word)?;
+            }
+            last = None;
+        } else if is_word(token, b"(") {
+            return Ok(None);
+        } else {
+            last = Some(token);
+        }
+        if closes {
+            return Ok(tokens.get(at + 1..));
+        }
+    }
+    Ok(None)
+}
+
+// What follows the part of a form that these tokens begin with. Its words are added to those that were found. None if
+// they begin with another.
+fn take_part<'a, 't>(
+    part: &[u8],
+    tokens: &'a [&'t [u8]],
+    found: &mut Vec<&'t [u8]>,
+) -> Result<Option<&'a [&'t [u8]]>, NoMemory> {
+    if is_word(part, b"*") {
+        return take_list(tokens, found);
+    }
+    let Some((token, others)) = tokens.split_first() else {
+        return Ok(None);
+    };
+    if is_word(part, b"$") {
+        found.push(token)?;
+    } else if !is_word(part, b"_") && !is_word(part, token) {
+        return Ok(None);
+    }
+    Ok(Some(others))
+}
+
+// Whether the tokens are of this form, as in `FORMS`. Its words are added to those that were found.
+fn has_form<'t>(
+    form: &[&[u8]],
+    tokens: &[&'t [u8]],
+    found: &mut Vec<&'t [u8]>,
+) -> Result<bool, NoMemory> {
+    let mut rest = tokens;
+    for part in form {
+        if is_word(part, b"..") {
+            return Ok(true);
+        }
+        match take_part(part, rest, found)? {
+            Some(others) => rest = others,
+            None => return Ok(false),
+        }
+    }
+    Ok(rest.is_empty())
+}
+
+// Adds the words of a line of a script, each `$` by the next of those that were found, and `*` by all that are left.
+fn fill<'t>(
+    line: &'static [u8],
+    found: &[&'t [u8]],
+    words: &mut Vec<&'t [u8]>,
+) -> Result<(), NoMemory> {
+    let mut rest = found;
+    for part in line.split(|byte| *byte == b' ') {
+        if is_word(part, b"*") {
+            words.extend_from_slice(rest)?;
+        } else if !is_word(part, b"$") {
+            words.push(part)?;
+        } else if let [word, others @ ..] = rest {
+            words.push(word)?;
+            rest = others;
+        }
+    }
+    Ok(())
+}
+
+// Whether these are the words of a line of a script.
+fn is_line(words: &[&[u8]]) -> bool {
+    is_whole(Sort::Script, walk(Sort::Script, KEYWORD, words), words)
+}
+
+// The words of the line of a script that does the same as this form, if the tokens are of it.
+fn words_by<'t>(
+    alloc: Global,
+    (source, line): (&'static str, &'static str),
+    tokens: &[&'t [u8]],
+    words: &mut Vec<&'t [u8]>,
+) -> Result<bool, NoMemory> {
+    let mut form = Vec::new(alloc);
+    read_words(source.as_bytes(), &mut form)?;
+    let mut found = Vec::new(alloc);
+    if !has_form(form.as_slice(), tokens, &mut found)? {
+        return Ok(false);
+    }
+    words.clear();
+    fill(line.as_bytes(), found.as_slice(), words)?;
+    Ok(is_line(words.as_slice()))
+}
+
+// Leaves the words of the line of a script that does the same as these tokens, if there is one.
+fn translate<'t>(
+    alloc: Global,
+    tokens: &[&'t [u8]],
+    words: &mut Vec<&'t [u8]>,
+) -> Result<bool, NoMemory> {
+    words.extend_from_slice(tokens)?;
+    if is_line(tokens) {
+        return Ok(true);
+    }
+    for form in &FORMS {
+        if words_by(alloc, *form, tokens, words)? {
+            return Ok(true);
+        }
+    }
+    Ok(false)
+}
+
+// The words with a space between two.
+fn joined(alloc: Global, words: &[&[u8]]) -> Result<Vec<u8>, NoMemory> {
+    let mut line = Vec::new(alloc);
+    for word in words {
+        if !line.is_empty() {
+            append_text(&mut line, " ")?;
+        }
+        line.extend_from_slice(word)?;
+    }
+    Ok(line)
+}
+
+// Adds what a script has instead of a line of these tokens.
+fn add_instead(alloc: Global, out: &mut Vec<u8>, tokens: &[&[u8]]) -> Result<(), NoMemory> {
+    let mut words = Vec::new(alloc);
+    if translate(alloc, plain(tokens), &mut words)? {
+        let line = joined(alloc, words.as_slice())?;
+        if line.len() <= LONGEST {
+            return add_named(out, "in a script:", line.as_slice());
+        }
+    }
+    let text = "a line of a script is one call, in words without ( ) { } ; and :=";
+    add_line(out, absent(tokens).unwrap_or(text))
+}
+
+// The most bytes of a line of a script that is shown.
+const LONGEST: usize = 100;
+
+/// Adds what a script has instead of a line that seems to be of TTCN-3. Whether it does.
+pub(crate) fn add_source(
+    alloc: Global,
+    out: &mut Vec<u8>,
+    seen: bool,
+    line: &[u8],
+) -> Result<bool, NoMemory> {
+    let mut tokens = Vec::new(alloc);
+    read_tokens(line, &mut tokens)?;
+    if !is_source(tokens.as_slice()) {
+        return Ok(false);
+    }
+    if !seen {
+        add_line(out, "the line looks like TTCN-3, which ttrun does not read")?;
+    }
+    add_instead(alloc, out, tokens.as_slice())?;
+    Ok(true)
+}
