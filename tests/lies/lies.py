@@ -222,7 +222,7 @@ LIES = (
         ("""const LINE_ENDS: [Slot; 2] = [ERROR, LINE_END];""", """const LINE_ENDS: [Slot; 2] = [LINE_END, LINE_END];"""),
     ), "tc_script_tests"),
     Lie("a_tab_is_told_as_a_zero_byte", (
-        ("""[9, ..] => Some("a tab"),""", """[9, ..] => Some("a zero byte, as UTF-16 has them"),"""),
+        ("""[9, ..] => Some("a tab; a line has spaces only"),""", """[9, ..] => Some("a zero byte, as UTF-16 has them"),"""),
     ), "tc_script_tests"),
     Lie("a_history_is_told_begun_as_a_test_case", (
         ("""Sort::Histories => "a history began in line",""", """Sort::Histories => "a test case began in line","""),
