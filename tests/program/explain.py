@@ -82,6 +82,8 @@ STEP_LINES: List[Tuple[str, str, str, Tuple[str, ...]]] = [
     ("a_line_of_a_comment_of_ttcn_3", "/* x */", "line not understood", ("column 1: `/*`", f"understood there: {STEPS}", COMMENT)),
     ("a_verdict_with_a_semicolon", "setverdict pass;", "line not understood",
      ("column 12: `pass;`", "understood there: none, pass, inconc or fail", SOURCE, "in a script: setverdict pass")),
+    ("an_error_with_a_semicolon", "setverdict error;", "line not understood",
+     ("column 12: `error;`", "understood there: none, pass, inconc or fail", SOURCE, "in a script: stopcase")),
     ("a_verdict_in_spaced_brackets", "setverdict ( pass ) ;", "line not understood",
      ("column 12: `(`", "understood there: none, pass, inconc or fail", SOURCE, "in a script: setverdict pass")),
     ("a_name_with_a_semicolon", "create p; // x", "line not understood",
@@ -103,6 +105,8 @@ NAME_LINES: List[Tuple[str, str, str, Tuple[str, ...]]] = [
     ("a_component_in_capital_letters", "kill PUMP2", "unbound reference", ("column 6: `PUMP2`", UNBOUND, "nearest: pump2")),
     ("an_argument_that_is_unbound", "start pump1 worker pump2 x", "unbound reference",
      ("column 26: `x`", UNBOUND, "bound there: pump1 pump2")),
+    ("the_fourth_argument_unbound", "start pump1 worker pump1 mtc self y", "unbound reference",
+     ("column 35: `y`", UNBOUND, "bound there: pump1 pump2")),
     ("the_first_of_two_unbound", "start pump1 worker x y", "unbound reference",
      ("column 20: `x`", UNBOUND, "bound there: pump1 pump2")),
     ("a_parameter_of_another_behaviour", "wait done a", "unbound reference",
@@ -141,6 +145,9 @@ SOURCE_LINES: List[Tuple[str, str, str]] = [
     ("a_start_of_a_list", "start(p, worker)", "in a script: start p worker"),
     ("a_stop", "self.stop;", "in a script: stop self"),
     ("a_stop_of_the_own_component", "stop;", "in a script: stop self"),
+    ("a_kill_of_the_own_component", "kill;", "in a script: kill self"),
+    ("a_stop_of_a_list", "stop(all);", "in a script: stop all"),
+    ("a_create_of_a_list", "create(p);", "in a script: create p"),
     ("a_kill_of_all", "all component.kill;", "in a script: kill all"),
     ("a_kill_of_a_list", "kill(p);", "in a script: kill p"),
     ("a_wait", "p.done;", "in a script: wait done p"),
@@ -158,20 +165,35 @@ SOURCE_LINES: List[Tuple[str, str, str]] = [
     ("an_end_with_a_semicolon", "end;", "in a script: end"),
     ("a_bracket_that_closes", "}", "in a script: end"),
     ("a_bracket_that_opens", "{", ONE_CALL),
-    ("a_variable", "var integer i := 0;", NO_VALUES),
     ("a_condition", "if (p.running) { p.stop; }", NO_LOOPS),
     ("an_alternative", "[] p.done {", NO_LOOPS),
     ("a_loop", "for (i := 0; i < 3; i := i + 1) {", NO_LOOPS),
-    ("a_message", "p.send(x);", NO_PORTS),
     ("a_port", "port P p", NO_PORTS),
-    ("a_timer", "timer t := 1.0;", "a script has no timers"),
+    ("a_timer", "timer t", "a script has no timers"),
     ("a_log", 'log("p.done");', "a script has no log and no texts"),
     ("a_return", "return;", "a behaviour ends with `end`, and returns nothing"),
     ("a_control_part", "execute(tc());", NO_CONTROL),
     ("an_import", "import from M all;", NO_MODULES),
     ("a_call_of_a_function", "f(p);", ONE_CALL),
     ("two_calls", "p.stop; q.stop;", ONE_CALL),
+    ("a_verdict_and_a_call", "setverdict(pass); p.stop;", ONE_CALL),
+    ("a_reason_with_a_comment_in_it", 'setverdict(inconc, "see http://a#b"); // c', "in a script: setverdict inconc"),
+    ("a_string_that_does_not_end", 'setverdict(pass, "a', "in a script: setverdict pass"),
+    ("a_create_with_an_empty_name", 'p := C.create("");', ONE_CALL),
+    ("a_call_that_is_not_closed", "p.start(f(self", ONE_CALL),
     ("names_too_long_for_a_line", f"p.start({LONG}({LONG}, {LONG}));", ONE_CALL),
+]
+
+# Words of TTCN-3 that a script has none of, and what is printed about them.
+ABSENT: List[Tuple[str, str]] = [
+    ("module import group", NO_MODULES),
+    ("control execute", NO_CONTROL),
+    ("if else for while do alt interleave select repeat goto label altstep activate [", NO_LOOPS),
+    ("timer timeout", "a script has no timers"),
+    ("port map unmap connect disconnect send receive call reply trigger check", NO_PORTS),
+    ("var const type template record set enumerated value", NO_VALUES),
+    ("log action", "a script has no log and no texts"),
+    ("return", "a behaviour ends with `end`, and returns nothing"),
 ]
 
 # Name, the line's bytes, how it is shown, what is printed about it.
@@ -224,6 +246,8 @@ ENTRY_LINES: List[Tuple[str, str, Tuple[str, ...]]] = [
 # Name, the words before --explain, the whole input, what is printed: the fault, and the notes.
 TEXTS: List[Tuple[str, Tuple[str, ...], bytes, Tuple[str, ...]]] = [
     ("no_text", ("run",), b"", ("line 1: text ends too early", "the text is empty", "a script has a test case or more")),
+    ("no_history", ("check",), b"", ("line 1: text ends too early", "the text is empty")),
+    ("no_move", ("replay",), b"", ("line 1: text ends too early", "the text is empty")),
     ("a_test_case_without_its_end", ("run",), b"testcase t\nbehaviour b\nend\n",
      ("line 4: text ends too early", "the text ends after line 3", ENDS, "a test case began in line 1")),
     ("a_test_case_without_a_behaviour", ("run",), b"testcase t\n",
@@ -315,8 +339,8 @@ TEXTS: List[Tuple[str, Tuple[str, ...], bytes, Tuple[str, ...]]] = [
       "a behaviour began in line 4", "a test case began in line 2")),
     ("lines_that_end_as_elsewhere", ("run",), b"testcase t\r\nbehaviour a\r\nstop q\r\nend\r\nend\r\n",
      ("line 1: byte not allowed", "line: `testcase t\\x0D`", f"column 11: {RETURN}")),
-    ("a_thousand_steps", ("run",), b"testcase t\nbehaviour a\n" + b"getverdict\n" * 1000 + b"start mtc a\nend\nend\n",
-     ("line 1003: too many", "line: `start mtc a`", TOO_MANY, "a behaviour has at most 1000 steps", *IN)),
+    ("a_thousand_steps", ("run",), b"testcase t\nbehaviour a\n" + b"getverdict\n" * 1000 + b"start mtc a a a a a\n",
+     ("line 1003: too many", "line: `start mtc a a a a a`", TOO_MANY, "a behaviour has at most 1000 steps", *IN)),
     ("behaviours_of_a_script", ("run",), b"testcase t\n" + b"behaviour b\nend\n" * 256 + b"behaviour b a a a a\n",
      ("line 514: too many", "line: `behaviour b a a a a`", TOO_MANY, "a test case has at most 256 behaviours", "a test case began in line 1")),
     ("test_cases_of_a_script", ("run",), b"testcase t\nbehaviour b\nend\nend\n" * 1000 + b"testcase u\n",
@@ -394,6 +418,15 @@ def of_names() -> Iterator[Case]:
                         indented(notes) + list(IN_BEHAVIOUR))
 
 
+def of_absent() -> Iterator[Case]:
+    """Lines with words of TTCN-3."""
+    for words, instead in ABSENT:
+        for word in words.split():
+            notes = (f"line: `x {word};`", "column 1: `x`", f"understood there: {STEPS}", SOURCE, instead)
+            told = "".join(f"{it}\n" for it in ["ttrun: line 5: line not understood", *indented(notes), *IN_BEHAVIOUR])
+            yield Case(f"explain_ttcn_3_{word}", ("run", "--explain"), named_script(f"x {word};".encode()), errors=told.encode(), status=3)
+
+
 def large() -> Case:
     """A script of nearly 1 MiB, each line of which gives a name; in its last behaviour one is misspelt."""
     creates = b"".join(b"create p%03d\n" % it for it in range(1000))
@@ -407,6 +440,7 @@ def large() -> Case:
 def cases() -> Iterator[Case]:
     """Refused inputs of each kind, explained and not."""
     yield from of_names()
+    yield from of_absent()
     yield large()
     for name, step, fault, notes in STEP_LINES:
         number = 4 if fault == "name already used" else 3

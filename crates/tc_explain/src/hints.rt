@@ -10,7 +10,7 @@ use crate::slot::{
     is_digits, next, rows,
 };
 use crate::sort::{Refusal, Sort};
-use crate::source::add_source;
+use crate::source::{add_source, begins_comment};
 use crate::stop::{Stop, is_whole, walk};
 use std::alloc::Global;
 use tc_entry::{ARGUMENTS, BEHAVIOURS};
@@ -50,11 +50,6 @@ fn add_near_fixed(
         Some(near) => add_named(out, "nearest:", near),
         None => Ok(()),
     }
-}
-
-// Whether a comment begins with the word, in a script or in TTCN-3.
-fn begins_comment(word: &[u8]) -> bool {
-    word.starts_with(b"#") || word.starts_with(b"//") || word.starts_with(b"/*")
 }
 
 // Adds what the word may be at which a line of a script stops.

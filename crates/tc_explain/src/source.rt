@@ -9,12 +9,12 @@ use tc_text::append_text;
 use tc_verdict::NoMemory;
 
 // Lines of TTCN-3, without what ends them, and the lines of a script that do the same. In the first `$` is a word that
-// the second has, `_` another one, `*` the last word of each part of a list in brackets, and `..` what is left.
-const FORMS: [(&str, &str); 32] = [
+// the second has, `"` what is in a string that the second has, `_` another word, `*` the last word of each part of a list
+// in brackets, and `..` what is left, if it is one call.
+const FORMS: [(&str, &str); 31] = [
     ("setverdict ( error ..", "stopcase"),
     ("setverdict ( $ ..", "setverdict $"),
-    ("setverdict error ..", "stopcase"),
-    ("setverdict $ ..", "setverdict $"),
+    ("setverdict error", "stopcase"),
     ("$ : = getverdict", "getverdict"),
     ("testcase . stop ..", "stopcase"),
     ("testcase $ ..", "testcase $"),
@@ -34,11 +34,8 @@ const FORMS: [(&str, &str); 32] = [
     ("$ : = _ . create alive", "create $ alive"),
     ("$ : = _ . create ( )", "create $"),
     ("$ : = _ . create ( ) alive", "create $ alive"),
-    ("$ : = _ . create ( \" $ \" )", "create $ named $"),
-    (
-        "$ : = _ . create ( \" $ \" ) alive",
-        "create $ alive named $",
-    ),
+    ("$ : = _ . create ( \" )", "create $ named $"),
+    ("$ : = _ . create ( \" ) alive", "create $ alive named $"),
     ("start *", "start *"),
     ("start $ $ *", "start $ $ *"),
     ("stop *", "stop *"),
@@ -51,7 +48,7 @@ const FORMS: [(&str, &str); 32] = [
 // Words of TTCN-3, and what a script has instead of them.
 const ABSENT: [(&str, &str); 8] = [
     (
-        "module import group friend public private encode with",
+        "module import group",
         "a script has no modules: it begins with `testcase` and a name",
     ),
     (
@@ -59,57 +56,65 @@ const ABSENT: [(&str, &str); 8] = [
         "a script has no control part: its test cases are run in the order of the text",
     ),
     (
-        "if else for while do alt interleave select case repeat goto label break continue altstep activate deactivate [",
+        "if else for while do alt interleave select repeat goto label altstep activate [",
         "a script has no conditions, loops and alternatives: its calls are made in the order of the text",
     ),
-    ("timer timeout read", "a script has no timers"),
+    ("timer timeout", "a script has no timers"),
     (
-        "port map unmap connect disconnect send receive call reply getcall getreply trigger check catch raise",
+        "port map unmap connect disconnect send receive call reply trigger check",
         "a script has no ports and messages",
     ),
     (
-        "var const type template modulepar record set enumerated union component signature external value present match",
+        "var const type template record set enumerated value",
         "a script has no types, values and variables: a create makes a component and names it",
     ),
     ("log action", "a script has no log and no texts"),
     ("return", "a behaviour ends with `end`, and returns nothing"),
 ];
 
+// The most bytes of a line of a script that is shown.
+const LONGEST: usize = 100;
+
+// The most tokens and spaces of a line that are looked at.
+const TOKENS: usize = 200;
+
 // Whether the byte is one of a name.
 fn is_name_byte(byte: u8) -> bool {
     byte.is_ascii_alphanumeric() || byte == b'_'
 }
 
-// The text before the first comment.
-fn before_comment(line: &[u8]) -> &[u8] {
-    let mut slash = false;
-    for (at, byte) in line.iter().enumerate() {
-        if *byte == b'#' {
-            return line.get(..at).unwrap_or(&[]);
+// How many bytes the first token of a text has: a word, a string in quotation marks, a space or another mark.
+fn token_length(text: &[u8]) -> usize {
+    let is_string = text.starts_with(b"\"");
+    let mut length = 0usize;
+    for (at, byte) in text.iter().enumerate() {
+        if is_string {
+            length = at + 1;
+            if at > 0 && *byte == b'"' {
+                return length;
+            }
+        } else if is_name_byte(*byte) {
+            length = at + 1;
+        } else {
+            return length.max(1);
         }
-        if slash && (*byte == b'/' || *byte == b'*') {
-            return line.get(..at.saturating_sub(1)).unwrap_or(&[]);
-        }
-        slash = *byte == b'/';
     }
-    line
+    length
 }
 
-// The first token of a text, which is a word, a space or a mark, and what follows it.
-fn split_token(text: &[u8]) -> (&[u8], &[u8]) {
-    let end = text.iter().position(|byte| !is_name_byte(*byte));
-    let end = end.unwrap_or(text.len()).max(1);
-    text.split_at(end.min(text.len()))
+/// Whether a text begins with a comment, of a script or of TTCN-3.
+pub(crate) fn begins_comment(text: &[u8]) -> bool {
+    text.starts_with(b"#") || text.starts_with(b"//") || text.starts_with(b"/*")
 }
 
-// The tokens of a line but spaces, what follows `//` or `#`, and the word `component` of `all component`.
+// The first tokens of a line before a comment, but spaces, and the word `component` of `all component`.
 fn read_tokens<'t>(line: &'t [u8], tokens: &mut Vec<&'t [u8]>) -> Result<(), NoMemory> {
-    let mut rest = before_comment(line);
-    for _ in 0..line.len() {
-        let (token, others) = split_token(rest);
-        if token.is_empty() {
+    let mut rest = line;
+    for _ in 0..TOKENS {
+        if rest.is_empty() || begins_comment(rest) {
             return Ok(());
         }
+        let (token, others) = rest.split_at(token_length(rest).min(rest.len()));
         if !is_word(token, b" ") && !is_word(token, b"component") {
             tokens.push(token)?;
         }
@@ -180,7 +185,7 @@ fn plain<'a, 't>(tokens: &'a [&'t [u8]]) -> &'a [&'t [u8]] {
             end = at + 1;
         }
     }
-    rest.get(..end).unwrap_or(&[])
+    rest.get(..end).unwrap_or(rest)
 }
 
 // What follows a list in brackets that these tokens begin with. The last word of each of its parts is added to those
@@ -212,6 +217,14 @@ fn take_list<'a, 't>(
     Ok(None)
 }
 
+// What is in a string.
+fn unquoted(token: &[u8]) -> &[u8] {
+    match token {
+        [b'"', inside @ .., b'"'] => inside,
+        _ => &[],
+    }
+}
+
 // What follows the part of a form that these tokens begin with. Its words are added to those that were found. None if
 // they begin with another.
 fn take_part<'a, 't>(
@@ -227,6 +240,8 @@ fn take_part<'a, 't>(
     };
     if is_word(part, b"$") {
         found.push(token)?;
+    } else if is_word(part, b"\"") {
+        found.push(unquoted(token))?;
     } else if !is_word(part, b"_") && !is_word(part, token) {
         return Ok(None);
     }
@@ -242,12 +257,12 @@ fn has_form<'t>(
     let mut rest = tokens;
     for part in form {
         if is_word(part, b"..") {
-            return Ok(true);
+            return Ok(!rest.iter().any(|token| is_word(token, b";")));
         }
-        match take_part(part, rest, found)? {
-            Some(others) => rest = others,
+        rest = match take_part(part, rest, found)? {
+            Some(others) => others,
             None => return Ok(false),
-        }
+        };
     }
     Ok(rest.is_empty())
 }
@@ -337,9 +352,6 @@ fn add_instead(alloc: Global, out: &mut Vec<u8>, tokens: &[&[u8]]) -> Result<(),
     let text = "a line of a script is one call, in words without ( ) { } ; and :=";
     add_line(out, absent(tokens).unwrap_or(text))
 }
-
-// The most bytes of a line of a script that is shown.
-const LONGEST: usize = 100;
 
 /// Adds what a script has instead of a line that seems to be of TTCN-3. Whether it does.
 pub(crate) fn add_source(

@@ -667,6 +667,7 @@ fn entries_of_words_that_may_stand(rt: HostRuntime) -> Result<(), Fail> {
         ("0 create named p -> made 1", format, ""),
         ("0 create alive named p -> error", format, ""),
         ("0 finish -> ok", "the line is understood", ""),
+        ("0 start 1 1 0 0 0 0 -> ok", "the line is understood", ""),
     ];
     for (line, place, rule) in lines {
         expect_entry(&rt, rt.alloc(), line, place, rule)?;
