@@ -8,9 +8,9 @@ use tc_line::{is_word, read_words};
 use tc_text::append_text;
 use tc_verdict::NoMemory;
 
-// Lines of TTCN-3, without what ends them, and the lines of a script that do the same. In the first `$` is a word that
-// the second has, `"` what is in a string that the second has, `_` another word, `*` the last word of each part of a list
-// in brackets, and `..` what is left, if it is one call.
+// Lines of TTCN-3, without what ends them, and the lines of a script that do the same. In the first `$` is a word, `"` a
+// string, and `*` a list in brackets: the second has the word, what is in the string, and the last word of each part of
+// the list. `_` is a word that it does not have, and `..` what is left of one call.
 const FORMS: [(&str, &str); 31] = [
     ("setverdict ( error ..", "stopcase"),
     ("setverdict ( $ ..", "setverdict $"),
