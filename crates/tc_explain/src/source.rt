@@ -11,28 +11,30 @@ use tc_verdict::NoMemory;
 // Lines of TTCN-3, without what ends them, and the lines of a script that do the same. In the first `$` is a word, `"` a
 // string, and `*` a list in brackets: the second has the word, what is in the string, and the last word of each part of
 // the list. `_` is a word that it does not have, and `..` what is left of one call.
-const FORMS: [(&str, &str); 31] = [
+const FORMS: [(&str, &str); 35] = [
     ("setverdict ( error ..", "stopcase"),
     ("setverdict ( $ ..", "setverdict $"),
     ("setverdict error", "stopcase"),
+    ("setverdict $ \"", "setverdict $"),
     ("$ : = getverdict", "getverdict"),
     ("testcase . stop ..", "stopcase"),
     ("testcase $ ..", "testcase $"),
     ("function $ * ..", "behaviour $ *"),
-    ("function $ runs ..", "behaviour $"),
+    ("function $ ..", "behaviour $"),
+    ("behaviour $ * ..", "behaviour $ *"),
+    ("behaviour $ runs ..", "behaviour $"),
     ("$ . start ( $ * )", "start $ $ *"),
     ("$ . start ( $ )", "start $ $"),
     ("$ . stop", "stop $"),
     ("$ . kill", "kill $"),
-    ("$ . done", "wait done $"),
-    ("$ . killed", "wait killed $"),
+    ("$ . done ..", "wait done $"),
+    ("$ . killed ..", "wait killed $"),
     ("$ . running", "running $"),
     ("$ . alive", "alive $"),
     ("stop", "stop self"),
     ("kill", "kill self"),
     ("$ : = _ . create", "create $"),
     ("$ : = _ . create alive", "create $ alive"),
-    ("$ : = _ . create ( )", "create $"),
     ("$ : = _ . create ( ) alive", "create $ alive"),
     ("$ : = _ . create ( \" )", "create $ named $"),
     ("$ : = _ . create ( \" ) alive", "create $ alive named $"),
@@ -41,7 +43,9 @@ const FORMS: [(&str, &str); 31] = [
     ("stop *", "stop *"),
     ("kill *", "kill *"),
     ("create *", "create *"),
-    ("getverdict *", "getverdict"),
+    ("running *", "running *"),
+    ("alive *", "alive *"),
+    ("done *", "done *"),
     ("}", "end"),
 ];
 
@@ -133,13 +137,13 @@ fn has_word(text: &str, word: &[u8]) -> bool {
 // Whether the two tokens that follow one another are of TTCN-3 only.
 fn is_mark(first: &[u8], second: &[u8]) -> bool {
     match first {
-        [b';' | b'(' | b')' | b'{' | b'}'] => true,
+        [b';' | b'(' | b')' | b'{' | b'}'] | [b'"', ..] => true,
         [b':'] => is_word(second, b"="),
         [b'.'] => has_word(
             "create start stop done kill killed running alive timeout send receive call",
             second,
         ),
-        _ => false,
+        _ => is_word(first, b"runs") && is_word(second, b"on"),
     }
 }
 
@@ -185,7 +189,15 @@ fn plain<'a, 't>(tokens: &'a [&'t [u8]]) -> &'a [&'t [u8]] {
             end = at + 1;
         }
     }
-    rest.get(..end).unwrap_or(rest)
+    without_brackets(rest.get(..end).unwrap_or(rest))
+}
+
+// The tokens without brackets with nothing in them at their end.
+fn without_brackets<'a, 't>(tokens: &'a [&'t [u8]]) -> &'a [&'t [u8]] {
+    match tokens {
+        [others @ .., open, close] if is_word(open, b"(") && is_word(close, b")") => others,
+        _ => tokens,
+    }
 }
 
 // What follows a list in brackets that these tokens begin with. The last word of each of its parts is added to those
@@ -240,7 +252,7 @@ fn take_part<'a, 't>(
     };
     if is_word(part, b"$") {
         found.push(token)?;
-    } else if is_word(part, b"\"") {
+    } else if is_word(part, b"\"") && token.starts_with(b"\"") {
         found.push(unquoted(token))?;
     } else if !is_word(part, b"_") && !is_word(part, token) {
         return Ok(None);
@@ -316,16 +328,14 @@ fn translate<'t>(
     tokens: &[&'t [u8]],
     words: &mut Vec<&'t [u8]>,
 ) -> Result<bool, NoMemory> {
-    words.extend_from_slice(tokens)?;
-    if is_line(tokens) {
-        return Ok(true);
-    }
     for form in &FORMS {
         if words_by(alloc, *form, tokens, words)? {
             return Ok(true);
         }
     }
-    Ok(false)
+    words.clear();
+    words.extend_from_slice(tokens)?;
+    Ok(is_line(tokens))
 }
 
 // The words with a space between two.
