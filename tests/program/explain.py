@@ -88,6 +88,8 @@ STEP_LINES: List[Tuple[str, str, str, Tuple[str, ...]]] = [
      ("column 12: `(`", "understood there: none, pass, inconc or fail", SOURCE, "in a script: setverdict pass")),
     ("a_reason_without_brackets", 'setverdict fail "reason"', "line not understood",
      ("column 17: `\"reason\"`", "understood there: the end of the call", SOURCE, "in a script: setverdict fail")),
+    ("a_component_in_quotation_marks", 'create "pump"', "bad name",
+     ("column 8: `\"pump\"`", "understood there: the name of a component", SOURCE, "in a script: create pump")),
     ("a_behaviour_with_brackets", "behaviour main() {", "bad name",
      ("column 11: `main()`", "understood there: the name of a behaviour", SOURCE, "in a script: behaviour main")),
     ("a_behaviour_of_a_component", "behaviour main runs on C {", "bad name",
