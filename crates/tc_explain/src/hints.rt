@@ -257,16 +257,14 @@ fn add_first_line(
     line: &[u8],
     words: &[&[u8]],
 ) -> Result<(), NoMemory> {
-    add_line(
-        out,
-        "understood there: history F NAME N, with F 1 or 2, and N from 1 to 64 or to 256",
-    )?;
+    let text = "understood there: history F NAME N, with F 1 or 2, and N from 1 to 64 or to 256";
     match words {
         [_, _, name, _] if read_name(name).is_none() => {
             add_word(alloc, out, line, 2, name)?;
+            add_line(out, text)?;
             add_name_rule(out)
         }
-        _ => Ok(()),
+        _ => add_line(out, text),
     }
 }
 
