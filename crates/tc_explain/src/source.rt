@@ -201,12 +201,12 @@ fn without_brackets<'a, 't>(tokens: &'a [&'t [u8]]) -> &'a [&'t [u8]] {
     }
 }
 
-// What follows a list in brackets that these tokens begin with. The last word of each of its parts is added to those
-// that were found. None if they begin with none, or if there are brackets in it.
-fn take_list<'a, 't>(
-    tokens: &'a [&'t [u8]],
+// How many tokens a list in brackets has that these tokens begin with. The last word of each of its parts is added to
+// those that were found. None if they begin with none, or if there are brackets in it.
+fn take_list<'t>(
+    tokens: &[&'t [u8]],
     found: &mut Vec<&'t [u8]>,
-) -> Result<Option<&'a [&'t [u8]]>, NoMemory> {
+) -> Result<Option<usize>, NoMemory> {
     if !begins(tokens, b"(") {
         return Ok(None);
     }
@@ -224,7 +224,7 @@ fn take_list<'a, 't>(
             last = Some(token);
         }
         if closes {
-            return Ok(tokens.get(at + 1..));
+            return Ok(Some(at + 1));
         }
     }
     Ok(None)
@@ -238,17 +238,29 @@ fn unquoted(token: &[u8]) -> &[u8] {
     }
 }
 
-// What follows the part of a form that these tokens begin with. Its words are added to those that were found. None if
-// they begin with another.
-fn take_part<'a, 't>(
+// How many of these tokens are one call, if all are.
+fn one_call(tokens: &[&[u8]]) -> Option<usize> {
+    if tokens.iter().any(|token| is_word(token, b";")) {
+        None
+    } else {
+        Some(tokens.len())
+    }
+}
+
+// How many tokens the part of a form has that these tokens begin with. Its words are added to those that were found. None
+// if they begin with another.
+fn take_part<'t>(
     part: &[u8],
-    tokens: &'a [&'t [u8]],
+    tokens: &[&'t [u8]],
     found: &mut Vec<&'t [u8]>,
-) -> Result<Option<&'a [&'t [u8]]>, NoMemory> {
+) -> Result<Option<usize>, NoMemory> {
     if is_word(part, b"*") {
         return take_list(tokens, found);
     }
-    let Some((token, others)) = tokens.split_first() else {
+    if is_word(part, b"..") {
+        return Ok(one_call(tokens));
+    }
+    let [token, ..] = tokens else {
         return Ok(None);
     };
     if is_word(part, b"$") {
@@ -258,7 +270,7 @@ fn take_part<'a, 't>(
     } else if !is_word(part, b"_") && !is_word(part, token) {
         return Ok(None);
     }
-    Ok(Some(others))
+    Ok(Some(1))
 }
 
 // Whether the tokens are of this form, as in `FORMS`. Its words are added to those that were found.
@@ -267,17 +279,15 @@ fn has_form<'t>(
     tokens: &[&'t [u8]],
     found: &mut Vec<&'t [u8]>,
 ) -> Result<bool, NoMemory> {
-    let mut rest = tokens;
+    let mut taken = 0usize;
     for part in form {
-        if is_word(part, b"..") {
-            return Ok(!rest.iter().any(|token| is_word(token, b";")));
-        }
-        rest = match take_part(part, rest, found)? {
-            Some(others) => others,
-            None => return Ok(false),
+        let rest = tokens.get(taken..).unwrap_or(&[]);
+        let Some(count) = take_part(part, rest, found)? else {
+            return Ok(false);
         };
+        taken = taken.saturating_add(count);
     }
-    Ok(rest.is_empty())
+    Ok(taken == tokens.len())
 }
 
 // Adds the words of a line of a script, each `$` by the next of those that were found, and `*` by all that are left.
