@@ -231,7 +231,7 @@ LIES = (
         ("""slot.0 == ENTRY.0 || slot.0 == STARTED.0""", """slot.0 == ENTRY.0"""),
     ), shown="explain_a_started_run_that_is_too_large"),
     Lie("the_first_of_two_calls_of_ttcn_3_is_the_line", (
-        ("""return Ok(!rest.iter().any(|token| is_word(token, b";")));""", """return Ok(true);"""),
+        ("""return Ok(one_call(tokens));""", """return Ok(Some(tokens.len()));"""),
     ), shown="explain_ttcn_3_a_verdict_and_a_call"),
     Lie("a_tab_is_told_as_a_zero_byte", (
         ("""[9, ..] => Some("a tab; a line has spaces only"),""", """[9, ..] => Some("a zero byte, as UTF-16 has them"),"""),
