@@ -4,7 +4,7 @@ use crate::naming::add_naming;
 use crate::nearest::near_text;
 use crate::places::space_of;
 use crate::quote::odd_place;
-use crate::scan::{Found, Opened};
+use crate::scan::Opened;
 use crate::slot::{
     ARGUMENTS as GIVEN, ENTRY, GIVEN_NAME, KEYWORD, RUN, STARTED, Slot, VERDICT, fixed_at,
     is_digits, next, rows,
@@ -18,6 +18,19 @@ use tc_line::{Keyword, ScriptKind, is_word, read_keyword, read_name, read_words}
 use tc_script::{STEPS, TEST_CASES};
 use tc_text::{TextKind, read_number};
 use tc_verdict::NoMemory;
+
+/// What is known of a line besides its bytes and its fault.
+#[derive(Clone, Copy)]
+pub(crate) struct Around<'t> {
+    /// The text that it is in.
+    pub(crate) text: &'t [u8],
+    /// Its number.
+    pub(crate) number: usize,
+    /// What is open before it.
+    pub(crate) opened: Opened,
+    /// Whether the text seems to be of TTCN-3.
+    pub(crate) in_source: bool,
+}
 
 // Adds the limit that a line passes, which begins with this keyword and has that many words after it.
 fn add_limit(out: &mut Vec<u8>, keyword: Option<Keyword>, others: usize) -> Result<(), NoMemory> {
@@ -119,31 +132,28 @@ fn add_misplaced(
     }
 }
 
-// Adds what helps with a line of a script, the number of which is given.
+// Adds what helps with a line of a script.
 fn add_script(
     alloc: Global,
     out: &mut Vec<u8>,
     kind: ScriptKind,
-    text: &[u8],
-    number: usize,
-    seen: bool,
-    opened: Opened,
+    around: Around,
     line: &[u8],
     words: &[&[u8]],
 ) -> Result<(), NoMemory> {
     let keyword = words.first().and_then(|word| read_keyword(word));
     match kind {
         ScriptKind::BadLine | ScriptKind::BadName => {
-            add_unformed(alloc, out, kind, seen, line, words)
+            add_unformed(alloc, out, kind, around.in_source, line, words)
         }
         ScriptKind::TooMany => {
             add_line(out, "one more than there may be")?;
             add_limit(out, keyword, words.len().saturating_sub(1))
         }
-        ScriptKind::BadPlace => add_misplaced(out, opened, keyword),
+        ScriptKind::BadPlace => add_misplaced(out, around.opened, keyword),
         ScriptKind::BadByte => Ok(()),
         ScriptKind::Cut => add_line(out, "the line is understood"),
-        _ => add_naming(alloc, out, kind, text, number, line, words),
+        _ => add_naming(alloc, out, kind, around.text, around.number, line, words),
     }
 }
 
@@ -305,15 +315,12 @@ fn add_end(out: &mut Vec<u8>, refusal: Refusal, opened: Opened) -> Result<(), No
     add_line(out, text)
 }
 
-// Adds what helps with the line with this number, if its bytes may be in it.
+// Adds what helps with the line, if its bytes may be in it.
 fn add_plain(
     alloc: Global,
     out: &mut Vec<u8>,
-    text: &[u8],
-    number: usize,
     refusal: Refusal,
-    seen: bool,
-    opened: Opened,
+    around: Around,
     line: &[u8],
 ) -> Result<(), NoMemory> {
     if odd_place(line).is_some() {
@@ -322,46 +329,22 @@ fn add_plain(
     let mut words = Vec::new(alloc);
     read_words(line, &mut words)?;
     match refusal {
-        Refusal::Script(kind) => {
-            add_script(
-                alloc,
-                out,
-                kind,
-                text,
-                number,
-                seen,
-                opened,
-                line,
-                words.as_slice(),
-            )
-        }
+        Refusal::Script(kind) => add_script(alloc, out, kind, around, line, words.as_slice()),
         _ => add_spaced(alloc, out, refusal, line, words.as_slice()),
     }
 }
 
-/// What helps with a refused text, line by line: the number of its first fault, and what was found there. Whether the
-/// text seems to be of TTCN-3 is given.
+/// What helps with the line of the first fault of a text, or with the end of the text before it, line by line.
 pub(crate) fn hints(
     alloc: Global,
-    text: &[u8],
-    number: usize,
     refusal: Refusal,
-    seen: bool,
-    found: Found,
+    around: Around,
+    line: Option<&[u8]>,
 ) -> Result<Vec<u8>, NoMemory> {
     let mut out = Vec::new(alloc);
-    match found.line {
-        Some(line) => add_plain(
-            alloc,
-            &mut out,
-            text,
-            number,
-            refusal,
-            seen,
-            found.opened,
-            line,
-        )?,
-        None => add_end(&mut out, refusal, found.opened)?,
+    match line {
+        Some(line) => add_plain(alloc, &mut out, refusal, around, line)?,
+        None => add_end(&mut out, refusal, around.opened)?,
     }
     Ok(out)
 }

@@ -14,12 +14,12 @@ use crate::append::{
     append_column, append_lines, append_list, append_nearest, append_note, append_numbered,
     append_shown, append_word,
 };
-use crate::hints::hints;
+use crate::hints::{Around, hints};
 use crate::nearest::{listed, words_at};
 use crate::odd::append_odd;
 use crate::places::{space_of, start_of};
 use crate::quote::odd_place;
-use crate::scan::{Found, Opened, find_line};
+use crate::scan::{Opened, find_line};
 use crate::slot::{ENTRY, KEYWORD, RUN, Slot, may_end, text};
 use crate::sort::{Refusal, Sort, seen_sort};
 use crate::stop::{Stop, walk};
@@ -293,21 +293,43 @@ fn append_opened(
     }
 }
 
-// Appends what else helps with the line with this number.
+// Appends what else helps with the line, or with the end of the text before it.
 fn append_hints(
+    alloc: Global,
+    out: &mut Vec<u8>,
+    refusal: Refusal,
+    around: Around,
+    line: Option<&[u8]>,
+) -> Result<(), NoMemory>
+    ensures { OnOk result (TellsAmong [] out.old.items out.new.items) }
+{
+    let hints = hints(alloc, refusal, around, line)?;
+    append_lines(alloc, out, hints.as_slice())
+}
+
+// Appends the line with its fault, or that the text ends before it, and what else helps.
+#[tactic(auto, using(tc_text::proofs::Lemmas::Among::among_rules))]
+fn append_fault(
     alloc: Global,
     out: &mut Vec<u8>,
     text: &[u8],
     number: usize,
     refusal: Refusal,
     seen: Option<Sort>,
-    found: Found,
+    opened: Opened,
+    line: Option<&[u8]>,
 ) -> Result<(), NoMemory>
-    ensures { OnOk result (TellsAmong [] out.old.items out.new.items) }
+    ensures { OnOk result (TellsAmong (option_map_or (line_note refusal opened) (option_copied line.entry) [])
+        out.old.items out.new.items) }
 {
-    let seen = seen == Some(Sort::Source);
-    let hints = hints(alloc, text, number, refusal, seen, found)?;
-    append_lines(alloc, out, hints.as_slice())
+    append_line(alloc, out, refusal, number, opened, line)?;
+    let around = Around {
+        text,
+        number,
+        opened,
+        in_source: matches!(seen, Some(Sort::Source)),
+    };
+    append_hints(alloc, out, refusal, around, line)
 }
 
 /// What is printed about a refused text besides its first fault, which is of this kind and in the line with this
@@ -329,8 +351,16 @@ pub fn explain(
     let found = find_line(alloc, text, number)?;
     let mut out = Vec::new(alloc);
     append_sort(alloc, &mut out, sort, seen)?;
-    append_line(alloc, &mut out, refusal, number, found.opened, found.line)?;
-    append_hints(alloc, &mut out, text, number, refusal, seen, found)?;
+    append_fault(
+        alloc,
+        &mut out,
+        text,
+        number,
+        refusal,
+        seen,
+        found.opened,
+        found.line,
+    )?;
     append_opened(alloc, &mut out, sort, found.opened)?;
     Ok(out)
 }
