@@ -11,7 +11,7 @@ use tc_verdict::NoMemory;
 // Lines of TTCN-3, without what ends them, and the lines of a script that do the same. In the first `$` is a word, `"` a
 // string, and `*` a list in brackets: the second has the word, what is in the string, and the last word of each part of
 // the list. `_` is a word that it does not have, and `..` what is left of one call.
-const FORMS: [(&str, &str); 36] = [
+const FORMS: [(&str, &str); 37] = [
     ("setverdict ( error ..", "stopcase"),
     ("setverdict ( $ ..", "setverdict $"),
     ("setverdict error", "stopcase"),
@@ -47,6 +47,7 @@ const FORMS: [(&str, &str); 36] = [
     ("running *", "running *"),
     ("alive *", "alive *"),
     ("done *", "done *"),
+    ("killed *", "killed *"),
     ("}", "end"),
 ];
 
