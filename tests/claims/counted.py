@@ -21,7 +21,7 @@ from documents import read
 
 WORDS = ("none", "one", "two", "three", "four", "five", "six", "seven", "eight", "nine", "ten", "eleven", "twelve")
 FEWEST_ROWS_OF_LIMITS = 13
-FEWEST_NUMBERS = 85
+FEWEST_NUMBERS = 88
 
 
 def text_of(path: str) -> str:
@@ -112,7 +112,7 @@ COUNTS: Dict[str, Callable[[], int]] = {
     "longest remark": lambda: len("255 # ") + constant("crates/tc_evidence/src/sentence.rt", "SENTENCE_BYTES"),
     "bytes of a piece": lambda: found_number("crates/tc_serve/src/service.rt", r"let mut chunk = \[0u8; (\d+)\]"),
     "refusals": lambda: variants("crates/tc_serve/src/refusal.rt", "Refusal"),
-    "bytes of a near word": lambda: found_number("crates/tc_explain/src/nearest.rt", r"word\.len\(\) > (\d+)"),
+    "bytes of a translated line": lambda: constant("crates/tc_explain/src/source.rt", "LONGEST"),
     "greatest run": lambda: greatest("crates/tc_verdict/src/run.rt", "Run"),
     "greatest component": lambda: greatest("crates/tc_entry/src/comp.rt", "Comp"),
     "cases of random_cases": lambda: found_number("crates/random_cases/src/task.rt", r"cases: (\d+),"),
@@ -171,7 +171,10 @@ NUMBERS: Tuple[Tuple[str, str, str], ...] = (
     ("docs/texts.md", "the longest that is taken has # bytes", "longest remark"),
     ("docs/texts.md", "| has # bytes or more |", "bytes of a line of serve"),
     ("docs/texts.md", "why-a-line-is-refused) has # texts", "refusals"),
-    ("docs/texts.md", "near the word, which has at most # bytes", "bytes of a near word"),
+    ("docs/texts.md", "The word has at most # bytes", "name bytes"),
+    ("docs/texts.md", "a name has 1 to # letters", "name bytes"),
+    ("docs/texts.md", "if NAMES are more than # bytes", "shown"),
+    ("docs/texts.md", "of at most # bytes, is the same in a script", "bytes of a translated line"),
     ("crates/tc_serve/README.md", "A line of # bytes or more is refused by its first 209", "bytes of a line of serve"),
     ("crates/tc_serve/README.md", "or more is refused by its first #, as too long", "bytes of a line of serve"),
     ("crates/tc_serve/README.md", "pieces of # bytes", "bytes of a piece"),
@@ -225,9 +228,9 @@ ROWS: Tuple[Tuple[str, str], ...] = (
 # whole, or word by word.
 TEXTS = (("docs/scripts.md", "Faults", "text", True), ("docs/texts.md", "Move lists, and what `replay` prints", "text", True),
          ("docs/texts.md", "Histories, and what `check` prints", "text", True), ("docs/texts.md", "Fault lines of the program", "text", True),
-         ("docs/texts.md", "The text report", "TEXT", True), ("docs/texts.md", "Replies", "text", False),
+         ("docs/texts.md", "What `--explain` prints", "line", True), ("docs/texts.md", "The text report", "TEXT", True), ("docs/texts.md", "Replies", "text", False),
          ("docs/texts.md", "Moves", "text", False))
-FEWEST_TEXTS = 75
+FEWEST_TEXTS = 130
 
 
 def number_of(said: str) -> int:

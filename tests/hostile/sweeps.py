@@ -49,6 +49,9 @@ def tasks() -> List[Task]:
     found += [Task("verdicts", ("run", "--shard", "2/3", it), bytes_of("verdicts.script")) for it in ("--list", "--junit")]
     found.append(Task("a_refused_script", ("run",), text("testcase t;behaviour main;alive nobody;end;end")))
     found.append(Task("a_misspelt_script", ("run", "--explain"), text("testcase t;behaviour main;setverdct pass;end;end")))
+    misspelt = text("testcase t;behaviour main;create p;start p wroker q;end;behaviour worker;end;end")
+    found.append(Task("a_misspelt_name", ("run", "--explain"), misspelt))
+    found.append(Task("a_line_of_ttcn_3", ("run", "--explain"), text("testcase t;behaviour main;p.start(worker(self))")))
     found.append(Task("sixty_four_behaviours", ("run", "--csv"), many_behaviours(64)))
     found += [Task(name, ("replay",), bytes_of(f"{name}.moves")) for name in ("groups", "inconc", "restart", "stuck")]
     found.append(Task("a_refused_list", ("replay",), text("behaviours 1;0 crate")))

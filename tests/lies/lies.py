@@ -221,8 +221,20 @@ LIES = (
     Lie("an_error_ends_no_line", (
         ("""const LINE_ENDS: [Slot; 2] = [ERROR, LINE_END];""", """const LINE_ENDS: [Slot; 2] = [LINE_END, LINE_END];"""),
     ), "tc_script_tests"),
+    Lie("behaviours_of_another_test_case_are_offered", (
+        ("""self.behaviours.clear();""", """self.anywhere.clear();"""),
+    ), shown="explain_a_behaviour_of_another_test_case"),
+    Lie("a_start_of_four_arguments_passes_their_limit", (
+        ("""Some(Keyword::Start) if others > 2 + ARGUMENTS => {""", """Some(Keyword::Start) if others >= 2 + ARGUMENTS => {"""),
+    ), shown="explain_a_thousand_steps"),
+    Lie("a_started_run_may_be_as_large_as_a_component", (
+        ("""slot.0 == ENTRY.0 || slot.0 == STARTED.0""", """slot.0 == ENTRY.0"""),
+    ), shown="explain_a_started_run_that_is_too_large"),
+    Lie("the_first_of_two_calls_of_ttcn_3_is_the_line", (
+        ("""return Ok(one_call(tokens));""", """return Ok(Some(tokens.len()));"""),
+    ), shown="explain_ttcn_3_a_verdict_and_a_call"),
     Lie("a_tab_is_told_as_a_zero_byte", (
-        ("""[9, ..] => Some("a tab"),""", """[9, ..] => Some("a zero byte, as UTF-16 has them"),"""),
+        ("""[9, ..] => Some("a tab; a line has spaces only"),""", """[9, ..] => Some("a zero byte, as UTF-16 has them"),"""),
     ), "tc_script_tests"),
     Lie("a_history_is_told_begun_as_a_test_case", (
         ("""Sort::Histories => "a history began in line",""", """Sort::Histories => "a test case began in line","""),

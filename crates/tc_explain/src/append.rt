@@ -4,9 +4,10 @@ ghost use Rattle.std.specs.Fmt.{decimal};
 ghost use Rattle.tc_text.specs.Said.{TellsAmong, TellsLine, word_of};
 ghost use Rattle.tc_explain.specs.Places.{quoted};
 
-use crate::nearest::near_word;
+use crate::nearest::near_text;
 use crate::quote::{quoted_begin, quoted_rest};
 use std::alloc::Global;
+use tc_line::Lines;
 use tc_text::{Part, append_parts};
 use tc_verdict::NoMemory;
 
@@ -123,11 +124,23 @@ pub(crate) fn append_nearest(
 ) -> Result<(), NoMemory>
     ensures { OnOk result (TellsAmong [] out.old.items out.new.items) }
 {
-    match near_word(alloc, word, table)? {
+    match near_text(alloc, word, table)? {
         Some(near) => {
-            let near = Part::Word(near.as_bytes());
+            let near = Part::Word(near);
             append_parts(alloc, out, &[Part::Text(b"nearest:"), near])
         }
         None => Ok(()),
     }
+}
+
+/// Appends the lines of a text.
+#[tactic(auto, using(tc_text::proofs::Lemmas::Among::among_rules))]
+pub(crate) fn append_lines(alloc: Global, out: &mut Vec<u8>, text: &[u8]) -> Result<(), NoMemory>
+    ensures { OnOk result (TellsAmong [] out.old.items out.new.items) }
+{
+    let mut rest = Lines::new(text);
+    while let Some(line) = rest.next() {
+        append_parts(alloc, out, &[Part::Text(line)])?;
+    }
+    Ok(())
 }

@@ -3,6 +3,10 @@
 #![tactic(auto)]
 
 mod append;
+mod help;
+mod hints;
+mod names;
+mod naming;
 mod nearest;
 mod odd;
 mod places;
@@ -10,6 +14,7 @@ mod quote;
 mod scan;
 mod slot;
 mod sort;
+mod source;
 mod stop;
 mod telling;
 

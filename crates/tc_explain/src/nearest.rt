@@ -6,7 +6,8 @@ ghost use Rattle.tc_explain.specs.Slots.{listed as listed_at, open_words as word
 use crate::scan::Opened;
 use crate::slot::{KEYWORD, Row, Slot, Test, rows};
 use std::alloc::Global;
-use strsim::generic_levenshtein;
+use strsim::generic_damerau_levenshtein;
+use tc_entry::NAME_BYTES;
 use tc_verdict::NoMemory;
 
 // Adds the word of a row of this slot.
@@ -69,46 +70,85 @@ pub(crate) fn listed<'t>(
     }
 }
 
-// A word of a table, and how many edits lead to it.
+// A word, and how many edits lead to it.
 #[derive(Clone, Copy)]
 struct Near<'t> {
-    word: &'t str,
+    word: &'t [u8],
     distance: usize,
+}
+
+// Whether only capital letters distinguish the words.
+fn is_alike(word: &[u8], other: &[u8]) -> bool {
+    word.len() == other.len()
+        && word.iter().zip(other.iter()).all(|(one, two)| one.to_ascii_lowercase()
+            == two.to_ascii_lowercase())
+}
+
+// How many edits lead from one word to the other: a letter more, less or another, two that are swapped, or capital letters.
+fn edits(alloc: Global, word: &[u8], other: &[u8]) -> Result<usize, NoMemory> {
+    let distance = generic_damerau_levenshtein(alloc, word, other)?;
+    Ok(if is_alike(word, other) {
+        distance.min(1)
+    } else {
+        distance
+    })
+}
+
+// Whether the bytes may be a name, a keyword or a reply.
+fn is_plain_word(word: &[u8]) -> bool {
+    word.len() <= NAME_BYTES
+        && word.iter().all(|byte| byte.is_ascii_alphanumeric() || *byte == b'_' || *byte == b'-')
 }
 
 // The word of least distance in the table, and the first of them.
 fn nearest<'t>(
     alloc: Global,
     word: &[u8],
-    table: &[&'t str],
+    table: &[&'t [u8]],
 ) -> Result<Option<Near<'t>>, NoMemory> {
-    let [first, rest @ ..] = table else {
-        return Ok(None);
-    };
-    let distance = generic_levenshtein(alloc, word, first.as_bytes())?;
-    let other = nearest(alloc, word, rest)?;
-    match other {
-        Some(near) if near.distance < distance => Ok(Some(near)),
-        _ => Ok(Some(Near {
-            word: first,
-            distance,
-        })),
+    let mut found: Option<Near<'t>> = None;
+    for other in table {
+        let distance = edits(alloc, word, other)?;
+        found = match found {
+            Some(near) if near.distance <= distance => Some(near),
+            _ => Some(Near {
+                word: other,
+                distance,
+            }),
+        };
     }
+    Ok(found)
 }
 
-/// The nearest word of the table, if some but at most a third of the letters of a word that is not long must change.
+// Whether that many edits of a word are few: some, but at most a third of its letters, or one of a word of two or three.
+fn is_near(word: &[u8], distance: usize) -> bool {
+    0 < distance && distance < word.len() && distance <= word.len().max(3) / 3
+}
+
+/// The nearest word of the table, if it is near.
 pub(crate) fn near_word<'t>(
     alloc: Global,
     word: &[u8],
-    table: &[&'t str],
-) -> Result<Option<&'t str>, NoMemory> {
-    if word.len() > 16 {
+    table: &[&'t [u8]],
+) -> Result<Option<&'t [u8]>, NoMemory> {
+    if !is_plain_word(word) {
         return Ok(None);
     }
     match nearest(alloc, word, table)? {
-        Some(near) if near.distance > 0 && near.distance <= word.len().max(3) / 3 => {
-            Ok(Some(near.word))
-        }
+        Some(near) if is_near(word, near.distance) => Ok(Some(near.word)),
         _ => Ok(None),
     }
+}
+
+/// The same of a table of texts.
+pub(crate) fn near_text<'t>(
+    alloc: Global,
+    word: &[u8],
+    table: &[&'t str],
+) -> Result<Option<&'t [u8]>, NoMemory> {
+    let mut words = Vec::new(alloc);
+    for text in table {
+        words.push(text.as_bytes())?;
+    }
+    near_word(alloc, word, words.as_slice())
 }

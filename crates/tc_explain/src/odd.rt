@@ -7,7 +7,7 @@ use tc_verdict::NoMemory;
 fn name_of(bytes: &[u8]) -> Option<&'static str> {
     match bytes {
         [13, ..] => Some("a carriage return; a line ends with a line feed only"),
-        [9, ..] => Some("a tab"),
+        [9, ..] => Some("a tab; a line has spaces only"),
         [0, ..] => Some("a zero byte, as UTF-16 has them"),
         [239, 187, 191, ..] => Some("a byte order mark"),
         [255, 254, ..] | [254, 255, ..] => Some("a byte order mark of UTF-16"),

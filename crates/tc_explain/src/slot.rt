@@ -6,7 +6,9 @@ ghost use Rattle.tc_line.specs.Words.{is_name as name_test};
 ghost use Rattle.tc_explain.specs.Slots.{next as next_of, passes as passes_test, rows as all_rows};
 
 use crate::sort::Sort;
+use std::alloc::Global;
 use tc_line::{is_word, read_name, read_reference};
+use tc_verdict::NoMemory;
 
 /// What may be at a place of a line, by a number of its own.
 #[derive(Clone, Copy, Debug, PartialEq, Eq)]
@@ -212,8 +214,19 @@ pub(crate) fn rows() -> &'static [Row]
     &ROWS
 }
 
-// Whether the word is of digits.
-fn is_digits(word: &[u8]) -> bool
+/// The words of forms that may be at a slot.
+pub(crate) fn fixed_at(alloc: Global, slot: Slot) -> Result<Vec<&'static str>, NoMemory> {
+    let mut words = Vec::new(alloc);
+    for row in &ROWS {
+        if matches!(row.1, Test::Fixed) && row.0.0 == slot.0 {
+            words.push(row.2)?;
+        }
+    }
+    Ok(words)
+}
+
+/// Whether the word is of digits.
+pub(crate) fn is_digits(word: &[u8]) -> bool
     ensures { result ≡ list_all (λ b. nat_le 48 b && nat_le b 57) word.now }
 {
     word.iter().all(|byte| 48 <= *byte && *byte <= 57)

@@ -1,5 +1,5 @@
 //! The place at which a line stops being understood.
-ghost use Rattle.std.specs.Prelude.{◌≡◌, ◌≤◌, length, map, true};
+ghost use Rattle.std.specs.Prelude.{◌≡◌, map};
 ghost use Rattle.tc_explain.specs.Slots.{walk as walk_of};
 
 use crate::slot::{Slot, may_end, next, rows};
@@ -29,8 +29,6 @@ pub(crate) fn walk(sort: Sort, first: Slot, words: &[&[u8]]) -> Stop
 }
 
 /// Whether each of the words of the line may be where it is.
-pub(crate) fn is_whole(sort: Sort, stop: Stop, words: &[&[u8]]) -> bool
-    ensures { result ≡ true → length words.now ≤ stop.place }
-{
+pub(crate) fn is_whole(sort: Sort, stop: Stop, words: &[&[u8]]) -> bool {
     words.len() <= stop.place && may_end(sort, stop.slot)
 }

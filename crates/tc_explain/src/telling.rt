@@ -11,17 +11,18 @@ ghost use Rattle.tc_explain.specs.Slots.{walk as walk_of};
 ghost use Rattle.tc_explain.specs.declared.sort.Refusal.TheVariants as R;
 
 use crate::append::{
-    append_column, append_list, append_nearest, append_note, append_numbered, append_shown,
-    append_word,
+    append_column, append_lines, append_list, append_nearest, append_note, append_numbered,
+    append_shown, append_word,
 };
+use crate::hints::{Around, hints};
 use crate::nearest::{listed, words_at};
 use crate::odd::append_odd;
 use crate::places::{space_of, start_of};
 use crate::quote::odd_place;
 use crate::scan::{Opened, find_line};
-use crate::slot::{ENTRY, KEYWORD, RUN, Slot, text};
+use crate::slot::{ENTRY, KEYWORD, RUN, Slot, may_end, text};
 use crate::sort::{Refusal, Sort, seen_sort};
-use crate::stop::{Stop, is_whole, walk};
+use crate::stop::{Stop, walk};
 use std::alloc::Global;
 use tc_line::{ScriptKind, read_words};
 use tc_text::TextKind;
@@ -69,22 +70,26 @@ fn append_place(
     append_list(alloc, out, offered, other)
 }
 
-// Appends the column of the end of the line, and what would be understood there.
+// Appends the column of the end of the line, and what would be understood there, unless it may end there.
 #[tactic(auto, using(tc_text::proofs::Lemmas::Among::among_rules))]
 fn append_end(
     alloc: Global,
     out: &mut Vec<u8>,
+    may_end: bool,
     line: &[u8],
     offered: &[&str],
     other: &str,
 ) -> Result<(), NoMemory>
     ensures { OnOk result (TellsAmong [] out.old.items out.new.items) }
 {
+    if may_end {
+        return Ok(());
+    }
     append_column(alloc, out, line.len(), b"the end of the line")?;
     append_list(alloc, out, offered, other)
 }
 
-// Appends where the line of a text of this sort stops, what would be understood there, and the nearest word of the slot.
+// Appends where the line of a text of this sort stops, if it does, what would be understood there, and the nearest word of the slot.
 #[tactic(auto, using(tc_text::proofs::Lemmas::Among::among_rules))]
 fn append_stop(
     alloc: Global,
@@ -102,40 +107,19 @@ fn append_stop(
     let table = words_at(alloc, stop.slot)?;
     let offered = listed(opened, stop.slot, table.as_slice());
     let Some(word) = word_at(words, stop.place) else {
-        return append_end(alloc, out, line, offered, other);
+        let may_end = may_end(sort, stop.slot);
+        return append_end(alloc, out, may_end, line, offered, other);
     };
     append_place(alloc, out, line, stop.place, word, offered, other)?;
     append_nearest(alloc, out, word, table.as_slice())
 }
 
-// Appends where the line stops, or the rule, if its words may be where they are.
-#[tactic(auto, using(tc_text::proofs::Lemmas::Among::among_rules))]
-fn append_whole(
-    alloc: Global,
-    out: &mut Vec<u8>,
-    sort: Sort,
-    rule: &str,
-    opened: Opened,
-    line: &[u8],
-    words: &[&[u8]],
-    stop: Stop,
-) -> Result<(), NoMemory>
-    requires { map (λ w. w.now) words.now ≡ words_of line.now }
-    ensures { OnOk result (TellsAmong (stop_note opened line.now stop) out.old.items out.new.items) }
-{
-    if is_whole(sort, stop, words) {
-        return append_note(alloc, out, rule);
-    }
-    append_stop(alloc, out, sort, opened, line, words, stop)
-}
-
-// Appends what is wrong with the words of a line of a text of this sort, the first of which is at this slot; or the rule.
+// Appends what is wrong with the words of a line of a text of this sort, the first of which is at this slot.
 fn append_walk(
     alloc: Global,
     out: &mut Vec<u8>,
     sort: Sort,
     first: Slot,
-    rule: &str,
     opened: Opened,
     line: &[u8],
 ) -> Result<(), NoMemory>
@@ -145,7 +129,7 @@ fn append_walk(
     let mut words = Vec::new(alloc);
     read_words(line, &mut words)?;
     let stop = walk(sort, first, words.as_slice());
-    append_whole(alloc, out, sort, rule, opened, line, words.as_slice(), stop)
+    append_stop(alloc, out, sort, opened, line, words.as_slice(), stop)
 }
 
 // Appends what is wrong with a line of a script that may not be where it is.
@@ -175,41 +159,6 @@ fn append_misplaced(
     )
 }
 
-// The rule that a line breaks, or its form.
-fn rule(refusal: Refusal) -> &'static str {
-    match refusal {
-        Refusal::Script(ScriptKind::TooMany) => "one more than there may be",
-        Refusal::Script(ScriptKind::Twice) => {
-            "a name is given once: to a test case of the script, a behaviour of the test case, a component of the behaviour"
-        }
-        Refusal::Script(ScriptKind::NoReference) => {
-            "a component is named by a parameter, or by a create above"
-        }
-        Refusal::Script(ScriptKind::UnknownBehaviour) => {
-            "a start names a behaviour of its test case"
-        }
-        Refusal::Script(ScriptKind::MainParameters) => {
-            "the first behaviour of a test case is started by nobody, who could give it arguments"
-        }
-        Refusal::Script(ScriptKind::Arguments) => {
-            "a start gives as many arguments as the behaviour has parameters"
-        }
-        Refusal::Histories(TextKind::Entry) => {
-            "a number is too large or begins with 0, there are more than 4 arguments, or a history of format 1 names a component"
-        }
-        Refusal::Histories(TextKind::FirstLine) => {
-            "understood there: history F NAME N, with F 1 or 2, and N from 1 to 64 or to 256"
-        }
-        Refusal::Moves(TextKind::Move) => {
-            "a number is too large or begins with 0, or there are more than 4 arguments"
-        }
-        Refusal::Moves(TextKind::FirstLine) => {
-            "understood there: behaviours N, with N from 1 to 256"
-        }
-        _ => "the line is understood",
-    }
-}
-
 // Appends what is wrong with a line of a script without odd bytes.
 #[tactic(auto, using(tc_text::proofs::Lemmas::Among::among_rules))]
 fn append_script(
@@ -221,13 +170,12 @@ fn append_script(
 ) -> Result<(), NoMemory>
     ensures { OnOk result (TellsAmong (kind_note (R.Script kind) opened line.now) out.old.items out.new.items) }
 {
-    let rule = rule(Refusal::Script(kind));
     match kind {
         ScriptKind::BadLine | ScriptKind::BadName => {
-            append_walk(alloc, out, Sort::Script, KEYWORD, rule, opened, line)
+            append_walk(alloc, out, Sort::Script, KEYWORD, opened, line)
         }
         ScriptKind::BadPlace => append_misplaced(alloc, out, opened, line),
-        _ => append_note(alloc, out, rule),
+        _ => Ok(()),
     }
 }
 
@@ -246,15 +194,12 @@ fn append_spaced(
     if space < line.len() {
         return append_column(alloc, out, space, b"a space too many");
     }
-    let rule = rule(refusal);
     match refusal {
         Refusal::Histories(TextKind::Entry) => {
-            append_walk(alloc, out, Sort::Histories, ENTRY, rule, opened, line)
+            append_walk(alloc, out, Sort::Histories, ENTRY, opened, line)
         }
-        Refusal::Moves(TextKind::Move) => {
-            append_walk(alloc, out, Sort::Moves, RUN, rule, opened, line)
-        }
-        _ => append_note(alloc, out, rule),
+        Refusal::Moves(TextKind::Move) => append_walk(alloc, out, Sort::Moves, RUN, opened, line),
+        _ => Ok(()),
     }
 }
 
@@ -348,6 +293,45 @@ fn append_opened(
     }
 }
 
+// Appends what else helps with the line, or with the end of the text before it.
+fn append_hints(
+    alloc: Global,
+    out: &mut Vec<u8>,
+    refusal: Refusal,
+    around: Around,
+    line: Option<&[u8]>,
+) -> Result<(), NoMemory>
+    ensures { OnOk result (TellsAmong [] out.old.items out.new.items) }
+{
+    let hints = hints(alloc, refusal, around, line)?;
+    append_lines(alloc, out, hints.as_slice())
+}
+
+// Appends the line with its fault, or that the text ends before it, and what else helps.
+#[tactic(auto, using(tc_text::proofs::Lemmas::Among::among_rules))]
+fn append_fault(
+    alloc: Global,
+    out: &mut Vec<u8>,
+    text: &[u8],
+    number: usize,
+    refusal: Refusal,
+    seen: Option<Sort>,
+    opened: Opened,
+    line: Option<&[u8]>,
+) -> Result<(), NoMemory>
+    ensures { OnOk result (TellsAmong (option_map_or (line_note refusal opened) (option_copied line.entry) [])
+        out.old.items out.new.items) }
+{
+    append_line(alloc, out, refusal, number, opened, line)?;
+    let around = Around {
+        text,
+        number,
+        opened,
+        in_source: matches!(seen, Some(Sort::Source)),
+    };
+    append_hints(alloc, out, refusal, around, line)
+}
+
 /// What is printed about a refused text besides its first fault, which is of this kind and in the line with this
 /// number. Memory may run out instead.
 ///
@@ -367,7 +351,16 @@ pub fn explain(
     let found = find_line(alloc, text, number)?;
     let mut out = Vec::new(alloc);
     append_sort(alloc, &mut out, sort, seen)?;
-    append_line(alloc, &mut out, refusal, number, found.opened, found.line)?;
+    append_fault(
+        alloc,
+        &mut out,
+        text,
+        number,
+        refusal,
+        seen,
+        found.opened,
+        found.line,
+    )?;
     append_opened(alloc, &mut out, sort, found.opened)?;
     Ok(out)
 }

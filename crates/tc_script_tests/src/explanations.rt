@@ -249,11 +249,11 @@ fn places_of_histories(rt: HostRuntime) -> Result<(), Fail> {
 fn words_of_a_form(rt: HostRuntime) -> Result<(), Fail> {
     let lines = [
         ("create p named", "column 15: the end of the line", "a name"),
-        ("create p  alike", "column 11: `alike`", KIND),
+        ("create p  other", "column 11: `other`", KIND),
         ("start mtc", "column 10: the end of the line", STARTED),
         ("start all b", "column 7: `all`", "a component"),
         ("stop any", "column 6: `any`", GROUP),
-        ("setverdict error", "column 12: `error`", VERDICT),
+        ("setverdict unset", "column 12: `unset`", VERDICT),
     ];
     for (line, place, wanted) in lines {
         expect_form(&rt, rt.alloc(), line, place, wanted)?;
@@ -264,7 +264,10 @@ fn words_of_a_form(rt: HostRuntime) -> Result<(), Fail> {
 #[test]
 fn rules_that_a_line_breaks(rt: HostRuntime) -> Result<(), Fail> {
     let rules = [
-        (ScriptKind::TooMany, "one more than there may be"),
+        (
+            ScriptKind::TooMany,
+            "one more than there may be\n  a behaviour has at most 1000 steps",
+        ),
         (
             ScriptKind::Twice,
             "a name is given once: to a test case of the script, a behaviour of the test case, a component of the behaviour",
@@ -291,6 +294,76 @@ fn rules_that_a_line_breaks(rt: HostRuntime) -> Result<(), Fail> {
         let told = format!(in rt.alloc(); "  line: `end`\n  {rule}\n")?;
         let refusal = Refusal::Script(kind);
         expect(&rt, rt.alloc(), b"end", 1, refusal, told.as_str())?;
+    }
+    Ok(())
+}
+
+// Lines that break no rule of names, by the kinds that no reader finds in them.
+#[test]
+fn rules_that_a_line_keeps(rt: HostRuntime) -> Result<(), Fail> {
+    let lines = [
+        (ScriptKind::Twice, "create p", "a name is given once: "),
+        (
+            ScriptKind::Twice,
+            "behaviour b c d",
+            "a name is given once: ",
+        ),
+        (
+            ScriptKind::NoReference,
+            "start mtc w self",
+            "a component is named by ",
+        ),
+        (
+            ScriptKind::NoReference,
+            "stop all",
+            "a component is named by ",
+        ),
+        (
+            ScriptKind::NoReference,
+            "wait done any",
+            "a component is named by ",
+        ),
+        (
+            ScriptKind::NoReference,
+            "other p",
+            "a component is named by ",
+        ),
+        (
+            ScriptKind::UnknownBehaviour,
+            "start p",
+            "a start names a behaviour",
+        ),
+        (
+            ScriptKind::Arguments,
+            "start p w",
+            "a start gives as many arguments",
+        ),
+        (
+            ScriptKind::Arguments,
+            "start p",
+            "a start gives as many arguments",
+        ),
+        (
+            ScriptKind::MainParameters,
+            "behaviour b",
+            "the first behaviour of a test case",
+        ),
+        (ScriptKind::BadLine, "getverdict", "the line is understood"),
+        (ScriptKind::BadName, "create p", "the line is understood"),
+    ];
+    for (kind, line, rule) in lines {
+        let told = told_of(rt.alloc(), line.as_bytes(), 1, Refusal::Script(kind))?;
+        let head = format!(in rt.alloc(); "  line: `{line}`\n  {rule}")?;
+        assert!(&rt;
+            told.as_slice().starts_with(head.as_str().as_bytes()),
+            "{line}"
+        );
+        let ends = told
+            .as_slice()
+            .iter()
+            .filter(|byte| **byte == b'\n')
+            .count();
+        assert_eq!(&rt; ends, 2, "{line}");
     }
     Ok(())
 }
@@ -322,7 +395,10 @@ fn odd_bytes(rt: HostRuntime) -> Result<(), Fail> {
             b"testcase t\r\nend",
             "  line: `testcase t\\x0D`\n  column 11: a carriage return; a line ends with a line feed only\n",
         ),
-        (b"\tend", "  line: `\\x09end`\n  column 1: a tab\n"),
+        (
+            b"\tend",
+            "  line: `\\x09end`\n  column 1: a tab; a line has spaces only\n",
+        ),
         (
             b"\xef\xbb\xbfend",
             "  line: `\\xEF\\xBB\\xBFend`\n  column 1: a byte order mark\n",
@@ -351,14 +427,21 @@ fn odd_bytes(rt: HostRuntime) -> Result<(), Fail> {
 #[test]
 fn what_is_open(rt: HostRuntime) -> Result<(), Fail> {
     let early = Refusal::Script(ScriptKind::Cut);
-    expect(&rt, rt.alloc(), b"", 1, early, "  the text is empty\n")?;
+    expect(
+        &rt,
+        rt.alloc(),
+        b"",
+        1,
+        early,
+        "  the text is empty\n  a script has a test case or more\n",
+    )?;
     expect(
         &rt,
         rt.alloc(),
         b"# x\ntestcase t\n\nbehaviour b\nend\nbehaviour c\n",
         7,
         early,
-        "  the text ends after line 6\n  a behaviour began in line 6\n  a test case began in line 2\n",
+        "  the text ends after line 6\n  each behaviour and each test case ends with `end`\n  a behaviour began in line 6\n  a test case began in line 2\n",
     )?;
     expect(
         &rt,
@@ -366,7 +449,7 @@ fn what_is_open(rt: HostRuntime) -> Result<(), Fail> {
         b"testcase t\nend\n",
         2,
         Refusal::Script(ScriptKind::BadPlace),
-        "  line: `end`\n  column 1: `end`\n  understood there: behaviour\n  a test case began in line 1\n",
+        "  line: `end`\n  column 1: `end`\n  understood there: behaviour\n  a test case has a behaviour or more\n  a test case began in line 1\n",
     )?;
     expect(
         &rt,
@@ -374,7 +457,7 @@ fn what_is_open(rt: HostRuntime) -> Result<(), Fail> {
         b"history 1 a 1\nend none\nhistory 1 b 1\n",
         4,
         Refusal::Histories(TextKind::Early),
-        "  the text ends after line 3\n  a history began in line 3\n",
+        "  the text ends after line 3\n  a history ends with `end` and its verdict\n  a history began in line 3\n",
     )
 }
 
@@ -404,8 +487,9 @@ fn texts_of_another_kind(rt: HostRuntime) -> Result<(), Fail> {
     Ok(())
 }
 
-const RULE_OF_MOVES: &str =
-    "a number is too large or begins with 0, or there are more than 4 arguments";
+const ZERO: &str = "  a number begins with 0 only if it is 0\n";
+
+const FOUR: &str = "a start has at most 4 arguments";
 
 #[test]
 fn lines_of_moves(rt: HostRuntime) -> Result<(), Fail> {
@@ -432,10 +516,10 @@ fn lines_of_moves(rt: HostRuntime) -> Result<(), Fail> {
             "column 8: `p`",
             "  understood there: all or a component\n",
         ),
-        ("0 stop 01", RULE_OF_MOVES, ""),
-        ("00 create", RULE_OF_MOVES, ""),
-        ("00 create alive", RULE_OF_MOVES, ""),
-        ("0 start 1 1 0 0 0 0 0", RULE_OF_MOVES, ""),
+        ("0 stop 01", "column 8: `01`", ZERO),
+        ("00 create", "column 1: `00`", ZERO),
+        ("00 create alive", "column 1: `00`", ZERO),
+        ("0 start 1 1 0 0 0 0 0", FOUR, ""),
     ];
     for (line, place, wanted) in lines {
         let text = format!(in rt.alloc(); "behaviours 1\n{line}\n")?;
@@ -512,8 +596,8 @@ fn lines_of_histories(rt: HostRuntime) -> Result<(), Fail> {
             "the number of a run, or end",
         ),
         (
-            "end passed",
-            "column 5: `passed`",
+            "end other",
+            "column 5: `other`",
             "none, pass, inconc, fail or error",
         ),
         ("end pass 1", "column 10: `1`", "the end of the line"),
@@ -574,17 +658,19 @@ fn replies_of_histories(rt: HostRuntime) -> Result<(), Fail> {
 
 #[test]
 fn entries_of_words_that_may_stand(rt: HostRuntime) -> Result<(), Fail> {
-    let told =
-        "a number is too large or begins with 0, there are more than 4 arguments, or a history of format 1 names a component";
+    let format = "a history of format 1 names no component";
+    let most = "  the number is at most 65535\n";
     let lines = [
-        "0 create -> made 01",
-        "65536 finish -> ok",
-        "0 start 1 1 0 0 0 0 0 -> error too-many",
-        "0 create named p -> made 1",
-        "0 create alive named p -> error",
+        ("0 create -> made 01", "column 18: `01`", ZERO),
+        ("65536 finish -> ok", "column 1: `65536`", most),
+        ("0 start 1 1 0 0 0 0 0 -> error too-many", FOUR, ""),
+        ("0 create named p -> made 1", format, ""),
+        ("0 create alive named p -> error", format, ""),
+        ("0 finish -> ok", "the line is understood", ""),
+        ("0 start 1 1 0 0 0 0 -> ok", "the line is understood", ""),
     ];
-    for line in lines {
-        expect_entry(&rt, rt.alloc(), line, told, "")?;
+    for (line, place, rule) in lines {
+        expect_entry(&rt, rt.alloc(), line, place, rule)?;
     }
     Ok(())
 }

@@ -1,0 +1,268 @@
+//! What helps if a name of a script is wrong.
+use crate::help::{add_counted, add_line, add_named, add_names, add_word};
+use crate::names::{Given, Names, given_as, no_names};
+use crate::nearest::near_word;
+use std::alloc::Global;
+use tc_entry::ARGUMENTS;
+use tc_line::{Keyword, ScriptKind, is_word, read_keyword, read_name};
+use tc_text::{append_number, append_text};
+use tc_verdict::NoMemory;
+
+// Adds the word at a place of the line, if there is one.
+fn add_place(
+    alloc: Global,
+    out: &mut Vec<u8>,
+    line: &[u8],
+    words: &[&[u8]],
+    place: usize,
+) -> Result<(), NoMemory> {
+    match words.get(place) {
+        Some(word) => add_word(alloc, out, line, place, word),
+        None => Ok(()),
+    }
+}
+
+// Adds the nearest of the names or of the other words; if none is near, the names under this head, or that there is none.
+fn add_near(
+    alloc: Global,
+    out: &mut Vec<u8>,
+    word: &[u8],
+    given: &[Given],
+    others: &[&[u8]],
+    (head, none): (&str, &str),
+) -> Result<(), NoMemory> {
+    let mut names = Vec::new(alloc);
+    for one in given {
+        names.push(one.name)?;
+    }
+    let mut all = Vec::new(alloc);
+    all.extend_from_slice(names.as_slice())?;
+    all.extend_from_slice(others)?;
+    match near_word(alloc, word, all.as_slice())? {
+        Some(near) => add_named(out, "nearest:", near),
+        None if names.is_empty() => add_line(out, none),
+        None => add_names(out, head, names.as_slice()),
+    }
+}
+
+// Whether a line with this keyword names a component at this place, if it has one.
+fn names_component(keyword: Keyword, place: usize) -> bool {
+    match keyword {
+        Keyword::Start => place == 1 || place > 2,
+        Keyword::Stop | Keyword::Kill | Keyword::Ask(_) => place == 1,
+        Keyword::Wait => place == 2,
+        _ => false,
+    }
+}
+
+// The first word of a line with this keyword that names a component and is not bound, with its place.
+fn unbound<'t>(keyword: Keyword, bound: &[Given], words: &[&'t [u8]]) -> Option<(usize, &'t [u8])> {
+    for (place, word) in words.iter().enumerate().take(3 + ARGUMENTS) {
+        let is_name = names_component(keyword, place) && read_name(word).is_some();
+        if is_name && given_as(bound, word).is_none() {
+            return Some((place, word));
+        }
+    }
+    None
+}
+
+// Adds where the word is bound, or that it names a behaviour.
+fn add_elsewhere(out: &mut Vec<u8>, names: &Names, word: &[u8]) -> Result<(), NoMemory> {
+    if let Some(one) = given_as(names.anywhere.as_slice(), word) {
+        return add_counted(
+            out,
+            "it is bound after line ",
+            one.line,
+            ", to the end of that behaviour",
+        );
+    }
+    match given_as(names.behaviours.as_slice(), word) {
+        Some(one) => add_counted(
+            out,
+            "it names the behaviour in line ",
+            one.line,
+            ", and no component",
+        ),
+        None => Ok(()),
+    }
+}
+
+// The words that name components, of which the first two do so in each line.
+const OTHERS: [&[u8]; 4] = [b"mtc", b"self", b"all", b"any"];
+
+// The words other than names that name components in a line with this keyword.
+fn others_of(keyword: Option<Keyword>) -> &'static [&'static [u8]] {
+    match keyword {
+        Some(Keyword::Start) => &OTHERS[..2],
+        Some(Keyword::Stop | Keyword::Kill) => &OTHERS[..3],
+        _ => &OTHERS,
+    }
+}
+
+// Adds which name is not bound, and the nearest that is.
+fn add_unbound(
+    alloc: Global,
+    out: &mut Vec<u8>,
+    names: &Names,
+    line: &[u8],
+    words: &[&[u8]],
+) -> Result<(), NoMemory> {
+    let bound = names.bound.as_slice();
+    let keyword = words.first().and_then(|word| read_keyword(word));
+    let found = keyword.and_then(|keyword| unbound(keyword, bound, words));
+    if let Some((place, word)) = found {
+        add_word(alloc, out, line, place, word)?;
+    }
+    add_line(
+        out,
+        "a component is named by a parameter, or by a create above",
+    )?;
+    let others = others_of(keyword);
+    let told = ("bound there:", "no name is bound there");
+    match found {
+        Some((_, word)) => {
+            add_elsewhere(out, names, word)?;
+            add_near(alloc, out, word, bound, others, told)
+        }
+        None => Ok(()),
+    }
+}
+
+// Adds which behaviour there is not, and the nearest that there is and that may be started.
+fn add_unknown(
+    alloc: Global,
+    out: &mut Vec<u8>,
+    names: &Names,
+    line: &[u8],
+    words: &[&[u8]],
+) -> Result<(), NoMemory> {
+    add_place(alloc, out, line, words, 2)?;
+    add_line(out, "a start names a behaviour of its test case")?;
+    let started = names.behaviours.as_slice().get(1..).unwrap_or(&[]);
+    let told = (
+        "behaviours after the first:",
+        "the test case has only its first behaviour",
+    );
+    match words.get(2) {
+        Some(word) => add_near(alloc, out, word, started, &[], told),
+        None => Ok(()),
+    }
+}
+
+// Adds how many arguments there are, and how many there should be.
+fn add_arguments(out: &mut Vec<u8>, names: &Names, words: &[&[u8]]) -> Result<(), NoMemory> {
+    add_line(
+        out,
+        "a start gives as many arguments as the behaviour has parameters",
+    )?;
+    let [_, _, name, arguments @ ..] = words else {
+        return Ok(());
+    };
+    match given_as(names.behaviours.as_slice(), name) {
+        Some(behaviour) => {
+            append_number(out, arguments.len() as u64)?;
+            append_text(out, " given, ")?;
+            append_number(out, behaviour.parameters as u64)?;
+            add_counted(out, " wanted by the behaviour in line ", behaviour.line, "")
+        }
+        None => Ok(()),
+    }
+}
+
+// The place of the first parameter that is there before.
+fn twice_parameter(words: &[&[u8]]) -> Option<usize> {
+    for (place, word) in words.iter().enumerate().take(2 + ARGUMENTS) {
+        let before = words.get(2..place).unwrap_or(&[]);
+        if before.iter().any(|other| is_word(other, word)) {
+            return Some(place);
+        }
+    }
+    None
+}
+
+// The first of these with this name, if it is above the line.
+fn line_above(given: &[Given], name: &[u8], line: usize) -> Option<usize> {
+    match given_as(given, name) {
+        Some(one) if one.line < line => Some(one.line),
+        _ => None,
+    }
+}
+
+// The place of the name of a line that is given already, and the line that gives it first.
+fn twice(names: &Names, number: usize, words: &[&[u8]]) -> Option<(usize, usize)> {
+    let [keyword, name, ..] = words else {
+        return None;
+    };
+    let given = match read_keyword(keyword) {
+        Some(Keyword::TestCase) => names.cases.as_slice(),
+        Some(Keyword::Behaviour) => names.behaviours.as_slice(),
+        _ => names.bound.as_slice(),
+    };
+    match line_above(given, name, number) {
+        Some(first) => Some((1, first)),
+        None => twice_parameter(words).map(|place| (place, number)),
+    }
+}
+
+// Adds which name is given already, and where.
+fn add_twice(
+    alloc: Global,
+    out: &mut Vec<u8>,
+    names: &Names,
+    number: usize,
+    line: &[u8],
+    words: &[&[u8]],
+) -> Result<(), NoMemory> {
+    let found = twice(names, number, words);
+    if let Some((place, _)) = found {
+        add_place(alloc, out, line, words, place)?;
+    }
+    add_line(
+        out,
+        "a name is given once: to a test case of the script, a behaviour of the test case, a component of the behaviour",
+    )?;
+    match found {
+        Some((_, first)) => add_counted(out, "it is given first in line ", first, ""),
+        None => Ok(()),
+    }
+}
+
+// Adds what is wrong with a name of a line among these names.
+fn add_named_wrong(
+    alloc: Global,
+    out: &mut Vec<u8>,
+    kind: ScriptKind,
+    names: &Names,
+    number: usize,
+    line: &[u8],
+    words: &[&[u8]],
+) -> Result<(), NoMemory> {
+    match kind {
+        ScriptKind::Twice => add_twice(alloc, out, names, number, line, words),
+        ScriptKind::NoReference => add_unbound(alloc, out, names, line, words),
+        ScriptKind::UnknownBehaviour => add_unknown(alloc, out, names, line, words),
+        _ => add_arguments(out, names, words),
+    }
+}
+
+/// Adds what is wrong with a name of a line, whose number is given.
+pub(crate) fn add_naming(
+    alloc: Global,
+    out: &mut Vec<u8>,
+    kind: ScriptKind,
+    text: &[u8],
+    number: usize,
+    line: &[u8],
+    words: &[&[u8]],
+) -> Result<(), NoMemory> {
+    if kind == ScriptKind::MainParameters {
+        add_place(alloc, out, line, words, 2)?;
+        return add_line(
+            out,
+            "the first behaviour of a test case is started by nobody, who could give it arguments",
+        );
+    }
+    let mut names = no_names(alloc);
+    names.read(alloc, text, number)?;
+    add_named_wrong(alloc, out, kind, &names, number, line, words)
+}

@@ -1,0 +1,395 @@
+//! Lines of TTCN-3 in a script, and what does the same there.
+use crate::help::{add_line, add_named};
+use crate::slot::KEYWORD;
+use crate::sort::Sort;
+use crate::stop::{is_whole, walk};
+use std::alloc::Global;
+use tc_line::{is_word, read_words};
+use tc_text::append_text;
+use tc_verdict::NoMemory;
+
+// Lines of TTCN-3, without what ends them, and the lines of a script that do the same. In the first `$` is a word, `"` a
+// string, and `*` a list in brackets: the second has the word, what is in the string, and the last word of each part of
+// the list. `_` is a word that it does not have, and `..` what is left of one call.
+const FORMS: [(&str, &str); 37] = [
+    ("setverdict ( error ..", "stopcase"),
+    ("setverdict ( $ ..", "setverdict $"),
+    ("setverdict error", "stopcase"),
+    ("setverdict $ \"", "setverdict $"),
+    ("$ : = getverdict", "getverdict"),
+    ("testcase . stop ..", "stopcase"),
+    ("testcase $ ..", "testcase $"),
+    ("function $ * ..", "behaviour $ *"),
+    ("function $ ..", "behaviour $"),
+    ("behaviour $ * ..", "behaviour $ *"),
+    ("behaviour $ runs ..", "behaviour $"),
+    ("$ . start ( $ * )", "start $ $ *"),
+    ("$ . start ( $ )", "start $ $"),
+    ("$ . stop", "stop $"),
+    ("$ . kill", "kill $"),
+    ("$ . done ..", "wait done $"),
+    ("$ . killed ..", "wait killed $"),
+    ("$ . running", "running $"),
+    ("$ . alive", "alive $"),
+    ("stop", "stop self"),
+    ("kill", "kill self"),
+    ("$ : = _ . create", "create $"),
+    ("$ : = _ . create alive", "create $ alive"),
+    ("$ : = _ . create ( ) alive", "create $ alive"),
+    ("$ : = _ . create ( \" )", "create $ named $"),
+    ("$ : = _ . create ( \" ) alive", "create $ alive named $"),
+    ("start *", "start *"),
+    ("start $ $ *", "start $ $ *"),
+    ("stop *", "stop *"),
+    ("kill *", "kill *"),
+    ("create *", "create *"),
+    ("create \"", "create $"),
+    ("running *", "running *"),
+    ("alive *", "alive *"),
+    ("done *", "done *"),
+    ("killed *", "killed *"),
+    ("}", "end"),
+];
+
+// Words of TTCN-3, and what a script has instead of them.
+const ABSENT: [(&str, &str); 8] = [
+    (
+        "module import group",
+        "a script has no modules: it begins with `testcase` and a name",
+    ),
+    (
+        "control execute",
+        "a script has no control part: its test cases are run in the order of the text",
+    ),
+    (
+        "if else for while do alt interleave select repeat goto label altstep activate [",
+        "a script has no conditions, loops and alternatives: its calls are made in the order of the text",
+    ),
+    ("timer timeout", "a script has no timers"),
+    (
+        "port map unmap connect disconnect send receive call reply trigger check",
+        "a script has no ports and messages",
+    ),
+    (
+        "var const type template record set enumerated value",
+        "a script has no types, values and variables: a create makes a component and names it",
+    ),
+    ("log action", "a script has no log and no texts"),
+    ("return", "a behaviour ends with `end`, and returns nothing"),
+];
+
+// The most bytes of a line of a script that is shown.
+const LONGEST: usize = 100;
+
+// The most tokens and spaces of a line that are looked at.
+const TOKENS: usize = 200;
+
+// Whether the byte is one of a name.
+fn is_name_byte(byte: u8) -> bool {
+    byte.is_ascii_alphanumeric() || byte == b'_'
+}
+
+// How many bytes the first token of a text has: a word, a string in quotation marks, a space or another mark.
+fn token_length(text: &[u8]) -> usize {
+    let is_string = text.starts_with(b"\"");
+    let mut length = 0usize;
+    for (at, byte) in text.iter().enumerate() {
+        if is_string {
+            length = at + 1;
+            if at > 0 && *byte == b'"' {
+                return length;
+            }
+        } else if is_name_byte(*byte) {
+            length = at + 1;
+        } else {
+            return length.max(1);
+        }
+    }
+    length
+}
+
+/// Whether a text begins with a comment, of a script or of TTCN-3.
+pub(crate) fn begins_comment(text: &[u8]) -> bool {
+    text.starts_with(b"#") || text.starts_with(b"//") || text.starts_with(b"/*")
+}
+
+// The first tokens of a line before a comment, but spaces, and the word `component` of `all component`.
+fn read_tokens<'t>(line: &'t [u8], tokens: &mut Vec<&'t [u8]>) -> Result<(), NoMemory> {
+    let mut rest = line;
+    for _ in 0..TOKENS {
+        if rest.is_empty() || begins_comment(rest) {
+            return Ok(());
+        }
+        let (token, others) = rest.split_at(token_length(rest).min(rest.len()));
+        if !is_word(token, b" ") && !is_word(token, b"component") {
+            tokens.push(token)?;
+        }
+        rest = others;
+    }
+    Ok(())
+}
+
+// Whether the text has this word.
+fn has_word(text: &str, word: &[u8]) -> bool {
+    text.as_bytes()
+        .split(|byte| *byte == b' ')
+        .any(|other| is_word(other, word))
+}
+
+// Whether the two tokens that follow one another are of TTCN-3 only.
+fn is_mark(first: &[u8], second: &[u8]) -> bool {
+    match first {
+        [b';' | b'(' | b')' | b'{' | b'}'] | [b'"', ..] => true,
+        [b':'] => is_word(second, b"="),
+        [b'.'] => has_word(
+            "create start stop done kill killed running alive timeout send receive call",
+            second,
+        ),
+        _ => is_word(first, b"runs") && is_word(second, b"on"),
+    }
+}
+
+// What a script has instead of the first of these tokens that it lacks.
+fn absent(tokens: &[&[u8]]) -> Option<&'static str> {
+    for token in tokens {
+        for (words, text) in &ABSENT {
+            if has_word(words, token) {
+                return Some(text);
+            }
+        }
+    }
+    None
+}
+
+// Whether the line of these tokens seems to be of TTCN-3.
+fn is_source(tokens: &[&[u8]]) -> bool {
+    let mut before: &[u8] = &[];
+    for token in tokens {
+        if is_mark(before, token) || is_mark(token, &[]) {
+            return true;
+        }
+        before = token;
+    }
+    absent(tokens.get(..1).unwrap_or(&[])).is_some() || begins(tokens, b"function")
+}
+
+// Whether the first token is this one.
+fn begins(tokens: &[&[u8]], word: &[u8]) -> bool {
+    match tokens {
+        [first, ..] => is_word(first, word),
+        [] => false,
+    }
+}
+
+// The tokens without what ends a line of TTCN-3, and without the type of a variable.
+fn plain<'a, 't>(tokens: &'a [&'t [u8]]) -> &'a [&'t [u8]] {
+    let skipped = if begins(tokens, b"var") { 2 } else { 0 };
+    let rest = tokens.get(skipped..).unwrap_or(tokens);
+    let mut end = 0;
+    for (at, token) in rest.iter().enumerate() {
+        if !is_word(token, b";") && !is_word(token, b"{") {
+            end = at + 1;
+        }
+    }
+    without_brackets(rest.get(..end).unwrap_or(rest))
+}
+
+// The tokens without brackets with nothing in them at their end.
+fn without_brackets<'a, 't>(tokens: &'a [&'t [u8]]) -> &'a [&'t [u8]] {
+    match tokens {
+        [others @ .., open, close] if is_word(open, b"(") && is_word(close, b")") => others,
+        _ => tokens,
+    }
+}
+
+// How many tokens a list in brackets has that these tokens begin with. The last word of each of its parts is added to
+// those that were found. None if they begin with none, or if there are brackets in it.
+fn take_list<'t>(
+    tokens: &[&'t [u8]],
+    found: &mut Vec<&'t [u8]>,
+) -> Result<Option<usize>, NoMemory> {
+    if !begins(tokens, b"(") {
+        return Ok(None);
+    }
+    let mut last: Option<&'t [u8]> = None;
+    for (at, token) in tokens.iter().enumerate().skip(1) {
+        let closes = is_word(token, b")");
+        if closes || is_word(token, b",") {
+            if let Some(word) = last {
+                found.push(word)?;
+            }
+            last = None;
+        } else if is_word(token, b"(") {
+            return Ok(None);
+        } else {
+            last = Some(token);
+        }
+        if closes {
+            return Ok(Some(at + 1));
+        }
+    }
+    Ok(None)
+}
+
+// What is in a string.
+fn unquoted(token: &[u8]) -> &[u8] {
+    match token {
+        [b'"', inside @ .., b'"'] => inside,
+        _ => &[],
+    }
+}
+
+// How many of these tokens are one call, if all are.
+fn one_call(tokens: &[&[u8]]) -> Option<usize> {
+    if tokens.iter().any(|token| is_word(token, b";")) {
+        None
+    } else {
+        Some(tokens.len())
+    }
+}
+
+// How many tokens the part of a form has that these tokens begin with. Its words are added to those that were found. None
+// if they begin with another.
+fn take_part<'t>(
+    part: &[u8],
+    tokens: &[&'t [u8]],
+    found: &mut Vec<&'t [u8]>,
+) -> Result<Option<usize>, NoMemory> {
+    if is_word(part, b"*") {
+        return take_list(tokens, found);
+    }
+    if is_word(part, b"..") {
+        return Ok(one_call(tokens));
+    }
+    let [token, ..] = tokens else {
+        return Ok(None);
+    };
+    if is_word(part, b"$") {
+        found.push(token)?;
+    } else if is_word(part, b"\"") && token.starts_with(b"\"") {
+        found.push(unquoted(token))?;
+    } else if !is_word(part, b"_") && !is_word(part, token) {
+        return Ok(None);
+    }
+    Ok(Some(1))
+}
+
+// Whether the tokens are of this form, as in `FORMS`. Its words are added to those that were found.
+fn has_form<'t>(
+    form: &[&[u8]],
+    tokens: &[&'t [u8]],
+    found: &mut Vec<&'t [u8]>,
+) -> Result<bool, NoMemory> {
+    let mut taken = 0usize;
+    for part in form {
+        let rest = tokens.get(taken..).unwrap_or(&[]);
+        let Some(count) = take_part(part, rest, found)? else {
+            return Ok(false);
+        };
+        taken = taken.saturating_add(count);
+    }
+    Ok(taken == tokens.len())
+}
+
+// Adds the words of a line of a script, each `$` by the next of those that were found, and `*` by all that are left.
+fn fill<'t>(
+    line: &'static [u8],
+    found: &[&'t [u8]],
+    words: &mut Vec<&'t [u8]>,
+) -> Result<(), NoMemory> {
+    let mut rest = found;
+    for part in line.split(|byte| *byte == b' ') {
+        if is_word(part, b"*") {
+            words.extend_from_slice(rest)?;
+        } else if !is_word(part, b"$") {
+            words.push(part)?;
+        } else if let [word, others @ ..] = rest {
+            words.push(word)?;
+            rest = others;
+        }
+    }
+    Ok(())
+}
+
+// Whether these are the words of a line of a script.
+fn is_line(words: &[&[u8]]) -> bool {
+    is_whole(Sort::Script, walk(Sort::Script, KEYWORD, words), words)
+}
+
+// The words of the line of a script that does the same as this form, if the tokens are of it.
+fn words_by<'t>(
+    alloc: Global,
+    (source, line): (&'static str, &'static str),
+    tokens: &[&'t [u8]],
+    words: &mut Vec<&'t [u8]>,
+) -> Result<bool, NoMemory> {
+    let mut form = Vec::new(alloc);
+    read_words(source.as_bytes(), &mut form)?;
+    let mut found = Vec::new(alloc);
+    if !has_form(form.as_slice(), tokens, &mut found)? {
+        return Ok(false);
+    }
+    words.clear();
+    fill(line.as_bytes(), found.as_slice(), words)?;
+    Ok(is_line(words.as_slice()))
+}
+
+// Leaves the words of the line of a script that does the same as these tokens, if there is one.
+fn translate<'t>(
+    alloc: Global,
+    tokens: &[&'t [u8]],
+    words: &mut Vec<&'t [u8]>,
+) -> Result<bool, NoMemory> {
+    for form in &FORMS {
+        if words_by(alloc, *form, tokens, words)? {
+            return Ok(true);
+        }
+    }
+    words.clear();
+    words.extend_from_slice(tokens)?;
+    Ok(is_line(tokens))
+}
+
+// The words with a space between two.
+fn joined(alloc: Global, words: &[&[u8]]) -> Result<Vec<u8>, NoMemory> {
+    let mut line = Vec::new(alloc);
+    for word in words {
+        if !line.is_empty() {
+            append_text(&mut line, " ")?;
+        }
+        line.extend_from_slice(word)?;
+    }
+    Ok(line)
+}
+
+// Adds what a script has instead of a line of these tokens.
+fn add_instead(alloc: Global, out: &mut Vec<u8>, tokens: &[&[u8]]) -> Result<(), NoMemory> {
+    let mut words = Vec::new(alloc);
+    if translate(alloc, plain(tokens), &mut words)? {
+        let line = joined(alloc, words.as_slice())?;
+        if line.len() <= LONGEST {
+            return add_named(out, "in a script:", line.as_slice());
+        }
+    }
+    let text = "a line of a script is one call, in words without ( ) { } ; and :=";
+    add_line(out, absent(tokens).unwrap_or(text))
+}
+
+/// Adds what a script has instead of a line that seems to be of TTCN-3. Whether it does.
+pub(crate) fn add_source(
+    alloc: Global,
+    out: &mut Vec<u8>,
+    seen: bool,
+    line: &[u8],
+) -> Result<bool, NoMemory> {
+    let mut tokens = Vec::new(alloc);
+    read_tokens(line, &mut tokens)?;
+    if !is_source(tokens.as_slice()) {
+        return Ok(false);
+    }
+    if !seen {
+        add_line(out, "the line looks like TTCN-3, which ttrun does not read")?;
+    }
+    add_instead(alloc, out, tokens.as_slice())?;
+    Ok(true)
+}
