@@ -156,7 +156,7 @@ const RUN_OPTIONS: [OptionRow; 12] = [
     OptionRow(
         "progress",
         Takes::Nothing,
-        "names each finished test case on standard error",
+        "reports each test case on standard error",
     ),
     OptionRow(
         "stop-on",
