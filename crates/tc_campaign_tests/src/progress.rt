@@ -186,7 +186,8 @@ failed: c inconc: run 0 on component 0: setverdict inconc -> ok
 #[test]
 fn none_begins_after_the_last(rt: HostRuntime) -> Result<(), Fail> {
     let told = told_of(rt.alloc(), Some(Verdict::Inconc), &TIMES)?;
-    let begun = told.windows(3).filter(|bytes| *bytes == b" ..").count();
+    let begins = b" ..".as_slice();
+    let begun = told.windows(3).filter(|bytes| *bytes == begins).count();
     is(&rt, "how many begin", begun, 2);
     Ok(())
 }

@@ -1,12 +1,11 @@
 //! A run of a campaign: who is given its test cases, and what is written and printed of it.
-ghost use Rattle.std.specs.Prelude.{ℕ, List, Option, Result, true, ◌≡◌, ◌≤◌, [], All, Err, IfOk, IfErr, IfNone, IfSome, Some};
+ghost use Rattle.std.specs.Prelude.{ℕ, List, Option, true, false, ◌≡◌, ◌≤◌, [], All, Ok, Err, IfOk, IfErr, IfNone, IfSome, Some};
 ghost use Rattle.std.specs.Io.KnownBytes.{Appends};
 ghost use Rattle.std.specs.Vec.{vec_capacity, vec_len};
 ghost use Rattle.tc_verdict.specs.declared.verdict.Verdict.TheVariants.{None as NoVerdict};
 ghost use Rattle.tc_campaign.specs.Outline.{HasNames, outline_of};
 ghost use Rattle.tc_campaign.specs.Campaign.{IsCalled, IsRunTo};
 ghost use Rattle.tc_report.specs.declared.fault.OutFault.{OutFault as AnyFault};
-ghost use Rattle.tc_report.specs.declared.results.Finished.{Finished as AnyFinished};
 ghost use Rattle.tc_report.specs.Live.{closing_text};
 ghost use Rattle.tc_report.specs.Output.{LeavesPrefix};
 ghost use Rattle.tc_report.specs.Progress.{HasTold, IsToldBy};
@@ -108,11 +107,40 @@ fn run_unreported<R, B: Callable, O: Observer>(
 where
     R: Threads + Wait + Copy + Send + 'static,
     requires names { All HasNames cases.items }
-    ensures { (held : Option (List ℕ)) (told : Result (Unit {0}) AnyFault)
-        → ((fs : List AnyFinished) → IsToldBy options.now.progress held held fs told)
-        → WasTold B.outcome O.takes cases.items options.now observer.old observer.new held held result told }
+    ensures silent { (held : Option (List ℕ)) → options.now.progress ≡ false
+        → WasTold B.outcome O.takes cases.items options.now observer.old observer.new held held result (Ok tt) }
+    ensures unprinted { (held : Option (List ℕ)) (fault : AnyFault) → options.now.progress ≡ true
+        → WasTold B.outcome O.takes cases.items options.now observer.old observer.new held held result (Err fault) }
 {
     run_campaign_with(rt, alloc, cases, options.stop_on, THREADS, observer)
+}
+
+// Runs the test cases with this observer, and reports each, if memory does not run out for their names.
+fn run_named<R, B: Callable, O: Observer, E: Write>(
+    rt: &R,
+    alloc: Global,
+    cases: Vec<Case<B>>,
+    options: &RunOptions,
+    observer: &mut O,
+    errors: &mut E,
+) -> (Option<CampaignEnd>, Result<(), OutFault>)
+where
+    R: Threads + Wait + Clock + Copy + Send + 'static,
+    requires names { All HasNames cases.items }
+    requires tells { options.now.progress ≡ true }
+    ensures { WasTold B.outcome O.takes cases.items options.now observer.old observer.new
+        (E.contents errors.old) (E.contents errors.new) result.0 result.1 }
+{
+    match names_of(alloc, cases.as_slice()) {
+        Ok(names) => {
+            let names = names.as_slice();
+            run_reported(rt, alloc, cases, options, names, observer, errors)
+        }
+        Err(NoMemory) => {
+            let ending = run_unreported(rt, alloc, cases, options, observer);
+            (ending, Err(OutFault::NoMemory))
+        }
+    }
 }
 
 // Runs the test cases with this observer, and reports each if it is asked for. Says how the campaign ended, if the
@@ -131,20 +159,11 @@ where
     ensures { WasTold B.outcome O.takes cases.items options.now observer.old observer.new
         (E.contents errors.old) (E.contents errors.new) result.0 result.1 }
 {
-    if !options.progress {
-        let ending = run_unreported(rt, alloc, cases, options, observer);
-        return (ending, Ok(()));
+    if options.progress {
+        return run_named(rt, alloc, cases, options, observer, errors);
     }
-    match names_of(alloc, cases.as_slice()) {
-        Ok(names) => {
-            let names = names.as_slice();
-            run_reported(rt, alloc, cases, options, names, observer, errors)
-        }
-        Err(NoMemory) => {
-            let ending = run_unreported(rt, alloc, cases, options, observer);
-            (ending, Err(OutFault::NoMemory))
-        }
-    }
+    let ending = run_unreported(rt, alloc, cases, options, observer);
+    (ending, Ok(()))
 }
 
 // Runs the test cases, and keeps and reports all of them: there is room.
