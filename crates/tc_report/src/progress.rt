@@ -249,7 +249,14 @@ impl<'a, O: Observer, E: Write, C: Clock> Progress<'a, O, E, C> {
         let mut place = Vec::new(self.alloc);
         let mut line = Vec::new(self.alloc);
         append_place(&mut place, self.begun, self.names.len())?;
-        append_line(self.alloc, &mut line, place.as_slice(), case, self.time(), cause)?;
+        append_line(
+            self.alloc,
+            &mut line,
+            place.as_slice(),
+            case,
+            self.time(),
+            cause,
+        )?;
         Ok(line)
     }
 
