@@ -39,9 +39,9 @@ SERVED = Task("three_lines", ("serve",), text("case t 1;fly;0 finish;end"))
 LINES = text("evidence 1 t 1;0 finish -> ok;end none")
 NOBODY = b"ttrun: line 2: bad line\n"
 LIVE_PROGRESS = Task("two", ("run", "--live", "--progress"), SCRIPT)
-TOLD = {PROGRESS.words: text("a pass;b none"), LIVE_PROGRESS.words: text("a pass;b none"), SERVED.words: NOBODY}
+OF_FIRST, OF_SECOND = text("1/2 a ..;1/2 a pass 0.041 s"), text("2/2 b ..;2/2 b none 0.000 s")
+TOLD = {PROGRESS.words: OF_FIRST + OF_SECOND, LIVE_PROGRESS.words: OF_FIRST + OF_SECOND, SERVED.words: NOBODY}
 STATUS = {SERVED.words: 3}
-OF_FIRST = text("a pass")
 AMPLE = {SERVED.words: LINES, PROGRESS.words: WHOLE, LIVE_PROGRESS.words: WHOLE, PLAIN.words: WHOLE, LIVE.words: WHOLE, TABLE.words: HEADER + RECORD + text("b,1,1,0,0,0,0,none"),
          HISTORIES.words: HISTORY, SUITE.words: JUNIT}
 
@@ -66,7 +66,8 @@ def answers() -> Iterator[Tuple[str, Task, Ran]]:
     ]
     both = TOLD[PROGRESS.words]
     wrong += [
-        (PROGRESS, WHOLE, both[:-1], 0), (PROGRESS, WHOLE, text("b none;a pass"), 0), (PROGRESS, WHOLE, text("a pass;b fail"), 0),
+        (PROGRESS, WHOLE, both[:-1], 0), (PROGRESS, WHOLE, OF_SECOND + OF_FIRST, 0), (PROGRESS, WHOLE, both.replace(b"none", b"fail"), 0),
+        (PROGRESS, WHOLE, OF_FIRST + OF_FIRST, 0), (PROGRESS, WHOLE, both.replace(b" 0.041 s", b""), 0),
         (PROGRESS, WHOLE, both + text("failed: b none"), 0), (PROGRESS, WHOLE, both + both, 0), (PROGRESS, FIRST, both, 0),
         (PROGRESS, ABORTED, both + AT_B, 3), (PROGRESS, ABORTED, AT_B + OF_FIRST, 3), (PROGRESS, FIRST, both + NO_MEMORY, 3),
         (PROGRESS, WHOLE, both + NO_MEMORY, 3), (PROGRESS, WHOLE, both, 3), (LIVE_PROGRESS, FIRST[:-1], OF_FIRST + NO_MEMORY, 3),
@@ -92,7 +93,8 @@ def answers() -> Iterator[Tuple[str, Task, Ran]]:
         ("refused", LIVE, FIRST, NO_MEMORY, 3), ("refused", LIVE, FIRST + SECOND, NO_MEMORY, 3), ("aborted", LIVE, ABORTED, AT_B, 3),
     ]
     true += [
-        ("right", PROGRESS, WHOLE, both, 0), ("refused", PROGRESS, WHOLE, OF_FIRST, 0), ("refused", PROGRESS, WHOLE, b"", 0),
+        ("right", PROGRESS, WHOLE, both.replace(b"0.041", b"12.345"), 0), ("refused", PROGRESS, WHOLE, text("1/2 a .."), 0),
+        ("aborted", PROGRESS, ABORTED, both[:both.index(b"2/2 b none")] + AT_B, 3), ("refused", PROGRESS, WHOLE, OF_FIRST, 0), ("refused", PROGRESS, WHOLE, b"", 0),
         ("refused", PROGRESS, b"", both + NO_MEMORY, 3), ("refused", PROGRESS, b"", NO_MEMORY, 3), ("aborted", PROGRESS, ABORTED, OF_FIRST + AT_B, 3),
         ("refused", LIVE_PROGRESS, FIRST, both + NO_MEMORY, 3), ("right", LIVE_PROGRESS, WHOLE, both, 0),
     ]

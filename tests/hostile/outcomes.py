@@ -12,7 +12,7 @@ from refusing import TOP, Ran
 
 sys.path.append(os.path.join(TOP, "tests", "program"))
 
-from case import first_difference
+from case import first_difference, untimed
 from examples import faults_of_history
 from script_reader import Campaign, read_script
 from table import VERDICTS
@@ -175,11 +175,12 @@ def judged_refused(task: Task, ample: Ran, ran: Ran) -> Outcome:
     return Outcome("wrong", f"half a report is out: {ran.output[-200:]!r}")
 
 
-def told_of_first(told: bytes, count: int) -> List[bytes]:
-    """The lines about the first test cases, and of those again that have failed, by what is printed about all."""
+def told_of_first(told: bytes, begun: int, ended: int) -> List[bytes]:
+    """The lines about the first test cases that begin and end, and of those again that have failed, by what is printed about all."""
     lines = told.splitlines(keepends=True)
-    each = [it for it in lines if not it.startswith(FAILED)][:count]
-    return each + [it for it in lines if it.startswith(FAILED) and it[len(FAILED):] in each]
+    each = [it for it in lines if not it.startswith(FAILED)][:begun + ended]
+    names = [it.split()[1] for it in each[:2 * ended:2]]
+    return each + [it for it in lines if it.startswith(FAILED) and it.split()[1] in names]
 
 
 def parted(errors: bytes) -> Tuple[bytes, bytes]:
@@ -190,14 +191,15 @@ def parted(errors: bytes) -> Tuple[bytes, bytes]:
 
 def judged_told(task: Task, ample: Ran, ran: Ran) -> Outcome:
     """A run with `--progress`: what is printed about test cases, whole or cut after a line, and all else as without it."""
-    told, line = parted(ran.errors)
-    each = told_of_first(ample.errors, len(ample.errors))
-    counts = range(sum(not it.startswith(FAILED) for it in each) + 1)
-    ending = re.match(rb"ttrun: aborted at (\w+): ", line)
+    told, line = parted(untimed(ran.errors))
+    ample = replace(ample, errors=untimed(ample.errors))
     names = [it.name for it in task.campaign()]
+    pairs = [(begun, ended) for ended in range(len(names) + 1) for begun in (ended, ended + 1)]
+    ending = re.match(rb"ttrun: aborted at (\w+): ", line)
     if ending and ending[1].decode() in names:
-        counts = range(names.index(ending[1].decode()), names.index(ending[1].decode()) + 1)
-    wholes = [told_of_first(ample.errors, it) for it in counts]
+        ended = names.index(ending[1].decode())
+        pairs = [(ended + 1, ended)]
+    wholes = [told_of_first(ample.errors, *it) for it in pairs]
     cuts = {b"".join(it[:at]) for it in wholes for at in range(len(it) + 1)}
     if told not in cuts:
         return Outcome("wrong", f"told of test cases: {told[-200:]!r}")

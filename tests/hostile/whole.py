@@ -13,7 +13,7 @@ REFUSED_BY_THE_PROGRAM = ("explain", "html_page", "read_task", "answer", "carry_
                           "check", "take_script", "run_cases", "give", "fault_line", "abort_line", "Progress::end", "serve",
                           "run_case_with", "run_campaign_with", "choose", "read_evidence", "Block::history")
 # The tasks by which nothing else refuses these calls each growth: in the gate too each one is refused.
-EACH = ("--explain", "--html", "serve", "--live", "--shard", "--script", "--failed")
+EACH = ("--explain", "--html", "serve", "--live", "--progress", "--shard", "--script", "--failed")
 # These can answer that memory ran out, and are refused none by themselves.
 UNREFUSED: Tuple[Exempt, ...] = (
     (("read_counted",), "read_input is this call over a reader that is counted"),
@@ -47,6 +47,7 @@ UNTRIED: Tuple[Exempt, ...] = (
     (WITHOUT_ALLOCATOR, "they are handed no allocator"),
     (("CountedReader::new", "CountedWriter::new", "NarrowWriter::new", "LiveWriter::new", "Progress::new", "Script::new", "ScriptJob::new",
       "Kept::into_results", "bare_summary"), "they put together what they are handed"),
+    (("Progress::begin",), "the sweeps of the whole program refuse its line: it has no answer for that, and Progress::end has"),
     (("write_whole", "write_counted", "write_abort"), "the memory that their writer takes is the writer's"),
     (("Words::record_of", "Words::follow"), "Book::word_of, Book::wake and Book::leave make them"),
     (("Sentence::bytes", "take_behaviours", "take_end_line", "take_entry_line"), "they only look at what they are lent"),

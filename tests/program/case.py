@@ -3,6 +3,7 @@ from __future__ import annotations
 
 import contextlib
 import os
+import re
 import shlex
 import signal
 import subprocess
@@ -33,8 +34,22 @@ class SomeText:
     lacking: Tuple[str, ...] = ()
 
 
+@dataclass(frozen=True)
+class Timed:
+    """A text that is fixed, except for how long each test case took in the lines of `--progress`."""
+
+    text: bytes
+
+
 Word = Union[str, bytes]
-Wanted = Union[bytes, SomeText]
+Wanted = Union[bytes, SomeText, Timed]
+# What is before the time in a line of `--progress`, and the time.
+TIME = re.compile(rb"^(\d+/\d+ \w+ [a-z]+) \d+\.\d{3} s(?=:|$)", re.MULTILINE)
+
+
+def untimed(text: bytes) -> bytes:
+    """The text with 0.000 s for each time."""
+    return TIME.sub(rb"\1 0.000 s", text)
 
 
 @dataclass(frozen=True)
@@ -127,6 +142,8 @@ def first_difference(wanted: bytes, given: bytes) -> str:
 
 def difference(name: str, wanted: Wanted, given: bytes) -> List[str]:
     """What is wrong with a text that came."""
+    if isinstance(wanted, Timed):
+        return difference(name, untimed(wanted.text), untimed(given))
     if isinstance(wanted, bytes):
         return [] if wanted == given else [f"{name}, {first_difference(wanted, given)}"]
     lacking = [it for it in wanted.words if it.encode() not in given]

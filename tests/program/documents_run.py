@@ -7,7 +7,7 @@ import sys
 from typing import Dict, Iterator, List, Optional, Set, Tuple
 
 import examples
-from case import Case
+from case import Case, Timed
 
 sys.path.append(os.path.join(examples.TOP, "tests", "claims"))
 
@@ -72,7 +72,7 @@ def cases() -> List[Case]:
                 continue
             seen.add((words, file))
             output = examples.bytes_of(output_of(words, file))
-            told = examples.bytes_of(f"{file.partition('.')[0]}.progress") if "--progress" in words else b""
+            told = Timed(examples.bytes_of(f"{file.partition('.')[0]}.progress") if "--progress" in words else b"")
             form = "report" if words[0] in ("run", "replay") and "--csv" not in words else "csv"
             found.append(Case(f"{path}_{number}_{'_'.join(words)}_{file}", words, examples.bytes_of(file), output, errors=told,
                               status=examples.status_in(form, output)))

@@ -6,7 +6,7 @@ import os
 import re
 from typing import Dict, Iterator, List, Tuple, Union
 
-from case import Case, difference, run
+from case import Case, Timed, difference, run
 from judged import Judgement
 from script_reader import Campaign, read_script
 from script_run import faults_of_block
@@ -128,7 +128,7 @@ def tests_of(name: str) -> Iterator[Union[Case, Judgement]]:
     elif suffix == "progress":
         table = bytes_of(f"{stem}.csv")
         words = ("run", "--progress", "--csv")
-        yield Case(f"example_{name}", words, bytes_of(f"{stem}.script"), table, errors=text, status=status_in("csv", table))
+        yield Case(f"example_{name}", words, bytes_of(f"{stem}.script"), table, errors=Timed(text), status=status_in("csv", table))
     elif suffix in ("report", "csv"):
         yield Case(f"example_{name}", words_of(name.split(".")), bytes_of(f"{stem}.script"), text, status=status_in(suffix, text))
 

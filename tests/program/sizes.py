@@ -3,7 +3,7 @@ from __future__ import annotations
 
 from typing import Iterator, List, Tuple
 
-from case import Case, SomeText
+from case import Case, SomeText, Timed
 from rows import CSV_HEADER, csv_of_verdict, text
 from texts import MOST_BYTES_OF_A_HISTORY, MOST_BYTES_OF_A_LIST, MOST_BYTES_OF_A_SCRIPT
 
@@ -200,8 +200,10 @@ def crowded() -> Iterator[Case]:
     script = ";".join(f"testcase {it};behaviour main;setverdict fail;end;end" for it in names)
     blocks = ";".join(f"history 2 {it} 1;0 setverdict fail -> ok;0 finish -> ok;end fail" for it in names)
     records = CSV_HEADER.encode() + b"".join(csv_of_verdict(it, "fail").encode() for it in names)
-    told = text(";".join([*(f"{it} fail" for it in names), *(f"failed: {it} fail" for it in names)]))
-    yield Case("a_thousand_lines_of_progress", ("run", "--csv", "--progress"), text(script), records, told, 1)
+    why = "run 0 on component 0: setverdict fail -> ok"
+    told = [f"{at}/1000 {it} ..;{at}/1000 {it} fail 0.000 s: {why}" for at, it in enumerate(names, 1)]
+    again = [f"failed: {it} fail: {why}" for it in names]
+    yield Case("a_thousand_lines_of_progress", ("run", "--csv", "--progress"), text(script), records, Timed(text(";".join(told + again))), 1)
     suite = SomeText(('tests="1000" failures="1000"', *(f'testcase name="{it}"' for it in names)))
     yield Case("a_thousand_test_cases_in_junit", ("run", "--junit"), text(script), suite, status=1)
     yield Case("a_thousand_histories_in_junit", ("report", "--junit"), text(blocks), suite, status=1)
@@ -234,6 +236,8 @@ def refused() -> Iterator[Case]:
     line = b"ttrun: aborted at u: no thread\n"
     yield Case("no_thread", ("run",), ABORTED, first, line, status=3, limit="-v 40000")
     yield Case("no_thread_csv", ("run", "--csv"), ABORTED, PASSED, line, status=3, limit="-v 40000")
+    begun = text("1/2 t ..;1/2 t pass 0.000 s;2/2 u ..")
+    yield Case("no_thread_progress", ("run", "--csv", "--progress"), ABORTED, PASSED, Timed(begun + line), 3, limit="-v 40000")
     yield Case("no_thread_history", ("run", "--history"), ABORTED, status=3, limit="-v 40000", errors=line,
                output=text("history 2 t 1;0 setverdict pass -> ok;0 finish -> ok;end pass"))
     yield Case("no_thread_evidence", ("run", "--evidence"), ABORTED, status=3, limit="-v 40000", errors=line,

@@ -4,6 +4,7 @@ ghost use Rattle.tc_campaign.specs.Outline.{HasNames};
 
 use crate::cases::{Counts, Does, between, case_of, counted};
 use crate::checks::{holds, is};
+use crate::results::name;
 use std::alloc::Global;
 use std::io;
 use std::io::Write;
@@ -11,11 +12,12 @@ use std::process::Abort;
 use std::sync::Wait;
 use std::test::Fail;
 use std::thread::Threads;
+use std::time::{Clock, Duration};
 use tc_campaign::{
     CampaignEnd, Case, Finished, LiveForm, LiveWriter, Observer, OutFault, Progress,
     run_campaign_with,
 };
-use tc_entry::{UserVerdict, Verdict};
+use tc_entry::{Name, UserVerdict, Verdict};
 use tc_exec::Callable;
 use tc_stream::devices::{NarrowWriter, WriteFailure};
 
@@ -254,18 +256,34 @@ fn no_case_begins_behind_a_write_fault(rt: HostRuntime) -> Result<(), Fail> {
     Ok(())
 }
 
+/// A clock that says no time.
+#[derive(Drop)]
+struct NoClock;
+
+impl Clock for NoClock {
+    fn monotonic(&self) -> io::Result<Duration> {
+        Err(io::Error::from(io::ErrorKind::Unsupported))
+    }
+
+    fn since_1970(&self) -> io::Result<Duration> {
+        self.monotonic()
+    }
+}
+
 /// Runs these test cases with one that writes their table, and reports them on this writer.
 fn tell_cases<R: Threads + Wait + Copy + Send + 'static, B: Callable, W: Write>(
     rt: &R,
     alloc: Global,
     cases: Vec<Case<B>>,
     live: &mut LiveWriter<'_, W>,
+    names: &[Name],
     lines: &mut Vec<u8>,
 ) -> (Option<CampaignEnd>, Result<(), OutFault>)
     requires { All HasNames cases.items }
 {
     let mut failed = Vec::new(alloc);
-    let mut progress = Progress::new(alloc, true, live, lines, &mut failed);
+    let mut progress = Progress::new(alloc, &NoClock, names, None, live, lines, &mut failed);
+    progress.begin();
     let ending = run_campaign_with(rt, alloc, cases, None, 0, &mut progress);
     let told = progress.end();
     (ending, told)
@@ -283,7 +301,8 @@ fn tell<R: Abort + Threads + Wait + Copy + Send + 'static, W: Write>(
     let cases = between(alloc, second)?;
     let mut live = LiveWriter::new(alloc, LiveForm::Csv, table);
     live.begin()?;
-    let (ending, told) = tell_cases(rt, alloc, cases, &mut live, lines);
+    let names = vec![in alloc; name("a")?, name("b")?, name("c")?]?;
+    let (ending, told) = tell_cases(rt, alloc, cases, &mut live, names.as_slice(), lines);
     Ok((close(ending, &mut live), told))
 }
 
@@ -296,7 +315,12 @@ fn a_campaign_that_is_cut_short_is_told_of(rt: HostRuntime) -> Result<(), Fail> 
     let (ended, told) = tell(&rt, rt.alloc(), &mut table, &mut lines)?;
     is(&rt, "the table", status_of(&ended), Err(OutFault::Write));
     is(&rt, "whether the lines were written", told, Ok(()));
-    let wanted = "a pass\nb fail\nfailed: b fail\n";
+    let wanted = "1/3 a ..
+1/3 a pass
+2/3 b ..
+2/3 b fail: run 0 on component 0: setverdict fail -> ok
+failed: b fail: run 0 on component 0: setverdict fail -> ok
+";
     is(&rt, "what is told", lines.as_slice(), wanted.as_bytes());
     Ok(())
 }

@@ -3,20 +3,62 @@ ghost use Rattle.std.specs.Prelude.{⊤};
 
 use crate::checks::is;
 use crate::devices::FAILURES;
-use crate::results::{CASES, finished};
+use crate::results::{CASES, finished, name};
 use std::alloc::Global;
+use std::cell::Cell;
+use std::io;
 use std::io::Write;
 use std::process::Abort;
 use std::test::Fail;
+use std::time::{Clock, Duration};
 use tc_campaign::{Finished, Observer, OutFault, Progress};
+use tc_entry::{Name, Verdict};
 use tc_stream::devices::{NarrowWriter, WriteFailure};
 
-const TOLD: &str = "a pass
-b fail
-c inconc
-failed: b fail
-failed: c inconc
+const TOLD: &str = "1/3 a ..
+1/3 a pass 0.007 s
+2/3 b ..
+2/3 b fail 0.041 s: run 0 on component 0: setverdict fail -> ok
+3/3 c ..
+3/3 c inconc 75.343 s: run 0 on component 0: setverdict inconc -> ok
+failed: b fail: run 0 on component 0: setverdict fail -> ok
+failed: c inconc: run 0 on component 0: setverdict inconc -> ok
 ";
+
+// What a clock says one time after the other, in thousandths of a second: when each test case begins, and when it has
+// ended.
+const TIMES: [u64; 6] = [60_000, 60_007, 60_007, 60_048, 60_048, 135_391];
+
+/// A clock that says these times. After the last it fails.
+#[derive(Drop)]
+struct Watch {
+    times: &'static [u64],
+    place: Cell<usize>,
+}
+
+impl Watch {
+    fn new(times: &'static [u64]) -> Watch {
+        Watch {
+            times,
+            place: Cell::new(0),
+        }
+    }
+}
+
+impl Clock for Watch {
+    fn monotonic(&self) -> io::Result<Duration> {
+        let place = self.place.get();
+        self.place.set(place.saturating_add(1));
+        match self.times.get(place) {
+            Some(time) => Ok(Duration::from_millis(*time)),
+            None => Err(io::Error::from(io::ErrorKind::Unsupported)),
+        }
+    }
+
+    fn since_1970(&self) -> io::Result<Duration> {
+        self.monotonic()
+    }
+}
 
 /// Counts the test cases.
 #[derive(Drop)]
@@ -33,11 +75,21 @@ impl Observer for Counting {
     }
 }
 
+/// The names of the test cases.
+fn names(alloc: Global) -> Result<Vec<Name>, Fail> {
+    let mut names = Vec::new(alloc);
+    for (text, _) in CASES {
+        names.push(name(text)?)?;
+    }
+    Ok(names)
+}
+
 /// Reports each test case.
 fn tell_each<E: Write>(
     alloc: Global,
-    progress: &mut Progress<'_, Counting, E>,
+    progress: &mut Progress<'_, Counting, E, Watch>,
 ) -> Result<(), Fail> {
+    progress.begin();
     for (text, setting) in CASES {
         progress.take(finished(alloc, text, setting)?);
     }
@@ -45,10 +97,25 @@ fn tell_each<E: Write>(
 }
 
 /// Reports the test cases, and says how many were taken, and what came of it.
-fn tell<E: Write>(alloc: Global, writer: &mut E) -> Result<(usize, Result<(), OutFault>), Fail> {
+fn tell<E: Write>(
+    alloc: Global,
+    stop_on: Option<Verdict>,
+    times: &'static [u64],
+    writer: &mut E,
+) -> Result<(usize, Result<(), OutFault>), Fail> {
     let mut counting = Counting { taken: 0 };
-    let mut failed = Vec::new(alloc);
-    let mut progress = Progress::new(alloc, true, &mut counting, writer, &mut failed);
+    // What is in it is of another campaign, and is not printed.
+    let mut failed = vec![in alloc; b'x']?;
+    let (watch, names) = (Watch::new(times), names(alloc)?);
+    let mut progress = Progress::new(
+        alloc,
+        &watch,
+        names.as_slice(),
+        stop_on,
+        &mut counting,
+        writer,
+        &mut failed,
+    );
     tell_each(alloc, &mut progress)?;
     let told = progress.end();
     Ok((counting.taken, told))
@@ -68,7 +135,7 @@ fn tell_in_vain<R: Abort>(
         Err(OutFault::Write)
     };
     let mut writer = NarrowWriter::new(alloc, fails_at, failure);
-    let (taken, answer) = tell(alloc, &mut writer)?;
+    let (taken, answer) = tell(alloc, None, &TIMES, &mut writer)?;
     is(rt, "how many cases are taken", taken, CASES.len());
     is(rt, "the answer", answer, wanted);
     is(rt, "what is told", writer.taken.as_slice(), part);
@@ -83,5 +150,44 @@ fn behind_a_fault_nothing_more_is_told(rt: HostRuntime) -> Result<(), Fail> {
             tell_in_vain(&rt, rt.alloc(), failure, fails_at)?;
         }
     }
+    Ok(())
+}
+
+/// What is printed by this clock, under this stopping rule.
+fn told_of(
+    alloc: Global,
+    stop_on: Option<Verdict>,
+    times: &'static [u64],
+) -> Result<Vec<u8>, Fail> {
+    let mut lines = Vec::new(alloc);
+    let (_, answer) = tell(alloc, stop_on, times, &mut lines)?;
+    answer?;
+    Ok(lines)
+}
+
+// A clock that fails leaves out its time: here as the second test case ends, and as the third begins.
+#[test]
+fn without_a_time(rt: HostRuntime) -> Result<(), Fail> {
+    let told = told_of(rt.alloc(), None, &[5, 4, 10])?;
+    let wanted = "1/3 a ..
+1/3 a pass 0.000 s
+2/3 b ..
+2/3 b fail: run 0 on component 0: setverdict fail -> ok
+3/3 c ..
+3/3 c inconc: run 0 on component 0: setverdict inconc -> ok
+failed: b fail: run 0 on component 0: setverdict fail -> ok
+failed: c inconc: run 0 on component 0: setverdict inconc -> ok
+";
+    is(&rt, "what is told", told.as_slice(), wanted.as_bytes());
+    Ok(())
+}
+
+// After a test case by which the campaign stops none is said to begin.
+#[test]
+fn none_begins_after_the_last(rt: HostRuntime) -> Result<(), Fail> {
+    let told = told_of(rt.alloc(), Some(Verdict::Inconc), &TIMES)?;
+    let begins = b" ..".as_slice();
+    let begun = told.windows(3).filter(|bytes| *bytes == begins).count();
+    is(&rt, "how many begin", begun, 2);
     Ok(())
 }

@@ -171,7 +171,7 @@ const RUN_OPTIONS: [OptionRow; 13] = [
     OptionRow(
         "progress",
         Takes::Nothing,
-        "names each finished test case on standard error",
+        "reports each test case on standard error",
     ),
     OptionRow(
         "stop-on",

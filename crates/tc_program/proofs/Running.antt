@@ -18,11 +18,11 @@ use Rattle.tc_report.specs.declared.results.Results.{Results}
 use Rattle.tc_report.specs.Ending.{abort_text}
 use Rattle.tc_report.specs.Live.{LiveState, closing_text, form_text, opening_text}
 use Rattle.tc_report.specs.Output.{LeavesPrefix}
-use Rattle.tc_report.specs.Progress.{IsToldBy, told_text}
+use Rattle.tc_report.specs.Progress.{IsToldBy}
 use Rattle.tc_report.specs.Status.{ending_status, results_status}
 use Rattle.tc_report.specs.Tally.{tally_of_cases}
 use Rattle.tc_report.proofs.Lemmas.Pieces.{IsAt, Takes, all_at, all_written, begun, case_left, closing_left, ended_at, opening_left, status_at}
-use Rattle.tc_report.proofs.Lemmas.Telling.{nothing_of, told_is_prefix}
+use Rattle.tc_report.proofs.Lemmas.Telling.{nothing_of}
 use Rattle.tc_campaign.specs.declared.case.Case.{Case}
 use Rattle.tc_campaign.specs.Outline.{outline_of}
 use Rattle.tc_campaign.specs.Campaign.{AreFinished, IsCalled, IsRunTo}
@@ -55,8 +55,8 @@ EndsTold between told ending telling answer =
 
 -- if no test case was finished, nothing is printed
 pub untold : (tells : Bool) (start : Option (List ℕ)) (finished : List Finished) → finished ≡ []
-    → IsToldBy tells start start (told_text tells finished) (Ok tt)
-untold tells start finished none = subst (λ fs. IsToldBy tells start start (told_text tells fs) (Ok tt)) (sym none) (nothing_of tells start)
+    → IsToldBy tells start start finished (Ok tt)
+untold tells start finished none = subst (λ fs. IsToldBy tells start start fs (Ok tt)) (sym none) (nothing_of tells start)
 
 -- which writer a live writer writes to
 abbrev pub name_of : {W : Type 0} → LiveWriter W → GName
@@ -72,7 +72,7 @@ module _ {B : Type 0} (outcome : B → PassState → Back → Type 0) (cases : L
   -- the results of a run were given, and what is due on standard error was printed
   pub whole_done : (streams : Streams) (between : Option (List ℕ)) (r : Results) (telling : Result (Unit {0}) OutFault) (ended : Outcome)
       → IsRunTo outline_of (IsCalled outcome) cases options.stop_on worker_limit r.finished r.ending
-      → IsToldBy options.progress streams.untold between (told_text options.progress r.finished) telling
+      → IsToldBy options.progress streams.untold between r.finished telling
       → ended.status ≡ results_status r → Appends streams.before streams.after (text_of options.form r)
       → EndsTold between streams.told r.ending telling ended.told → IsRun outline_of (IsCalled outcome) cases options streams ended
   whole_done streams between r telling ended run told status written line = record {
@@ -87,7 +87,7 @@ module _ {B : Type 0} (outcome : B → PassState → Back → Type 0) (cases : L
   pub whole_left : (streams : Streams) (r : Results) (telling : Result (Unit {0}) OutFault) (fault : OutFault) (answer : Result Outcome OutFault)
       → IsErrAnd answer (λ f. f ≡ fault) → live_form options.live options.form ≡ None
       → IsRunTo outline_of (IsCalled outcome) cases options.stop_on worker_limit r.finished r.ending
-      → IsToldBy options.progress streams.untold streams.told (told_text options.progress r.finished) telling
+      → IsToldBy options.progress streams.untold streams.told r.finished telling
       → LeavesPrefix streams.before streams.after (text_of options.form r) fault
       → IfErr answer (IsUnwritten outline_of (IsCalled outcome) cases options streams)
   whole_left streams r telling fault (Ok ended) what is run told left = absurd what
@@ -95,20 +95,20 @@ module _ {B : Type 0} (outcome : B → PassState → Back → Type 0) (cases : L
     results = r;
     left = subst (λ live. IsLeft outline_of (IsCalled outcome) cases options live streams r f) (sym is)
         (run, subst (LeavesPrefix streams.before streams.after (text_of options.form r)) (sym what) left);
-    told = told_is_prefix options.progress streams.untold streams.told (told_text options.progress r.finished) telling told;
+    told = (telling, told);
   }
 
   module _ (streams : Streams) (form : LiveForm) (same : live_form options.live options.form ≡ Some form) where
     -- a run that was not written whole as its test cases finished left a prefix
     cut_up : (r : Results) (telling : Result (Unit {0}) OutFault) (fault : OutFault)
         → AreFinished outline_of (IsCalled outcome) cases options.stop_on worker_limit r.finished
-        → IsToldBy options.progress streams.untold streams.told (told_text options.progress r.finished) telling
+        → IsToldBy options.progress streams.untold streams.told r.finished telling
         → AppendsPrefix streams.before streams.after (form_text form r) → IsUnwritten outline_of (IsCalled outcome) cases options streams fault
     cut_up r telling fault each told left = record {
       results = r;
       left = subst (λ live. IsLeft outline_of (IsCalled outcome) cases options live streams r fault) (sym same)
           (each, subst (AppendsPrefix streams.before streams.after) (live_text options.live options.form form r same) left);
-      told = told_is_prefix options.progress streams.untold streams.told (told_text options.progress r.finished) telling told;
+      told = (telling, told);
     }
 
     -- what is before the test cases was not written whole, and nothing was printed
@@ -116,7 +116,7 @@ module _ {B : Type 0} (outcome : B → PassState → Back → Type 0) (cases : L
         → IsUnwritten outline_of (IsCalled outcome) cases options streams fault
     at_opening fault nothing left =
         cut_up (record { finished = []; ending = E.Complete }) (Ok tt) fault (none_finished outcome cases options.stop_on worker_limit)
-        (subst (λ t. IsToldBy options.progress streams.untold t (told_text options.progress []) (Ok tt)) (sym nothing) (nothing_of options.progress streams.untold))
+        (subst (λ t. IsToldBy options.progress streams.untold t [] (Ok tt)) (sym nothing) (nothing_of options.progress streams.untold))
         (opening_left form streams.before streams.after fault E.Complete left)
 
     module _ {O : Type 0} (state : O → LiveState) (name : O → GName) (before after : O)
@@ -136,7 +136,7 @@ module _ {B : Type 0} (outcome : B → PassState → Back → Type 0) (cases : L
 
       -- a test case, or what follows all, was not written whole
       pub live_left : (telling : Result (Unit {0}) OutFault) (fault : OutFault)
-          → IsToldBy options.progress streams.untold streams.told (told_text options.progress finished) telling
+          → IsToldBy options.progress streams.untold streams.told finished telling
           → IfNone answer (streams.after ≡ (state after).out)
           → IfSome answer (λ e. LeavesPrefix (state after).out streams.after (closing_text (state after).form (state after).tally e) fault)
           → IsUnwritten outline_of (IsCalled outcome) cases options streams fault
@@ -156,7 +156,7 @@ module _ {B : Type 0} (outcome : B → PassState → Back → Type 0) (cases : L
 
       -- all was written, and what is due on standard error was printed
       pub live_done : (between : Option (List ℕ)) (telling : Result (Unit {0}) OutFault) (ending : CampaignEnd) (ended : Outcome)
-          → IsToldBy options.progress streams.untold between (told_text options.progress finished) telling → answer ≡ Some ending
+          → IsToldBy options.progress streams.untold between finished telling → answer ≡ Some ending
           → Appends (state after).out streams.after (closing_text (state after).form (state after).tally ending)
           → ended.status ≡ ending_status ending (state after).worst
           → EndsTold between streams.told ending telling ended.told → IsRun outline_of (IsCalled outcome) cases options streams ended

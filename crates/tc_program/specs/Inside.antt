@@ -43,7 +43,7 @@ use Rattle.tc_report.specs.declared.results.CampaignEnd.{CampaignEnd}
 use Rattle.tc_report.specs.declared.results.Finished.{Finished}
 use Rattle.tc_report.specs.Blocks.{case_lines, header_of}
 use Rattle.tc_report.specs.Observers.{AreTaken, IsEndedAt}
-use Rattle.tc_report.specs.Progress.{IsToldBy, told_text}
+use Rattle.tc_report.specs.Progress.{IsToldBy}
 use Rattle.tc_book.specs.Passes.{PassState}
 use Rattle.tc_exec.specs.declared.job.Back.{Back}
 use Rattle.tc_campaign.specs.declared.case.Case.{Case}
@@ -339,7 +339,7 @@ module _ {B O : Type 0} (outcome : B → PassState → Back → Type 0) (takes :
   pub record WasTold (before after : O) (untold told : Option (List ℕ)) (answer : Option CampaignEnd) (line : Result (Unit {0}) OutFault) : Type 0 where
     pub finished : List Finished
     pub given : AreGiven before after finished answer
-    pub told_of : IsToldBy o.progress untold told (told_text o.progress finished) line
+    pub told_of : IsToldBy o.progress untold told finished line
 
 -- ---- blocks beside their script
 

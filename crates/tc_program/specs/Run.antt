@@ -10,7 +10,7 @@ use Rattle.tc_report.specs.declared.results.Finished.{Finished}
 use Rattle.tc_report.specs.declared.results.Results.{Results}
 use Rattle.tc_report.specs.Ending.{abort_text}
 use Rattle.tc_report.specs.Output.{LeavesPrefix}
-use Rattle.tc_report.specs.Progress.{IsToldBy, told_text}
+use Rattle.tc_report.specs.Progress.{IsToldBy}
 use Rattle.tc_report.specs.Status.{results_status}
 use Rattle.tc_command.specs.declared.task.RunOptions.{RunOptions}
 use Rattle.tc_program.specs.declared.fault.RunFault.{RunFault}
@@ -31,7 +31,7 @@ first_fault (Err fault) line = Err (of_output fault)
 pub record TellsRun (progress : Bool) (r : Results) (untold told : Option (List ℕ)) (answer : Result (Unit {0}) RunFault) : Type 0 where
   pub between : Option (List ℕ)
   pub telling : Result (Unit {0}) OutFault
-  pub cases_told : IsToldBy progress untold between (told_text progress r.finished) telling
+  pub cases_told : IsToldBy progress untold between r.finished telling
   pub line : Result (Unit {0}) RunFault
   pub line_told : IsTold between told (abort_text r.ending) line
   pub first : answer ≡ first_fault telling line
@@ -56,9 +56,9 @@ module _ {C : Type 0} (outline : C → Outline) (called : C → Finished → Typ
   IsLeft (Some form) s r fault =
       AreFinished outline called cases options.stop_on worker_limit r.finished × AppendsPrefix s.before s.after (text_of options.form r)
 
-  -- these cases were run under these options, and the text of the results was not written whole; what was printed so
-  -- far is a prefix of what is due about them
+  -- these cases were run under these options, and the text of the results was not written whole; what is due of them was
+  -- printed, or not all of it
   pub record IsUnwritten (streams : Streams) (fault : OutFault) : Type 0 where
     pub results : Results
     pub left : IsLeft (live_form options.live options.form) streams results fault
-    pub told : AppendsPrefix streams.untold streams.told (told_text options.progress results.finished)
+    pub told : (telling : Result (Unit {0}) OutFault) × IsToldBy options.progress streams.untold streams.told results.finished telling

@@ -21,6 +21,7 @@ use std::io;
 use std::io::{Read, Write};
 use std::sync::Wait;
 use std::thread::Threads;
+use std::time::Clock;
 use tc_command::{Refused, read_task};
 use tc_stream::write_whole;
 use tc_table::NoMemory;
@@ -112,7 +113,7 @@ pub fn answer<R, I: Read, W: Write, E: Write>(
     errors: &mut E,
 ) -> Outcome
 where
-    R: Threads + Wait + Copy + Send + 'static,
+    R: Threads + Wait + Clock + Copy + Send + 'static,
     ensures had { IfOk words (λ given. IsAnswered at_terminal (map string_bytes given.items) (I.remaining reader.old)
         (held W.contents writer.old writer.new E.contents errors.old errors.new)
         (reader.new ≡ reader.old) (writer.new ≡ writer.old) result) }

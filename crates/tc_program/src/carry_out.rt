@@ -27,6 +27,7 @@ use std::alloc::Global;
 use std::io::{Read, Write};
 use std::sync::Wait;
 use std::thread::Threads;
+use std::time::Clock;
 use tc_command::{RunOptions, Task};
 
 // Runs the chosen test cases of the script that the text is, as the task, a run, asks for it.
@@ -40,7 +41,7 @@ fn run_text<R, W: Write, E: Write>(
     errors: &mut E,
 ) -> Outcome
 where
-    R: Threads + Wait + Copy + Send + 'static,
+    R: Threads + Wait + Clock + Copy + Send + 'static,
     requires { task.now ≡ Run options.now }
     ensures { IsDone task.now text.now (held W.contents writer.old writer.new E.contents errors.old errors.new) result }
 {
@@ -88,7 +89,7 @@ fn do_text<R, W: Write, E: Write>(
     errors: &mut E,
 ) -> Outcome
 where
-    R: Threads + Wait + Copy + Send + 'static,
+    R: Threads + Wait + Clock + Copy + Send + 'static,
     requires { task.now ≢ Serve }
     ensures { IsDone task.now text.now (held W.contents writer.old writer.new E.contents errors.old errors.new) result }
 {
@@ -115,7 +116,7 @@ pub fn carry_out<R, I: Read, W: Write, E: Write>(
     errors: &mut E,
 ) -> Outcome
 where
-    R: Threads + Wait + Copy + Send + 'static,
+    R: Threads + Wait + Clock + Copy + Send + 'static,
     ensures { IsCarriedOut task.now (I.remaining reader.old) (held W.contents writer.old writer.new E.contents errors.old errors.new) result }
 {
     if let Task::Serve = task {

@@ -1,13 +1,14 @@
 //! A run of a campaign: who is given its test cases, and what is written and printed of it.
-ghost use Rattle.std.specs.Prelude.{◌≡◌, ◌≤◌, [], All, Err, IfOk, IfErr, IfNone, IfSome, None, Some};
+ghost use Rattle.std.specs.Prelude.{ℕ, List, Option, true, false, ◌≡◌, ◌≤◌, [], All, Ok, Err, IfOk, IfErr, IfNone, IfSome, Some};
 ghost use Rattle.std.specs.Io.KnownBytes.{Appends};
 ghost use Rattle.std.specs.Vec.{vec_capacity, vec_len};
 ghost use Rattle.tc_verdict.specs.declared.verdict.Verdict.TheVariants.{None as NoVerdict};
 ghost use Rattle.tc_campaign.specs.Outline.{HasNames, outline_of};
 ghost use Rattle.tc_campaign.specs.Campaign.{IsCalled, IsRunTo};
+ghost use Rattle.tc_report.specs.declared.fault.OutFault.{OutFault as AnyFault};
 ghost use Rattle.tc_report.specs.Live.{closing_text};
 ghost use Rattle.tc_report.specs.Output.{LeavesPrefix};
-ghost use Rattle.tc_report.specs.Progress.{IsToldBy, told_text};
+ghost use Rattle.tc_report.specs.Progress.{HasTold, IsToldBy};
 ghost use Rattle.tc_report.specs.Status.{ending_status};
 ghost use Rattle.tc_report.specs.Tally.{tally_of_cases};
 ghost use Rattle.tc_program.specs.Output.{live_form as spec_form};
@@ -23,17 +24,23 @@ use std::alloc::Global;
 use std::io::Write;
 use std::sync::Wait;
 use std::thread::Threads;
+use std::time::Clock;
 use tc_book::Sequence;
 use tc_campaign::{
     CampaignEnd, Case, Kept, LiveWriter, Observer, OutFault, Progress, Results, run_campaign_with,
     status_of, without_room,
 };
 use tc_command::RunOptions;
-use tc_entry::BEHAVIOURS;
+use tc_entry::{BEHAVIOURS, Name, NoMemory};
 use tc_exec::Callable;
 
 /// How many workers a test case may have.
 const THREADS: u16 = BEHAVIOURS as u16;
+
+// The names of the test cases, in their order.
+fn names_of<B: Callable>(alloc: Global, cases: &[Case<B>]) -> Result<Vec<Name>, NoMemory> {
+    Ok(cases.iter().map(|case| case.name.copy()).collect(alloc)?)
+}
 
 // Runs the test cases with an observer that reports each and passes it on, and has it name those again that have
 // failed.
@@ -42,23 +49,98 @@ fn run_with<R, B: Callable, O: Observer, E: Write>(
     alloc: Global,
     cases: Vec<Case<B>>,
     options: &RunOptions,
-    progress: &mut Progress<'_, O, E>,
+    progress: &mut Progress<'_, O, E, R>,
 ) -> (Option<CampaignEnd>, Result<(), OutFault>)
 where
-    R: Threads + Wait + Copy + Send + 'static,
+    R: Threads + Wait + Clock + Copy + Send + 'static,
     requires names { All HasNames cases.items }
-    requires tells { progress.old.tells ≡ options.now.progress }
-    requires fault { progress.old.fault ≡ None }
-    requires failed { progress.old.failed.now.items ≡ [] }
+    requires tells { options.now.progress ≡ true }
+    requires none { HasTold E.contents (E.contents progress.old.writer.now) [] progress.old }
     ensures run { WasTold B.outcome O.takes cases.items options.now progress.old.observer.now progress.new.observer.now
         (E.contents progress.old.writer.now) (E.contents progress.new.writer.now) result.0 result.1 }
     ensures same_observer { progress.new.observer.ghost_name ≡ progress.old.observer.ghost_name }
     ensures same_writer { progress.new.writer.ghost_name ≡ progress.old.writer.ghost_name }
     ensures same_failed { progress.new.failed.ghost_name ≡ progress.old.failed.ghost_name }
 {
+    progress.begin();
     let ending = run_campaign_with(rt, alloc, cases, options.stop_on, THREADS, progress);
     let told = progress.end();
     (ending, told)
+}
+
+// Runs the test cases of these names with this observer, and reports each.
+fn run_reported<R, B: Callable, O: Observer, E: Write>(
+    rt: &R,
+    alloc: Global,
+    cases: Vec<Case<B>>,
+    options: &RunOptions,
+    names: &[Name],
+    observer: &mut O,
+    errors: &mut E,
+) -> (Option<CampaignEnd>, Result<(), OutFault>)
+where
+    R: Threads + Wait + Clock + Copy + Send + 'static,
+    requires names { All HasNames cases.items }
+    requires tells { options.now.progress ≡ true }
+    ensures { WasTold B.outcome O.takes cases.items options.now observer.old observer.new
+        (E.contents errors.old) (E.contents errors.new) result.0 result.1 }
+{
+    let mut failed = Vec::new(alloc);
+    let stop_on = options.stop_on;
+    run_with(
+        rt,
+        alloc,
+        cases,
+        options,
+        &mut Progress::new(alloc, rt, names, stop_on, observer, errors, &mut failed),
+    )
+}
+
+// Runs the test cases with this observer, and reports none.
+fn run_unreported<R, B: Callable, O: Observer>(
+    rt: &R,
+    alloc: Global,
+    cases: Vec<Case<B>>,
+    options: &RunOptions,
+    observer: &mut O,
+) -> Option<CampaignEnd>
+where
+    R: Threads + Wait + Copy + Send + 'static,
+    requires names { All HasNames cases.items }
+    ensures silent { (held : Option (List ℕ)) → options.now.progress ≡ false
+        → WasTold B.outcome O.takes cases.items options.now observer.old observer.new held held result (Ok tt) }
+    ensures unprinted { (held : Option (List ℕ)) (fault : AnyFault) → options.now.progress ≡ true
+        → WasTold B.outcome O.takes cases.items options.now observer.old observer.new held held result (Err fault) }
+{
+    run_campaign_with(rt, alloc, cases, options.stop_on, THREADS, observer)
+}
+
+// Runs the test cases with this observer, and reports each, if memory does not run out for their names.
+fn run_named<R, B: Callable, O: Observer, E: Write>(
+    rt: &R,
+    alloc: Global,
+    cases: Vec<Case<B>>,
+    options: &RunOptions,
+    observer: &mut O,
+    errors: &mut E,
+) -> (Option<CampaignEnd>, Result<(), OutFault>)
+where
+    R: Threads + Wait + Clock + Copy + Send + 'static,
+    requires names { All HasNames cases.items }
+    requires tells { options.now.progress ≡ true }
+    ensures { WasTold B.outcome O.takes cases.items options.now observer.old observer.new
+        (E.contents errors.old) (E.contents errors.new) result.0 result.1 }
+{
+    match names_of(alloc, cases.as_slice()) {
+        Ok(names) => {
+            let names = names.as_slice();
+            run_reported(rt, alloc, cases, options, names, observer, errors)
+        }
+        Err(NoMemory) => {
+            let ending = run_unreported(rt, alloc, cases, options, observer);
+            (ending, Err(OutFault::NoMemory))
+        }
+    }
 }
 
 // Runs the test cases with this observer, and reports each if it is asked for. Says how the campaign ended, if the
@@ -72,19 +154,16 @@ fn run_told<R, B: Callable, O: Observer, E: Write>(
     errors: &mut E,
 ) -> (Option<CampaignEnd>, Result<(), OutFault>)
 where
-    R: Threads + Wait + Copy + Send + 'static,
+    R: Threads + Wait + Clock + Copy + Send + 'static,
     requires names { All HasNames cases.items }
     ensures { WasTold B.outcome O.takes cases.items options.now observer.old observer.new
         (E.contents errors.old) (E.contents errors.new) result.0 result.1 }
 {
-    let mut failed = Vec::new(alloc);
-    run_with(
-        rt,
-        alloc,
-        cases,
-        options,
-        &mut Progress::new(alloc, options.progress, observer, errors, &mut failed),
-    )
+    if options.progress {
+        return run_named(rt, alloc, cases, options, observer, errors);
+    }
+    let ending = run_unreported(rt, alloc, cases, options, observer);
+    (ending, Ok(()))
 }
 
 // Runs the test cases, and keeps and reports all of them: there is room.
@@ -97,13 +176,13 @@ fn run_kept<R, B: Callable, E: Write>(
     errors: &mut E,
 ) -> (Results, Result<(), OutFault>)
 where
-    R: Threads + Wait + Copy + Send + 'static,
+    R: Threads + Wait + Clock + Copy + Send + 'static,
     requires names { All HasNames cases.items }
     requires none { kept.finished.items ≡ [] }
     requires room { vec_len cases ≤ vec_capacity kept.finished }
     ensures run { IsRunTo outline_of (IsCalled B.outcome) cases.items options.now.stop_on worker_limit result.0.finished result.0.ending }
     ensures told { IsToldBy options.now.progress (E.contents errors.old) (E.contents errors.new)
-        (told_text options.now.progress result.0.finished) result.1 }
+        result.0.finished result.1 }
 {
     let mut kept = kept;
     let (ending, told) = run_told(rt, alloc, cases, options, &mut kept, errors);
@@ -122,11 +201,11 @@ fn run_or_not<R, B: Callable, E: Write>(
     errors: &mut E,
 ) -> (Results, Result<(), OutFault>)
 where
-    R: Threads + Wait + Copy + Send + 'static,
+    R: Threads + Wait + Clock + Copy + Send + 'static,
     requires names { All HasNames cases.items }
     ensures run { IsRunTo outline_of (IsCalled B.outcome) cases.items options.now.stop_on worker_limit result.0.finished result.0.ending }
     ensures told { IsToldBy options.now.progress (E.contents errors.old) (E.contents errors.new)
-        (told_text options.now.progress result.0.finished) result.1 }
+        result.0.finished result.1 }
 {
     match Kept::with_room(alloc, cases.len()) {
         Ok(kept) => run_kept(rt, alloc, cases, options, kept, errors),
@@ -166,7 +245,7 @@ fn write_live<R, B: Callable, W: Write, E: Write>(
     errors: &mut E,
 ) -> Result<Outcome, OutFault>
 where
-    R: Threads + Wait + Copy + Send + 'static,
+    R: Threads + Wait + Clock + Copy + Send + 'static,
     requires names { All HasNames cases.items }
     requires form { spec_form options.now.live options.now.form ≡ Some live.old.form }
     requires tally { live.old.tally ≡ tally_of_cases [] }
@@ -206,7 +285,7 @@ pub fn run_cases<R, B: Callable, W: Write, E: Write>(
     errors: &mut E,
 ) -> Result<Outcome, OutFault>
 where
-    R: Threads + Wait + Copy + Send + 'static,
+    R: Threads + Wait + Clock + Copy + Send + 'static,
     requires names { All HasNames cases.items }
     ensures done { IfOk result (IsRun outline_of (IsCalled B.outcome) cases.items options.now
         (held W.contents writer.old writer.new E.contents errors.old errors.new)) }

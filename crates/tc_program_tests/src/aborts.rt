@@ -8,6 +8,7 @@ use std::process::Abort;
 use std::sync::Wait;
 use std::test::Fail;
 use std::thread::Threads;
+use std::time::Clock;
 use tc_book::Pass;
 use tc_campaign::Case;
 use tc_command::{Choice, Form, RunOptions};
@@ -95,7 +96,7 @@ fn options(alloc: Global, live: bool, progress: bool) -> RunOptions {
 }
 
 /// Runs only the test case a, and reports it; standard error fails after this part of the line, or not at all.
-fn is_told_up_to<R: Abort + Threads + Wait + Copy + Send + 'static>(
+fn is_told_up_to<R: Abort + Threads + Wait + Clock + Copy + Send + 'static>(
     rt: &R,
     alloc: Global,
     options: &RunOptions,
@@ -128,7 +129,7 @@ fn empty_case_is_told_of(rt: HostRuntime) -> Result<(), Fail> {
 }
 
 /// Runs only the test case a, live.
-fn run_live<R: Threads + Wait + Copy + Send + 'static>(
+fn run_live<R: Threads + Wait + Clock + Copy + Send + 'static>(
     rt: &R,
     alloc: Global,
     written: &mut Vec<u8>,
@@ -152,7 +153,7 @@ fn empty_case_of_a_live_run(rt: HostRuntime) -> Result<(), Fail> {
 }
 
 /// The run of both test cases, reported as they finish.
-fn run_both<R: Threads + Wait + Copy + Send + 'static>(
+fn run_both<R: Threads + Wait + Clock + Copy + Send + 'static>(
     rt: &R,
     alloc: Global,
     live: bool,
@@ -165,7 +166,7 @@ fn run_both<R: Threads + Wait + Copy + Send + 'static>(
 }
 
 /// Reports both if standard error fails at this write, which is one of the first line.
-fn abort_is_told<R: Abort + Threads + Wait + Copy + Send + 'static>(
+fn abort_is_told<R: Abort + Threads + Wait + Clock + Copy + Send + 'static>(
     rt: &R,
     alloc: Global,
     live: bool,
@@ -177,7 +178,7 @@ fn abort_is_told<R: Abort + Threads + Wait + Copy + Send + 'static>(
     holds(rt, "not all is told", outcome.told.is_err());
     let part = errors.taken.as_slice().get(..fails_at);
     let behind = errors.taken.as_slice().get(fails_at..);
-    is(rt, "the first line", part, b"t none\n".get(..fails_at));
+    is(rt, "the first line", part, b"1/2 t ..\n".get(..fails_at));
     is(rt, "the line behind it", behind, Some(ABORTED));
     Ok(())
 }
@@ -186,6 +187,22 @@ fn abort_is_told<R: Abort + Threads + Wait + Copy + Send + 'static>(
 fn an_abort_is_told_behind_a_line_that_is_not(rt: HostRuntime) -> Result<(), Fail> {
     for (live, fails_at) in [(false, 0), (false, 3), (true, 0), (true, 3)] {
         abort_is_told(&rt, rt.alloc(), live, fails_at)?;
+    }
+    Ok(())
+}
+
+// The test case that is refused has begun, and has no other line.
+#[test]
+fn an_aborted_case_has_begun(rt: HostRuntime) -> Result<(), Fail> {
+    for live in [false, true] {
+        let mut errors = NarrowWriter::new(rt.alloc(), 1000, WriteFailure::Broken);
+        let outcome = run_both(&rt, rt.alloc(), live, &mut errors)?;
+        is(&rt, "whether all is told", outcome.told, Ok(()));
+        let told = errors.taken.as_slice();
+        let first = told.starts_with(b"1/2 t ..\n1/2 t none ");
+        holds(&rt, "the test case before it", first);
+        let last = told.ends_with(b" s\n2/2 a ..\nttrun: aborted at a: no behaviours\n");
+        holds(&rt, "the test case itself", last);
     }
     Ok(())
 }

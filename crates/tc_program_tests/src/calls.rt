@@ -5,6 +5,7 @@ use std::io::{Read, Write};
 use std::sync::Wait;
 use std::test::Fail;
 use std::thread::Threads;
+use std::time::Clock;
 use tc_command::{Refused, Task};
 use tc_program::fault::RunFault;
 use tc_program::outcome::Outcome;
@@ -68,7 +69,7 @@ pub(crate) fn answer<R, I: Read, W: Write, E: Write>(
     errors: &mut E,
 ) -> Outcome
 where
-    R: Threads + Wait + Copy + Send + 'static,
+    R: Threads + Wait + Clock + Copy + Send + 'static,
 {
     tc_program::answer::answer(rt, alloc, words, false, reader, writer, errors)
 }
@@ -82,7 +83,7 @@ pub(crate) fn carry_out<R, I: Read, W: Write, E: Write>(
     errors: &mut E,
 ) -> Outcome
 where
-    R: Threads + Wait + Copy + Send + 'static,
+    R: Threads + Wait + Clock + Copy + Send + 'static,
 {
     tc_program::carry_out::carry_out(rt, alloc, task, reader, writer, errors)
 }

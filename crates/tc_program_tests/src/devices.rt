@@ -6,6 +6,7 @@ use std::process::Abort;
 use std::sync::Wait;
 use std::test::Fail;
 use std::thread::Threads;
+use std::time::Clock;
 use tc_book::{Closed, RunLog};
 use tc_campaign::{CampaignEnd, Finished, Results};
 use tc_command::{Form, Task};
@@ -44,7 +45,7 @@ fn ends<R: Abort>(rt: &R, outcome: &Outcome, status: u8, told: &[u8], line: &str
 }
 
 /// Carries out the task with a reader that fails at this read.
-fn fails_to_read<R: Abort + Threads + Wait + Copy + Send + 'static>(
+fn fails_to_read<R: Abort + Threads + Wait + Clock + Copy + Send + 'static>(
     rt: &R,
     alloc: Global,
     task: &Task,
@@ -62,7 +63,7 @@ fn fails_to_read<R: Abort + Threads + Wait + Copy + Send + 'static>(
 }
 
 /// Carries out the task with a writer that fails after this part of what must be written.
-fn fails_to_write<R: Abort + Threads + Wait + Copy + Send + 'static>(
+fn fails_to_write<R: Abort + Threads + Wait + Clock + Copy + Send + 'static>(
     rt: &R,
     alloc: Global,
     task: &Task,
@@ -79,7 +80,7 @@ fn fails_to_write<R: Abort + Threads + Wait + Copy + Send + 'static>(
 }
 
 /// Carries out the task, and appends what is written.
-fn write_whole<R: Abort + Threads + Wait + Copy + Send + 'static>(
+fn write_whole<R: Abort + Threads + Wait + Clock + Copy + Send + 'static>(
     rt: &R,
     alloc: Global,
     task: &Task,
@@ -94,7 +95,7 @@ fn write_whole<R: Abort + Threads + Wait + Copy + Send + 'static>(
 }
 
 /// Fails each read in turn, and each write in each way; how many there were.
-fn fail_each<R: Abort + Threads + Wait + Copy + Send + 'static>(
+fn fail_each<R: Abort + Threads + Wait + Clock + Copy + Send + 'static>(
     rt: &R,
     alloc: Global,
     task: &Task,
@@ -114,7 +115,7 @@ fn fail_each<R: Abort + Threads + Wait + Copy + Send + 'static>(
 }
 
 /// Fails each read and each write of the task in turn; how many there were.
-fn fail_task<R: Abort + Threads + Wait + Copy + Send + 'static>(
+fn fail_task<R: Abort + Threads + Wait + Clock + Copy + Send + 'static>(
     rt: &R,
     alloc: Global,
     given: &str,
@@ -245,7 +246,7 @@ fn line_of_an_abort(rt: HostRuntime) -> Result<(), Fail> {
 }
 
 /// Carries out a refused task if standard error fails after this part of its line, or not at all.
-fn tells_up_to<R: Abort + Threads + Wait + Copy + Send + 'static>(
+fn tells_up_to<R: Abort + Threads + Wait + Clock + Copy + Send + 'static>(
     rt: &R,
     alloc: Global,
     task: &Task,
@@ -275,7 +276,7 @@ fn standard_error_that_fails(rt: HostRuntime) -> Result<(), Fail> {
 }
 
 /// Asks for the help if the writer fails at this write.
-fn is_not_written<R: Abort + Threads + Wait + Copy + Send + 'static>(
+fn is_not_written<R: Abort + Threads + Wait + Clock + Copy + Send + 'static>(
     rt: &R,
     alloc: Global,
     fails_at: usize,

@@ -7,6 +7,7 @@ use std::process::Abort;
 use std::sync::Wait;
 use std::test::Fail;
 use std::thread::Threads;
+use std::time::Clock;
 use std::{io, str};
 use tc_program::fault::RunFault;
 use tc_program::stop_on::stop_word;
@@ -14,7 +15,7 @@ use tc_stream::devices::SlowReader;
 use tc_verdict::Verdict;
 
 /// Appends what is written, the status and what is printed; how many reads there were.
-fn show<R: Threads + Wait + Copy + Send + 'static>(
+fn show<R: Threads + Wait + Clock + Copy + Send + 'static>(
     rt: &R,
     alloc: Global,
     words: io::Result<Vec<String>>,
@@ -31,7 +32,7 @@ fn show<R: Threads + Wait + Copy + Send + 'static>(
 }
 
 /// Checks what comes of the arguments and the input, which is read if the row is not refused for its arguments.
-fn is_shown<R: Abort + Threads + Wait + Copy + Send + 'static>(
+fn is_shown<R: Abort + Threads + Wait + Clock + Copy + Send + 'static>(
     rt: &R,
     alloc: Global,
     words: io::Result<Vec<String>>,
@@ -46,7 +47,7 @@ fn is_shown<R: Abort + Threads + Wait + Copy + Send + 'static>(
     Ok(())
 }
 
-fn is_row<R: Abort + Threads + Wait + Copy + Send + 'static>(
+fn is_row<R: Abort + Threads + Wait + Clock + Copy + Send + 'static>(
     rt: &R,
     alloc: Global,
     row: &str,
@@ -146,7 +147,7 @@ fn words_without_memory(rt: HostRuntime) -> Result<(), Fail> {
 }
 
 /// What a task writes on this input.
-fn written<R: Threads + Wait + Copy + Send + 'static>(
+fn written<R: Threads + Wait + Clock + Copy + Send + 'static>(
     rt: &R,
     alloc: Global,
     line: &str,

@@ -12,6 +12,7 @@ use Rattle.tc_verdict.specs.declared.verdict.Verdict.{Verdict}
 use Rattle.tc_verdict.specs.declared.verdict.Verdict.TheVariants as V
 use Rattle.tc_verdict.specs.Verdict.{level_of}
 use Rattle.tc_report.specs.Live.{opening_text, part_text}
+use Rattle.tc_report.specs.Progress.{Names}
 
 -- the bytes in memory, and then those that the writer holds back
 abbrev pub written_by : Writer (Vec ℕ) → List ℕ
@@ -51,3 +52,7 @@ tally_with t v = record {
   fail = t.fail + one_if (level_of v == level_of V.Fail);
   error = t.error + one_if (level_of v == level_of V.Error);
 }
+
+-- a text is appended that has the name and the verdict of each of these test cases
+abbrev pub Adds : List Finished → List ℕ → List ℕ → Type 0
+Adds fs before after = (text : List ℕ) × (after ≡ before ++ text) × Names fs text

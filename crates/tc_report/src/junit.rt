@@ -155,7 +155,7 @@ fn append_call(out: &mut Vec<u8>, entry: &Entry) -> Result<(), NoMemory>
 
 // Appends what decided the verdict: the run, its component, the call.
 #[tactic(auto, unfolding(crate::specs::Junit::cause_text))]
-fn append_cause(out: &mut Vec<u8>, cause: &Cause) -> Result<(), NoMemory>
+pub(crate) fn append_cause(out: &mut Vec<u8>, cause: &Cause) -> Result<(), NoMemory>
     ensures { OnOk result (out.new.items ≡ out.old.items ++ spec.cause_text cause.now) }
 {
     append_text(out, "run ")?;

@@ -1,7 +1,7 @@
 use Rattle.std.proofs.Common.{◌≤◌, length, arith, subst, sym}
 use Rattle.std.specs.Vec.{vec_capacity}
 use Rattle.tc_report.specs.Kept.{Keeps}
-use Rattle.tc_report.specs.Progress.{IsToldBy, told_text}
+use Rattle.tc_report.specs.Progress.{IsToldBy}
 use Rattle.tc_campaign.specs.Campaign.{IsCalled, IsRunTo}
 use Rattle.tc_campaign.specs.Outline.{outline_of}
 use Rattle.tc_campaign.proofs.Lemmas.Keeping.{all_are_kept, not_ended}
@@ -33,4 +33,4 @@ returns-clause-told g c =
     let kept = all_are_kept g.B.Callable.outcome _ _ _ _ _ c.requires.none fits was.finished given.0.each given.1 in
     rw c.into_results.ensures.finished
     (subst (λ fs. IsToldBy c.args.options.now.progress (g.E.Write.contents c.args.errors.now) (g.E.Write.contents c.run_told-ending.new.errors)
-    (told_text c.args.options.now.progress fs) c.run_told-ending.result.1) (sym kept) was.told_of)
+    fs c.run_told-ending.result.1) (sym kept) was.told_of)
