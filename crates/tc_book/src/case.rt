@@ -1,11 +1,12 @@
 //! The opening and the close of a case.
-ghost use Rattle.std.specs.Prelude.{◌≡◌, ◌<◌, ◌≤◌, ◌+◌, ◌-◌, ℕ, [], IfOk, length, slice_index_or};
+ghost use Rattle.std.specs.Prelude.{◌≡◌, ◌<◌, ◌≤◌, ◌+◌, ◌-◌, ℕ, [], IfOk, Err, length, slice_index_or};
 ghost use Rattle.std.specs.Vec.{vec_len, vec_capacity};
 ghost use Rattle.std.specs.Arc.{arc_value};
 ghost use Rattle.tc_entry.specs.declared.limits.TheConstants.{BEHAVIOURS};
 ghost use Rattle.tc_board.specs.Board.{new_hand, new_hands, new_keeper};
 ghost use Rattle.tc_verdict.specs.declared.run.Run.{Run};
-ghost use Rattle.tc_book.specs.Closing.{IsWhole};
+ghost use Rattle.tc_case.specs.declared.closed.CloseFault.TheVariants as faults;
+ghost use Rattle.tc_book.specs.Closing.{IsOneEach, IsWhole};
 ghost use Rattle.tc_book.specs.Inside.Waiting.{waiting_places};
 ghost use Rattle.tc_case.specs.Report.{IsOneHistory};
 
@@ -153,7 +154,8 @@ pub fn open_case(alloc: Global, behaviours: u16) -> Result<(Shared, Pass, Vec<Ti
     opened
 }
 
-/// Closes a case in one hold of its lock: its report, if each run's pass came back whole.
+/// Closes a case in one hold of its lock: its report, if each run's pass came back whole. If not one of
+/// each run came back, that is Torn, whatever memory there is; so too if a log and its word disagree (`Look::close`).
 pub fn close_case<R: Wait>(
     rt: &R,
     alloc: Global,
@@ -161,6 +163,7 @@ pub fn close_case<R: Wait>(
     lefts: Vec<Left>,
 ) -> Result<Closed, CloseFault>
     ensures whole { IfOk result (λ c. IsWhole c.behaviours c.history lefts.items) }
+    ensures runs { result ≡ Err faults.NoMemory → IsOneEach (length lefts.items) lefts.items }
     ensures report { IfOk result (λ c. IsOneHistory c) }
 {
     shared.close(rt, alloc, lefts)

@@ -1,10 +1,10 @@
 //! The book under the lock. Whatever is added to its history is added to the log of its caller in the same call.
-ghost use Rattle.std.specs.Prelude.{◌≡◌, ◌≢◌, ◌≤◌, ◌+◌, true, false, IfOk, OnOk, OnErr, IfErr, IfSome, IfNone, OnSome, IsTrue, IsFalse, Some, None, is_none, not, replicate, set, slice_index_or};
+ghost use Rattle.std.specs.Prelude.{◌≡◌, ◌≢◌, ◌≤◌, ◌+◌, true, false, IfOk, OnOk, OnErr, IfErr, IfSome, IfNone, OnSome, IsTrue, IsFalse, Some, None, Err, All, is_none, not, replicate, set, slice_index_or};
 ghost use Rattle.tc_entry.specs.declared.op.Op.TheVariants as ops;
 ghost use Rattle.tc_entry.specs.declared.reply.Reply.TheVariants as replies;
 ghost use Rattle.tc_table.specs.History as history;
-ghost use Rattle.tc_case.specs.declared.closed.CloseFault.TheVariants as faults;
-ghost use Rattle.tc_book.specs.Closing.{IsMerged, merged};
+ghost use Rattle.tc_case.specs.declared.closed.CloseFault.TheVariants as why;
+ghost use Rattle.tc_book.specs.Closing.{IsAgreed, IsMerged, IsOneEach, merged};
 ghost use Rattle.tc_book.specs.Inside.{IsAwaitedIn, goes_on, is_closed, with_own, wakes};
 ghost use Rattle.tc_table.specs.Legal.{IsLegal};
 ghost use Rattle.tc_book.specs.OpenCase.{AreOthers, has_leave, has_wake, past_of, places_after, reply_to, with_entry, without_leave, without_wake};
@@ -240,7 +240,9 @@ impl LoggedBook {
     /// Closes the case.
     pub(crate) fn close(&self, alloc: Global, lefts: Vec<Left>) -> Result<Closed, CloseFault>
         ensures whole { IfOk result (λ _. IsMerged self.now.book lefts.items) }
-        ensures torn { IfErr result (λ f. f ≡ faults.Torn → IsMerged self.now.book lefts.items → ⊥) }
+        ensures torn { IfErr result (λ f. f ≡ why.Torn → IsMerged self.now.book lefts.items → ⊥) }
+        ensures runs { result ≡ Err why.NoMemory → IsOneEach self.now.book.behaviours lefts.items }
+        ensures words { result ≡ Err why.NoMemory → All (IsAgreed self.now.book.words) lefts.items }
         ensures behaviours { IfOk result (λ c. c.behaviours ≡ self.now.book.behaviours) }
         ensures history { IfOk result (λ c. c.history ≡ merged self.now.book.history lefts.items) }
         ensures report { IfOk result (λ c. IsOneHistory c) }

@@ -1,10 +1,10 @@
 //! The lock and the conditions of a case: each entry but those of verdict calls is added in one hold.
-ghost use Rattle.std.specs.Prelude.{◌≡◌, ◌≢◌, ◌≤◌, ◌<◌, ◌+◌, true, false, IfOk, OnOk, OnErr, IfErr, IfSome, IfNone, IsTrue, is_none};
+ghost use Rattle.std.specs.Prelude.{◌≡◌, ◌≢◌, ◌≤◌, ◌<◌, ◌+◌, true, false, IfOk, OnOk, OnErr, IfErr, IfSome, IfNone, IsTrue, Err, All, is_none, length};
 ghost use Rattle.tc_entry.specs.declared.op.Op.TheVariants as ops;
 ghost use Rattle.tc_entry.specs.declared.reply.Reply.TheVariants as replies;
 ghost use Rattle.tc_book.specs.Replies.{suits};
 ghost use Rattle.tc_case.specs.declared.closed.CloseFault.TheVariants as faults;
-ghost use Rattle.tc_book.specs.Closing.{IsMerged, IsWhole, merged};
+ghost use Rattle.tc_book.specs.Closing.{IsAgreed, IsMerged, IsOneEach, IsWhole, merged};
 ghost use Rattle.tc_case.specs.Report.{IsOneHistory};
 ghost use Rattle.tc_book.specs.Inside.{goes_on, is_closed, with_own};
 ghost use Rattle.tc_book.specs.Inside.Waiting.{waiting_places};
@@ -59,10 +59,13 @@ impl Look<'_> {
         self.book.has_place(run)
     }
 
-    /// The report of the case, by the book as it is and by what came back. The case continues.
+    /// The report of the case, by the book as it is and by what came back. The case continues. If not one of each run
+    /// came back, or the word of one does not agree with its log, that is Torn, whatever memory there is.
     pub fn close(&self, alloc: Global, lefts: Vec<Left>) -> Result<Closed, CloseFault>
         ensures whole { IfOk result (λ _. IsMerged self.now lefts.items) }
         ensures torn { IfErr result (λ f. f ≡ faults.Torn → IsMerged self.now lefts.items → ⊥) }
+        ensures runs { result ≡ Err faults.NoMemory → IsOneEach self.now.behaviours lefts.items }
+        ensures words { result ≡ Err faults.NoMemory → All (IsAgreed self.now.words) lefts.items }
         ensures behaviours { IfOk result (λ c. c.behaviours ≡ self.now.behaviours) }
         ensures history { IfOk result (λ c. c.history ≡ merged self.now.history lefts.items) }
         ensures report { IfOk result (λ c. IsOneHistory c) }
@@ -227,6 +230,7 @@ impl Shared {
         lefts: Vec<Left>,
     ) -> Result<Closed, CloseFault>
         ensures whole { IfOk result (λ c. IsWhole c.behaviours c.history lefts.items) }
+        ensures runs { result ≡ Err faults.NoMemory → IsOneEach (length lefts.items) lefts.items }
         ensures report { IfOk result (λ c. IsOneHistory c) }
     {
         self.look(rt).close(alloc, lefts)

@@ -1,12 +1,12 @@
 //! The close of a case, on the value under the lock.
-ghost use Rattle.std.specs.Prelude.{◌≡◌, ◌≤◌, true, IfOk, IfErr, length, map, reverse};
+ghost use Rattle.std.specs.Prelude.{◌≡◌, ◌≤◌, true, IfOk, IfErr, Err, All, length, map, reverse};
 ghost use Rattle.tc_entry.specs.declared.limits.TheConstants.{BEHAVIOURS};
 ghost use Rattle.tc_table.specs.History.{is_over};
 ghost use Rattle.tc_table.specs.Legal.{IsLegal};
 ghost use Rattle.tc_table.specs.Standing.{StandsFor};
 ghost use Rattle.tc_case.specs.declared.closed.CloseFault.TheVariants as faults;
 ghost use Rattle.tc_case.specs.Merge.{logged};
-ghost use Rattle.tc_book.specs.Closing.{run_log, merged, IsMerged, IsWhole};
+ghost use Rattle.tc_book.specs.Closing.{run_log, merged, IsAgreed, IsMerged, IsOneEach, IsWhole};
 ghost use Rattle.tc_book.specs.Inside.{AreLogs, IsJoined};
 ghost use Rattle.tc_case.specs.Report.{IsOneHistory};
 
@@ -129,10 +129,13 @@ fn report_of_merged(
 
 impl Book {
     /// The report of the case, if the merge of its history with the logs that came back is legal, what came back is
-    /// whole by it, and each run's word agrees with its log.
+    /// whole by it, and each run's word agrees with its log. Whether there is one log of each run, and each agrees with
+    /// its word, is judged before memory is asked for.
     pub fn close(&self, alloc: Global, lefts: Vec<Left>) -> Result<Closed, CloseFault>
         ensures whole { IfOk result (λ _. IsMerged self.now lefts.items) }
         ensures torn { IfErr result (λ f. f ≡ faults.Torn → IsMerged self.now lefts.items → ⊥) }
+        ensures runs { result ≡ Err faults.NoMemory → IsOneEach self.now.behaviours lefts.items }
+        ensures words { result ≡ Err faults.NoMemory → All (IsAgreed self.now.words) lefts.items }
         ensures behaviours { IfOk result (λ c. c.behaviours ≡ self.now.behaviours) }
         ensures history { IfOk result (λ c. c.history ≡ merged self.now.history lefts.items) }
         ensures report { IfOk result (λ c. IsOneHistory c) }
