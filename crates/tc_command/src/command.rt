@@ -131,7 +131,13 @@ const SCRIPT_SHARD: OptionRow = OptionRow(
     "awaits the K-th of N shards of the test cases",
 );
 
-const RUN_OPTIONS: [OptionRow; 12] = [
+const SUITE: OptionRow = OptionRow(
+    "suite",
+    Takes::Word("NAME"),
+    "calls the JUnit suite NAME instead of ttrun",
+);
+
+const RUN_OPTIONS: [OptionRow; 13] = [
     OptionRow("csv", Takes::Nothing, "writes the report as CSV"),
     OptionRow(
         "history",
@@ -148,6 +154,7 @@ const RUN_OPTIONS: [OptionRow; 12] = [
         Takes::Nothing,
         "writes the report as a JUnit suite",
     ),
+    SUITE,
     OptionRow(
         "live",
         Takes::Nothing,
@@ -206,10 +213,16 @@ const EXPLORE_OPTIONS: [OptionRow; 3] = [
 
 const CHECK_OPTIONS: [OptionRow; 4] = [SCRIPT, SCRIPT_ONLY, SCRIPT_SHARD, EXPLAIN];
 
-const REPORT_OPTIONS: [OptionRow; 7] = [
+const REPORT_OPTIONS: [OptionRow; 9] = [
     OptionRow("csv", Takes::Nothing, "writes a table as CSV"),
     OptionRow("junit", Takes::Nothing, "writes a JUnit suite"),
+    SUITE,
     OptionRow("html", Takes::Nothing, "writes a page for a browser"),
+    OptionRow(
+        "summary",
+        Takes::Nothing,
+        "writes the counts, and why test cases failed",
+    ),
     SCRIPT,
     SCRIPT_ONLY,
     SCRIPT_SHARD,
