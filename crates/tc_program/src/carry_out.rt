@@ -67,8 +67,8 @@ pub(crate) fn made_text(alloc: Global, task: &Task, text: &[u8]) -> Result<Answe
         Task::Compare {
             form: Some(form),
             choice,
-        } => report_compared(alloc, *form, choice, text),
-        Task::Report { form, .. } => report_text(alloc, *form, text),
+        } => report_compared(alloc, form, choice, text),
+        Task::Report { form, .. } => report_text(alloc, form, text),
         Task::Explore {
             histories,
             details,
