@@ -51,7 +51,7 @@ OF_MANY = re.compile(r"\*|\b[A-Z]{2,}\b(?!\.md)|\b[A-Z]/[A-Z]\b|/out/")
 CODE = re.compile(r"`([^`]+)`")
 # A number that only a reader of some other list could look up.
 NUMBER = re.compile(r"(?<![\w.#])(?:[TDW](?:1?\d|2[0-2])[a-g]?|R(?:1[0-5]|[1-9])|B[1-5])(?![\w.(<])|\b[Rr]ows?[ _]\d+\b|\bw\d{1,2}_")
-OPTIONS = re.compile(r"(?:run)?(?: (?:--csv|--history|--evidence|--progress|--only \w+|--stop-on (?:none|pass|inconc|fail|error)))*|check|replay")
+OPTIONS = re.compile(r"(?:run)?(?: (?:--csv|--history|--evidence|--progress|--only \w+|--stop-on (?:none|pass|inconc|fail|error)))*|check|replay|report --summary")
 
 
 def expanded(name: str) -> List[str]:

@@ -97,7 +97,7 @@ def output_of(words: Tuple[str, ...], file: str) -> str:
     rule = ""
     if "--stop-on" in words:
         rule = f".stop-on-{words[words.index('--stop-on') + 1]}"
-    form = next((it for it in ("csv", "history", "evidence") if f"--{it}" in words), "report")
+    form = next((it for it in ("csv", "history", "evidence", "summary") if f"--{it}" in words), "report")
     return f"{stem}{rule}.{form}"
 
 

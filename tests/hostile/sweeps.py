@@ -61,12 +61,13 @@ def tasks() -> List[Task]:
     found.append(Task("an_illegal_history", ("check",), text("history 1 t 1;end pass")))
     evidence = text("evidence 1 t 2;behaviour 0 main;0 # too hot: <b>;0 setverdict fail -> ok;1 ! bad move;0 finish -> ok;end fail")
     found += [Task("evidence", words, evidence) for words in (("check",), ("report", "--csv"), ("report", "--html"))]
-    reported = [(name, form) for name in ("pumps", "supervisor") for form in ("--csv", "--junit", "--html")]
+    reported = [(name, form) for name in ("pumps", "supervisor") for form in ("--csv", "--junit", "--html", "--summary")]
     found += [Task(name, ("report", form), bytes_of(f"{name}.history")) for name, form in reported]
     for name, kept in (("supervisor", "supervisor"), ("restart", "pumps")):
         given = bytes_of(f"{name}.script") + bytes_of(f"{kept}.history")
         found += [Task(f"{kept}_after_{name}", words, given)
                   for words in (("check", "--script"), ("report", "--script", "--csv"), ("report", "--script", "--junit"), ("run", "--list", "--failed"))]
+    found += [Task(name, ("report", "--junit", "--suite", "nightly"), bytes_of(f"{name}.history")) for name in ("restart",)]
     found.append(Task("a_session", ("serve",), SESSION))
     words = (("--help",), ("run", "--help"), ("frobnicate",), ("run", "--stop-on", "maybe"))
     return found + [Task("words_alone", it) for it in words]

@@ -38,13 +38,13 @@ LIES = (
     )),
     Lie("csv_is_ignored", (
         ("""\
-    ensures refused { IfErr result (LeavesPrefix (W.contents writer.old) (W.contents writer.new) (text_of form results.now)) }
+    ensures refused { IfErr result (LeavesPrefix (W.contents writer.old) (W.contents writer.new) (text_of form.now results.now)) }
 {
     match form {
         Form::Text => write_text(alloc, results, writer),
         Form::Csv => write_csv(alloc, results, writer),
 """, """\
-    ensures refused { IfErr result (LeavesPrefix (W.contents writer.old) (W.contents writer.new) (text_of form results.now)) }
+    ensures refused { IfErr result (LeavesPrefix (W.contents writer.old) (W.contents writer.new) (text_of form.now results.now)) }
 {
     match form {
         Form::Text => write_text(alloc, results, writer),
@@ -346,13 +346,13 @@ LIES = (
     Lie("a_junit_report_of_many_is_starved", (
         ("""\
     let mut out = Vec::new(alloc);
-    append_suites(&mut out, version, cases)?;
+    append_suite(&mut out, version, suite_name(suite), cases)?;
 """, """\
     if 255 < cases.len() {
         return Err(NoMemory);
     }
     let mut out = Vec::new(alloc);
-    append_suites(&mut out, version, cases)?;
+    append_suite(&mut out, version, suite_name(suite), cases)?;
 """),
     ), shown="in_junit"),
     Lie("a_live_run_of_many_is_starved", (

@@ -156,7 +156,7 @@ def of_random_campaigns(seed: int) -> Judgement:
                 met["failed"] += ran.status in (1, 2)
                 met["nothing"] += not ran.output
                 met.update(line.rpartition(" ")[0] for line in ran.errors.decode().splitlines())
-        return below(met, [("csv", 40), ("junit", 40), ("html", 40), ("whole", 40), ("failed", 10), ("nothing", 5), ("missing", 12),
+        return below(met, [("csv", 40), ("junit", 40), ("html", 40), ("summary", 40), ("whole", 40), ("failed", 10), ("nothing", 5), ("missing", 12),
                            ("twice", 5), ("out of order", 3), ("unknown", 10), ("no course", 5)])
 
     return Judgement(f"reports_of_random_campaigns_beside_their_script_{seed}", "ttrun report --script < (random scripts and runs)", judge)

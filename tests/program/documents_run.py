@@ -74,6 +74,7 @@ def cases() -> List[Case]:
             output = examples.bytes_of(output_of(words, file))
             told = Timed(examples.bytes_of(f"{file.partition('.')[0]}.progress") if "--progress" in words else b"")
             form = "report" if words[0] in ("run", "replay") and "--csv" not in words else "csv"
+            form = "summary" if "--summary" in words else form
             found.append(Case(f"{path}_{number}_{'_'.join(words)}_{file}", words, examples.bytes_of(file), output, errors=told,
                               status=examples.status_in(form, output)))
     return found + shown_cases()

@@ -27,7 +27,8 @@ def bytes_of(name: str) -> bytes:
 
 def status_in(form: str, output: bytes) -> int:
     """The status that belongs to a report, a table or histories, by the verdicts that are there."""
-    patterns = {"report": rb"^verdict (\w+)$", "csv": rb",(\w+)$", "history": rb"^end (\w+)$", "junit": rb'type="(\w+)"'}
+    patterns = {"report": rb"^verdict (\w+)$", "csv": rb",(\w+)$", "history": rb"^end (\w+)$", "junit": rb'type="(\w+)"',
+                "summary": rb"^\w+: (\w+)$"}
     verdicts = [it.decode() for it in re.findall(patterns[form], output, re.M) if it != b"verdict"]
     return max((status_of(it) for it in verdicts), default=0)
 
@@ -99,7 +100,8 @@ def faults_of_folder(names: List[str]) -> List[str]:
     for name in names:
         stem, _, suffix = name.partition(".")
         suffix = suffix.rpartition(".")[2]
-        given = {"report": "script", "csv": "script", "junit": "script", "history": "script", "progress": "script", "replies": "moves"}.get(suffix)
+        given = {"report": "script", "csv": "script", "junit": "script", "history": "script", "progress": "script", "replies": "moves",
+                 "summary": "history"}.get(suffix)
         if given is not None and f"{stem}.{given}" not in names or given is None and suffix not in ("script", "moves"):
             faults.append(f"{name} is no output of an example")
         lacking = {"script": [f"{stem}.report", f"{stem}.csv", f"{stem}.history"], "moves": [f"{stem}.replies"]}.get(suffix, [])
@@ -125,6 +127,8 @@ def tests_of(name: str) -> Iterator[Union[Case, Judgement]]:
         yield stands_as_history(stem)
     elif suffix == "junit":
         yield junit_of_example(name)
+    elif suffix == "summary":
+        yield Case(f"example_{name}", ("report", "--summary"), bytes_of(f"{stem}.history"), text, status=status_in(suffix, text))
     elif suffix == "progress":
         table = bytes_of(f"{stem}.csv")
         words = ("run", "--progress", "--csv")

@@ -16,7 +16,7 @@ from table import VERDICTS, Op, Table
 from texts import Block, Entry, check, read_history, status_of
 
 # The forms that histories have.
-FORMS = ("csv", "junit", "html")
+FORMS = ("csv", "junit", "html", "summary")
 # How many histories of random calls are reported, and the fewest of each kind that must be among them.
 RANDOM_BLOCKS = 1000
 FLOORS: Dict[str, int] = {"none": 100, "pass": 20, "inconc": 20, "fail": 20, "error": 80, "unfinished": 100, "two components": 200}
@@ -64,6 +64,11 @@ def who_decided(table: Table, block: Block, at: int) -> str:
     return f"run {entry.caller} on component {on}{''.join(f' {it}' for it in made if it)}: {line_of(entry)}"
 
 
+def lines_by(entries: List[Entry], caller: int) -> List[str]:
+    """What is shown of the calls of a run."""
+    return [f"  {line_of(it)}" for it in entries if it.caller == caller and it.reply != "parked"]
+
+
 class Told:
     """What a form prints of a block: its name, the local verdicts, how it ended, and what decided a verdict worse than pass."""
 
@@ -75,20 +80,23 @@ class Told:
             verdicts.append(table.overall())
         self.name = block.name
         self.locals = [it.verdict for it in table.components]
+        made = [it.op for it in block.entries if it.op.verb == "create" and it.reply.startswith("made ")]
+        self.components = ["0", *(f"{at} {it.name}".rstrip() for at, it in enumerate(made, start=1))]
         self.end = "unfinished" if table.components[0].phase == "running" else table.overall()
         self.message = MESSAGES.get(self.end, "")
         self.lines: List[str] = []
+        self.before: List[str] = []
         if self.end in VERDICTS[2:]:
             at = verdicts.index(self.end)
             self.message = who_decided(table, block, at)
-            of_run = [it for it in block.entries if it.caller == block.entries[at].caller]
-            self.lines = [f"  {line_of(it)}" for it in of_run if it.reply != "parked"]
+            self.lines = lines_by(block.entries, block.entries[at].caller)
+            self.before = lines_by(block.entries[:at], block.entries[at].caller)[-5:]
 
 
 def missing_case(name: str) -> Told:
     """What a form prints of a test case of which there is no block."""
     told = Told(Block("history 2", name, 1, [], 0, "none"))
-    told.locals, told.end, told.message = [], "missing", MESSAGES["missing"]
+    told.locals, told.components, told.end, told.message = [], [], "missing", MESSAGES["missing"]
     return told
 
 
@@ -112,15 +120,15 @@ def csv_of(told: List[Told]) -> bytes:
     return "".join(f"{it}\n" for it in lines).encode()
 
 
-def junit_of(told: List[Told], version: str) -> bytes:
+def junit_of(told: List[Told], version: str, name: str = "ttrun") -> bytes:
     """The JUnit report, byte by byte."""
     kinds = [ELEMENTS.get(it.end, ("",))[0] for it in told]
     counts = f' tests="{len(told)}" failures="{kinds.count("failure")}" errors="{kinds.count("error")}"'
     skipped = f' skipped="{kinds.count("skipped")}"'
-    lines = ['<?xml version="1.0" encoding="UTF-8"?>', f"<testsuites{counts}>", f'<testsuite name="ttrun"{counts}{skipped}>',
+    lines = ['<?xml version="1.0" encoding="UTF-8"?>', f"<testsuites{counts}>", f'<testsuite name="{name}"{counts}{skipped}>',
              "<properties>", f'<property name="version" value="{version}"/>', "</properties>"]
     for it in told:
-        lines.append(f'<testcase name="{it.name}" classname="ttrun">')
+        lines.append(f'<testcase name="{it.name}" classname="{name}">')
         element, kind = ELEMENTS.get(it.end, ("", ""))
         if kind in MESSAGES:
             lines.append(f'<{element} type="{kind}" message="{it.message}"/>')
@@ -130,6 +138,38 @@ def junit_of(told: List[Told], version: str) -> bytes:
             lines.append(f"<{element}/>")
         lines += ["<system-out>", *(f"local {at} {v}" for at, v in enumerate(it.locals)), "</system-out>", "</testcase>"]
     return "".join(f"{it}\n" for it in [*lines, "</testsuite>", "</testsuites>"]).encode()
+
+
+def wrapped(verdict: str, components: List[str]) -> List[str]:
+    """The components with a local verdict, in lines of 78 columns that each end with a comma but the last."""
+    lines = [f"  {verdict}: {components[0]}"]
+    room = 67 - len(components[0])
+    for it in components[1:]:
+        if len(it) + 2 > room:
+            lines[-1] += ","
+            lines.append(f"    {it}")
+            room = max(0, 73 - len(it))
+        else:
+            lines[-1] += f", {it}"
+            room -= len(it) + 2
+    return lines
+
+
+def summary_of(told: List[Told]) -> bytes:
+    """The summary, byte by byte."""
+    ends = [it.end for it in told]
+    lines = [f"cases {len(told)} " + " ".join(f"{it} {ends.count(it)}" for it in VERDICTS)]
+    lines += [f"{it} {ends.count(it)}" for it in MESSAGES if it in ends]
+    for it in told:
+        if it.end in VERDICTS[:2]:
+            continue
+        lines += ["", f"{it.name}: {it.end}"]
+        if it.end in VERDICTS:
+            lines += [f"  {it.message}", *(["  after:"] if it.before else []), *(f"  {line}" for line in it.before)]
+        for verdict in reversed(VERDICTS):
+            found = [name for name, local in zip(it.components, it.locals) if local == verdict]
+            lines += wrapped(verdict, found) if found else []
+    return "".join(f"{it}\n" for it in lines).encode()
 
 
 def faults_of_element(element: ElementTree.Element) -> Iterator[str]:
@@ -188,6 +228,9 @@ def faults_of_forms(form: str, told: List[Told], text: bytes, ran: Ran, errors: 
     elif form == "html":
         wanted = pages.page_of(text)
         faults = pages.faults_of_page(ran.output, text)
+    elif form == "summary":
+        wanted = summary_of(told)
+        faults = []
     else:
         wanted = junit_of(told, version_in(ran.output))
         faults = faults_of_junit(ran.output) + ([] if version_in(ran.output) else ["it tells no version"])
@@ -350,7 +393,27 @@ DRAWN = {
         "history 2 c 2;0 create -> made 1;0 start 1 1 -> ok;1 setverdict inconc -> ok;0 kill 1 -> ok;1 setverdict fail -> ended;"
         "0 finish -> ok;end inconc;history 2 d 2;0 create named valve -> made 1;0 start 1 1 -> ok;1 alive any -> error not-main;end error"),
 }
+# Two test cases of many components, whose names have each length.
+DRAWN["many_components"] = text(";".join(
+    f"history 2 {case} 2;" + ";".join(f"0 create{' named ' + 'n' * (at % 33) if at % 33 else ''} -> made {at}" for at in range(1, most + 1))
+    + f";0 start {most} 1 -> ok;1 setverdict {verdict} -> ok;0 finish -> ok;end {verdict}"
+    for case, most, verdict in (("a", 999, "fail"), ("b", 70, "inconc"))))
 UNFINISHED = b"history 2 t 1\n0 create -> made 1\n0 setverdict pass -> ok\nend pass\n"
+
+
+def of_a_named_suite(name: str) -> Judgement:
+    """The JUnit reports of a script and of its histories, in a suite of this name."""
+
+    def judge(program: str) -> List[str]:
+        told = blocks_of(examples.bytes_of("verdicts.history"))
+        faults = []
+        for words, given in ((("run", "--junit", "--suite", name), "script"), (("report", f"--suite={name}", "--junit"), "history")):
+            ran = run(Case("", words, examples.bytes_of(f"verdicts.{given}")), program)
+            faults += difference("junit", junit_of(told, version_in(ran.output), name), ran.output) + faults_of_junit(ran.output)
+            faults += [] if (ran.errors, ran.status) == (b"", 2) else [f"{ran.errors!r}, status {ran.status}"]
+        return faults
+
+    return Judgement(f"junit_of_the_suite_{name}", f"ttrun report --junit --suite {name}", judge)
 
 
 def cases() -> List[Union[Case, Judgement]]:
@@ -364,6 +427,7 @@ def cases() -> List[Union[Case, Judgement]]:
     found += [Judgement(f"report_of_{name}_{form}", f"ttrun report --{form}",
                         lambda program, form=form, given=given: faults_of_report(program, form, given))
               for name, given in DRAWN.items() for form in FORMS]
+    found += [of_a_named_suite(it) for it in ("nightly", "A_1", "x" * 32)]
     unfinished = b"testcase,components,none,pass,inconc,fail,error,verdict\nt,2,1,1,0,0,0,unfinished\n"
     full = b"ttrun: write fault\n"
     found.append(Case("report_of_an_unfinished_history", ("report", "--csv"), UNFINISHED, unfinished, status=2))

@@ -164,6 +164,11 @@ ABORTED = text("testcase t;behaviour main;setverdict pass;end;end;testcase u;beh
                + ";".join(f"behaviour w{at};end" for at in range(1, 64)) + ";end")
 
 
+def summary(failed: int, cases: str) -> bytes:
+    """The summary of test cases that have all failed."""
+    return text(f"cases {failed} none 0 pass 0 inconc 0 fail {failed} error 0;;{cases}")
+
+
 def long_report() -> Iterator[Case]:
     """The reports of a history of more entries than 16 bits count, by a test case that fails at its end."""
     call, last = "0 getverdict -> none", ("0 setverdict fail -> ok", "0 finish -> ok")
@@ -171,6 +176,11 @@ def long_report() -> Iterator[Case]:
     calls = "".join(f"  {it[2:]}\n" for it in (*[call] * 700_000, *last))
     cause = "run 0 on component 0: setverdict fail -> ok"
     yield Case("junit_of_a_long_history", ("report", "--junit"), given, SomeText((cause, calls)), status=1)
+    yield Case("summary_of_a_long_history", ("report", "--summary"), given, summary(
+        1, f"t: fail;  {cause};  after:;" + ";".join(["    getverdict -> none"] * 5) + ";  fail: 0"), status=1)
+    many = [f"history 2 t{at} 1;0 setverdict fail -> ok;0 finish -> ok;end fail" for at in range(200_000)]
+    yield Case("summary_of_many_histories", ("report", "--summary"), text(";".join(many)), summary(
+        len(many), ";;".join(f"t{at}: fail;  {cause};  fail: 0" for at, _ in enumerate(many))), status=1)
     yield Case("page_of_a_long_history", ("report", "--html"), given, SomeText((given.decode(),)), status=1)
 
 

@@ -24,6 +24,7 @@ ALL_OPTIONS = ("runs the campaign of a script, and writes its report\n",
                "  --history            writes the histories of the test cases\n",
                "  --evidence           writes the histories with the names of behaviours\n",
                "  --junit              writes the report as a JUnit suite\n",
+               "  --suite <NAME>       calls the JUnit suite NAME instead of ttrun\n",
                "  --live               writes each test case as it finishes\n",
                "  --progress           reports each test case on standard error\n",
                "  --stop-on <VERDICT>  stops after a test case with this verdict or worse\n",
@@ -53,12 +54,14 @@ EXPLORE = ("looks for every overall verdict that a test case can have\n",
            "N is from 1 to 1000000, and 100000 without --states. --only, --shard and\n--failed choose test cases as those of run do.\n",
            "Status: 0 if each test case has one verdict, 1 if one has several, 3 if a\nsearch met its limit, or for a refusal.\n")
 REPORT = ("reads histories, and writes them in one of these forms\n",
-          "  --csv          writes a table as CSV\n", "  --junit        writes a JUnit suite\n",
-          "  --html         writes a page for a browser\n",
-          "  --script       reads their script before them, and compares them with it\n",
-          "  --only <NAME>  awaits this test case; may be given again, for others\n",
-          "  --shard <K/N>  awaits the K-th of N shards of the test cases\n", "  --explain      " + EXPLAIN,
-          "  --no-explain   " + NO_EXPLAIN,
+          "  --csv           writes a table as CSV\n", "  --junit         writes a JUnit suite\n",
+          "  --suite <NAME>  calls the JUnit suite NAME instead of ttrun\n",
+          "  --html          writes a page for a browser\n",
+          "  --summary       writes the counts, and why test cases failed\n",
+          "  --script        reads their script before them, and compares them with it\n",
+          "  --only <NAME>   awaits this test case; may be given again, for others\n",
+          "  --shard <K/N>   awaits the K-th of N shards of the test cases\n", "  --explain       " + EXPLAIN,
+          "  --no-explain    " + NO_EXPLAIN,
           "Standard input is histories or evidence: ttrun report --csv < FILE. Nothing is\n"
           "written to standard output if one of them is not legal. With --script it is\n"
           "what check --script reads, and --only and --shard choose as there. Test cases\n"
@@ -117,9 +120,25 @@ run --shard => a value is required for '--shard <K/N>' but none was supplied
 run --stop-on => a value is required for '--stop-on <VERDICT>' but none was supplied
 run --stop-on --csv => a value is required for '--stop-on <VERDICT>' but none was supplied
 run --stop-on --live => a value is required for '--stop-on <VERDICT>' but none was supplied
-report => one of the arguments '--csv', '--junit' and '--html' is needed
-report -- => one of the arguments '--csv', '--junit' and '--html' is needed
-report --explain => one of the arguments '--csv', '--junit' and '--html' is needed
+report => one of the arguments '--csv', '--junit', '--html' and '--summary' is needed
+report -- => one of the arguments '--csv', '--junit', '--html' and '--summary' is needed
+report --explain => one of the arguments '--csv', '--junit', '--html' and '--summary' is needed
+report --suite a => one of the arguments '--csv', '--junit', '--html' and '--summary' is needed
+report --csv --suite a => the argument '--suite' needs '--junit'
+report --suite 7 --summary => the argument '--suite' needs '--junit'
+run --suite a => the argument '--suite' needs '--junit'
+run --suite 7 --stop-on no => the argument '--suite' needs '--junit'
+run --list --suite a => the argument '--suite' needs '--junit'
+run --list --junit --suite a => the argument '--list' cannot be used with '--junit'
+run --junit --suite => a value is required for '--suite <NAME>' but none was supplied
+run --junit --suite a --suite b => the argument '--suite <NAME>' cannot be used multiple times
+check --suite a => unexpected argument '--suite' found
+check --summary => unexpected argument '--summary' found
+run --summary => unexpected argument '--summary' found
+report --csv --summary => the argument '--csv' cannot be used with '--summary'
+report --summary --html => the argument '--html' cannot be used with '--summary'
+report --summary --junit --suite a => the argument '--junit' cannot be used with '--summary'
+report --summary --summary => the argument '--summary' cannot be used multiple times
 check --explain --explain => the argument '--explain' cannot be used multiple times
 check --explain --no-explain => the argument '--explain' cannot be used with '--no-explain'
 check --no-explain --script --explain => the argument '--explain' cannot be used with '--no-explain'
@@ -144,7 +163,7 @@ report --html --junit => the argument '--junit' cannot be used with '--html'
 report --explain --junit --no-explain => the argument '--explain' cannot be used with '--no-explain'
 report --junit --only a => the arguments '--only' and '--shard' need '--script'
 report --shard 1/2 => the arguments '--only' and '--shard' need '--script'
-report --script --only a => one of the arguments '--csv', '--junit' and '--html' is needed
+report --script --only a => one of the arguments '--csv', '--junit', '--html' and '--summary' is needed
 report --junit --csv => the argument '--csv' cannot be used with '--junit'
 report --junit --junit => the argument '--junit' cannot be used multiple times
 run --csv --csv => the argument '--csv' cannot be used multiple times
@@ -287,8 +306,10 @@ REFUSED: List[Tuple[str, Tuple[Word, ...]]] = [
 # A script of one test case, t.
 NAMED = b"testcase t\nbehaviour main\nend\nend\n"
 
-# Of several faults the first is printed: of the shard, of a word that is no name, of the stopping rule, of the text, and then of
-# the names.
+SUITE_TOLD = b"ttrun: --suite takes 1 to 32 letters, digits or _, a letter first\n"
+
+# Of several faults the first is printed: of the shard, of a word that is no name, of the suite, of the stopping rule, of the
+# text, and then of the names.
 ORDERED: List[Tuple[str, bytes, bytes]] = [
     ("run --only z --stop-on x --shard 0/2", b"x\n", b"ttrun: --shard takes K/N, with K from 1 to N\n"),
     ("run --only z --stop-on x", b"x\n", b"ttrun: --stop-on takes none, pass, inconc, fail or error\n"),
@@ -299,6 +320,13 @@ ORDERED: List[Tuple[str, bytes, bytes]] = [
     ("run --stop-on x", b"x\n", b"ttrun: --stop-on takes none, pass, inconc, fail or error\n"),
     ("run --only z- --stop-on x", NAMED, b"ttrun: --only takes the name of a test case of the script\n"),
     ("run --only z- --stop-on x --shard 0/1", NAMED, b"ttrun: --shard takes K/N, with K from 1 to N\n"),
+    ("run --junit --suite 7 --stop-on x", b"x\n", SUITE_TOLD),
+    ("run --junit --suite 7 --only z-", NAMED, b"ttrun: --only takes the name of a test case of the script\n"),
+    ("run --junit --suite 7 --only z", NAMED, SUITE_TOLD),
+    ("report --script --junit --suite 7 --shard 0/1", b"x\n", b"ttrun: --shard takes K/N, with K from 1 to N\n"),
+    ("report --script --junit --suite 7 --only z", NAMED, SUITE_TOLD),
+    ("report --junit --suite 7", b"x\n", SUITE_TOLD),
+    ("report --junit --suite t", b"x\n", b"ttrun: line 1: line not understood\n"),
     ("explore --states 0", b"x\n", b"ttrun: --states takes a number from 1 to 1000000\n"),
     ("explore --states 1", b"x\n", b"ttrun: line 1: line not understood\n"),
     ("run --only z --shard 1/2", b"", b"ttrun: line 1: text ends too early\n"),
@@ -318,6 +346,9 @@ NAMELESS: List[Tuple[str, bytes]] = [
         ("shard takes K/N, with K from 1 to N",
          ("run --list --shard 0/1", "run --shard 1/02", "run --shard=many", "run --only a --shard= --only 1",
           "run --stop-on fail --shard 3/2", "run --stop-on no --shard 3/2")),
+        ("suite takes 1 to 32 letters, digits or _, a letter first",
+         ("run --junit --suite=", "run --junit --suite 1", "run --suite a-b --junit", "report --junit --suite all",
+          "report --junit --script --suite " + "a" * 33)),
         ("only takes the name of a test case of the script",
          ("run --only=", "run --list --only all", "run --only a --only 2b", "run --stop-on no --only 1")),
     ) for line in lines
@@ -347,6 +378,7 @@ NOT_NEARLY = ("list", "version", "frobnicate", "RUN", "help list", "help more")
 # Options that ask for nothing, and the subcommand whose usage is shown.
 USAGES = (("run --csv --junit", "run"), ("run --no-explain --explain", "run"), ("explore --details --history", "explore"), ("report", "report"),
           ("report --csv --html", "report"), ("report --csv --only a", "report"), ("check --shard 1/2", "check"),
+          ("report --csv --suite a", "report"), ("run --suite a", "run"),
           ("check --no-explain --explain", "check"))
 
 NOT_UTF8: List[Tuple[str, Tuple[Word, ...]]] = [

@@ -7,8 +7,8 @@ use tc_entry::{Name, NoMemory, Sequence, Verdict};
 use tc_exec::CaseError;
 use tc_report::{
     CampaignEnd, LiveForm, LiveWriter, OutFault, csv_report, junit_report, status_of,
-    summaries_of_results, summary_of_case, summary_of_state, tally, verdict_status, worst_status,
-    write_csv, write_evidence, write_history, write_junit, write_text,
+    summaries_of_results, summary_of_case, summary_of_state, summary_report, tally, verdict_status,
+    worst_status, write_csv, write_evidence, write_history, write_junit, write_text,
 };
 
 const VERSION: &str = "1";
@@ -30,9 +30,14 @@ pub(crate) fn make(trial: &mut Trial, stock: &Stock) {
 /// The forms of histories.
 fn make_texts(trial: &mut Trial, stock: &Stock) {
     if let Ok(cases) = summaries_of_results(trial.alloc, &stock.results) {
-        trial.begin("csv_report junit_report");
+        trial.begin("csv_report junit_report summary_report");
         made(csv_report(trial.alloc, &cases), NoMemory, trial);
-        made(junit_report(trial.alloc, VERSION, &cases), NoMemory, trial);
+        made(
+            junit_report(trial.alloc, VERSION, &None, &cases),
+            NoMemory,
+            trial,
+        );
+        made(summary_report(trial.alloc, &cases), NoMemory, trial);
         trial.end();
         drop(cases);
     }
@@ -50,7 +55,7 @@ fn written(trial: &mut Trial, answer: Result<(), OutFault>) {
 fn write(trial: &mut Trial, stock: &Stock) {
     let (alloc, results) = (trial.alloc, &stock.results);
     trial.begin("write_junit write_text write_csv write_history write_evidence");
-    let answer = write_junit(alloc, VERSION, results, &mut trial.out);
+    let answer = write_junit(alloc, VERSION, &None, results, &mut trial.out);
     written(trial, answer);
     let answer = write_text(alloc, results, &mut trial.out);
     written(trial, answer);

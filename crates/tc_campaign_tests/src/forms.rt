@@ -10,7 +10,8 @@ use tc_campaign::{CampaignEnd, OutFault, Results, write_abort, write_evidence};
 use tc_entry::UserVerdict;
 use tc_exec::CaseError;
 use tc_report::{
-    Summary, csv_report, junit_report, summaries_of_results, worst_status, write_junit,
+    Summary, csv_report, junit_report, summaries_of_results, summary_report, worst_status,
+    write_junit,
 };
 
 const TABLE: &str = "testcase,components,none,pass,inconc,fail,error,verdict
@@ -60,6 +61,21 @@ local 0 inconc
 </testsuites>
 ";
 
+const SUMMARY: &str = "cases 4 none 0 pass 1 inconc 1 fail 1 error 0
+aborted 1
+
+b: fail
+  run 0 on component 0: setverdict fail -> ok
+  fail: 0
+
+c: inconc
+  run 0 on component 0: setverdict inconc -> ok
+  inconc: 0
+
+d: aborted
+  torn
+";
+
 const EVIDENCE: &str = "evidence 1 a 1
 behaviour 0 main
 0 setverdict pass -> ok
@@ -71,8 +87,10 @@ end pass
 fn have_forms<R: Abort>(rt: &R, alloc: Global, cases: &[Summary]) -> Result<(), Fail> {
     let table = csv_report(alloc, cases)?;
     is(rt, "the table", table.as_slice(), TABLE.as_bytes());
-    let suite = junit_report(alloc, "7", cases)?;
+    let suite = junit_report(alloc, "7", &None, cases)?;
     is(rt, "the suite", suite.as_slice(), SUITE.as_bytes());
+    let summary = summary_report(alloc, cases)?;
+    is(rt, "the summary", summary.as_slice(), SUMMARY.as_bytes());
     is(rt, "the status", worst_status(cases), 2);
     Ok(())
 }
@@ -80,7 +98,7 @@ fn have_forms<R: Abort>(rt: &R, alloc: Global, cases: &[Summary]) -> Result<(), 
 /// Checks the suite that is written of results.
 fn has_suite<R: Abort>(rt: &R, alloc: Global, results: &Results) -> Result<(), Fail> {
     let mut suite = Vec::new(alloc);
-    write_junit(alloc, "7", results, &mut suite)?;
+    write_junit(alloc, "7", &None, results, &mut suite)?;
     is(rt, "the suite", suite.as_slice(), SUITE.as_bytes());
     Ok(())
 }

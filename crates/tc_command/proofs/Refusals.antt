@@ -43,6 +43,8 @@ module _ (at : Bool) (app : App) (words : List Text) (found : Option (Text × Li
   refusal_read R.NoForm (Told.Word f) why told = absurd told
   refusal_read R.NoScript (Told.Line e) why told = subst (λ k. HasKind k e) (sym (faults_are ∙ why)) (inr (inl told))
   refusal_read R.NoScript (Told.Word f) why told = absurd told
+  refusal_read R.NoJunit (Told.Line e) why told = subst (λ k. HasKind k e) (sym (faults_are ∙ why)) (inr (inl told))
+  refusal_read R.NoJunit (Told.Word f) why told = absurd told
   refusal_read (R.Word fault) (Told.Line e) why told = absurd told
   refusal_read (R.Word fault) (Told.Word f) why told = (faults_are ∙ why.0, subst (λ g. HasBadWord (line_of (subcommand_of ttrun words)).1 g) (sym told) (subst (λ line. HasBadWord line.1 fault) line_is why.1))
   refusal_read R.NoMemory refused why told = absurd told

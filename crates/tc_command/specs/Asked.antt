@@ -1,5 +1,5 @@
 -- What the arguments ask for.
-use Rattle.std.specs.Prelude.{◌≡◌, Bool, true, false, ◌&&◌, ◌||◌, not, List, [], ◌∷◌, Option, Some, None, Result, Ok, Err, All, codes, find}
+use Rattle.std.specs.Prelude.{◌≡◌, Bool, true, false, ◌&&◌, ◌||◌, not, List, [], ◌∷◌, Option, Some, None, Result, Ok, Err, All, IfSome, codes, find}
 use Rattle.std.specs.Prelude.{if◌then◌else◌, is_none, option_and_then, unwrap_or}
 use Rattle.std.specs.List.{list_any}
 use Rattle.std.specs.Str.{bytes_eq}
@@ -66,12 +66,19 @@ apart S.Run =
 apart S.Check = (codes "explain", codes "no-explain") ∷ []
 apart S.Replay = (codes "explain", codes "no-explain") ∷ []
 apart S.Explore = (codes "history", codes "details") ∷ (codes "explain", codes "no-explain") ∷ []
-apart S.Report = (codes "csv", codes "junit") ∷ (codes "csv", codes "html") ∷ (codes "junit", codes "html") ∷ (codes "explain", codes "no-explain") ∷ []
+apart S.Report =
+    (codes "csv", codes "junit") ∷ (codes "csv", codes "html") ∷ (codes "csv", codes "summary")
+    ∷ (codes "junit", codes "html") ∷ (codes "junit", codes "summary") ∷ (codes "html", codes "summary")
+    ∷ (codes "explain", codes "no-explain") ∷ []
 apart subcommand = []
 
 -- both options of a pair are given
 abbrev pub are_both : List Row → Text × Text → Bool
 are_both rows p = is_given rows p.0 && is_given rows p.1
+
+-- the name that the options give to a suite, if they give one
+abbrev pub suite_of : List Row → Option Text
+suite_of rows = first_of (codes "suite") rows
 
 -- the form that the options of `run` ask for
 abbrev pub form_of : List Row → Form
@@ -79,14 +86,15 @@ form_of rows =
     if is_given rows (codes "csv") then form.Csv
     else (if is_given rows (codes "history") then form.History
     else (if is_given rows (codes "evidence") then form.Evidence
-    else (if is_given rows (codes "junit") then form.Junit else form.Text)))
+    else (if is_given rows (codes "junit") then form.Junit (suite_of rows) else form.Text)))
 
 -- the form that the options of `report` ask for, if they ask for one
 abbrev pub report_form_of : List Row → Option ReportForm
 report_form_of rows =
     if is_given rows (codes "csv") then Some report_form.Csv
-    else (if is_given rows (codes "junit") then Some report_form.Junit
-    else (if is_given rows (codes "html") then Some report_form.Html else None))
+    else (if is_given rows (codes "junit") then Some (report_form.Junit (suite_of rows))
+    else (if is_given rows (codes "html") then Some report_form.Html
+    else (if is_given rows (codes "summary") then Some report_form.Summary else None)))
 
 -- test cases are chosen, and there is no script of them
 abbrev pub lacks_its_script : List Row → Bool
@@ -103,11 +111,19 @@ abbrev pub lacks_form : Subcommand → List Row → Bool
 lacks_form S.Report rows = is_none (report_form_of rows)
 lacks_form subcommand rows = false
 
+-- a suite is named, and there is no report of it
+abbrev pub lacks_junit : List Row → Bool
+lacks_junit rows = is_given rows (codes "suite") && not (is_given rows (codes "junit"))
+
+-- options are given without one that they need
+abbrev pub lacks_option : Subcommand × List Row → Bool
+lacks_option line = lacks_script line.0 line.1 || (lacks_form line.0 line.1 || lacks_junit line.1)
+
 -- why options are refused; none if they are taken
 abbrev pub option_faults : Subcommand × List Row → Kinds
 option_faults line =
     if list_any (are_both line.1) (apart line.0) then ArgumentConflict ∷ []
-    else (if lacks_script line.0 line.1 || lacks_form line.0 line.1 then MissingRequiredArgument ∷ [] else [])
+    else (if lacks_option line then MissingRequiredArgument ∷ [] else [])
 
 -- why the arguments are refused, as the kinds of the first fault, or that they ask for help or the version; none if
 -- they are taken
@@ -156,14 +172,17 @@ Asks at (S.Run, rows) (T.List c explains) = (is_given rows (codes "list") ≡ tr
 Asks at (S.Serve, rows) T.Serve = Unit {0}
 Asks at line task = ⊥
 
--- a value of these options names nothing, and it is the first: that of --shard, then those of --only, and then that of
--- --stop-on or --states
+-- a value of these options names nothing, and it is the first: that of --shard, then those of --only, then that of
+-- --suite, and then that of --stop-on or --states
 abbrev pub HasBadWord : List Row → WordFault → Type 0
 HasBadWord rows W.Shard = IsBad IsShardOf (first_of (codes "shard") rows)
 HasBadWord rows W.Only = IsGood IsShardOf (first_of (codes "shard") rows) × (All IsPattern (words_of (codes "only") rows) → ⊥)
 HasBadWord rows W.StopOn =
-    IsGood IsShardOf (first_of (codes "shard") rows) × All IsPattern (words_of (codes "only") rows)
+    IsGood IsShardOf (first_of (codes "shard") rows) × All IsPattern (words_of (codes "only") rows) × IfSome (suite_of rows) IsName
     × IsBad IsRuleOf (first_of (codes "stop-on") rows)
+HasBadWord rows W.Suite =
+    IsGood IsShardOf (first_of (codes "shard") rows) × All IsPattern (words_of (codes "only") rows)
+    × (IfSome (suite_of rows) IsName → ⊥)
 HasBadWord rows W.States =
     IsGood IsShardOf (first_of (codes "shard") rows) × All IsPattern (words_of (codes "only") rows)
     × IsBad IsStatesOf (first_of (codes "states") rows)

@@ -28,7 +28,7 @@ explaining = flag_rule (codes "explain") ∷ flag_rule (codes "no-explain") ∷ 
 abbrev pub run : App
 run = with_rules (new_app (codes "run")) (
     flag_rule (codes "csv") ∷ flag_rule (codes "history") ∷ flag_rule (codes "evidence") ∷ flag_rule (codes "junit")
-    ∷ flag_rule (codes "live") ∷ flag_rule (codes "progress")
+    ∷ word_rule (codes "suite") ∷ flag_rule (codes "live") ∷ flag_rule (codes "progress")
     ∷ word_rule (codes "stop-on") ∷ flag_rule (codes "list") ∷ words_rule (codes "only") ∷ word_rule (codes "shard")
     ∷ flag_rule (codes "failed") ∷ explaining)
 
@@ -41,7 +41,7 @@ explore = with_rules (new_app (codes "explore")) (
 -- the options of `report`
 abbrev pub report : App
 report = with_rules (new_app (codes "report")) (
-    flag_rule (codes "csv") ∷ flag_rule (codes "junit") ∷ flag_rule (codes "html")
+    flag_rule (codes "csv") ∷ flag_rule (codes "junit") ∷ word_rule (codes "suite") ∷ flag_rule (codes "html") ∷ flag_rule (codes "summary")
     ∷ flag_rule (codes "script") ∷ words_rule (codes "only") ∷ word_rule (codes "shard") ∷ explaining)
 
 -- the options of `check`

@@ -23,6 +23,7 @@ abbrev pub IsRefusedBy : Subcommand × List Row → Refusal → Type 0
 IsRefusedBy line (R.Conflict first second) = option_faults line ≡ ArgumentConflict ∷ []
 IsRefusedBy line R.NoForm = option_faults line ≡ MissingRequiredArgument ∷ []
 IsRefusedBy line R.NoScript = option_faults line ≡ MissingRequiredArgument ∷ []
+IsRefusedBy line R.NoJunit = option_faults line ≡ MissingRequiredArgument ∷ []
 IsRefusedBy line (R.Word fault) = (option_faults line ≡ []) × HasBadWord line.1 fault
 IsRefusedBy line R.NoMemory = Unit {0}
 
@@ -30,6 +31,13 @@ IsRefusedBy line R.NoMemory = Unit {0}
 abbrev pub IsClash : Bool → Refusal → Type 0
 IsClash some (R.Conflict first second) = some ≡ true
 IsClash some refusal = ⊥
+
+-- options are given without one that they need, if some are
+abbrev pub IsLack : Bool → Refusal → Type 0
+IsLack some R.NoForm = some ≡ true
+IsLack some R.NoScript = some ≡ true
+IsLack some R.NoJunit = some ≡ true
+IsLack some refusal = ⊥
 
 -- a value is refused for this reason, or memory ran out
 abbrev pub IsBadWord : Type 0 → WordFault → Refusal → Type 0
@@ -52,6 +60,7 @@ abbrev pub IsToldBy : Refusal → Refused → Type 0
 IsToldBy (R.Conflict first second) (Told.Line e) = kind_of e ≡ ArgumentConflict
 IsToldBy R.NoForm (Told.Line e) = kind_of e ≡ MissingRequiredArgument
 IsToldBy R.NoScript (Told.Line e) = kind_of e ≡ MissingRequiredArgument
+IsToldBy R.NoJunit (Told.Line e) = kind_of e ≡ MissingRequiredArgument
 IsToldBy (R.Word fault) (Told.Word f) = f ≡ fault
 IsToldBy refusal refused = ⊥
 

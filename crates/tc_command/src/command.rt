@@ -146,6 +146,12 @@ const SCRIPT_SHARD: OptionRow = OptionRow(
     "awaits the K-th of N shards of the test cases",
 );
 
+const SUITE: OptionRow = OptionRow(
+    "suite",
+    Takes::Word("NAME"),
+    "calls the JUnit suite NAME instead of ttrun",
+);
+
 const RUN_OPTIONS: [OptionRow; 13] = [
     OptionRow("csv", Takes::Nothing, "writes the report as CSV"),
     OptionRow(
@@ -163,6 +169,7 @@ const RUN_OPTIONS: [OptionRow; 13] = [
         Takes::Nothing,
         "writes the report as a JUnit suite",
     ),
+    SUITE,
     OptionRow(
         "live",
         Takes::Nothing,
@@ -231,10 +238,16 @@ const EXPLORE_OPTIONS: [OptionRow; 8] = [
 
 const CHECK_OPTIONS: [OptionRow; 5] = [SCRIPT, SCRIPT_ONLY, SCRIPT_SHARD, EXPLAIN, NO_EXPLAIN];
 
-const REPORT_OPTIONS: [OptionRow; 8] = [
+const REPORT_OPTIONS: [OptionRow; 10] = [
     OptionRow("csv", Takes::Nothing, "writes a table as CSV"),
     OptionRow("junit", Takes::Nothing, "writes a JUnit suite"),
+    SUITE,
     OptionRow("html", Takes::Nothing, "writes a page for a browser"),
+    OptionRow(
+        "summary",
+        Takes::Nothing,
+        "writes the counts, and why test cases failed",
+    ),
     SCRIPT,
     SCRIPT_ONLY,
     SCRIPT_SHARD,

@@ -1,13 +1,14 @@
 //! The arguments, and the task that they ask for.
-ghost use Rattle.std.specs.Prelude.{◌≡◌, All, IfOk, IfErr, List, OnOk, Some, codes, false, map, option_copied, string_bytes, true};
+ghost use Rattle.std.specs.Prelude.{◌≡◌, All, IfOk, IfErr, IfSome, List, OnOk, Some, codes, false, map, option_copied, string_bytes, true};
 ghost use Rattle.std.specs.List.{list_any};
 ghost use Rattle.clap.specs.Words.{FailsBy, Row, app_of, fault_of, first_of, found_of, is_simple, is_simple_and_free, rows_of, subcommand_of, subcommand_rows_of};
 ghost use Rattle.tc_entry.specs.Pattern.{IsPattern};
 ghost use Rattle.tc_command.specs.Command.{ttrun};
 ghost use Rattle.tc_command.specs.Asked.{Asks, AsksRun, Chooses, IsReading, apart as spec_apart, are_both, form_of, is_explained, is_given, lacks_script as spec_lacks, line_of};
-ghost use Rattle.tc_command.specs.Asked.{report_form_of, subcommand_named as spec_named, words_of};
+ghost use Rattle.tc_command.specs.Asked.{lacks_form as spec_lacks_form, lacks_option, report_form_of, subcommand_named as spec_named};
+ghost use Rattle.tc_command.specs.Asked.{suite_of, words_of};
 ghost use Rattle.tc_command.specs.Words.{IsGood, IsShardOf};
-ghost use Rattle.tc_command.specs.Inside.{IsBadWord, IsClash, IsRefusedBy, IsTaken, IsWordRefused};
+ghost use Rattle.tc_command.specs.Inside.{IsBadWord, IsClash, IsLack, IsRefusedBy, IsTaken, IsWordRefused};
 ghost use Rattle.tc_command.specs.declared.command.Subcommand.TheVariants.{Check, Explore, Report, Run};
 ghost use Rattle.tc_command.specs.declared.word.WordFault.TheVariants as fault;
 
@@ -67,7 +68,10 @@ fn apart(subcommand: Subcommand) -> &'static [(&'static str, &'static str)]
         Subcommand::Report => &[
             ("csv", "junit"),
             ("csv", "html"),
+            ("csv", "summary"),
             ("junit", "html"),
+            ("junit", "summary"),
+            ("html", "summary"),
             ("explain", "no-explain"),
         ],
         Subcommand::Check | Subcommand::Replay => &[("explain", "no-explain")],
@@ -114,8 +118,18 @@ fn word_of<'a>(options: &ArgMatches<'a>, id: &str) -> Option<&'a str>
     options.get_str(id)
 }
 
-// The form that the options of `run` ask for.
-fn form(options: &ArgMatches<'_>) -> Form
+// The name that the options give to a suite, if they give one.
+fn suite(options: &ArgMatches<'_>) -> Result<Option<Name>, WordFault>
+    ensures taken { IfOk result (λ name. name ≡ suite_of (rows_of (found_of options.now))) }
+    ensures good { OnOk result (IfSome (suite_of (rows_of (found_of options.now))) IsName) }
+    ensures refused { IfErr result (λ f. (f ≡ fault.Suite) × (IfSome (suite_of (rows_of (found_of options.now))) IsName → ⊥)) }
+{
+    word::suite(word_of(options, "suite"))
+}
+
+// The form that the options of `run` ask for, with the name of the suite.
+fn form(options: &ArgMatches<'_>, suite: Option<Name>) -> Form
+    requires { suite ≡ suite_of (rows_of (found_of options.now)) }
     ensures { result ≡ form_of (rows_of (found_of options.now)) }
 {
     if has_option(options, "csv") {
@@ -125,22 +139,25 @@ fn form(options: &ArgMatches<'_>) -> Form
     } else if has_option(options, "evidence") {
         Form::Evidence
     } else if has_option(options, "junit") {
-        Form::Junit
+        Form::Junit(suite)
     } else {
         Form::Text
     }
 }
 
-// The form that the options of `report` ask for, if they ask for one.
-fn report_form(options: &ArgMatches<'_>) -> Option<ReportForm>
+// The form that the options of `report` ask for, if they ask for one, with the name of the suite.
+fn report_form(options: &ArgMatches<'_>, suite: Option<Name>) -> Option<ReportForm>
+    requires { suite ≡ suite_of (rows_of (found_of options.now)) }
     ensures { result ≡ report_form_of (rows_of (found_of options.now)) }
 {
     if has_option(options, "csv") {
         Some(ReportForm::Csv)
     } else if has_option(options, "junit") {
-        Some(ReportForm::Junit)
+        Some(ReportForm::Junit(suite))
     } else if has_option(options, "html") {
         Some(ReportForm::Html)
+    } else if has_option(options, "summary") {
+        Some(ReportForm::Summary)
     } else {
         None
     }
@@ -188,9 +205,10 @@ fn run_options(
     ensures refused { IfErr result (IsWordRefused (rows_of (found_of options.now))) }
 {
     let choice = choice(alloc, options)?;
+    let suite = suite(options)?;
     let stop_on = word::stop_on(word_of(options, "stop-on"))?;
     Ok(RunOptions {
-        form: form(options),
+        form: form(options, suite),
         live: has_option(options, "live"),
         progress: has_option(options, "progress"),
         stop_on,
@@ -239,28 +257,44 @@ fn explore_task(
     }))
 }
 
-// What the options of `report` ask for, among them this form.
+// What the options of `report` ask for, in this form, with the test cases that they choose.
+fn report_in(
+    options: &ArgMatches<'_>,
+    at_terminal: bool,
+    form: ReportForm,
+    choice: Choice,
+) -> Task
+    requires form { report_form_of (rows_of (found_of options.now)) ≡ Some form }
+    requires choice { Chooses (rows_of (found_of options.now)) choice }
+    ensures { Asks at_terminal (Report, rows_of (found_of options.now)) result }
+{
+    let explains = explains(options, at_terminal);
+    if has_option(options, "script") {
+        Task::Compare {
+            form: Some(form),
+            choice,
+            explains,
+        }
+    } else {
+        Task::Report { form, explains }
+    }
+}
+
+// What the options of `report` ask for.
 fn report_task(
     alloc: Global,
     options: &ArgMatches<'_>,
     at_terminal: bool,
-    form: ReportForm,
 ) -> Result<Task, Refusal>
-    requires { report_form_of (rows_of (found_of options.now)) ≡ Some form }
+    requires { spec_lacks_form Report (rows_of (found_of options.now)) ≡ false }
     ensures taken { IfOk result (Asks at_terminal (Report, rows_of (found_of options.now))) }
     ensures refused { IfErr result (IsWordRefused (rows_of (found_of options.now))) }
 {
-    if has_option(options, "script") {
-        Ok(Task::Compare {
-            form: Some(form),
-            choice: choice(alloc, options)?,
-            explains: explains(options, at_terminal),
-        })
-    } else {
-        Ok(Task::Report {
-            form,
-            explains: explains(options, at_terminal),
-        })
+    let choice = choice(alloc, options)?;
+    let suite = suite(options)?;
+    match report_form(options, suite) {
+        Some(form) => Ok(report_in(options, at_terminal, form, choice)),
+        None => unreachable!(),
     }
 }
 
@@ -299,6 +333,38 @@ fn lacks_script(subcommand: Subcommand, options: &ArgMatches<'_>) -> bool
     }
 }
 
+// Whether a form is needed, and none is given.
+fn lacks_form(subcommand: Subcommand, options: &ArgMatches<'_>) -> bool
+    ensures { result ≡ spec_lacks_form subcommand (rows_of (found_of options.now)) }
+{
+    match subcommand {
+        Subcommand::Report => {
+            !has_option(options, "csv")
+                && !has_option(options, "junit")
+                && !has_option(options, "html")
+                && !has_option(options, "summary")
+        }
+        _ => false,
+    }
+}
+
+// Refuses options without one that they need.
+fn refuse_lack(subcommand: Subcommand, options: &ArgMatches<'_>) -> Result<(), Refusal>
+    ensures none { OnOk result (lacks_option (subcommand, rows_of (found_of options.now)) ≡ false) }
+    ensures some { IfErr result (IsLack (lacks_option (subcommand, rows_of (found_of options.now)))) }
+{
+    if lacks_script(subcommand, options) {
+        return Err(Refusal::NoScript);
+    }
+    if lacks_form(subcommand, options) {
+        return Err(Refusal::NoForm);
+    }
+    if has_option(options, "suite") && !has_option(options, "junit") {
+        return Err(Refusal::NoJunit);
+    }
+    Ok(())
+}
+
 // What a subcommand with its options asks for.
 fn subcommand_task(
     alloc: Global,
@@ -310,16 +376,11 @@ fn subcommand_task(
     ensures refused { IfErr result (IsRefusedBy (subcommand, rows_of (found_of options.now))) }
 {
     refuse_both(options, apart(subcommand))?;
-    if lacks_script(subcommand, options) {
-        return Err(Refusal::NoScript);
-    }
+    refuse_lack(subcommand, options)?;
     match subcommand {
         Subcommand::Run => run_task(alloc, options, at_terminal),
         Subcommand::Explore => explore_task(alloc, options, at_terminal),
-        Subcommand::Report => match report_form(options) {
-            Some(form) => report_task(alloc, options, at_terminal, form),
-            None => Err(Refusal::NoForm),
-        },
+        Subcommand::Report => report_task(alloc, options, at_terminal),
         Subcommand::Check => check_task(alloc, options, at_terminal),
         Subcommand::Replay => Ok(Task::Replay {
             explains: explains(options, at_terminal),

@@ -20,6 +20,8 @@ pub(crate) enum Refusal {
     NoForm,
     /// Test cases are chosen without their script.
     NoScript,
+    /// A suite is named without a JUnit report.
+    NoJunit,
     /// The value of an option names nothing.
     Word(WordFault),
     /// Memory ran out.
@@ -99,12 +101,17 @@ pub(crate) fn told_of(
         Refusal::NoForm => Ok(Refused::Line(lack_error(
             alloc,
             subcommand,
-            "one of the arguments '--csv', '--junit' and '--html' is needed",
+            "one of the arguments '--csv', '--junit', '--html' and '--summary' is needed",
         )?)),
         Refusal::NoScript => Ok(Refused::Line(lack_error(
             alloc,
             subcommand,
             "the arguments '--only' and '--shard' need '--script'",
+        )?)),
+        Refusal::NoJunit => Ok(Refused::Line(lack_error(
+            alloc,
+            subcommand,
+            "the argument '--suite' needs '--junit'",
         )?)),
         Refusal::Word(fault) => Ok(Refused::Word(fault)),
         Refusal::NoMemory => Err(AllocError),

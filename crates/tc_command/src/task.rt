@@ -3,7 +3,7 @@ use tc_entry::{Pattern, Shard};
 use tc_verdict::Verdict;
 
 /// In which form the results are written.
-#[derive(Clone, Copy, Debug, PartialEq, Eq)]
+#[derive(Debug, Drop, PartialEq, Eq)]
 pub enum Form {
     /// The text report.
     Text,
@@ -13,19 +13,21 @@ pub enum Form {
     History,
     /// The evidence of each test case: its history with the names of its behaviours.
     Evidence,
-    /// A test suite of JUnit's XML.
-    Junit,
+    /// A test suite of JUnit's XML, with the name of `--suite`.
+    Junit(Option<Name>),
 }
 
 /// In which form histories are reported.
-#[derive(Clone, Copy, Debug, PartialEq, Eq)]
+#[derive(Debug, Drop, PartialEq, Eq)]
 pub enum ReportForm {
     /// A table, as CSV.
     Csv,
-    /// A test suite of JUnit's XML.
-    Junit,
+    /// A test suite of JUnit's XML, with the name of `--suite`.
+    Junit(Option<Name>),
     /// A page of HTML that holds them.
     Html,
+    /// A summary: the counts, and why test cases failed.
+    Summary,
 }
 
 /// Which test cases of a script are chosen.

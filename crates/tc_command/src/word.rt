@@ -27,6 +27,8 @@ pub enum WordFault {
     Shard,
     /// `--only`.
     Only,
+    /// `--suite`.
+    Suite,
 }
 
 impl WordFault {
@@ -39,6 +41,7 @@ impl WordFault {
             WordFault::States => "--states takes a number from 1 to 1000000",
             WordFault::Shard => "--shard takes K/N, with K from 1 to N",
             WordFault::Only => "--only takes the name of a test case of the script",
+            WordFault::Suite => "--suite takes 1 to 32 letters, digits or _, a letter first",
         }
     }
 }
@@ -79,6 +82,21 @@ pub(crate) fn stop_on(word: Option<&str>) -> Result<Option<Verdict>, WordFault>
         Some(word) => match read_name(word) {
             Some(verdict) => Ok(Some(verdict)),
             None => Err(WordFault::StopOn),
+        },
+        None => Ok(None),
+    }
+}
+
+/// The name of `--suite`, if there is one.
+pub(crate) fn suite(word: Option<&str>) -> Result<Option<Name>, WordFault>
+    ensures taken { IfOk result (λ name. name ≡ option_copied word.entry) }
+    ensures good { OnOk result (IfSome (option_copied word.entry) IsName) }
+    ensures refused { IfErr result (λ f. (f ≡ fault.Suite) × (IfSome (option_copied word.entry) IsName → ⊥)) }
+{
+    match word {
+        Some(word) => match Name::read(word) {
+            Some(name) => Ok(Some(name)),
+            None => Err(WordFault::Suite),
         },
         None => Ok(None),
     }

@@ -45,7 +45,7 @@ live_text true Forms.Text found r is = sym (ap (λ o. form_text (unwrap_or o Liv
 live_text true Forms.Csv found r is = sym (ap (λ o. form_text (unwrap_or o LiveForms.Text) r) is)
 live_text true Forms.History found r is = sym (ap (λ o. form_text (unwrap_or o LiveForms.Text) r) is)
 live_text true Forms.Evidence found r is = sym (ap (λ o. form_text (unwrap_or o LiveForms.Text) r) is)
-live_text true Forms.Junit found r is = absurd (cc is)
+live_text true (Forms.Junit suite) found r is = absurd (cc is)
 live_text false form found r is = absurd (cc is)
 
 -- what is printed after the test cases, and what comes of both

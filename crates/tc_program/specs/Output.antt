@@ -22,7 +22,7 @@ live_form true Forms.Text = Some LiveForms.Text
 live_form true Forms.Csv = Some LiveForms.Csv
 live_form true Forms.History = Some LiveForms.History
 live_form true Forms.Evidence = Some LiveForms.Evidence
-live_form true Forms.Junit = None
+live_form true (Forms.Junit suite) = None
 
 -- the text of the results in this form
 abbrev pub text_of : Form → Results → List ℕ
@@ -30,7 +30,7 @@ text_of Forms.Text r = form_text LiveForms.Text r
 text_of Forms.Csv r = form_text LiveForms.Csv r
 text_of Forms.History r = form_text LiveForms.History r
 text_of Forms.Evidence r = form_text LiveForms.Evidence r
-text_of Forms.Junit r = junit_of VERSION.now (results_summaries r)
+text_of (Forms.Junit suite) r = junit_of VERSION.now suite (results_summaries r)
 
 -- why a text was not written whole: without memory nothing was, if the writer failed a prefix; there is no other fault
 abbrev pub LeavesUnwritten : Option (List ℕ) → Option (List ℕ) → List ℕ → RunFault → Type 0

@@ -12,6 +12,7 @@ use Rattle.tc_report.specs.Csv.{csv_of}
 use Rattle.tc_report.specs.Junit.{junit_of}
 use Rattle.tc_report.specs.Status.{status_of_summaries}
 use Rattle.tc_report.specs.Summary.{bare_summary, block_summary}
+use Rattle.tc_report.specs.SummaryText.{summary_text}
 use Rattle.tc_report.specs.declared.results.CaseEnd.TheVariants as C
 use Rattle.tc_program.specs.declared.reply.Answer.{Answer}
 use Rattle.tc_program.specs.Check.{Checks, IsIllegalLine}
@@ -19,8 +20,9 @@ use Rattle.tc_program.specs.Check.{Checks, IsIllegalLine}
 -- the form of blocks by their text and the summaries of their test cases
 abbrev pub form_of : ReportForm → List ℕ → List Summary → List ℕ
 form_of Forms.Csv text ss = csv_of ss
-form_of Forms.Junit text ss = junit_of VERSION.now ss
+form_of (Forms.Junit suite) text ss = junit_of VERSION.now suite ss
 form_of Forms.Html text ss = page_of text
+form_of Forms.Summary text ss = summary_text ss
 
 -- what is answered for test cases, with these lines for standard error: their form, and their status, or 3 if there is a line
 abbrev pub reported : ReportForm → List ℕ → List ℕ → List Summary → Answer

@@ -71,8 +71,8 @@ pub(crate) fn made_text(alloc: Global, task: &Task, text: &[u8]) -> Result<Answe
             form: Some(form),
             choice,
             ..
-        } => report_compared(alloc, *form, choice, text),
-        Task::Report { form, .. } => report_text(alloc, *form, text),
+        } => report_compared(alloc, form, choice, text),
+        Task::Report { form, .. } => report_text(alloc, form, text),
         Task::Explore(options) => explore_text(alloc, options, text),
         Task::List { choice, .. } => list_text(alloc, choice, text),
         Task::Run(_) | Task::Serve => unreachable!(),

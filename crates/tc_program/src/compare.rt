@@ -314,11 +314,11 @@ pub(crate) fn compare_text(alloc: Global, choice: &Choice, text: &[u8]) -> Resul
 #[tactic(auto, using(crate::proofs::Beside::refusing_rules))]
 pub(crate) fn report_compared(
     alloc: Global,
-    form: ReportForm,
+    form: &ReportForm,
     choice: &Choice,
     text: &[u8],
 ) -> Result<Answer, RunFault>
-    ensures done { IfOk result (IsReportedAgainst form choice.now text.now) }
+    ensures done { IfOk result (IsReportedAgainst form.now choice.now text.now) }
     ensures refused { IfErr result (RefusesAgainst choice.now text.now) }
 {
     let ready = chosen_before(alloc, choice, text)?;

@@ -16,8 +16,8 @@ use tc_report::write_junit;
 
 /// The form in which test cases are written as they finish, if it is asked for that they are; a JUnit report has none,
 /// since its head counts all of them.
-pub(crate) fn live_form(live: bool, form: Form) -> Option<LiveForm>
-    ensures { result ≡ spec_form live form }
+pub(crate) fn live_form(live: bool, form: &Form) -> Option<LiveForm>
+    ensures { result ≡ spec_form live form.now }
 {
     if !live {
         return None;
@@ -27,7 +27,7 @@ pub(crate) fn live_form(live: bool, form: Form) -> Option<LiveForm>
         Form::Csv => Some(LiveForm::Csv),
         Form::History => Some(LiveForm::History),
         Form::Evidence => Some(LiveForm::Evidence),
-        Form::Junit => None,
+        Form::Junit(_) => None,
     }
 }
 
@@ -35,18 +35,18 @@ pub(crate) fn live_form(live: bool, form: Form) -> Option<LiveForm>
 pub(crate) fn write_results<W: Write>(
     alloc: Global,
     results: &Results,
-    form: Form,
+    form: &Form,
     writer: &mut W,
 ) -> Result<(), OutFault>
-    ensures done { OnOk result (Appends (W.contents writer.old) (W.contents writer.new) (text_of form results.now)) }
-    ensures refused { IfErr result (LeavesPrefix (W.contents writer.old) (W.contents writer.new) (text_of form results.now)) }
+    ensures done { OnOk result (Appends (W.contents writer.old) (W.contents writer.new) (text_of form.now results.now)) }
+    ensures refused { IfErr result (LeavesPrefix (W.contents writer.old) (W.contents writer.new) (text_of form.now results.now)) }
 {
     match form {
         Form::Text => write_text(alloc, results, writer),
         Form::Csv => write_csv(alloc, results, writer),
         Form::History => write_history(alloc, results, writer),
         Form::Evidence => write_evidence(alloc, results, writer),
-        Form::Junit => write_junit(alloc, VERSION, results, writer),
+        Form::Junit(suite) => write_junit(alloc, VERSION, suite, results, writer),
     }
 }
 
@@ -55,12 +55,12 @@ pub(crate) fn write_results<W: Write>(
 pub fn give<W: Write>(
     alloc: Global,
     results: &Results,
-    form: Form,
+    form: &Form,
     writer: &mut W,
 ) -> Result<u8, RunFault>
     ensures status { IfOk result (λ status. status ≡ results_status results.now) }
-    ensures done { OnOk result (Appends (W.contents writer.old) (W.contents writer.new) (text_of form results.now)) }
-    ensures refused { IfErr result (LeavesUnwritten (W.contents writer.old) (W.contents writer.new) (text_of form results.now)) }
+    ensures done { OnOk result (Appends (W.contents writer.old) (W.contents writer.new) (text_of form.now results.now)) }
+    ensures refused { IfErr result (LeavesUnwritten (W.contents writer.old) (W.contents writer.new) (text_of form.now results.now)) }
 {
     write_results(alloc, results, form, writer)?;
     Ok(status_of(results))

@@ -20,7 +20,9 @@ use tc_command::{ReportForm, VERSION};
 use tc_entry::{Name, Sequence};
 use tc_evidence::{Header, Line, TakesEvidence, read_evidence_into};
 use tc_page::html_page;
-use tc_report::{CaseEnd, Summary, bare_summary, csv_report, junit_report, worst_status};
+use tc_report::{
+    CaseEnd, Summary, bare_summary, csv_report, junit_report, summary_report, worst_status,
+};
 use tc_table::{Entry, NoMemory, Verdict};
 use tc_text::append_text;
 
@@ -121,16 +123,17 @@ pub(crate) fn read_reported(alloc: Global, text: &[u8]) -> Result<Reporting, Run
 // The form of the blocks that the text spells, whose test cases these are.
 fn form_text(
     alloc: Global,
-    form: ReportForm,
+    form: &ReportForm,
     text: &[u8],
     cases: &[Summary],
 ) -> Result<Vec<u8>, NoMemory>
-    ensures { IfOk result (λ v. v.items ≡ form_of form text.now cases.now) }
+    ensures { IfOk result (λ v. v.items ≡ form_of form.now text.now cases.now) }
 {
     match form {
         ReportForm::Csv => csv_report(alloc, cases),
-        ReportForm::Junit => junit_report(alloc, VERSION, cases),
+        ReportForm::Junit(suite) => junit_report(alloc, VERSION, suite, cases),
         ReportForm::Html => html_page(alloc, text),
+        ReportForm::Summary => summary_report(alloc, cases),
     }
 }
 
@@ -168,12 +171,12 @@ fn status_with(notes: &[u8], cases: &[Summary]) -> u8
 // The answer for test cases, with lines for standard error.
 fn legal_answer(
     alloc: Global,
-    form: ReportForm,
+    form: &ReportForm,
     text: &[u8],
     cases: &[Summary],
     notes: Vec<u8>,
 ) -> Result<Answer, NoMemory>
-    ensures { IfOk result (λ a. a ≡ reported form text.now notes.items cases.now) }
+    ensures { IfOk result (λ a. a ≡ reported form.now text.now notes.items cases.now) }
 {
     let out = form_text(alloc, form, text, cases)?;
     let status = status_with(notes.as_slice(), cases);
@@ -199,13 +202,13 @@ fn illegal_answer(alloc: Global, judgement: &Judgement) -> Result<Answer, NoMemo
 // The answer for the test cases of legal blocks and missing ones, with lines for standard error.
 fn answer_with_missing(
     alloc: Global,
-    form: ReportForm,
+    form: &ReportForm,
     text: &[u8],
     cases: &mut Vec<Summary>,
     missing: &[Name],
     notes: Vec<u8>,
 ) -> Result<Answer, NoMemory>
-    ensures { IfOk result (λ a. a ≡ reported form text.now notes.items (cases.old.items ++ map (bare Missing) missing.now)) }
+    ensures { IfOk result (λ a. a ≡ reported form.now text.now notes.items (cases.old.items ++ map (bare Missing) missing.now)) }
 {
     add_missing(alloc, cases, missing)?;
     legal_answer(alloc, form, text, cases.as_slice(), notes)
@@ -215,14 +218,14 @@ fn answer_with_missing(
 /// form is written; otherwise the line of `check` for the first that is not is printed.
 pub(crate) fn report_blocks(
     alloc: Global,
-    form: ReportForm,
+    form: &ReportForm,
     text: &[u8],
     reporting: Reporting,
     missing: &[Name],
     notes: Vec<u8>,
 ) -> Result<Answer, NoMemory>
     ensures { IfOk result (λ a. (blocks : List AnyBlock) → Summarizes blocks reporting.summaries.items reporting.illegal
-        → IsReport form text.now blocks missing.now notes.items a) }
+        → IsReport form.now text.now blocks missing.now notes.items a) }
 {
     let Reporting {
         mut summaries,
@@ -236,8 +239,8 @@ pub(crate) fn report_blocks(
 }
 
 /// What `report` makes of a text of histories and evidence, each block of which is replayed on a table of its own.
-pub(crate) fn report_text(alloc: Global, form: ReportForm, text: &[u8]) -> Result<Answer, RunFault>
-    ensures done { IfOk result (IsReported form text.now) }
+pub(crate) fn report_text(alloc: Global, form: &ReportForm, text: &[u8]) -> Result<Answer, RunFault>
+    ensures done { IfOk result (IsReported form.now text.now) }
     ensures refused { IfErr result (RefusesHistory text.now) }
 {
     let reporting = read_reported(alloc, text)?;

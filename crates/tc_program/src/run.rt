@@ -293,12 +293,12 @@ where
         (held W.contents writer.old writer.new E.contents errors.old errors.new)) }
     ensures workers { THREADS ≡ worker_limit }
 {
-    if let Some(form) = live_form(options.live, options.form) {
+    if let Some(form) = live_form(options.live, &options.form) {
         let mut live = LiveWriter::new(alloc, form, writer);
         return write_live(rt, alloc, cases, options, &mut live, errors);
     }
     let (results, told) = run_or_not(rt, alloc, cases, options, errors);
-    write_results(alloc, &results, options.form, writer)?;
+    write_results(alloc, &results, &options.form, writer)?;
     let status = status_of(&results);
     let told = tell_end(errors, &results, told);
     Ok(Outcome { status, told })

@@ -23,6 +23,7 @@ ttrun replay < behaviours 3;0 create;0 start 1 1;0 start 1 2;1 getverdict; => 2
 ttrun check < history 1 t 1;0 create -> made 1;0 stop 1 -> ok;0 alive 1 -> true;0 wait done 1 -> matched;end none; => 3
 ttrun report --csv < history 2 t 1;0 setverdict fail -> ok;0 finish -> ok;end fail; => 1
 ttrun report --junit < history 2 t 1;0 setverdict fail -> ok;0 finish -> ok;end fail; => 1
+ttrun report --summary < history 2 t 1;0 setverdict fail -> ok;0 finish -> ok;end fail; => 1
 ttrun explore < testcase t;behaviour main;setverdict fail;end;end; => 0
 ttrun run --list < testcase t;behaviour main;setverdict fail;end;end; => 0
 ttrun run < testcase t;behaviour main;setverdict fail;end;end; => 1
@@ -176,7 +177,7 @@ fn aborted(alloc: Global) -> Result<Results, Fail> {
 }
 
 /// Gives the results to a writer that fails after this part of their text, in each way.
-fn fails_to_give<R: Abort>(rt: &R, alloc: Global, results: &Results, form: Form, part: &[u8]) {
+fn fails_to_give<R: Abort>(rt: &R, alloc: Global, results: &Results, form: &Form, part: &[u8]) {
     for failure in FAILURES {
         let mut writer = NarrowWriter::new(alloc, part.len(), failure);
         let given = give(alloc, results, form, &mut writer);
@@ -186,7 +187,7 @@ fn fails_to_give<R: Abort>(rt: &R, alloc: Global, results: &Results, form: Form,
 }
 
 /// Gives the results in this form, with each write failing in turn.
-fn give_each<R: Abort>(rt: &R, alloc: Global, results: &Results, form: Form, starts: &str) {
+fn give_each<R: Abort>(rt: &R, alloc: Global, results: &Results, form: &Form, starts: &str) {
     let mut whole = Vec::new(alloc);
     is(
         rt,
@@ -226,9 +227,12 @@ fn failing_devices(rt: HostRuntime) -> Result<(), Fail> {
             Form::Evidence,
             "evidence 1 b 1\nbehaviour 0 main\n0 finish -> ok\nend none\n",
         ),
-        (Form::Junit, "<?xml version=\"1.0\" encoding=\"UTF-8\"?>\n"),
+        (
+            Form::Junit(None),
+            "<?xml version=\"1.0\" encoding=\"UTF-8\"?>\n",
+        ),
     ] {
-        give_each(&rt, rt.alloc(), &results, form, starts);
+        give_each(&rt, rt.alloc(), &results, &form, starts);
     }
     Ok(())
 }

@@ -6,6 +6,7 @@ use std::process::Abort;
 use std::str;
 use std::test::Fail;
 use tc_command::{Choice, ExploreOptions, Form, ReportForm, RunOptions, Task};
+use tc_entry::Name;
 use tc_verdict::name;
 
 /// After each line its task, with each option in one place. Without words the campaign is run.
@@ -22,6 +23,7 @@ ttrun run --csv => run --csv
 ttrun run --history => run --history
 ttrun run --evidence => run --evidence
 ttrun run --junit => run --junit
+ttrun run --suite nightly --junit => run --junit --suite=nightly
 ttrun run --stop-on fail => run --stop-on=fail
 ttrun run --stop-on=fail => run --stop-on=fail
 ttrun run --csv --stop-on none => run --csv --stop-on=none
@@ -64,6 +66,9 @@ ttrun report --explain --junit => report --junit --explain
 ttrun report --explain --script --csv --only a* => report --csv --script --only=a* --explain
 ttrun report --csv => report --csv
 ttrun report --junit => report --junit
+ttrun report --junit --suite=A_1 => report --junit --suite=A_1
+ttrun report --summary => report --summary
+ttrun report --summary --script --only a => report --summary --script --only=a
 ttrun report --html => report --html
 ttrun report --script --csv => report --csv --script
 ttrun report --shard=1/2 --junit --only a --script => report --junit --script --only=a --shard=1/2
@@ -125,13 +130,23 @@ fn append_choice(out: &mut String, choice: &Choice) -> Result<(), Fail> {
     Ok(append_if(out, choice.failed, " --failed")?)
 }
 
-fn word_of_form(form: Form) -> &'static str {
+fn append_suite(out: &mut String, suite: &Option<Name>) -> Result<(), Fail> {
+    if let Some(name) = suite {
+        write!(out, " --suite={}", str::from_utf8(name.bytes())?)?;
+    }
+    Ok(())
+}
+
+fn append_form(out: &mut String, form: &Form) -> Result<(), Fail> {
     match form {
-        Form::Text => "run",
-        Form::Csv => "run --csv",
-        Form::History => "run --history",
-        Form::Evidence => "run --evidence",
-        Form::Junit => "run --junit",
+        Form::Text => Ok(out.push_str("run")?),
+        Form::Csv => Ok(out.push_str("run --csv")?),
+        Form::History => Ok(out.push_str("run --history")?),
+        Form::Evidence => Ok(out.push_str("run --evidence")?),
+        Form::Junit(suite) => {
+            out.push_str("run --junit")?;
+            append_suite(out, suite)
+        }
     }
 }
 
@@ -143,7 +158,7 @@ fn append_rule(out: &mut String, options: &RunOptions) -> Result<(), AllocError>
 }
 
 fn append_run(out: &mut String, options: &RunOptions) -> Result<(), Fail> {
-    out.push_str(word_of_form(options.form))?;
+    append_form(out, &options.form)?;
     append_if(out, options.live, " --live")?;
     append_if(out, options.progress, " --progress")?;
     append_rule(out, options)?;
@@ -160,22 +175,38 @@ fn append_list(out: &mut String, choice: &Choice) -> Result<(), Fail> {
     append_choice(out, choice)
 }
 
-fn word_of_report(form: ReportForm) -> &'static str {
+fn append_report(out: &mut String, form: &ReportForm) -> Result<(), Fail> {
     match form {
-        ReportForm::Csv => "report --csv",
-        ReportForm::Junit => "report --junit",
-        ReportForm::Html => "report --html",
+        ReportForm::Csv => Ok(out.push_str("report --csv")?),
+        ReportForm::Junit(suite) => {
+            out.push_str("report --junit")?;
+            append_suite(out, suite)
+        }
+        ReportForm::Html => Ok(out.push_str("report --html")?),
+        ReportForm::Summary => Ok(out.push_str("report --summary")?),
     }
 }
 
-fn append_script(out: &mut String, form: Option<ReportForm>, choice: &Choice) -> Result<(), Fail> {
-    out.push_str(form.map_or("check", word_of_report))?;
+fn append_script(out: &mut String, form: &Option<ReportForm>, choice: &Choice) -> Result<(), Fail> {
+    match form {
+        None => out.push_str("check")?,
+        Some(form) => append_report(out, form)?,
+    }
     out.push_str(" --script")?;
     append_choice(out, choice)
 }
 
 fn append_explaining(out: &mut String, word: &str, explains: bool) -> Result<(), Fail> {
     out.push_str(word)?;
+    append_explains(out, explains)
+}
+
+fn append_explaining_report(
+    out: &mut String,
+    form: &ReportForm,
+    explains: bool,
+) -> Result<(), Fail> {
+    append_report(out, form)?;
     append_explains(out, explains)
 }
 
@@ -198,7 +229,7 @@ fn append_task(out: &mut String, task: &Task) -> Result<(), Fail> {
             choice,
             explains,
         } => {
-            append_script(out, *form, choice)?;
+            append_script(out, form, choice)?;
             append_explains(out, *explains)
         }
         Task::Run(options) => append_run(out, options),
@@ -207,7 +238,7 @@ fn append_task(out: &mut String, task: &Task) -> Result<(), Fail> {
             append_list(out, choice)?;
             append_explains(out, *explains)
         }
-        Task::Report { form, explains } => append_explaining(out, word_of_report(*form), *explains),
+        Task::Report { form, explains } => append_explaining_report(out, form, *explains),
         Task::Explore(options) => append_explore(out, options),
     }
 }

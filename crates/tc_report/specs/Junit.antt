@@ -1,20 +1,17 @@
 -- The JUnit report: XML, as servers of continuous integration read it. No text in it needs an escape: names have only
 -- letters, digits and `_`.
-use Rattle.std.specs.Prelude.{ℕ, ◌==◌, Option, Some, None, List, [], ◌++◌, length, filter, codes}
+use Rattle.std.specs.Prelude.{ℕ, ◌==◌, Option, Some, None, List, [], ◌++◌, length, filter, codes, unwrap_or}
 use Rattle.std.specs.List.{flat_map}
-use Rattle.std.specs.Option.{option_map_or}
 use Rattle.std.specs.Fmt.{decimal}
 use Rattle.tc_case.specs.Refusals.{refusal_text}
 use Rattle.tc_verdict.specs.declared.verdict.Verdict.{Verdict}
 use Rattle.tc_verdict.specs.declared.verdict.Verdict.TheVariants as V
 use Rattle.tc_verdict.specs.Verdict.{level_of, name_of}
-use Rattle.tc_entry.specs.declared.comp.Comp.{Comp}
-use Rattle.tc_entry.specs.declared.entry.Entry.{Entry}
-use Rattle.tc_text.specs.Spelling.{op_text, reply_text}
 use Rattle.tc_report.specs.declared.cause.Cause.{Cause}
 use Rattle.tc_report.specs.declared.results.CaseEnd.{CaseEnd}
 use Rattle.tc_report.specs.declared.results.CaseEnd.TheVariants as C
-use Rattle.tc_report.specs.Report.{local_lines, shown_entry, shown_op}
+use Rattle.tc_report.specs.Cause.{cause_text}
+use Rattle.tc_report.specs.Report.{local_lines, shown_entry}
 use Rattle.tc_report.specs.declared.summary.Summary.{Summary}
 use Rattle.tc_report.specs.Status.{counted_as, verdict_status}
 
@@ -36,28 +33,23 @@ counts_text ss =
     number_text (codes " tests=\"") (length ss) ++ (number_text (codes " failures=\"") (with_status 1 ss) ++
     number_text (codes " errors=\"") (with_status 2 ss))
 
+-- the name of the suite, by the one that was given
+abbrev pub suite_name : Option (List ℕ) → List ℕ
+suite_name suite = unwrap_or suite (codes "ttrun")
+
+-- the first tag of the suite with this name, without its counts
+unfoldable pub suite_tag : List ℕ → List ℕ
+suite_tag suite = codes ">\n<testsuite name=\"" ++ (suite ++ codes "\"")
+
 -- the first tags, each with the counts; the suite also counts those that are skipped
-unfoldable pub head_text : List Summary → List ℕ
-head_text ss =
+unfoldable pub head_text : List ℕ → List Summary → List ℕ
+head_text suite ss =
     codes "<?xml version=\"1.0\" encoding=\"UTF-8\"?>\n<testsuites" ++ (counts_text ss ++
-    (codes ">\n<testsuite name=\"ttrun\"" ++ (counts_text ss ++ number_text (codes " skipped=\"") (skipped ss))))
+    (suite_tag suite ++ (counts_text ss ++ number_text (codes " skipped=\"") (skipped ss))))
 
 -- the program's version
 unfoldable pub version_text : List ℕ → List ℕ
 version_text version = codes ">\n<properties>\n<property name=\"version\" value=\"" ++ (version ++ codes "\"/>\n</properties>\n")
-
--- a component by its number, and its name if it has one
-unfoldable pub comp_text : Option (List ℕ) → Comp → List ℕ
-comp_text name c = codes " on component " ++ (decimal c.0 ++ option_map_or (λ n. codes " " ++ n) name [])
-
--- a call, and its reply
-unfoldable pub call_text : Entry → List ℕ
-call_text e = op_text (shown_op e.op) ++ (codes " -> " ++ reply_text e.reply)
-
--- what decided the verdict: the run, its component, the call
-unfoldable pub cause_text : Cause → List ℕ
-cause_text c =
-    codes "run " ++ (decimal c.entry.caller.0 ++ (option_map_or (comp_text c.name) c.comp [] ++ (codes ": " ++ call_text c.entry)))
 
 -- the element of a verdict that is worse than pass, between its first text and its last tag. In it is what decided the
 -- verdict, and in lines of their own the same and all calls of that run; if nothing decided it, the verdict's name.
@@ -77,18 +69,23 @@ end_element C.Unfinished cause = codes "<error type=\"unfinished\" message=\"the
 end_element (C.Aborted why) cause = codes "<error type=\"aborted\" message=\"" ++ (refusal_text why ++ codes "\"/>\n")
 end_element C.Missing cause = codes "<error type=\"missing\" message=\"there is no history of the test case\"/>\n"
 
--- the first tag of a test case, with its name
-unfoldable pub name_tag : List ℕ → List ℕ
-name_tag name = codes "<testcase name=\"" ++ (name ++ codes "\" classname=\"ttrun\">\n")
+-- the first tag of a test case, with its name and that of its suite
+unfoldable pub name_tag : List ℕ → List ℕ → List ℕ
+name_tag suite name = codes "<testcase name=\"" ++ (name ++ (codes "\" classname=\"" ++ (suite ++ codes "\">\n")))
 
 -- the local verdict of each component, and the last tag of a test case
 unfoldable pub locals_element : List Verdict → List ℕ
 locals_element locals = codes "<system-out>\n" ++ (local_lines 0 locals ++ codes "</system-out>\n</testcase>\n")
 
 -- a test case: its name, how it ended and why, and the local verdict of each component
-abbrev pub case_element : Summary → List ℕ
-case_element s = name_tag s.name ++ (end_element s.ending s.cause ++ locals_element s.locals)
+abbrev pub case_element : List ℕ → Summary → List ℕ
+case_element suite s = name_tag suite s.name ++ (end_element s.ending s.cause ++ locals_element s.locals)
 
--- one suite with all test cases
-abbrev pub junit_of : List ℕ → List Summary → List ℕ
-junit_of version ss = head_text ss ++ (version_text version ++ (flat_map case_element ss ++ codes "</testsuite>\n</testsuites>\n"))
+-- the suite of this name, with all test cases
+abbrev pub suite_of : List ℕ → List ℕ → List Summary → List ℕ
+suite_of version suite ss =
+    head_text suite ss ++ (version_text version ++ (flat_map (case_element suite) ss ++ codes "</testsuite>\n</testsuites>\n"))
+
+-- the same by the name that was given, if one was
+abbrev pub junit_of : List ℕ → Option (List ℕ) → List Summary → List ℕ
+junit_of version suite ss = suite_of version (suite_name suite) ss

@@ -1,6 +1,7 @@
 -- The definitions that the contracts of this crate cite.
 pub mod Cause
 pub mod Tally
+pub mod Names
 pub mod Summary
 pub mod Status
 pub mod Ending
@@ -9,6 +10,7 @@ pub mod Report
 pub mod Csv
 pub mod Junit
 pub mod Blocks
+pub mod SummaryText
 pub mod Output
 pub mod Observers
 pub mod Kept

@@ -1,10 +1,12 @@
 -- What reports say of a test case: by its history, or by its own report.
 use Rattle.std.specs.Prelude.{ℕ, if◌then◌else◌, None, List, [], ◌∷◌, ◌++◌, map, reverse}
+use Rattle.tc_verdict.specs.declared.verdict.Verdict.{Verdict}
 use Rattle.tc_entry.specs.declared.entry.Entry.{Entry}
 use Rattle.tc_table.specs.History.{comps, is_over}
 use Rattle.tc_table.specs.Local.{local, overall}
 use Rattle.tc_history.specs.declared.read.Block.{Block}
 use Rattle.tc_report.specs.Cause.{cause_of}
+use Rattle.tc_report.specs.Names.{names_of}
 use Rattle.tc_report.specs.declared.results.CampaignEnd.{CampaignEnd}
 use Rattle.tc_report.specs.declared.results.CampaignEnd.TheVariants as E
 use Rattle.tc_report.specs.declared.results.CaseEnd.{CaseEnd}
@@ -17,11 +19,16 @@ use Rattle.tc_report.specs.declared.summary.Summary.{Summary}
 abbrev pub end_of : List Entry → CaseEnd
 end_of past = if is_over past then C.Over (overall past) else C.Unfinished
 
+-- the test case of this name, with these local verdicts, this end and this history
+abbrev pub summary_with : List ℕ → List Verdict → CaseEnd → List Entry → Summary
+summary_with name locals ending history =
+    record { name = name; locals = locals; names = names_of ending history; ending = ending; cause = cause_of ending history }
+
 -- the test case of this name, with these entries
 abbrev pub summary_of : List ℕ → List Entry → Summary
 summary_of name history =
     let past = reverse history in
-    record { name = name; locals = map (local past) (comps past); ending = end_of past; cause = cause_of (end_of past) history }
+    summary_with name (map (local past) (comps past)) (end_of past) history
 
 -- the test case of a block of a history text
 abbrev pub block_summary : Block → Summary
@@ -31,11 +38,11 @@ block_summary b = summary_of b.name b.entries
 abbrev pub case_summary : Finished → Summary
 case_summary f =
     let r = f.report in
-    record { name = f.name; locals = r.locals; ending = C.Over r.verdict; cause = cause_of (C.Over r.verdict) r.history }
+    summary_with f.name r.locals (C.Over r.verdict) r.history
 
 -- the test case of this name that ended so, without a local verdict
 abbrev pub bare_summary : CaseEnd → List ℕ → Summary
-bare_summary ending name = record { name = name; locals = []; ending = ending; cause = None }
+bare_summary ending name = record { name = name; locals = []; names = []; ending = ending; cause = None }
 
 -- the test case that has no report, if there is one
 abbrev pub aborted_summary : CampaignEnd → List Summary

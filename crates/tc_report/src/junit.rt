@@ -1,6 +1,5 @@
 //! The JUnit report.
-ghost use Rattle.std.specs.Prelude.{◌≡◌, ◌==◌, ◌++◌, [], codes, filter, length, IfOk, IfErr, OnOk};
-ghost use Rattle.std.specs.Option.{option_map_or};
+ghost use Rattle.std.specs.Prelude.{◌≡◌, ◌==◌, ◌++◌, filter, length, IfOk, IfErr, OnOk};
 ghost use Rattle.tc_verdict.specs.Verdict.{level_of};
 ghost use Rattle.tc_report.specs.declared.summary.Summary.{Summary as AnySummary};
 ghost use Rattle.std.specs.Io.KnownBytes.{Appends};
@@ -11,17 +10,17 @@ ghost use Rattle.tc_report.specs.Junit as spec;
 ghost use Rattle.tc_report.specs.Summary.{results_summaries};
 ghost use Rattle.tc_report.specs.Status.{counted_as as spec_counted, verdict_status as spec_status};
 
-use crate::cause::Cause;
+use crate::cause::{Cause, append_cause};
 use crate::fault::OutFault;
 use crate::output::write_made;
-use crate::report::{append_entries, append_locals, append_op};
+use crate::report::{append_entries, append_locals};
 use crate::results::{CaseEnd, Results};
 use crate::status::{counted_as, verdict_status};
 use crate::summary::{Summary, summaries_of_results};
 use std::alloc::Global;
 use std::io::Write;
-use tc_entry::{Comp, Entry, Name, NoMemory, Verdict};
-use tc_text::{append_number, append_text, write_reply};
+use tc_entry::{Name, NoMemory, Verdict};
+use tc_text::{append_number, append_text};
 use tc_verdict::name as name_of;
 
 // The status with which an end counts.
@@ -84,17 +83,37 @@ fn append_counts(out: &mut Vec<u8>, cases: &[Summary]) -> Result<(), NoMemory>
     append_attribute(out, " errors=\"", with_status(cases, 2))
 }
 
+// The name of the suite, by the one that was given.
+fn suite_name(suite: &Option<Name>) -> &[u8]
+    ensures { result.now ≡ spec.suite_name suite.now }
+{
+    match suite {
+        Some(name) => name.bytes(),
+        None => b"ttrun",
+    }
+}
+
+// Appends the first tag of the suite, without its counts.
+#[tactic(auto, unfolding(crate::specs::Junit::suite_tag))]
+fn append_suite_tag(out: &mut Vec<u8>, suite: &[u8]) -> Result<(), NoMemory>
+    ensures { OnOk result (out.new.items ≡ out.old.items ++ spec.suite_tag suite.now) }
+{
+    append_text(out, ">\n<testsuite name=\"")?;
+    out.extend_from_slice(suite)?;
+    append_text(out, "\"")
+}
+
 // Appends the first tags; that of the suite also counts the test cases that are skipped.
 #[tactic(auto, unfolding(crate::specs::Junit::head_text))]
-fn append_head(out: &mut Vec<u8>, cases: &[Summary]) -> Result<(), NoMemory>
-    ensures { OnOk result (out.new.items ≡ out.old.items ++ spec.head_text cases.now) }
+fn append_head(out: &mut Vec<u8>, suite: &[u8], cases: &[Summary]) -> Result<(), NoMemory>
+    ensures { OnOk result (out.new.items ≡ out.old.items ++ spec.head_text suite.now cases.now) }
 {
     append_text(
         out,
         "<?xml version=\"1.0\" encoding=\"UTF-8\"?>\n<testsuites",
     )?;
     append_counts(out, cases)?;
-    append_text(out, ">\n<testsuite name=\"ttrun\"")?;
+    append_suite_tag(out, suite)?;
     append_counts(out, cases)?;
     append_attribute(out, " skipped=\"", with_level(cases, 0))
 }
@@ -107,62 +126,6 @@ fn append_version(out: &mut Vec<u8>, version: &str) -> Result<(), NoMemory>
     append_text(out, ">\n<properties>\n<property name=\"version\" value=\"")?;
     append_text(out, version)?;
     append_text(out, "\"/>\n</properties>\n")
-}
-
-// Appends a name after a space, if there is one.
-fn append_spaced(out: &mut Vec<u8>, name: &Option<Name>) -> Result<(), NoMemory>
-    ensures { OnOk result (out.new.items ≡ out.old.items ++ option_map_or (λ n. codes " " ++ n) name.now []) }
-{
-    match name {
-        None => Ok(()),
-        Some(name) => {
-            append_text(out, " ")?;
-            out.extend_from_slice(name.bytes())?;
-            Ok(())
-        }
-    }
-}
-
-// Appends a component by its number, and its name if it has one.
-#[tactic(auto, unfolding(crate::specs::Junit::comp_text))]
-fn append_comp(out: &mut Vec<u8>, comp: Comp, name: &Option<Name>) -> Result<(), NoMemory>
-    ensures { OnOk result (out.new.items ≡ out.old.items ++ spec.comp_text name.now comp) }
-{
-    append_text(out, " on component ")?;
-    append_number(out, u64::from(comp.0))?;
-    append_spaced(out, name)
-}
-
-// Appends the component that the run is on.
-fn append_on(out: &mut Vec<u8>, cause: &Cause) -> Result<(), NoMemory>
-    ensures { OnOk result (out.new.items ≡ out.old.items ++ option_map_or (spec.comp_text cause.now.name) cause.now.comp []) }
-{
-    match cause.comp {
-        Some(comp) => append_comp(out, comp, &cause.name),
-        None => Ok(()),
-    }
-}
-
-// Appends a call, and its reply.
-#[tactic(auto, unfolding(crate::specs::Junit::call_text))]
-fn append_call(out: &mut Vec<u8>, entry: &Entry) -> Result<(), NoMemory>
-    ensures { OnOk result (out.new.items ≡ out.old.items ++ spec.call_text entry.now) }
-{
-    append_op(out, &entry.op)?;
-    append_text(out, " -> ")?;
-    write_reply(out, &entry.reply)
-}
-
-// Appends what decided the verdict: the run, its component, the call.
-#[tactic(auto, unfolding(crate::specs::Junit::cause_text))]
-pub(crate) fn append_cause(out: &mut Vec<u8>, cause: &Cause) -> Result<(), NoMemory>
-    ensures { OnOk result (out.new.items ≡ out.old.items ++ spec.cause_text cause.now) }
-{
-    append_text(out, "run ")?;
-    append_number(out, u64::from(cause.entry.caller.0))?;
-    append_on(out, cause)?;
-    append_text(out, ": ")?;
-    append_call(out, &cause.entry)
 }
 
 // Appends the element of a verdict that is worse than pass, between its first text and its last tag.
@@ -250,12 +213,14 @@ fn append_end_element(
 
 // Appends the first tag of a test case.
 #[tactic(auto, unfolding(crate::specs::Junit::name_tag))]
-fn append_name_tag(out: &mut Vec<u8>, name: &Name) -> Result<(), NoMemory>
-    ensures { OnOk result (out.new.items ≡ out.old.items ++ spec.name_tag name.now) }
+fn append_name_tag(out: &mut Vec<u8>, suite: &[u8], name: &Name) -> Result<(), NoMemory>
+    ensures { OnOk result (out.new.items ≡ out.old.items ++ spec.name_tag suite.now name.now) }
 {
     append_text(out, "<testcase name=\"")?;
     out.extend_from_slice(name.bytes())?;
-    append_text(out, "\" classname=\"ttrun\">\n")
+    append_text(out, "\" classname=\"")?;
+    out.extend_from_slice(suite)?;
+    append_text(out, "\">\n")
 }
 
 // Appends the local verdicts, and the last tag of a test case.
@@ -268,42 +233,52 @@ fn append_locals_element(out: &mut Vec<u8>, locals: &[Verdict]) -> Result<(), No
     append_text(out, "</system-out>\n</testcase>\n")
 }
 
-// Appends a test case.
-fn append_element(out: &mut Vec<u8>, case: &Summary) -> Result<(), NoMemory>
-    ensures { OnOk result (out.new.items ≡ out.old.items ++ spec.case_element case.now) }
+// Appends a test case of the suite.
+fn append_element(out: &mut Vec<u8>, suite: &[u8], case: &Summary) -> Result<(), NoMemory>
+    ensures { OnOk result (out.new.items ≡ out.old.items ++ spec.case_element suite.now case.now) }
 {
-    append_name_tag(out, &case.name)?;
+    append_name_tag(out, suite, &case.name)?;
     append_end_element(out, case.ending, &case.cause)?;
     append_locals_element(out, case.locals.as_slice())
 }
 
-// Appends each test case.
-fn append_elements(out: &mut Vec<u8>, cases: &[Summary]) -> Result<(), NoMemory>
-    ensures { OnOk result (out.new.items ≡ out.old.items ++ flat_map spec.case_element cases.now) }
+// Appends each test case of the suite.
+fn append_elements(out: &mut Vec<u8>, suite: &[u8], cases: &[Summary]) -> Result<(), NoMemory>
+    ensures { OnOk result (out.new.items ≡ out.old.items ++ flat_map (spec.case_element suite.now) cases.now) }
 {
     for case in cases {
-        append_element(out, case)?;
+        append_element(out, suite, case)?;
     }
     Ok(())
 }
 
-// Appends the report.
-fn append_suites(out: &mut Vec<u8>, version: &str, cases: &[Summary]) -> Result<(), NoMemory>
-    ensures { OnOk result (out.new.items ≡ out.old.items ++ spec.junit_of version.now cases.now) }
+// Appends the report, whose suite has this name.
+fn append_suite(
+    out: &mut Vec<u8>,
+    version: &str,
+    suite: &[u8],
+    cases: &[Summary],
+) -> Result<(), NoMemory>
+    ensures { OnOk result (out.new.items ≡ out.old.items ++ spec.suite_of version.now suite.now cases.now) }
 {
-    append_head(out, cases)?;
+    append_head(out, suite, cases)?;
     append_version(out, version)?;
-    append_elements(out, cases)?;
+    append_elements(out, suite, cases)?;
     append_text(out, "</testsuite>\n</testsuites>\n")
 }
 
 /// The JUnit report of these test cases, by a program of this version: one suite with its counts, and an element for each
-/// test case.
-pub fn junit_report(alloc: Global, version: &str, cases: &[Summary]) -> Result<Vec<u8>, NoMemory>
-    ensures { IfOk result (λ v. v.items ≡ spec.junit_of version.now cases.now) }
+/// test case. The suite is called `ttrun` if no name is given.
+pub fn junit_report(
+    alloc: Global,
+    version: &str,
+    suite: &Option<Name>,
+    cases: &[Summary],
+) -> Result<Vec<u8>, NoMemory>
+    ensures { IfOk result (λ v. v.items ≡ spec.junit_of version.now suite.now cases.now) }
 {
     let mut out = Vec::new(alloc);
-    append_suites(&mut out, version, cases)?;
+    append_suite(&mut out, version, suite_name(suite), cases)?;
     Ok(out)
 }
 
@@ -312,14 +287,15 @@ pub fn junit_report(alloc: Global, version: &str, cases: &[Summary]) -> Result<V
 pub fn write_junit<W: Write>(
     alloc: Global,
     version: &str,
+    suite: &Option<Name>,
     results: &Results,
     writer: &mut W,
 ) -> Result<(), OutFault>
-    ensures all { OnOk result (Appends (W.contents writer.old) (W.contents writer.new) (spec.junit_of version.now (results_summaries results.now))) }
+    ensures all { OnOk result (Appends (W.contents writer.old) (W.contents writer.new) (spec.junit_of version.now suite.now (results_summaries results.now))) }
     ensures part { IfErr result (LeavesPrefix (W.contents writer.old) (W.contents writer.new)
-        (spec.junit_of version.now (results_summaries results.now))) }
+        (spec.junit_of version.now suite.now (results_summaries results.now))) }
 {
     let cases = summaries_of_results(alloc, results)?;
-    let text = junit_report(alloc, version, cases.as_slice())?;
+    let text = junit_report(alloc, version, suite, cases.as_slice())?;
     write_made(writer, text.as_slice())
 }

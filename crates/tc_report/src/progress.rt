@@ -4,9 +4,8 @@ ghost use Rattle.tc_report.specs.declared.results.Finished.{Finished as AnyFinis
 ghost use Rattle.tc_report.specs.Inside.{Adds};
 ghost use Rattle.tc_report.specs.Progress.{HasTold, IsToldBy, Prints, Tells, failed as spec_failed, told};
 
-use crate::cause::{Cause, cause_of};
+use crate::cause::{Cause, append_cause, cause_of};
 use crate::fault::OutFault;
-use crate::junit::append_cause;
 use crate::observer::Observer;
 use crate::output::write_made;
 use crate::results::{CaseEnd, Finished};

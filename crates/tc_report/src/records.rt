@@ -33,8 +33,8 @@ fn push_count(alloc: Global, row: &mut ByteRecord, count: usize) -> Result<(), N
     Ok(())
 }
 
-// The word for the end of a test case: its overall verdict, `unfinished`, `aborted` or `missing`.
-fn end_word(ending: CaseEnd) -> &'static str
+/// The word for the end of a test case: its overall verdict, `unfinished`, `aborted` or `missing`.
+pub(crate) fn end_word(ending: CaseEnd) -> &'static str
     ensures { result.now ≡ spec_word ending }
 {
     match ending {

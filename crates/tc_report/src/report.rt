@@ -75,8 +75,8 @@ fn verdict_call_line(entry: &Entry) -> Option<&'static str>
     }
 }
 
-// Appends what is shown of an entry: nothing if it was parked.
-fn append_entry(out: &mut Vec<u8>, entry: &Entry) -> Result<(), NoMemory>
+/// Appends what is shown of an entry: nothing if it was parked.
+pub(crate) fn append_entry(out: &mut Vec<u8>, entry: &Entry) -> Result<(), NoMemory>
     ensures { OnOk result (out.new.items ≡ out.old.items ++ shown_entry entry.now) }
 {
     if let Some(line) = verdict_call_line(entry) {
@@ -204,8 +204,8 @@ fn append_cases(out: &mut Vec<u8>, cases: &[Finished]) -> Result<(), NoMemory>
     Ok(())
 }
 
-// Appends the words, and then the number.
-fn append_count(out: &mut Vec<u8>, words: &str, count: usize) -> Result<(), NoMemory>
+/// Appends the words, and then the number.
+pub(crate) fn append_count(out: &mut Vec<u8>, words: &str, count: usize) -> Result<(), NoMemory>
     ensures { OnOk result (out.new.items ≡ out.old.items ++ (words.now ++ decimal count)) }
 {
     append_text(out, words)?;

@@ -2,9 +2,10 @@
 ghost use Rattle.std.specs.Prelude.{◌≡◌, ◌++◌, IfOk, OnOk, List, map, reverse};
 ghost use Rattle.tc_entry.specs.declared.entry.Entry.{Entry as AnyEntry};
 ghost use Rattle.tc_table.specs.Standing.{StandsFor};
-ghost use Rattle.tc_report.specs.Summary.{aborted_summary, bare_summary as spec_bare, case_summary, end_of, results_summaries, summary_of};
+ghost use Rattle.tc_report.specs.Summary.{aborted_summary, bare_summary as spec_bare, case_summary, end_of, results_summaries, summary_of, summary_with as spec_with};
 
 use crate::cause::{Cause, cause_of};
+use crate::names::names_of;
 use crate::results::{CampaignEnd, CaseEnd, Finished, Results};
 use std::alloc::Global;
 use tc_entry::{Entry, Name, NoMemory, Sequence, Verdict};
@@ -17,6 +18,9 @@ pub struct Summary {
     pub name: Name,
     /// The local verdicts, that of the main component first.
     pub locals: Sequence<Verdict>,
+    /// The names of the components that have one, that of the main component first, if the test case is not over or its
+    /// verdict is worse than pass.
+    pub names: Sequence<Option<Name>>,
     /// How it ended.
     pub ending: CaseEnd,
     /// What decided its verdict, if it is over and its verdict is worse than pass.
@@ -34,6 +38,27 @@ fn end_of_state(state: &CaseState) -> CaseEnd
     }
 }
 
+// The summary of the test case of this name, with these local verdicts, this end and this history.
+fn summary_with(
+    alloc: Global,
+    name: &Name,
+    locals: Vec<Verdict>,
+    ending: CaseEnd,
+    history: &[Entry],
+) -> Result<Summary, NoMemory>
+    ensures { IfOk result (λ s. s ≡ spec_with name.now locals.items ending history.now) }
+{
+    let names = names_of(alloc, ending, history)?;
+    let cause = cause_of(alloc, ending, history)?;
+    Ok(Summary {
+        name: name.copy(),
+        locals: Sequence::new(locals),
+        names: Sequence::new(names),
+        ending,
+        cause,
+    })
+}
+
 /// The summary of the test case of this name with this history, which left this state.
 pub fn summary_of_state(
     alloc: Global,
@@ -44,30 +69,18 @@ pub fn summary_of_state(
     ensures { StandsFor state.now (reverse history.now) → IfOk result (λ s. s ≡ summary_of name.now history.now) }
 {
     let locals = locals_of(alloc, state)?;
-    let ending = end_of_state(state);
-    let cause = cause_of(alloc, ending, history)?;
-    Ok(Summary {
-        name: name.copy(),
-        locals: Sequence::new(locals),
-        ending,
-        cause,
-    })
+    summary_with(alloc, name, locals, end_of_state(state), history)
 }
 
 /// The summary of a finished test case.
 pub fn summary_of_case(alloc: Global, case: &Finished) -> Result<Summary, NoMemory>
     ensures { IfOk result (λ s. s ≡ case_summary case.now) }
 {
+    let report = &case.report;
     let mut locals = Vec::new(alloc);
-    locals.extend_from_slice(case.report.locals.as_slice())?;
-    let ending = CaseEnd::Over(case.report.verdict);
-    let cause = cause_of(alloc, ending, case.report.history.as_slice())?;
-    Ok(Summary {
-        name: case.name.copy(),
-        locals: Sequence::new(locals),
-        ending,
-        cause,
-    })
+    locals.extend_from_slice(report.locals.as_slice())?;
+    let ending = CaseEnd::Over(report.verdict);
+    summary_with(alloc, &case.name, locals, ending, report.history.as_slice())
 }
 
 /// The summary of the test case of this name that ended so, without a local verdict.
@@ -77,6 +90,7 @@ pub fn bare_summary(alloc: Global, ending: CaseEnd, name: &Name) -> Summary
     Summary {
         name: name.copy(),
         locals: Sequence::new(Vec::new(alloc)),
+        names: Sequence::new(Vec::new(alloc)),
         ending,
         cause: None,
     }

@@ -4,4 +4,4 @@ use Rattle.tc_report.specs.Junit.{case_element}
 use Rattle.tc_report.proofs.junit.append_elements.Given as goal
 
 abbrev pub invariant-loop-case : goal.invariant-loop-case
-invariant-loop-case l = l.out.items ≡ l.fn.out.items ++ flat_map case_element (take l.case-index l.cases)
+invariant-loop-case l = l.out.items ≡ l.fn.out.items ++ flat_map (case_element l.suite) (take l.case-index l.cases)

@@ -1,0 +1,7 @@
+use Rattle.std.proofs.Common.{◌≡◌, ◌++◌, codes, take}
+use Rattle.std.specs.List.{flat_map}
+use Rattle.tc_report.specs.Report.{shown_entry}
+use Rattle.tc_report.proofs.summary_text.append_inner_calls.Given as goal
+
+abbrev pub invariant-loop-entry : goal.invariant-loop-entry
+invariant-loop-entry l = l.out.items ≡ l.fn.out.items ++ flat_map (λ e. codes "  " ++ shown_entry e) (take l.entry-index l.entries)

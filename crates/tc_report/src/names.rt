@@ -1,0 +1,65 @@
+//! The names of the components of a test case.
+ghost use Rattle.std.specs.Prelude.{◌≡◌, ◌++◌, IfOk, OnOk};
+ghost use Rattle.std.specs.List.{flat_map};
+ghost use Rattle.tc_table.specs.Deciding.{name_in as spec_name};
+ghost use Rattle.tc_report.specs.Names as spec;
+
+use crate::results::CaseEnd;
+use std::alloc::Global;
+use tc_entry::{Entry, Name, NoMemory, Op, Verdict};
+use tc_table::created;
+
+// The name that an operation gives.
+fn name_in(op: &Op) -> Option<Name>
+    ensures { result ≡ spec_name op.now }
+{
+    match op {
+        Op::Create { name, .. } => name.as_ref().map(Name::copy),
+        _ => None,
+    }
+}
+
+// Adds the name of the component that the entry made, if it made one.
+fn add_made(names: &mut Vec<Option<Name>>, entry: &Entry) -> Result<(), NoMemory>
+    ensures { OnOk result (names.new.items ≡ names.old.items ++ spec.made_name entry.now) }
+{
+    if created(&entry.op, entry.reply).is_some() {
+        names.push(name_in(&entry.op))?;
+    }
+    Ok(())
+}
+
+// Adds the names of the components that entries made.
+fn add_all_made(names: &mut Vec<Option<Name>>, history: &[Entry]) -> Result<(), NoMemory>
+    ensures { OnOk result (names.new.items ≡ names.old.items ++ flat_map spec.made_name history.now) }
+{
+    for entry in history {
+        add_made(names, entry)?;
+    }
+    Ok(())
+}
+
+// The names of the components of this history, in one pass.
+fn comp_names(alloc: Global, history: &[Entry]) -> Result<Vec<Option<Name>>, NoMemory>
+    ensures { IfOk result (λ v. v.items ≡ spec.comp_names history.now) }
+{
+    let mut names = Vec::new(alloc);
+    names.push(None)?;
+    add_all_made(&mut names, history)?;
+    Ok(names)
+}
+
+/// The names of the components of a test case with this history and this end, if it is not over or its verdict is worse
+/// than pass.
+pub(crate) fn names_of(
+    alloc: Global,
+    ending: CaseEnd,
+    history: &[Entry],
+) -> Result<Vec<Option<Name>>, NoMemory>
+    ensures { IfOk result (λ v. v.items ≡ spec.names_of ending history.now) }
+{
+    match ending {
+        CaseEnd::Over(Verdict::None | Verdict::Pass) => Ok(Vec::new(alloc)),
+        _ => comp_names(alloc, history),
+    }
+}
