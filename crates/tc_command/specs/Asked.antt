@@ -63,7 +63,7 @@ apart S.Run =
     ∷ (codes "list", codes "progress") ∷ (codes "list", codes "stop-on") ∷ (codes "list", codes "explain") ∷ (codes "junit", codes "live")
     ∷ (codes "failed", codes "explain") ∷ []
 apart S.Check = (codes "script", codes "explain") ∷ []
-apart S.Explore = (codes "history", codes "details") ∷ []
+apart S.Explore = (codes "history", codes "details") ∷ (codes "history", codes "locals") ∷ []
 apart S.Report = (codes "csv", codes "junit") ∷ (codes "csv", codes "html") ∷ (codes "junit", codes "html") ∷ (codes "script", codes "explain") ∷ []
 apart subcommand = []
 
@@ -134,8 +134,9 @@ Asks (S.Check, rows) (T.Compare None c) = (is_given rows (codes "script") ≡ tr
 Asks (S.Replay, rows) (T.Replay explains) = explains ≡ is_given rows (codes "explain")
 Asks (S.Report, rows) (T.Report f explains) = (is_given rows (codes "script") ≡ false) × (report_form_of rows ≡ Some f) × (explains ≡ is_given rows (codes "explain"))
 Asks (S.Report, rows) (T.Compare (Some f) c) = (is_given rows (codes "script") ≡ true) × (report_form_of rows ≡ Some f) × Chooses rows c
-Asks (S.Explore, rows) (T.Explore histories details states) =
-    (histories ≡ is_given rows (codes "history")) × (details ≡ is_given rows (codes "details")) × IsStatesOf (first_of (codes "states") rows) states
+Asks (S.Explore, rows) (T.Explore histories details locals states) =
+    (histories ≡ is_given rows (codes "history")) × (details ≡ is_given rows (codes "details")) × (locals ≡ is_given rows (codes "locals"))
+    × IsStatesOf (first_of (codes "states") rows) states
 Asks (S.Run, rows) (T.Run o) = (is_given rows (codes "list") ≡ false) × AsksRun rows o
 Asks (S.Run, rows) (T.List c) = (is_given rows (codes "list") ≡ true) × Chooses rows c
 Asks (S.Serve, rows) T.Serve = Unit {0}

@@ -30,7 +30,7 @@ run = with_rules (new_app (codes "run")) (
 
 -- the options of `explore`
 abbrev pub explore : App
-explore = with_rules (new_app (codes "explore")) (flag_rule (codes "history") ∷ flag_rule (codes "details") ∷ word_rule (codes "states") ∷ [])
+explore = with_rules (new_app (codes "explore")) (flag_rule (codes "history") ∷ flag_rule (codes "details") ∷ flag_rule (codes "locals") ∷ word_rule (codes "states") ∷ [])
 
 -- the options of `report`
 abbrev pub report : App

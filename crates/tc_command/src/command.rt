@@ -186,7 +186,7 @@ const RUN_OPTIONS: [OptionRow; 12] = [
     EXPLAIN,
 ];
 
-const EXPLORE_OPTIONS: [OptionRow; 3] = [
+const EXPLORE_OPTIONS: [OptionRow; 4] = [
     OptionRow(
         "history",
         Takes::Nothing,
@@ -196,6 +196,11 @@ const EXPLORE_OPTIONS: [OptionRow; 3] = [
         "details",
         Takes::Nothing,
         "says where schedules part and who waits for whom",
+    ),
+    OptionRow(
+        "locals",
+        Takes::Nothing,
+        "says which local verdicts are not always the same",
     ),
     OptionRow(
         "states",

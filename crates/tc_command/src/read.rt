@@ -64,7 +64,7 @@ fn apart(subcommand: Subcommand) -> &'static [(&'static str, &'static str)]
             ("junit", "live"),
             ("failed", "explain"),
         ],
-        Subcommand::Explore => &[("history", "details")],
+        Subcommand::Explore => &[("history", "details"), ("history", "locals")],
         Subcommand::Report => &[
             ("csv", "junit"),
             ("csv", "html"),
@@ -211,6 +211,7 @@ fn explore_task(options: &ArgMatches<'_>) -> Result<Task, Refusal>
     Ok(Task::Explore {
         histories: has_option(options, "history"),
         details: has_option(options, "details"),
+        locals: has_option(options, "locals"),
         states,
     })
 }

@@ -85,11 +85,12 @@ pub enum Task {
         form: ReportForm,
         explains: bool,
     },
-    /// Explore a campaign: whether the histories of the witnesses are written or details printed, and at how many
-    /// states of a test case it looks at most.
+    /// Explore a campaign: whether the histories of the witnesses are written, or details and local verdicts printed, and
+    /// at how many states of a test case it looks at most.
     Explore {
         histories: bool,
         details: bool,
+        locals: bool,
         states: usize,
     },
 }

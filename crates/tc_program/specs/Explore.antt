@@ -2,20 +2,44 @@
 use Rattle.std.specs.Prelude.{ℕ, ◌≡◌, ◌==◌, ◌≤◌, if◌then◌else◌, Bool, true, false, Ok, List, [], ◌++◌, length}
 use Rattle.std.specs.List.{AllZip, flat_map, list_any}
 use Rattle.tc_script.specs.Campaign.{CampaignView, campaign}
-use Rattle.tc_explore.specs.Details.{details as of_details}
+use Rattle.tc_step.specs.Steps.{ScriptView}
+use Rattle.tc_explore.specs.declared.explored.Explored.{Explored}
+use Rattle.tc_explore.specs.declared.locals.Locals.{Locals}
+use Rattle.tc_explore.specs.Locals.{AllLocalsFound, AreLocals, locals_lines}
 use Rattle.tc_text.specs.Said.{TellsAmong}
 use Rattle.tc_explore.specs.Course.{most_states}
 use Rattle.tc_explore.specs.Found.{AreWitnesses, AreLegal, AreReached, IsOnce}
 use Rattle.tc_explore.specs.Found.{AllFound}
 use Rattle.tc_explore.specs.declared.explored.Ending.TheVariants as E
 use Rattle.tc_explore.specs.Told.{explored_line, explored_status, witnesses_text}
+use Rattle.tc_program.specs.declared.explore.Details.{Details}
 use Rattle.tc_program.specs.declared.explore.ExploredCase.{ExploredCase}
+use Rattle.tc_program.specs.Inside.{details_if}
 use Rattle.tc_program.specs.Scripted.{CaseView, scripts_of}
+
+-- Each local verdict that was found of the components of these scripts has a complete course. If the search says that it is
+-- complete, that of each complete course was found, and otherwise it looked at as many states as it may. The lines say so.
+pub record TellsLocals (states : ℕ) (scripts : List ScriptView) (before after : List ℕ) : Type 0 where
+  pub locals : Locals
+  pub sound : AreLocals scripts locals.found
+  pub complete : locals.ending ≡ E.Complete → AllLocalsFound scripts locals.found
+  pub undecided : locals.ending ≡ E.Undecided → 1 ≤ length scripts → locals.states ≡ most_states scripts states
+  pub told : TellsAmong (locals_lines locals) before after
+
+-- the same, if they are asked for
+abbrev pub TellsLocalsIf : Bool → ℕ → List ScriptView → List ℕ → List ℕ → Type 0
+TellsLocalsIf true states scripts before after = TellsLocals states scripts before after
+TellsLocalsIf false states scripts before after = after ≡ before
+
+-- what is printed after the line of a test case: its local verdicts, and its details
+abbrev pub TellsAfter : Details → ℕ → List ScriptView → Explored → List ℕ → Type 0
+TellsAfter asked states scripts e text =
+    (middle : List ℕ) × TellsLocalsIf asked.locals states scripts [] middle × TellsAmong (details_if asked.details scripts e) middle text
 
 -- A test case was explored, and each verdict that was found has one witness: a complete course of its scripts, which is legal.
 -- If the search says that it is complete, the verdict of each complete course of its scripts was found. If it says that it is
 -- undecided, it looked at as many states as it may. Some course of each run carries out as many steps as it reaches.
-pub record IsExplored (details : Bool) (states : ℕ) (c : CaseView) (e : ExploredCase) : Type 0 where
+pub record IsExplored (details : Details) (states : ℕ) (c : CaseView) (e : ExploredCase) : Type 0 where
   pub name : e.name ≡ c.0
   pub behaviours : e.behaviours ≡ length c.1
   pub sound : AreWitnesses (scripts_of c.1) e.explored.found
@@ -25,7 +49,7 @@ pub record IsExplored (details : Bool) (states : ℕ) (c : CaseView) (e : Explor
   pub reached : AreReached (scripts_of c.1) e.explored.reached
   pub most : e.explored.states ≤ most_states (scripts_of c.1) states
   pub undecided : e.explored.ending ≡ E.Undecided → 1 ≤ length (scripts_of c.1) → e.explored.states ≡ most_states (scripts_of c.1) states
-  pub details_are : TellsAmong (if details then of_details (scripts_of c.1) e.explored else []) [] e.details
+  pub details_are : TellsAfter details states (scripts_of c.1) e.explored e.details
 
 -- what is written of a test case: its line and its details, or the histories of its witnesses
 abbrev pub told_of : Bool → ExploredCase → List ℕ
@@ -43,7 +67,7 @@ status_of_all explored = if has_status 3 explored then 3 else if has_status 1 ex
 
 -- the test cases that the text spells were explored within that many states, and this is what is written of them, with
 -- their status
-pub record Explores (histories details : Bool) (states : ℕ) (text out : List ℕ) (status : ℕ) : Type 0 where
+pub record Explores (histories : Bool) (details : Details) (states : ℕ) (text out : List ℕ) (status : ℕ) : Type 0 where
   pub cases : CampaignView
   pub explored : List ExploredCase
   pub spelled : campaign text ≡ Ok cases

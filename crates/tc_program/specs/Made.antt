@@ -35,7 +35,7 @@ IsMade (T.Check e) text made = MatchResult made (IsSilent (IsChecked text)) (Ref
 IsMade (T.Compare None choice) text made = MatchResult made (IsSilent (IsCheckedAgainst choice text)) (RefusesAgainst choice text)
 IsMade (T.Compare (Some form) choice) text made = MatchResult made (IsReportedAgainst form choice text) (RefusesAgainst choice text)
 IsMade (T.Report form e) text made = MatchResult made (IsReported form text) (RefusesHistory text)
-IsMade (T.Explore h d n) text made = MatchResult made (IsSilent (Explores h d n text)) (RefusesScript text)
+IsMade (T.Explore h d l n) text made = MatchResult made (IsSilent (Explores h (record { details = d; locals = l }) n text)) (RefusesScript text)
 IsMade (T.List choice) text made = MatchResult made (IsListed choice text) (RefusesRun choice text)
 IsMade (T.Run o) text made = MatchResult made (λ a. ⊥) (RefusesRun o.choice text)
 IsMade T.Serve text made = ⊥

@@ -9,7 +9,7 @@ ghost use Rattle.tc_program.specs.Streams.{held};
 use crate::check::check_text;
 use crate::compare::{compare_text, report_compared};
 use crate::explained::refuse_text;
-use crate::explore::explore_text;
+use crate::explore::{Details, explore_text};
 use crate::fault::RunFault;
 use crate::input::read_text;
 use crate::limits::limit_of;
@@ -72,8 +72,15 @@ pub(crate) fn made_text(alloc: Global, task: &Task, text: &[u8]) -> Result<Answe
         Task::Explore {
             histories,
             details,
+            locals,
             states,
-        } => explore_text(alloc, *histories, *details, *states, text),
+        } => {
+            let details = Details {
+                details: *details,
+                locals: *locals,
+            };
+            explore_text(alloc, *histories, details, *states, text)
+        }
         Task::List(choice) => list_text(alloc, choice, text),
         Task::Run(_) | Task::Serve => unreachable!(),
     }

@@ -1,5 +1,5 @@
 //! The subcommand `explore`.
-ghost use Rattle.std.specs.Prelude.{◌≡◌, ◌≤◌, [], All, IfOk, IfErr, length};
+ghost use Rattle.std.specs.Prelude.{◌≡◌, ◌≤◌, [], All, IfOk, IfErr, OnOk, length};
 ghost use Rattle.std.specs.List.{AllZip, flat_map};
 ghost use Rattle.tc_entry.specs.declared.limits.TheConstants.{BEHAVIOURS};
 ghost use Rattle.tc_explore.specs.Found.{AreLegal};
@@ -7,7 +7,7 @@ ghost use Rattle.tc_text.specs.Said.{TellsAmong};
 ghost use Rattle.tc_script.specs.Law.{IsCase};
 ghost use Rattle.tc_program.specs.Choosing.{RefusesScript};
 ghost use Rattle.tc_program.specs.Inside.{details_if};
-ghost use Rattle.tc_program.specs.Explore.{Explores, IsExplored, has_status as status_in, status_of_all, told_of};
+ghost use Rattle.tc_program.specs.Explore.{Explores, IsExplored, TellsAfter, TellsLocals, TellsLocalsIf, has_status as status_in, status_of_all, told_of};
 ghost use Rattle.tc_program.specs.Scripted.{scripts_of as scripts_in};
 
 use crate::fault::RunFault;
@@ -15,10 +15,17 @@ use crate::reply::Answer;
 use crate::script::read_script;
 use std::alloc::Global;
 use tc_entry::{Name, Sequence};
-use tc_explore::{Explored, explore};
+use tc_explore::{Explored, explore, explore_locals};
 use tc_script::{Campaign, CaseScript};
 use tc_step::Script;
 use tc_verdict::NoMemory;
+
+/// What is printed after the line of a test case.
+#[derive(Clone, Copy)]
+pub(crate) struct Details {
+    pub(crate) details: bool,
+    pub(crate) locals: bool,
+}
 
 /// A test case that was explored.
 #[derive(Drop)]
@@ -41,22 +48,73 @@ pub(crate) fn scripts_of(alloc: Global, case: CaseScript) -> Result<Vec<Script>,
     Ok(scripts)
 }
 
-// The details of a test case with these scripts, if they are asked for.
-#[tactic(auto, using(tc_text::proofs::Lemmas::Among::among_none))]
-fn details_of(
+// Appends the local verdicts of a test case with these scripts, of which it looks at that many states.
+fn append_locals(
     alloc: Global,
+    out: &mut Vec<u8>,
+    scripts: &[Script],
+    states: usize,
+) -> Result<(), NoMemory>
+    requires few { length scripts.now ≤ BEHAVIOURS }
+    ensures { OnOk result (TellsLocals states scripts.now out.old.items out.new.items) }
+{
+    let locals = explore_locals(alloc, scripts, states)?;
+    let appended = locals.append_lines(alloc, out);
+    drop(locals);
+    appended
+}
+
+// Appends them, if they are asked for.
+fn append_locals_if(
+    alloc: Global,
+    out: &mut Vec<u8>,
+    locals: bool,
+    scripts: &[Script],
+    states: usize,
+) -> Result<(), NoMemory>
+    requires few { length scripts.now ≤ BEHAVIOURS }
+    ensures { OnOk result (TellsLocalsIf locals states scripts.now out.old.items out.new.items) }
+{
+    if locals {
+        append_locals(alloc, out, scripts, states)?;
+    }
+    Ok(())
+}
+
+// Appends the details of a test case with these scripts, if they are asked for.
+#[tactic(auto, using(tc_text::proofs::Lemmas::Among::among_none))]
+fn append_details_if(
+    alloc: Global,
+    out: &mut Vec<u8>,
     details: bool,
     scripts: &[Script],
     explored: &Explored,
+) -> Result<(), NoMemory>
+    requires few { length scripts.now ≤ BEHAVIOURS }
+    requires legal { AreLegal scripts.now explored.now.found }
+    ensures { OnOk result (TellsAmong (details_if details scripts.now explored.now) out.old.items out.new.items) }
+{
+    if details {
+        explored.append_details(alloc, out, scripts)?;
+    }
+    Ok(())
+}
+
+// What is printed after the line of a test case with these scripts.
+fn details_of(
+    alloc: Global,
+    details: Details,
+    scripts: &[Script],
+    explored: &Explored,
+    states: usize,
 ) -> Result<Vec<u8>, NoMemory>
     requires few { length scripts.now ≤ BEHAVIOURS }
     requires legal { AreLegal scripts.now explored.now.found }
-    ensures { IfOk result (λ text. TellsAmong (details_if details scripts.now explored.now) [] text.items) }
+    ensures { IfOk result (λ text. TellsAfter details states scripts.now explored.now text.items) }
 {
     let mut out = Vec::new(alloc);
-    if details {
-        explored.append_details(alloc, &mut out, scripts)?;
-    }
+    append_locals_if(alloc, &mut out, details.locals, scripts, states)?;
+    append_details_if(alloc, &mut out, details.details, scripts, explored)?;
     Ok(out)
 }
 
@@ -65,7 +123,7 @@ fn explore_case(
     alloc: Global,
     name: Name,
     case: CaseScript,
-    details: bool,
+    details: Details,
     states: usize,
 ) -> Result<ExploredCase, NoMemory>
     requires { length case ≤ BEHAVIOURS }
@@ -74,7 +132,7 @@ fn explore_case(
     let scripts = scripts_of(alloc, case)?;
     let behaviours = scripts.len() as u16;
     let explored = explore(alloc, scripts.as_slice(), states)?;
-    let details = details_of(alloc, details, scripts.as_slice(), &explored)?;
+    let details = details_of(alloc, details, scripts.as_slice(), &explored, states)?;
     Ok(ExploredCase {
         name,
         behaviours,
@@ -87,7 +145,7 @@ fn explore_case(
 fn explore_cases(
     alloc: Global,
     campaign: Campaign,
-    details: bool,
+    details: Details,
     states: usize,
 ) -> Result<Vec<ExploredCase>, NoMemory>
     requires { All (λ t. IsCase t.1) campaign }
@@ -144,12 +202,12 @@ fn status_of(explored: &[ExploredCase]) -> u8
 }
 
 /// What `explore` makes of a script: what was found of each test case, and the status. That is 0 if each test case has
-/// one verdict, 1 if some has more, 3 if a search did not come to its end. Details are printed after the line of each
-/// test case.
+/// one verdict, 1 if some has more, 3 if a search did not come to its end. Local verdicts and details are printed after the
+/// line of each test case.
 pub(crate) fn explore_text(
     alloc: Global,
     histories: bool,
-    details: bool,
+    details: Details,
     states: usize,
     text: &[u8],
 ) -> Result<Answer, RunFault>

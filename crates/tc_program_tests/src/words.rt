@@ -67,7 +67,9 @@ ttrun explore --history => explore --history --states=100000
 ttrun explore --states 7 => explore --states=7
 ttrun explore --states=1000000 --history => explore --history --states=1000000
 ttrun explore --details => explore --details --states=100000
-ttrun explore --states 7 --details => explore --details --states=7";
+ttrun explore --states 7 --details => explore --details --states=7
+ttrun explore --locals => explore --locals --states=100000
+ttrun explore --locals --states 7 --details => explore --details --locals --states=7";
 
 fn append_if(out: &mut String, is_given: bool, option: &str) -> Result<(), AllocError> {
     if is_given {
@@ -147,11 +149,13 @@ fn append_explore(
     out: &mut String,
     histories: bool,
     details: bool,
+    locals: bool,
     states: usize,
 ) -> Result<(), Fail> {
     out.push_str("explore")?;
     append_if(out, histories, " --history")?;
     append_if(out, details, " --details")?;
+    append_if(out, locals, " --locals")?;
     Ok(write!(out, " --states={states}")?)
 }
 
@@ -168,8 +172,9 @@ fn append_task(out: &mut String, task: &Task) -> Result<(), Fail> {
         Task::Explore {
             histories,
             details,
+            locals,
             states,
-        } => append_explore(out, *histories, *details, *states),
+        } => append_explore(out, *histories, *details, *locals, *states),
     }
 }
 
