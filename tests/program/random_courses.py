@@ -153,7 +153,7 @@ def step_text(case: TestCase, behaviour: Behaviour, at: int) -> str:
 
 
 def unseen_lines(case: TestCase, reached: List[int]) -> List[str]:
-    """The line of each behaviour with steps that no schedule carries out, unless it ends with a wait for itself alone."""
+    """The line of each behaviour with steps that no schedule carries out, unless it only misses a last wait for itself."""
     return [f"  not seen: run {run} from step {at + 1} of {len(it.steps)} on: {step_text(case, it, at)}"
             for run, (it, at) in enumerate(zip(case.behaviours, reached))
             if at < len(it.steps) and not (at + 1 == len(it.steps) and step_text(case, it, at) in OWN_WAITS)]

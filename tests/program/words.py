@@ -365,10 +365,10 @@ DEAD_TOLD = (b"t error complete\n  error: mtc error, 1 none\n"
              b"  stuck: run 0 on mtc waits for done of 1, where run 1 is\n"
              b"  stuck: run 1 on 1 waits for killed of 1, where run 1 is\n"
              b"  not seen: run 0 from step 4 of 4 on: setverdict pass\n")
-# The worker sets a verdict before it is stopped, or not; a second one may not be there. The main one has set fail.
-STOPPED_EARLY = (b"testcase t\nbehaviour main\ncreate p alive named worker\nstart p w\nsetverdict fail\nkill p\nend\n"
-                 b"behaviour w\nsetverdict pass\ncreate q\nsetverdict inconc\nwait killed self\nend\nend\n")
-STOPPED_EARLY_TOLD = b"t fail complete\n  local 1 worker: none or pass or inconc\n"
+# The worker sets a verdict before it is killed, or not.
+KILLED = (b"testcase t\nbehaviour main\ncreate p named worker\nstart p w\nsetverdict fail\nkill p\nend\n"
+          b"behaviour w\nsetverdict pass\nend\nend\n")
+KILLED_TOLD = b"t fail complete\n  local 1 worker: none or pass\n"
 # The main component waits for the end of one that is stopped, and stays alive.
 STOPPED = (b"testcase t\nbehaviour main\ncreate p alive\nstart p w\nwait done p\nwait killed p\nend\n"
            b"behaviour w\nend\nend\n")
@@ -416,11 +416,11 @@ def of_explore() -> List[Case]:
     found.append(Case("no_step_is_dead", ("explore", "--details"), PLAIN, b"t pass complete\n  pass: mtc none, 1 pass\n"))
     found.append(Case("no_step_is_told_dead_by_half_a_search", ("explore", "--details", "--states", "1"), DEAD,
                       b"t undecided after 1 states\n", status=3))
-    found.append(Case("local_verdicts_that_differ", ("explore", "--locals"), STOPPED_EARLY, STOPPED_EARLY_TOLD))
-    found.append(Case("local_verdicts_before_details", ("explore", "--locals", "--details"), STOPPED_EARLY,
-                      STOPPED_EARLY_TOLD + b"  fail: mtc fail, 1 worker none\n"))
+    found.append(Case("local_verdicts_that_differ", ("explore", "--locals"), KILLED, KILLED_TOLD))
+    found.append(Case("local_verdicts_before_details", ("explore", "--locals", "--details"), KILLED,
+                      KILLED_TOLD + b"  fail: mtc fail, 1 worker pass\n"))
     found.append(Case("no_local_verdict_differs", ("explore", "--locals"), PLAIN, b"t pass complete\n"))
-    found.append(Case("local_verdicts_of_half_a_search", ("explore", "--locals", "--states", "3"), PLAIN,
+    found.append(Case("local_verdicts_of_half_a_search", ("explore", "--locals", "--states", "3"), KILLED,
                       b"t undecided after 3 states\n  local verdicts undecided after 3 states\n", status=3))
     for form in ((), ("--history",), ("--details",), ("--locals",)):
         name = "_".join(it.strip("-") for it in ("explore", *form))

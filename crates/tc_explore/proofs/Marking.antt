@@ -1,7 +1,7 @@
 -- What is marked of the local verdicts of complete courses.
-use Rattle.std.proofs.Common.{ℕ, zero, suc, ◌≡◌, ◌==◌, ◌+◌, ◌*◌, ◌<◌, ◌≤◌, ◌++◌, nat_lt, if◌then◌else◌, Bool, true, false, Option, Some, None, List, [], ◌∷◌, length, drop, set, get_or, refl, ap, sym, subst, ◌∙◌, arith}
+use Rattle.std.proofs.Common.{ℕ, zero, suc, ◌≡◌, ◌==◌, ◌+◌, ◌*◌, ◌<◌, ◌≤◌, ◌++◌, nat_lt, if◌then◌else◌, Bool, true, false, Option, Some, None, List, [], ◌∷◌, length, set, get_or, refl, ap, sym, subst, ◌∙◌, arith}
 use Rattle.std.proofs.lemmas.Bool.Decides.{nat_tests}
-use Rattle.std.proofs.lemmas.List.{get_or-drop, get_or-set_same, get_or-set_other}
+use Rattle.std.proofs.lemmas.List.{get_or-set_same, get_or-set_other}
 use Rattle.tc_verdict.specs.declared.verdict.Verdict.{Verdict}
 use Rattle.tc_verdict.specs.declared.verdict.Verdict.TheVariants as V
 use Rattle.tc_verdict.specs.Verdict.{level_of}
@@ -121,10 +121,10 @@ locals_all scripts found t n on whole has c = by_place (nat_lt c (components (pa
 pub has_same : (found : List Bool) (p q : List Entry) → HasSameLocals p q → HasLocals found q → HasLocals found p
 has_same found p q same has c v h = has c v (same c ∙ h)
 
-more_none : (f : List Bool) → IsMore f f
+pub more_none : (f : List Bool) → IsMore f f
 more_none f i h = h
 
-more_next : (f g h : List Bool) → IsMore f g → IsMore g h → IsMore f h
+pub more_next : (f g h : List Bool) → IsMore f g → IsMore g h → IsMore f h
 more_next f g h one two i k = two i (one i k)
 
 pub ruleset marking_rules = (padded_none, padded_more, marked, marked_more, marked_has, known_has, none_has, marked_sound, locals_none, locals_more, locals_all, has_same, more_none, more_next)
@@ -136,9 +136,3 @@ none_sound scripts found none c v h =
     absurd cc
 
 pub ruleset found_rules = (none_sound)
-
--- a place of a row
-pub in_row : (found : List Bool) (k i : ℕ) → get_or (drop k found) i false ≡ get_or found (k + i) false
-in_row found k i = get_or-drop found k i false
-
-pub ruleset row_rules = (in_row)

@@ -38,14 +38,14 @@ abbrev pub waits_for_own : Option Step → Bool
 waits_for_own (Some (S.Wait killed (T.One P.Own))) = true
 waits_for_own step = false
 
--- only the last step is not carried out, and it waits for its own component: the behaviour goes on until it is killed
-abbrev pub goes_on_until_killed : ℕ → List Step → Bool
-goes_on_until_killed k steps = (length steps == k + 1) && waits_for_own (slice_get steps k)
+-- only the last step is not carried out, and it waits for its own component: the behaviour continues until it is killed
+abbrev pub lasts_until_killed : ℕ → List Step → Bool
+lasts_until_killed k steps = (length steps == k + 1) && waits_for_own (slice_get steps k)
 
--- the number of the first step of run b that is not carried out, where k of these are, unless it goes on until it is killed
+-- the number of the first step of run b that is not carried out, where k of these are, unless it continues until it is killed
 unfoldable pub unseen_among : ℕ → ℕ → List Step → List Line
 unseen_among b k steps =
-    if goes_on_until_killed k steps then [] else if nat_lt k (length steps) then (decimal b ∷ decimal (k + 1) ∷ decimal (length steps) ∷ []) ∷ [] else []
+    if lasts_until_killed k steps then [] else if nat_lt k (length steps) then (decimal b ∷ decimal (k + 1) ∷ decimal (length steps) ∷ []) ∷ [] else []
 
 -- the same of all runs of these scripts, of which that many calls are reached
 unfoldable pub unseen : List ScriptView → List ℕ → List Line

@@ -95,15 +95,19 @@ fn push_if(
 }
 
 impl Locals {
-    /// Whether a component is found with this verdict.
-    #[tactic(auto, using(crate::proofs::Marking::row_rules))]
+    // Whether a component is found with this verdict.
     fn has(&self, comp: usize, verdict: Verdict) -> bool
         requires { comp * 5 ≤ length self.now.found }
         ensures { result ≡ told.is_local self.now.found comp verdict }
     {
-        let row = &self.found.as_slice()[comp * 5..];
+        let found = self.found.as_slice();
+        let first = comp * 5;
         let at = level(verdict) as usize;
-        at < row.len() && row[at]
+        if at < found.len() - first {
+            found[first + at]
+        } else {
+            false
+        }
     }
 
     // One for a verdict that a component is found with.

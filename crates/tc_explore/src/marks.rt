@@ -99,7 +99,8 @@ impl Marks {
             return Ok(());
         }
         name(&mut self.names, course.history(), comp)?;
-        mark(&mut self.found, at)
+        mark(&mut self.found, at)?;
+        Ok(())
     }
 
     // Notes the local verdicts of all components in a complete course.
@@ -131,8 +132,7 @@ impl Marks {
         ensures has { OnOk result (HasLocals self.new.found.items (past_of course)) }
     {
         let ended = step_all(course, scripts)?;
-        let noted = self.note_all(scripts, &ended);
-        drop(ended);
-        noted
+        self.note_all(scripts, &ended)?;
+        Ok(())
     }
 }

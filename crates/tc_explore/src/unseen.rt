@@ -64,14 +64,14 @@ fn waits_for_own(step: &Step) -> bool
 }
 
 // Whether only the last step is not carried out, and it waits for its own component.
-fn goes_on_until_killed(steps: &[Step], before: usize) -> bool
+fn lasts_until_killed(steps: &[Step], before: usize) -> bool
     requires { before < length steps.now }
-    ensures { result ≡ details.goes_on_until_killed before steps.now }
+    ensures { result ≡ details.lasts_until_killed before steps.now }
 {
     steps.len() == before + 1 && waits_for_own(&steps[before])
 }
 
-// Appends the line of a run, if one of its steps is not carried out, unless it goes on until it is killed. If memory runs
+// Appends the line of a run, if one of its steps is not carried out, unless it continues until it is killed. If memory runs
 // out, a part of it.
 #[tactic(auto, unfolding(crate::specs::Details::unseen_among), using(tc_text::proofs::Lemmas::Among::among_rules))]
 fn append_among(
@@ -83,7 +83,7 @@ fn append_among(
 ) -> Result<(), NoMemory>
     ensures { OnOk result (TellsAmong (unseen_among run before steps.now) out.old.items out.new.items) }
 {
-    if before >= steps.len() || goes_on_until_killed(steps, before) {
+    if before >= steps.len() || lasts_until_killed(steps, before) {
         return Ok(());
     }
     append_at(alloc, out, run, before, steps)

@@ -1,10 +1,23 @@
 -- Test cases that are taken one after the other.
-use Rattle.std.proofs.Common.{◌≡◌, ◌∙◌, ◌++◌, List, [], ap, sym, subst}
+use Rattle.std.proofs.Common.{ℕ, ◌≡◌, ◌∙◌, ◌++◌, Bool, true, false, List, [], refl, ap, sym, subst}
 use Rattle.std.specs.List.{AllZip}
 use Rattle.std.proofs.lemmas.List.{append-nil}
+use Rattle.tc_step.specs.Steps.{ScriptView}
 use Rattle.tc_campaign.specs.Inside.{AreDone}
+use Rattle.tc_program.specs.Explore.{TellsLocals, TellsLocalsIf}
 
 -- if none is left, all are done
 pub done_all : {A B : Type 0} (R : A → B → Type 0) (all left : List A) (ys : List B) → AreDone R all left ys → left ≡ [] → AllZip R all ys
 done_all R all left ys are none =
     subst (λ l. AllZip R l ys) (sym (are.prefix ∙ (ap (λ l. are.done ++ l) none ∙ append-nil are.done))) are.each
+
+-- local verdicts that are asked for, or not
+pub not_asked : (asked : Bool) (states : ℕ) (scripts : List ScriptView) (a : List ℕ) → asked ≡ false → TellsLocalsIf asked states scripts a a
+not_asked false states scripts a h = refl
+not_asked true states scripts a h = absurd cc
+
+pub asked : (asks : Bool) (states : ℕ) (scripts : List ScriptView) (a b : List ℕ) → asks ≡ true → TellsLocals states scripts a b → TellsLocalsIf asks states scripts a b
+asked true states scripts a b h t = t
+asked false states scripts a b h t = absurd cc
+
+pub ruleset asked_rules = (not_asked, asked)

@@ -5,6 +5,7 @@ use Rattle.tc_script.specs.Campaign.{CampaignView, campaign}
 use Rattle.tc_step.specs.Steps.{ScriptView}
 use Rattle.tc_explore.specs.declared.explored.Explored.{Explored}
 use Rattle.tc_explore.specs.declared.locals.Locals.{Locals}
+use Rattle.tc_explore.specs.Details.{details as of_details}
 use Rattle.tc_explore.specs.Locals.{AllLocalsFound, AreLocals, locals_lines}
 use Rattle.tc_text.specs.Said.{TellsAmong}
 use Rattle.tc_explore.specs.Course.{most_states}
@@ -14,7 +15,6 @@ use Rattle.tc_explore.specs.declared.explored.Ending.TheVariants as E
 use Rattle.tc_explore.specs.Told.{explored_line, explored_status, witnesses_text}
 use Rattle.tc_program.specs.declared.explore.Details.{Details}
 use Rattle.tc_program.specs.declared.explore.ExploredCase.{ExploredCase}
-use Rattle.tc_program.specs.Inside.{details_if}
 use Rattle.tc_program.specs.Scripted.{CaseView, scripts_of}
 
 -- Each local verdict that was found of the components of these scripts has a complete course. If the search says that it is
@@ -34,7 +34,7 @@ TellsLocalsIf false states scripts before after = after ≡ before
 -- what is printed after the line of a test case: its local verdicts, and its details
 abbrev pub TellsAfter : Details → ℕ → List ScriptView → Explored → List ℕ → Type 0
 TellsAfter asked states scripts e text =
-    (middle : List ℕ) × TellsLocalsIf asked.locals states scripts [] middle × TellsAmong (details_if asked.details scripts e) middle text
+    (middle : List ℕ) × TellsLocalsIf asked.locals states scripts [] middle × TellsAmong (if asked.details then of_details scripts e else []) middle text
 
 -- A test case was explored, and each verdict that was found has one witness: a complete course of its scripts, which is legal.
 -- If the search says that it is complete, the verdict of each complete course of its scripts was found. If it says that it is

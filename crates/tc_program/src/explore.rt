@@ -59,12 +59,12 @@ fn append_locals(
     ensures { OnOk result (TellsLocals states scripts.now out.old.items out.new.items) }
 {
     let locals = explore_locals(alloc, scripts, states)?;
-    let appended = locals.append_lines(alloc, out);
-    drop(locals);
-    appended
+    locals.append_lines(alloc, out)?;
+    Ok(())
 }
 
 // Appends them, if they are asked for.
+#[tactic(auto, using(crate::proofs::Exploring::asked_rules))]
 fn append_locals_if(
     alloc: Global,
     out: &mut Vec<u8>,
@@ -75,9 +75,10 @@ fn append_locals_if(
     requires few { length scripts.now ≤ BEHAVIOURS }
     ensures { OnOk result (TellsLocalsIf locals states scripts.now out.old.items out.new.items) }
 {
-    if locals {
-        append_locals(alloc, out, scripts, states)?;
+    if !locals {
+        return Ok(());
     }
+    append_locals(alloc, out, scripts, states)?;
     Ok(())
 }
 

@@ -135,7 +135,7 @@ fn steps_behind_a_wait_that_is_never_over(rt: HostRuntime) -> Result<(), Fail> {
     Ok(())
 }
 
-// Adds a main behaviour that kills the one that it starts, and one that goes on until it is killed.
+// Adds a main behaviour that kills the one that it starts, and one that continues until it is killed.
 fn add_killed<R: Abort>(rt: &R, alloc: Global, scripts: &mut Vec<Script>) -> Result<(), Fail> {
     let kill = Step::Kill(GroupPlace::One(P));
     let steps = vec![in alloc; create(true), start(P, 1), kill]?;
