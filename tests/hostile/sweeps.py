@@ -40,7 +40,7 @@ def tasks() -> List[Task]:
         found += [Task(name, ("run", *form), given) for form in FORMS]
         found += [Task(name, ("run", "--live", *form), given) for form in LIVE_FORMS]
         found.append(Task(name, ("run", "--list"), given))
-        found += [Task(name, ("explore", *form), given) for form in ((), ("--history",), ("--details",))]
+        found += [Task(name, ("explore", *form), given) for form in ((), ("--history",), ("--details",), ("--locals",))]
     found.append(Task("verdicts", ("run", "--stop-on", "fail"), bytes_of("verdicts.script")))
     found += [Task("verdicts", ("run", "--progress", *form), bytes_of("verdicts.script")) for form in ((), ("--live",), ("--junit",))]
     chosen = ("--only", "t_fail", "--only", "t_pass")

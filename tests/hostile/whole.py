@@ -11,9 +11,10 @@ Exempt = Tuple[Tuple[str, ...], str]
 # Each growth of these is refused in turn by the sweeps of the whole program, which goes through them in each of its tasks.
 REFUSED_BY_THE_PROGRAM = ("explain", "html_page", "read_task", "answer", "carry_out", "tc_program::replay",
                           "check", "take_script", "run_cases", "give", "fault_line", "abort_line", "Progress::end", "serve",
-                          "run_case_with", "run_campaign_with", "choose", "read_evidence", "Block::history")
+                          "run_case_with", "run_campaign_with", "choose", "read_evidence", "Block::history",
+                          "explore_locals", "Locals::append_lines")
 # The tasks by which nothing else refuses these calls each growth: in the gate too each one is refused.
-EACH = ("--explain", "--html", "serve", "--live", "--progress", "--shard", "--script", "--failed", "--summary", "--suite")
+EACH = ("--explain", "--html", "serve", "--live", "--progress", "--shard", "--script", "--failed", "--summary", "--suite", "--locals")
 # These can answer that memory ran out, and are refused none by themselves.
 UNREFUSED: Tuple[Exempt, ...] = (
     (("read_counted",), "read_input is this call over a reader that is counted"),

@@ -29,7 +29,7 @@ from random_scripts import changed, drawn_script
 SECONDS = 120
 # What the engine says of a run that it does not begin.
 LEFT = b"ttrun: a run needs threads, and there are none here: try explore\n"
-EXPLORING = (("explore",), ("explore", "--details"), ("explore", "--history"), ("explore", "--states", "40"), ("run", "--list"), ("run", "--explain"))
+EXPLORING = (("explore",), ("explore", "--details"), ("explore", "--locals"), ("explore", "--history"), ("explore", "--states", "40"), ("run", "--list"), ("run", "--explain"))
 CHECKING = (("check",), ("check", "--explain"), ("report", "--csv"), ("report", "--junit"), ("report", "--html"), ("report", "--csv", "--explain"))
 REPLAYING = (("replay",), ("replay", "--explain"))
 TASKS = {".script": EXPLORING, ".history": CHECKING, ".moves": REPLAYING}

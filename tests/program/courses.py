@@ -1,5 +1,5 @@
-"""All courses of a scripted test case in Python, by a plain search with no reduction: the overall verdicts that they give, and
-how many calls each behaviour carries out."""
+"""All courses of a scripted test case in Python, by a plain search with no reduction: the overall and the local verdicts that they
+give, and how many calls each behaviour carries out."""
 from __future__ import annotations
 
 from dataclasses import dataclass, replace
@@ -94,15 +94,17 @@ class State:
 
 
 class Courses(NamedTuple):
-    """What all courses of a test case give: overall verdicts, and for each behaviour how many calls it carries out at most."""
+    """What all courses of a test case give: overall verdicts, those of each component, and for each behaviour how many calls it
+    carries out at most."""
 
     verdicts: Set[str]
     reached: List[int]
+    locals: Dict[int, Set[str]]
 
 
 def courses_of(case: TestCase, most: int) -> Optional[Courses]:
     """What all courses give; none if there are more states than that many."""
-    opening, found = State(case), Courses(set(), [0] * len(case.behaviours))
+    opening, found = State(case), Courses(set(), [0] * len(case.behaviours), {})
     seen, left = {opening.key()}, [opening]
     while left:
         state = left.pop()
@@ -111,6 +113,8 @@ def courses_of(case: TestCase, most: int) -> Optional[Courses]:
             if state.going:
                 raise AssertionError(f"nobody goes on in {case.name}")
             found.verdicts.add(state.table.overall())
+            for at, component in enumerate(state.table.components):
+                found.locals.setdefault(at, set()).add(component.verdict)
         for run in runs:
             after = state.copy()
             found.reached[run] = max(found.reached[run], after.step(run))

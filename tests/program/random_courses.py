@@ -1,11 +1,11 @@
 """Random test cases that race: `explore` is held to a plain search of all schedules, its witnesses to `check`, and the steps that
-no schedule carries out to that search too."""
+no schedule carries out and the local verdicts to that search too."""
 from __future__ import annotations
 
 import random
 import re
 from collections import Counter
-from typing import Dict, List, NamedTuple, Optional, Tuple
+from typing import Dict, List, NamedTuple, Optional, Set, Tuple
 
 from case import Case, Ran, difference, run
 from courses import courses_of
@@ -20,6 +20,7 @@ BATCHES = 10
 CASES = 250
 # A test case with more states than that many in the plain search is left out, and counted.
 MOST = 1500
+OWN_WAITS = ("wait done self", "wait killed self")
 LINE = re.compile(r"(?P<name>\w+)(?P<verdicts>(?: (?:none|pass|inconc|fail|error))*) (?P<ending>complete|undecided after \d+ states)")
 
 
@@ -152,20 +153,26 @@ def step_text(case: TestCase, behaviour: Behaviour, at: int) -> str:
 
 
 def unseen_lines(case: TestCase, reached: List[int]) -> List[str]:
-    """The line of each behaviour with steps that no schedule carries out."""
+    """The line of each behaviour with steps that no schedule carries out, unless it only misses a last wait for itself."""
     return [f"  not seen: run {run} from step {at + 1} of {len(it.steps)} on: {step_text(case, it, at)}"
-            for run, (it, at) in enumerate(zip(case.behaviours, reached)) if at < len(it.steps)]
+            for run, (it, at) in enumerate(zip(case.behaviours, reached))
+            if at < len(it.steps) and not (at + 1 == len(it.steps) and step_text(case, it, at) in OWN_WAITS)]
 
 
-def unseen_told(output: bytes) -> Dict[str, List[str]]:
-    """The lines of `explore --details` with steps that no schedule carries out, by the names of the test cases."""
+def local_lines(verdicts: Dict[int, Set[str]]) -> List[str]:
+    """The line of each component whose local verdict is not always the same. None of these test cases names one."""
+    return [f"  local {at or 'mtc'}: {' or '.join(sorted(it, key=VERDICTS.index))}" for at, it in sorted(verdicts.items()) if len(it) > 1]
+
+
+def lines_told(output: bytes, start: str) -> Dict[str, List[str]]:
+    """The lines of `explore` that begin so, by the names of the test cases."""
     told: Dict[str, List[str]] = {}
     name = ""
     for line in output.decode().splitlines():
         if not line.startswith("  "):
             name = line.split(" ")[0]
             told[name] = []
-        elif line.startswith("  not seen: "):
+        elif line.startswith(start):
             told[name].append(line)
     return told
 
@@ -176,7 +183,7 @@ def verdicts_of_runs(program: str, text: bytes) -> List[Tuple[str, str]]:
     return [(it.split(",")[0], it.split(",")[-1]) for it in records]
 
 
-def fault_of_case(case: TestCase, told: Told, unseen: List[str], met: Counter) -> Optional[str]:
+def fault_of_case(case: TestCase, told: Told, unseen: List[str], local: List[str], met: Counter) -> Optional[str]:
     """What is wrong with what is printed about a test case, if the plain search comes to its end; and what that case was like."""
     courses = courses_of(case, MOST)
     if courses is None:
@@ -187,16 +194,21 @@ def fault_of_case(case: TestCase, told: Told, unseen: List[str], met: Counter) -
         return f"{case.name}: wanted {wanted}, came {told}"
     if unseen != lines:
         return f"{case.name}: wanted {lines}, came {unseen}"
+    if local != local_lines(courses.locals):
+        return f"{case.name}: wanted {local_lines(courses.locals)}, came {local}"
     met["cases"] += 1
     met["races"] += len(courses.verdicts) > 1
     met["unseen"] += len(lines)
+    met["locals"] += len(local)
+    met["hidden"] += bool(local) and len(courses.verdicts) == 1
     met.update(courses.verdicts)
     return None
 
 
 def every_verdict_is_told(seed: int) -> Judgement:
     """Test cases that race: what `explore` prints is what a plain search finds, with a witness each, and it says that this is complete
-    wherever that search ends; real runs give nothing else. The steps printed as not seen are those that no schedule carries out."""
+    wherever that search ends; real runs give nothing else. The steps printed as not seen are those that no schedule carries out, and
+    the local verdicts with --locals are those that are not the same in all schedules."""
 
     def judge(program: str) -> List[str]:
         chance, met = random.Random(f"racing {seed}"), Counter()
@@ -209,9 +221,12 @@ def every_verdict_is_told(seed: int) -> Judgement:
             found = found_in(ran.output)
             if found is None or [*found] != [it.name for it in campaign]:
                 return [f"lines that are not understood: {ran.output[:500]!r}, {ran.errors!r}"]
-            unseen = unseen_told(words_on(program, text, "explore", "--details").output)
+            unseen = lines_told(words_on(program, text, "explore", "--details").output, "  not seen: ")
+            local = words_on(program, text, "explore", "--locals")
+            if local.status != ran.status:
+                return [f"status with --locals: wanted {ran.status}, came {local.status}"]
             for case in campaign:
-                fault = fault_of_case(case, found[case.name], unseen[case.name], met)
+                fault = fault_of_case(case, found[case.name], unseen[case.name], lines_told(local.output, "  local ")[case.name], met)
                 if fault is not None:
                     return [fault, f"the script: {text.decode()}"]
             is_race = any(len(it.verdicts) > 1 for it in found.values())
@@ -221,7 +236,7 @@ def every_verdict_is_told(seed: int) -> Judgement:
                        if verdict not in found[name].verdicts]
             if faults:
                 return faults[:5]
-        return below(met, [("cases", 2400), ("races", 600), ("unseen", 600), *((it, 150) for it in VERDICTS)])
+        return below(met, [("cases", 2400), ("races", 600), ("unseen", 600), ("locals", 600), ("hidden", 100), *((it, 150) for it in VERDICTS)])
 
     return Judgement(f"every_verdict_is_told_{seed}", "ttrun explore [--history] < (random scripts)", judge)
 

@@ -44,6 +44,7 @@ ALL_OPTIONS = ("runs the campaign of a script, and writes its report\n",
 EXPLORE = ("looks for every overall verdict that a test case can have\n",
            "  --history      writes a history for each verdict that was found\n",
            "  --details      says where schedules part and who waits for whom\n",
+           "  --locals       says which local verdicts are not always the same\n",
            "  --states <N>   looks at N states of a test case at most\n",
            "  --only <NAME>  explores this test case; may be given again, for others\n",
            "  --shard <K/N>  explores the K-th of N shards of the test cases\n",
@@ -151,6 +152,9 @@ check --shard 0/1 => the arguments '--only' and '--shard' need '--script'
 check --shard 1/2 --only a --explain => the arguments '--only' and '--shard' need '--script'
 explore --details --details => the argument '--details' cannot be used multiple times
 explore --details --history => the argument '--history' cannot be used with '--details'
+explore --locals --history => the argument '--history' cannot be used with '--locals'
+explore --locals --details --history => the argument '--history' cannot be used with '--details'
+explore --locals --locals => the argument '--locals' cannot be used multiple times
 explore --history --history => the argument '--history' cannot be used multiple times
 explore --history --states=1 --details => the argument '--history' cannot be used with '--details'
 explore --states 1 --states 1 => the argument '--states <N>' cannot be used multiple times
@@ -403,8 +407,11 @@ DEAD = (b"testcase t\nbehaviour main\ncreate p alive\nstart p w\nwait done p\nse
 DEAD_TOLD = (b"t error complete\n  error: mtc error, 1 none\n"
              b"  stuck: run 0 on mtc waits for done of 1, where run 1 is\n"
              b"  stuck: run 1 on 1 waits for killed of 1, where run 1 is\n"
-             b"  not seen: run 0 from step 4 of 4 on: setverdict pass\n"
-             b"  not seen: run 1 from step 1 of 1 on: wait killed self\n")
+             b"  not seen: run 0 from step 4 of 4 on: setverdict pass\n")
+# The worker sets a verdict before it is killed, or not.
+KILLED = (b"testcase t\nbehaviour main\ncreate p named worker\nstart p w\nsetverdict fail\nkill p\nend\n"
+          b"behaviour w\nsetverdict pass\nend\nend\n")
+KILLED_TOLD = b"t fail complete\n  local 1 worker: none or pass\n"
 # The main component waits for the end of one that is stopped, and stays alive.
 STOPPED = (b"testcase t\nbehaviour main\ncreate p alive\nstart p w\nwait done p\nwait killed p\nend\n"
            b"behaviour w\nend\nend\n")
@@ -442,7 +449,7 @@ def of_explore() -> List[Case]:
     """The words of `explore`, and its output where it can't be written."""
     found = [Case("_".join(["unread_with_states", word or "empty", *form]), ("explore", *form, "--states", word), status=3, stays_open=True,
                   errors=STATES)
-             for word in ("0", "x", "", "01", "1000001") for form in ((), ("--history",), ("--details",))]
+             for word in ("0", "x", "", "01", "1000001") for form in ((), ("--history",), ("--details",), ("--locals",))]
     found.append(Case("one_state_decides_nothing", ("explore", "--states", "1"), RACE, SomeText(("t undecided",)), status=3))
     found.append(Case("three_states_are_not_complete", ("explore", "--states", "3"), LOOSE, b"t none undecided after 3 states\n", status=3))
     found.append(Case("a_race_is_told_complete", ("explore",), RACE, b"t none fail complete\n", status=1))
@@ -452,7 +459,13 @@ def of_explore() -> List[Case]:
     found.append(Case("no_step_is_dead", ("explore", "--details"), PLAIN, b"t pass complete\n  pass: mtc none, 1 pass\n"))
     found.append(Case("no_step_is_told_dead_by_half_a_search", ("explore", "--details", "--states", "1"), DEAD,
                       b"t undecided after 1 states\n", status=3))
-    for form in ((), ("--history",), ("--details",)):
+    found.append(Case("local_verdicts_that_differ", ("explore", "--locals"), KILLED, KILLED_TOLD))
+    found.append(Case("local_verdicts_before_details", ("explore", "--locals", "--details"), KILLED,
+                      KILLED_TOLD + b"  fail: mtc fail, 1 worker pass\n"))
+    found.append(Case("no_local_verdict_differs", ("explore", "--locals"), PLAIN, b"t pass complete\n"))
+    found.append(Case("local_verdicts_of_half_a_search", ("explore", "--locals", "--states", "3"), KILLED,
+                      b"t undecided after 3 states\n  local verdicts undecided after 3 states\n", status=3))
+    for form in ((), ("--history",), ("--details",), ("--locals",)):
         name = "_".join(it.strip("-") for it in ("explore", *form))
         for device, redirect in (("full", ">/dev/full"), ("closed", ">&-")):
             found.append(Case(f"output_{device}_{name}", ("explore", *form), RACE, status=3, redirect=redirect,

@@ -8,6 +8,7 @@ use Rattle.clap.specs.Kinds.{Kinds, or_else}
 use Rattle.clap.specs.declared.error.kind.ErrorKind.TheVariants.{ArgumentConflict, MissingRequiredArgument}
 use Rattle.clap.specs.declared.parser.matches.ValueSource.{ValueSource}
 use Rattle.clap.specs.declared.parser.matches.ValueSource.TheVariants.{CommandLine}
+use Rattle.tc_entry.specs.Name.{IsName}
 use Rattle.tc_entry.specs.Pattern.{IsPattern}
 use Rattle.tc_command.specs.declared.command.Subcommand.{Subcommand}
 use Rattle.tc_command.specs.declared.command.Subcommand.TheVariants as S
@@ -65,7 +66,7 @@ apart S.Run =
     ∷ (codes "explain", codes "no-explain") ∷ []
 apart S.Check = (codes "explain", codes "no-explain") ∷ []
 apart S.Replay = (codes "explain", codes "no-explain") ∷ []
-apart S.Explore = (codes "history", codes "details") ∷ (codes "explain", codes "no-explain") ∷ []
+apart S.Explore = (codes "history", codes "details") ∷ (codes "history", codes "locals") ∷ (codes "explain", codes "no-explain") ∷ []
 apart S.Report =
     (codes "csv", codes "junit") ∷ (codes "csv", codes "html") ∷ (codes "csv", codes "summary")
     ∷ (codes "junit", codes "html") ∷ (codes "junit", codes "summary") ∷ (codes "html", codes "summary")
@@ -153,6 +154,7 @@ pub record AsksRun (at_terminal : Bool) (rows : List Row) (o : RunOptions) : Typ
 pub record AsksExplore (at_terminal : Bool) (rows : List Row) (o : ExploreOptions) : Type 0 where
   pub histories : o.histories ≡ is_given rows (codes "history")
   pub details : o.details ≡ is_given rows (codes "details")
+  pub locals : o.locals ≡ is_given rows (codes "locals")
   pub states : IsStatesOf (first_of (codes "states") rows) o.states
   pub choice : Chooses rows o.choice
   pub explains : o.explains ≡ is_explained at_terminal rows

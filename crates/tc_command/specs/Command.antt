@@ -35,7 +35,7 @@ run = with_rules (new_app (codes "run")) (
 -- the options of `explore`
 abbrev pub explore : App
 explore = with_rules (new_app (codes "explore")) (
-    flag_rule (codes "history") ∷ flag_rule (codes "details") ∷ word_rule (codes "states")
+    flag_rule (codes "history") ∷ flag_rule (codes "details") ∷ flag_rule (codes "locals") ∷ word_rule (codes "states")
     ∷ words_rule (codes "only") ∷ word_rule (codes "shard") ∷ flag_rule (codes "failed") ∷ explaining)
 
 -- the options of `report`

@@ -205,7 +205,7 @@ const RUN_OPTIONS: [OptionRow; 13] = [
     NO_EXPLAIN,
 ];
 
-const EXPLORE_OPTIONS: [OptionRow; 8] = [
+const EXPLORE_OPTIONS: [OptionRow; 9] = [
     OptionRow(
         "history",
         Takes::Nothing,
@@ -215,6 +215,11 @@ const EXPLORE_OPTIONS: [OptionRow; 8] = [
         "details",
         Takes::Nothing,
         "says where schedules part and who waits for whom",
+    ),
+    OptionRow(
+        "locals",
+        Takes::Nothing,
+        "says which local verdicts are not always the same",
     ),
     OptionRow(
         "states",

@@ -2,6 +2,7 @@
 ghost use Rattle.std.specs.Prelude.{◌≡◌, All, IfOk, IfErr, IfSome, List, OnOk, Some, codes, false, map, option_copied, string_bytes, true};
 ghost use Rattle.std.specs.List.{list_any};
 ghost use Rattle.clap.specs.Words.{FailsBy, Row, app_of, fault_of, first_of, found_of, is_simple, is_simple_and_free, rows_of, subcommand_of, subcommand_rows_of};
+ghost use Rattle.tc_entry.specs.Name.{IsName};
 ghost use Rattle.tc_entry.specs.Pattern.{IsPattern};
 ghost use Rattle.tc_command.specs.Command.{ttrun};
 ghost use Rattle.tc_command.specs.Asked.{Asks, AsksRun, Chooses, IsReading, apart as spec_apart, are_both, form_of, is_explained, is_given, lacks_script as spec_lacks, line_of};
@@ -64,7 +65,11 @@ fn apart(subcommand: Subcommand) -> &'static [(&'static str, &'static str)]
             ("junit", "live"),
             ("explain", "no-explain"),
         ],
-        Subcommand::Explore => &[("history", "details"), ("explain", "no-explain")],
+        Subcommand::Explore => &[
+            ("history", "details"),
+            ("history", "locals"),
+            ("explain", "no-explain"),
+        ],
         Subcommand::Report => &[
             ("csv", "junit"),
             ("csv", "html"),
@@ -251,6 +256,7 @@ fn explore_task(
     Ok(Task::Explore(ExploreOptions {
         histories: has_option(options, "history"),
         details: has_option(options, "details"),
+        locals: has_option(options, "locals"),
         states,
         choice,
         explains: explains(options, at_terminal),

@@ -66,6 +66,8 @@ pub struct ExploreOptions {
     pub histories: bool,
     /// Whether details are printed.
     pub details: bool,
+    /// Whether local verdicts are printed.
+    pub locals: bool,
     /// At how many states of a test case the search looks at most.
     pub states: usize,
     /// Which test cases are explored.

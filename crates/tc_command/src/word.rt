@@ -1,6 +1,7 @@
 //! The values of options, and what they name.
 ghost use Rattle.std.specs.Prelude.{◌≡◌, ◌≤◌, All, IfOk, IfErr, IfSome, IfNone, OnOk, map, option_copied, ℕ};
 ghost use Rattle.std.specs.Fmt.{decimal};
+ghost use Rattle.tc_entry.specs.Name.{IsName};
 ghost use Rattle.tc_entry.specs.Pattern.{IsPattern};
 ghost use Rattle.tc_entry.specs.Shard.{ShardView};
 ghost use Rattle.tc_command.specs.Words.{IsBad, IsRuleOf, IsShardOf, IsShardWord, IsStatesOf, text_of};

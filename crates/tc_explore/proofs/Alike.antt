@@ -96,7 +96,7 @@ module _ {p q : List Entry} where
   unfolding start_fault
   start_same s n c b = rw (s.phase_same c, s.comp_same b)
 
-  components_same : IsAlike p q → components p ≡ components q
+  pub components_same : IsAlike p q → components p ≡ components q
   unfolding components
   components_same s = ap length s.comps_same
 
@@ -109,7 +109,7 @@ module _ {p q : List Entry} where
   unfolding fault
   fault_alike s n b op = rw (all_exist_same p q (names op) s.comps_same, special_same s n op)
 
-  exists_same : IsAlike p q → (c : ℕ) → exists p c ≡ exists q c
+  pub exists_same : IsAlike p q → (c : ℕ) → exists p c ≡ exists q c
   unfolding exists
   exists_same s c = ap (is_in c) s.comps_same
 
@@ -228,7 +228,7 @@ local_by : (on : Bool) (vs ws : List Verdict) → worst (if on then vs ++ ws els
 local_by true vs ws = worst_both vs ws
 local_by false vs ws = refl
 
-local_next : (past : List Entry) (e : Entry) (c : ℕ) →
+pub local_next : (past : List Entry) (e : Entry) (c : ℕ) →
     local (e ∷ past) c ≡ (if is_comp (comp_of past e.caller.0) c then next_local (gives e.op e.reply) (local past c) else local past c)
 unfolding local
 local_next past e c = local_by (is_comp (comp_of past e.caller.0) c) (gives e.op e.reply) (verdicts_of past c)

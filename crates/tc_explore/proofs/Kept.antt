@@ -127,7 +127,7 @@ kept_more scripts met f g more kept = record {
   counted = All-weaker (λ t. Covers f.reached.items (past_of t)) (λ t. Covers g.reached.items (past_of t)) (λ t. covers_more f.reached.items g.reached.items (past_of t) more) met.states.items kept.counted;
 }
 
-all_with : (P : Case → Type 0) (before after : List Case) (t : Case) → IsWith before t after → All P before → P t → All P after
+pub all_with : (P : Case → Type 0) (before after : List Case) (t : Case) → IsWith before t after → All P before → P t → All P after
 all_with P before after t (inl same) all one = All-same P after before same all
 all_with P before after t (inr more) all one = All-same P after (before ++ t ∷ []) more (All-push P before t all one)
 

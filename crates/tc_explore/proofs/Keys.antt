@@ -18,15 +18,19 @@ use Rattle.tc_table.specs.Local.{overall}
 use Rattle.tc_table.specs.Answers.{is_active}
 use Rattle.tc_table.proofs.Lemmas.Deciding.{equal_if}
 use Rattle.tc_explore.specs.declared.search.Met.{Met}
-use Rattle.tc_explore.specs.Course.{Stand, stand}
 use Rattle.tc_explore.specs.Inside.Keys.{phase_code, comp_code, number_of, run_key, run_key_of, comp_key, key_of}
 use Rattle.tc_explore.specs.Inside.Seen.{AreKeyed, IsSame, IsSeen, IsState}
-use Rattle.tc_explore.proofs.Sameness.{HasSame, same_of, same_verdict, same_phase, same_comp}
+use Rattle.tc_explore.proofs.Sameness.{alike_of, same_verdict, same_phase, same_comp}
+use Rattle.tc_explore.specs.Course.{Stand, stand, IsCourse}
+use Rattle.tc_explore.specs.Inside.Simulation.{IsAlike}
 use Rattle.tc_explore.proofs.Keeping.{active_stays}
+use Rattle.tc_explore.proofs.Legality.{course_legal}
+use Rattle.tc_explore.proofs.Lemmas.Standings.{run_in_range}
+use Rattle.tc_explore.proofs.Simulation.{some_if}
 
 -- ---- lists that begin alike
 
-append_same : (a b u v : List ℕ) → length a ≡ length b → a ++ u ≡ b ++ v → (a ≡ b) × (u ≡ v)
+pub append_same : (a b u v : List ℕ) → length a ≡ length b → a ++ u ≡ b ++ v → (a ≡ b) × (u ≡ v)
 append_same [] [] u v size h = (refl, h)
 append_same [] (y ∷ b) u v size h = absurd (omega (arith, size))
 append_same (x ∷ a) [] u v size h = absurd (omega (arith, size))
@@ -38,10 +42,10 @@ append_same (x ∷ a) (y ∷ b) u v size h =
     let whole : x ∷ a ≡ y ∷ b = cc in (whole, rest.1)
 
 -- parts of which each ends where it says
-abbrev Ends : (ℕ → List ℕ) → (ℕ → List ℕ) → Type 0
+abbrev pub Ends : (ℕ → List ℕ) → (ℕ → List ℕ) → Type 0
 Ends f g = (b : ℕ) (u v : List ℕ) → f b ++ u ≡ g b ++ v → (f b ≡ g b) × (u ≡ v)
 
-parts_same : (f g : ℕ → List ℕ) → Ends f g → (i n : ℕ) (u v : List ℕ) → flat_map f (range_with_len i n) ++ u ≡ flat_map g (range_with_len i n) ++ v →
+pub parts_same : (f g : ℕ → List ℕ) → Ends f g → (i n : ℕ) (u v : List ℕ) → flat_map f (range_with_len i n) ++ u ≡ flat_map g (range_with_len i n) ++ v →
     ((b : ℕ) → i ≤ b → b < i + n → f b ≡ g b) × (u ≡ v)
 parts_same f g ends i zero u v h = (λ b low high. absurd (omega (arith, low, high)), h)
 parts_same f g ends i (suc n) u v h =
@@ -142,51 +146,62 @@ run_calls false s t h = let no : ◌≡◌ {A = ℕ} 1 0 = cc in absurd (omega (
 stand_of : Option Comp → List Comp → ℕ → Bool → Option Op → Stand
 stand_of comp bound called left wake = record { comp = comp; bound = bound; called = called; left = left; wake = wake }
 
+-- two courses of one key
+module _ (scripts : List ScriptView) (p q : List Entry) (some : 1 ≤ length scripts) (cp : IsCourse scripts p) (cq : IsCourse scripts q) (h : key_of (length scripts) p ≡ key_of (length scripts) q) where
+  k : IsOneKey (length scripts) p q
+  k = one_key (length scripts) p q h
+
+  phases : (c : ℕ) → c < components p → phase_code (phase_if_any p c) ≡ phase_code (phase_if_any q c)
+  phases c near = let both : comp_key p c ≡ comp_key q c = k.comps c near in cc
+
+  kinds : (c : ℕ) → c < components p → ◌≡◌ {A = ℕ} (if is_alive_type p c then 1 else 0) (if is_alive_type q c then 1 else 0)
+  kinds c near = let both : comp_key p c ≡ comp_key q c = k.comps c near in cc
+
+  comps : (b : ℕ) → b < length scripts → (stand p b).comp ≡ (stand q b).comp
+  comps b near = same_comp (stand p b).comp (stand q b).comp (run_comp (is_active p b) (is_active q b) (stand p b) (stand q b) (k.runs b near))
+
+  -- are alike
+  pub alike_by_key : IsAlike p q
+  alike_by_key = alike_of scripts p q cp cq (record {
+    verdict = same_verdict (overall p) (overall q) k.verdict;
+    count = k.count;
+    phases = λ c near. same_phase (phase_if_any p c) (phase_if_any q c) (phases c near);
+    kinds = λ c near. kind_same (is_alive_type p c) (is_alive_type q c) (kinds c near);
+    comps = comps;
+  }) some
+
+  -- and of a run that continues the same is known, if it waits for the same
+  pub stand_by_key : (b : ℕ) → is_active p b ≡ true → (stand p b).wake ≡ (stand q b).wake → stand p b ≡ stand q b
+  unfolding stand_of
+  stand_by_key b act wake = by_key (subst (λ x. run_key x (stand p b) ≡ run_key_of q b) act (k.runs b near))
+    where
+      near : b < length scripts
+      near = let on = some_if p b act in run_in_range (length scripts) p b on.0 some (course_legal scripts p cp) on.1
+
+      by_key : run_key true (stand p b) ≡ run_key_of q b → stand p b ≡ stand q b
+      by_key one =
+          let s = stand p b in
+          let r = stand q b in
+          let c = run_calls (is_active q b) s r one in
+          let on : s.comp ≡ r.comp = comps b near in
+          let called : s.called ≡ r.called = c.called in
+          let bound : s.bound ≡ r.bound = c.bound in
+          let mine : s.left ≡ false = active_stays scripts p b cp act in
+          let others : r.left ≡ false = active_stays scripts q b cq c.goes in
+          let left : s.left ≡ r.left = mine ∙ sym others in
+          let whole : stand_of s.comp s.bound s.called s.left s.wake ≡ stand_of r.comp r.bound r.called r.left r.wake = cc in whole
+
 -- two states of one key are the same
 pub same_by_key : (scripts : List ScriptView) (t u : Case) → 1 ≤ length scripts → IsState scripts t → IsState scripts u → key_of (length scripts) (past_of t) ≡ key_of (length scripts) (past_of u) → IsSame (past_of t) (past_of u)
-unfolding stand_of
-same_by_key scripts t u some st su h = same_of scripts p q st.opened.on.course su.opened.on.course (record {
-  verdict = same_verdict (overall p) (overall q) k.verdict;
-  count = k.count;
-  phases = λ c near. same_phase (phase_if_any p c) (phase_if_any q c) (phases c near);
-  kinds = λ c near. kind_same (is_alive_type p c) (is_alive_type q c) (kinds c near);
-  comps = comps;
-  stands = λ b near act. by_key b near act (subst (λ x. run_key x (stand p b) ≡ run_key_of q b) act (k.runs b near));
-}) some
-  where
-    p : List Entry
-    p = past_of t
-
-    q : List Entry
-    q = past_of u
-
-    k : IsOneKey (length scripts) p q
-    k = one_key (length scripts) p q h
-
-    phases : (c : ℕ) → c < components p → phase_code (phase_if_any p c) ≡ phase_code (phase_if_any q c)
-    phases c near = let both : comp_key p c ≡ comp_key q c = k.comps c near in cc
-
-    kinds : (c : ℕ) → c < components p → ◌≡◌ {A = ℕ} (if is_alive_type p c then 1 else 0) (if is_alive_type q c then 1 else 0)
-    kinds c near = let both : comp_key p c ≡ comp_key q c = k.comps c near in cc
-
-    comps : (b : ℕ) → b < length scripts → (stand p b).comp ≡ (stand q b).comp
-    comps b near = same_comp (stand p b).comp (stand q b).comp (run_comp (is_active p b) (is_active q b) (stand p b) (stand q b) (k.runs b near))
-
-    by_key : (b : ℕ) → b < length scripts → is_active p b ≡ true → run_key true (stand p b) ≡ run_key_of q b → (stand p b ≡ stand q b) × ((stand q b).wake ≡ None)
-    by_key b near act one =
-        let s = stand p b in
-        let r = stand q b in
-        let c = run_calls (is_active q b) s r one in
-        let on : s.comp ≡ r.comp = comps b near in
-        let called : s.called ≡ r.called = c.called in
-        let bound : s.bound ≡ r.bound = c.bound in
-        let mine : s.left ≡ false = active_stays scripts p b st.opened.on.course act in
-        let others : r.left ≡ false = active_stays scripts q b su.opened.on.course c.goes in
-        let left : s.left ≡ r.left = mine ∙ sym others in
-        let none : s.wake ≡ None = st.opened.no_wake b in
-        let no_wake : r.wake ≡ None = su.opened.no_wake b in
-        let wake : s.wake ≡ r.wake = none ∙ sym no_wake in
-        let whole : stand_of s.comp s.bound s.called s.left s.wake ≡ stand_of r.comp r.bound r.called r.left r.wake = cc in (whole, no_wake)
+same_by_key scripts t u some st su h = record {
+  alike = alike_by_key scripts (past_of t) (past_of u) some st.opened.on.course su.opened.on.course h;
+  stands = λ b act.
+      let none : (stand (past_of t) b).wake ≡ None = st.opened.no_wake b in
+      let no_wake : (stand (past_of u) b).wake ≡ None = su.opened.no_wake b in (
+        stand_by_key scripts (past_of t) (past_of u) some st.opened.on.course su.opened.on.course h b act (none ∙ sym no_wake),
+        no_wake,
+      );
+}
 
 -- ---- the keys of a list of states
 

@@ -1,5 +1,5 @@
 -- The last calls of a case that is over: they are replied Ended, and after them no run has a call left.
-use Rattle.std.proofs.Common.{ℕ, ◌≡◌, ◌<◌, ◌≤◌, ◌+◌, ◌==◌, ◌||◌, inl, inr, nat_lt, Bool, true, false, Option, Some, None, List, ◌∷◌, length, refl, ap, sym, subst, ◌∙◌, arith}
+use Rattle.std.proofs.Common.{ℕ, ◌≡◌, ◌<◌, ◌≤◌, ◌+◌, ◌==◌, ◌||◌, inl, inr, nat_lt, Bool, true, false, Option, Some, None, List, [], ◌∷◌, length, refl, ap, sym, subst, ◌∙◌, arith}
 use Rattle.std.proofs.lemmas.Bool.Decides.{nat_tests}
 use Rattle.tc_verdict.specs.declared.run.Run.{Run}
 use Rattle.tc_entry.specs.declared.comp.Comp.{Comp}
@@ -8,17 +8,29 @@ use Rattle.tc_entry.specs.declared.op.Op.{Op}
 use Rattle.tc_entry.specs.declared.reply.Reply.TheVariants as R
 use Rattle.tc_step.specs.Steps.{ScriptView}
 use Rattle.tc_table.specs.Case.{Case, past_of}
-use Rattle.tc_table.specs.History.{started_on, ends_case, ends_pass, is_over}
-use Rattle.tc_table.specs.Local.{overall}
+use Rattle.tc_table.specs.History.{comp_of, is_comp, started_on, ends_case, ends_pass, is_over}
+use Rattle.tc_table.specs.Legal.{IsLegal}
+use Rattle.tc_table.specs.Local.{local, local_if_any, overall, gives}
 use Rattle.tc_table.specs.Answers.{answer}
-use Rattle.tc_table.proofs.Lemmas.Deciding.{equal_if}
+use Rattle.tc_table.proofs.Lemmas.Deciding.{equal_if, if_same}
 use Rattle.tc_table.proofs.Lemmas.Over.{all_over}
 use Rattle.tc_explore.specs.Course.{Stand, stand, after_own, after_other_by, turn, turn_on, steps_of, is_idle, IsTurn, IsCourse, IsComplete}
-use Rattle.tc_explore.specs.Inside.Going.{taken, IsOn, CannotGo, IsStepped}
+use Rattle.tc_explore.specs.Inside.Going.{taken, IsOn, CannotGo, IsStepped, HasSameLocals}
 use Rattle.tc_explore.proofs.Legality.{course_legal}
-use Rattle.tc_explore.proofs.Alike.{alike_unchanged}
+use Rattle.tc_explore.proofs.Alike.{alike_unchanged, exists_same, local_next}
 use Rattle.tc_explore.proofs.Simulation.{unchanged_ended}
 use Rattle.tc_explore.proofs.Lemmas.Standings.{has_turn, stand_own}
+
+-- ---- local verdicts
+
+-- no verdict is given
+pub local_kept : (past : List Entry) (e : Entry) (c : ℕ) → gives e.op e.reply ≡ [] → local (e ∷ past) c ≡ local past c
+local_kept past e c none = local_next past e c ∙ (rw none refl ∙ if_same (is_comp (comp_of past e.caller.0) c) (local past c))
+
+-- a local verdict stays after a call that is replied Ended
+pub locals_ended : (n : ℕ) (past : List Entry) (e : Entry) → IsLegal n (e ∷ past) → e.reply ≡ R.Ended → (c : ℕ) → local_if_any (e ∷ past) c ≡ local_if_any past c
+unfolding local_if_any
+locals_ended n past e legal r c = rw (exists_same (alike_unchanged n past e legal (unchanged_ended past e r)) c, local_kept past e c (ap (gives e.op) r)) refl
 
 -- ---- one step
 
@@ -76,6 +88,7 @@ no_turn scripts past b ended cannot = by_turn (turn scripts past b) refl
 pub record IsOverAfter (scripts : List ScriptView) (p q : List Entry) (b : ℕ) : Type 0 where
   pub over : is_over q ≡ true
   pub verdict : overall q ≡ overall p
+  pub locals : HasSameLocals p q
   pub done : turn scripts q b ≡ None
   pub others : (k : ℕ) → turn scripts p k ≡ None → turn scripts q k ≡ None
 
@@ -83,6 +96,7 @@ over_entry : (scripts : List ScriptView) (p : List Entry) (e : Entry) (b : ℕ) 
 over_entry scripts p e b course over own mine = record {
   over = rw (none, over) refl;
   verdict = (alike_unchanged (length scripts) p e (course_legal scripts (e ∷ p) (mine, course)) (unchanged_ended p e r)).overall_same;
+  locals = locals_ended (length scripts) p e (course_legal scripts (e ∷ p) (mine, course)) r;
   done = ap (turn scripts (e ∷ p)) (sym own) ∙ own_done scripts p e mine r;
   others = λ k had. by_caller k had (e.caller.0 == k) refl;
 }
@@ -100,26 +114,27 @@ over_entry scripts p e b course over own mine = record {
 over_step : (scripts : List ScriptView) (p q : List Entry) (b : ℕ) → IsCourse scripts p → is_over p ≡ true → IsStepped scripts p q b → IsOverAfter scripts p q b
 over_step scripts p q b course over (inl h) =
     let ended = (all_over (length scripts) p (course_legal scripts p course) over).ended in
-    subst (λ r. IsOverAfter scripts p r b) (sym h.0) (record { over = over; verdict = refl; done = no_turn scripts p b (λ op. ended b op) h.1; others = λ k none. none })
+    subst (λ r. IsOverAfter scripts p r b) (sym h.0) (record { over = over; verdict = refl; locals = λ c. refl; done = no_turn scripts p b (λ op. ended b op) h.1; others = λ k none. none })
 over_step scripts p q b course over (inr s) = subst (λ x. IsOverAfter scripts p x b) (sym s.1) (over_entry scripts p s.0 b course over s.2 s.3)
 
 -- that many runs have no call left after the end of a case
 pub record AreOver (scripts : List ScriptView) (t u : Case) (n : ℕ) : Type 0 where
   pub over : is_over (past_of u) ≡ true
   pub verdict : overall (past_of u) ≡ overall (past_of t)
+  pub locals : HasSameLocals (past_of t) (past_of u)
   pub done : (b : ℕ) → b < n → turn scripts (past_of u) b ≡ None
 
 pub over_more : (scripts : List ScriptView) (t u v : Case) (n : ℕ) → IsOn scripts u → AreOver scripts t u n → IsStepped scripts (past_of u) (past_of v) n → AreOver scripts t v (n + 1)
 over_more scripts t u v n on h step =
     let s = over_step scripts (past_of u) (past_of v) n on.course h.over step in
-    record { over = s.over; verdict = s.verdict ∙ h.verdict; done = λ b less. by_place s b less (nat_lt b n) refl }
+    record { over = s.over; verdict = s.verdict ∙ h.verdict; locals = λ c. s.locals c ∙ h.locals c; done = λ b less. by_place s b less (nat_lt b n) refl }
   where
     by_place : IsOverAfter scripts (past_of u) (past_of v) n → (b : ℕ) → b < n + 1 → (t : Bool) → nat_lt b n ≡ t → turn scripts (past_of v) b ≡ None
     by_place s b less true k = s.others b (h.done b (grind (arith, nat_tests)))
     by_place s b less false k = let same : n ≡ b = grind (arith, nat_tests) in subst (λ x. turn scripts (past_of v) x ≡ None) same s.done
 
 pub over_none : (scripts : List ScriptView) (t : Case) → is_over (past_of t) ≡ true → AreOver scripts t t 0
-over_none scripts t over = record { over = over; verdict = refl; done = λ b less. absurd (omega arith) }
+over_none scripts t over = record { over = over; verdict = refl; locals = λ c. refl; done = λ b less. absurd (omega arith) }
 
 pub over_complete : (scripts : List ScriptView) (t u : Case) (n : ℕ) → length scripts ≤ n → AreOver scripts t u n → IsComplete scripts (past_of u)
 over_complete scripts t u n whole h b near = h.done b (omega arith)
@@ -127,4 +142,7 @@ over_complete scripts t u n whole h b near = h.done b (omega arith)
 pub over_verdict : (scripts : List ScriptView) (t u : Case) (n : ℕ) → AreOver scripts t u n → overall (past_of u) ≡ overall (past_of t)
 over_verdict scripts t u n h = h.verdict
 
-pub ruleset ending_rules = (over_more, over_none, over_complete, over_verdict)
+pub over_locals : (scripts : List ScriptView) (t u : Case) (n : ℕ) → AreOver scripts t u n → HasSameLocals (past_of t) (past_of u)
+over_locals scripts t u n h = h.locals
+
+pub ruleset ending_rules = (over_more, over_none, over_complete, over_verdict, over_locals)

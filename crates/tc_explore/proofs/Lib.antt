@@ -28,3 +28,7 @@ pub mod Followed
 pub mod Taking
 pub mod Late
 pub mod Ordered
+pub mod Twins
+pub mod TwinKeys
+pub mod LocalsClosed
+pub mod Marking

@@ -148,7 +148,7 @@ parked_skip scripts t u k off h = record { alike = h.alike; parked = λ b less a
         let on : is_active (past_of u) k ≡ true = ap (is_active (past_of u)) (sym same) ∙ (active_alike h.alike b ∙ act) in
         absurd cc
 
-alike_then : (p q r : List Entry) → IsAlike p q → IsAlike q r → IsAlike p r
+pub alike_then : (p q r : List Entry) → IsAlike p q → IsAlike q r → IsAlike p r
 alike_then p q r a b = record {
   comps_same = a.comps_same ∙ b.comps_same;
   phase_same = λ c. a.phase_same c ∙ b.phase_same c;
@@ -328,11 +328,11 @@ running_by false (Some b) false a r e = cc
 running_by false (Some b) true true r e = absurd cc
 running_by false (Some b) true false r e = absurd cc
 
-phase_running : (past : List Entry) (c : ℕ) (r : Run) → phase past c ≡ P.Running r → last_run past c ≡ Some r
+pub phase_running : (past : List Entry) (c : ℕ) (r : Run) → phase past c ≡ P.Running r → last_run past c ≡ Some r
 unfolding phase
 phase_running past c r h = running_by (was_killed past c) (last_run past c) (was_halted past c) (is_alive_type past c) r h
 
-active_if : (past : List Entry) (b : ℕ) (c : Comp) → comp_of past b ≡ Some c → is_run_of b (phase past c.0) ≡ true → is_active past b ≡ true
+pub active_if : (past : List Entry) (b : ℕ) (c : Comp) → comp_of past b ≡ Some c → is_run_of b (phase past c.0) ≡ true → is_active past b ≡ true
 unfolding is_active
 active_if past b c e h = rw e h
 

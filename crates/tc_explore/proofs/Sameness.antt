@@ -21,7 +21,7 @@ use Rattle.tc_table.specs.Inside.Kept.{numbers_from}
 use Rattle.tc_table.proofs.Lemmas.Numbers.{length-numbers_from, numbers_from-more, is_in-numbers_from}
 use Rattle.tc_table.proofs.Lemmas.Sound.{next}
 use Rattle.tc_explore.specs.Course.{stand, IsCourse}
-use Rattle.tc_explore.specs.Inside.Simulation.{IsFor, IsFollowed}
+use Rattle.tc_explore.specs.Inside.Simulation.{IsAlike, IsFor, IsFollowed}
 use Rattle.tc_explore.specs.Inside.Keys.{phase_code, comp_code}
 use Rattle.tc_explore.specs.Inside.Seen.{IsSame}
 use Rattle.tc_explore.proofs.Legality.{course_legal}
@@ -57,7 +57,7 @@ numbered n (e ∷ past) legal = by_made (numbered n past legal.1) (created e.op 
             let sum : 0 + m ≡ x = omega arith in
             cc
 
-exists_below : (n : ℕ) (past : List Entry) (c : ℕ) → IsLegal n past → exists past c ≡ nat_lt c (components past)
+pub exists_below : (n : ℕ) (past : List Entry) (c : ℕ) → IsLegal n past → exists past c ≡ nat_lt c (components past)
 unfolding exists
 exists_below n past c legal = ap (is_in c) (numbered n past legal) ∙ (is_in-numbers_from c 0 (components past) ∙ from_zero c (components past))
   where
@@ -68,17 +68,15 @@ some_same : (t : Bool) (x y : Phase) → t ≡ true → (if t then Some x else N
 some_same true x y h e = cc
 some_same false x y h e = absurd cc
 
--- after both each component that there is does the same and is of one kind, each of n runs is on the same component, and
--- the same is known of each that continues
-pub record HasSame (n : ℕ) (p q : List Entry) : Type 0 where
+-- after both each component that there is does the same and is of one kind, and each of n runs is on the same component
+pub record HasAlike (n : ℕ) (p q : List Entry) : Type 0 where
   pub verdict : overall p ≡ overall q
   pub count : components p ≡ components q
   pub phases : (c : ℕ) → c < components p → phase_if_any p c ≡ phase_if_any q c
   pub kinds : (c : ℕ) → c < components p → is_alive_type p c ≡ is_alive_type q c
   pub comps : (b : ℕ) → b < n → (stand p b).comp ≡ (stand q b).comp
-  pub stands : (b : ℕ) → b < n → is_active p b ≡ true → (stand p b ≡ stand q b) × ((stand q b).wake ≡ None)
 
-module _ (scripts : List ScriptView) (p q : List Entry) (cp : IsCourse scripts p) (cq : IsCourse scripts q) (s : HasSame (length scripts) p q) where
+module _ (scripts : List ScriptView) (p q : List Entry) (cp : IsCourse scripts p) (cq : IsCourse scripts q) (s : HasAlike (length scripts) p q) where
   lp : IsLegal (length scripts) p
   lp = course_legal scripts p cp
 
@@ -119,16 +117,13 @@ module _ (scripts : List ScriptView) (p q : List Entry) (cp : IsCourse scripts p
       let far : length scripts ≤ b = grind (arith, nat_tests) in
       beyond_range p b some lp far ∙ sym (beyond_range q b some lq far)
 
-  pub same_of : 1 ≤ length scripts → IsSame p q
-  same_of some = record {
-    alike = record {
-      comps_same = numbered (length scripts) p lp ∙ (ap (numbers_from 0) s.count ∙ sym (numbered (length scripts) q lq));
-      phase_same = λ c. phases_by c (nat_lt c (components p)) refl;
-      kind_same = λ c. kinds_by c (nat_lt c (components p)) refl;
-      comp_same = λ b. comps_by b some (nat_lt b (length scripts)) refl;
-      overall_same = s.verdict;
-    };
-    stands = λ b act. let on = some_if p b act in s.stands b (run_in_range (length scripts) p b on.0 some lp on.1) act;
+  pub alike_of : 1 ≤ length scripts → IsAlike p q
+  alike_of some = record {
+    comps_same = numbered (length scripts) p lp ∙ (ap (numbers_from 0) s.count ∙ sym (numbered (length scripts) q lq));
+    phase_same = λ c. phases_by c (nat_lt c (components p)) refl;
+    kind_same = λ c. kinds_by c (nat_lt c (components p)) refl;
+    comp_same = λ b. comps_by b some (nat_lt b (length scripts)) refl;
+    overall_same = s.verdict;
   }
 
 -- ---- levels

@@ -24,7 +24,7 @@ get_more xs more i t h =
     let far : i < length (xs ++ more) = omega (arith, length-append xs more) in
     slice_get-get_or (xs ++ more) i t far ∙ ap Some (get_or_append_left xs more t i near ∙ get_or_from_slice_get xs i t t h)
 
-get_last : (xs : List Case) (t : Case) → slice_get (xs ++ t ∷ []) (length xs) ≡ Some t
+pub get_last : (xs : List Case) (t : Case) → slice_get (xs ++ t ∷ []) (length xs) ≡ Some t
 get_last xs t =
     let near : length xs < length (xs ++ t ∷ []) = omega (arith, length-append xs (t ∷ [])) in
     slice_get-get_or (xs ++ t ∷ []) (length xs) t near ∙ ap Some (get_or-append_seam xs t [] t)

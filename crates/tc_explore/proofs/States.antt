@@ -56,7 +56,7 @@ pub ruleset state_rules = (closed_going, closed_stuck, closed_error)
 
 -- ---- places
 
-get_longer : (a b : List Case) (i : ℕ) (t : Case) → IsLonger a b → slice_get a i ≡ Some t → slice_get b i ≡ Some t
+pub get_longer : (a b : List Case) (i : ℕ) (t : Case) → IsLonger a b → slice_get a i ≡ Some t → slice_get b i ≡ Some t
 get_longer a b i t more h = ap (λ x. slice_get x i) more.1 ∙ get_more a more.0 i t h
 
 -- a copy of the state at a place is closed

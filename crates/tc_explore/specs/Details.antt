@@ -1,8 +1,12 @@
 -- What matters of what the details say of a test case that was explored: what some of the lines hold.
-use Rattle.std.specs.Prelude.{ℕ, ◌==◌, ◌+◌, nat_lt, if◌then◌else◌, List, [], ◌∷◌, ◌++◌, codes, length, reverse, slice_index_or}
+use Rattle.std.specs.Prelude.{ℕ, ◌==◌, ◌+◌, ◌&&◌, nat_lt, if◌then◌else◌, Bool, true, false, Option, Some, List, [], ◌∷◌, ◌++◌, codes, length, reverse, slice_get, slice_index_or}
 use Rattle.std.specs.Fmt.{decimal}
 use Rattle.std.specs.Option.{option_map_or, option_to_list}
 use Rattle.std.specs.List.{flat_map, range_with_len}
+use Rattle.tc_step.specs.declared.place.Place.TheVariants as P
+use Rattle.tc_step.specs.declared.step.Step.{Step}
+use Rattle.tc_step.specs.declared.step.Step.TheVariants as S
+use Rattle.tc_step.specs.declared.place.TargetPlace.TheVariants as T
 use Rattle.tc_step.specs.Steps.{ScriptView}
 use Rattle.tc_explore.specs.declared.explored.Ending.{Ending}
 use Rattle.tc_explore.specs.declared.explored.Ending.TheVariants as E
@@ -29,13 +33,23 @@ local_words history c = comp_words history c ++ option_map_or (λ v. name_of v �
 abbrev pub locals : Witness → List Line
 locals w = (name_of w.verdict ∷ flat_map (local_words w.history) (range_with_len 0 (components (reverse w.history)))) ∷ []
 
--- the number of the first step of run b that is not carried out, where k of that many are
-unfoldable pub unseen_among : ℕ → ℕ → ℕ → List Line
-unseen_among b k count = if nat_lt k count then (decimal b ∷ decimal (k + 1) ∷ decimal count ∷ []) ∷ [] else []
+-- the step waits for the component that it is on
+abbrev pub waits_for_own : Option Step → Bool
+waits_for_own (Some (S.Wait killed (T.One P.Own))) = true
+waits_for_own step = false
+
+-- only the last step is not carried out, and it waits for its own component: the behaviour continues until it is killed
+abbrev pub lasts_until_killed : ℕ → List Step → Bool
+lasts_until_killed k steps = (length steps == k + 1) && waits_for_own (slice_get steps k)
+
+-- the number of the first step of run b that is not carried out, where k of these are, unless it continues until it is killed
+unfoldable pub unseen_among : ℕ → ℕ → List Step → List Line
+unseen_among b k steps =
+    if lasts_until_killed k steps then [] else if nat_lt k (length steps) then (decimal b ∷ decimal (k + 1) ∷ decimal (length steps) ∷ []) ∷ [] else []
 
 -- the same of all runs of these scripts, of which that many calls are reached
 unfoldable pub unseen : List ScriptView → List ℕ → List Line
-unseen scripts reached = flat_map (λ b. unseen_among b (slice_index_or reached b 0) (length (steps_of scripts b))) (range_with_len 0 (length scripts))
+unseen scripts reached = flat_map (λ b. unseen_among b (slice_index_or reached b 0) (steps_of scripts b)) (range_with_len 0 (length scripts))
 
 -- the same, if the search came to its end
 abbrev pub unseen_if_complete : Ending → List ScriptView → List ℕ → List Line

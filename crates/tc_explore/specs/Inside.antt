@@ -4,3 +4,4 @@ pub mod Adding
 pub mod Keys
 pub mod Seen
 pub mod Going
+pub mod Twins

@@ -5,3 +5,4 @@ pub mod Told
 pub mod Inside
 pub mod Race
 pub mod Details
+pub mod Locals

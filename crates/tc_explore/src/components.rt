@@ -35,9 +35,9 @@ fn name_given(entry: &Entry, comp: u32) -> Option<&Name>
     }
 }
 
-// The name of a component, if its creation gave it one.
+/// The name of a component, if its creation gave it one.
 #[tactic(auto, using(crate::proofs::Prefixes::name_rules))]
-fn name_at(history: &[Entry], comp: u32) -> Option<&Name>
+pub(crate) fn name_at(history: &[Entry], comp: u32) -> Option<&Name>
     ensures { option_copied result ≡ name_of_comp (reverse history.now) comp }
 {
     let mut left = history;

@@ -11,6 +11,7 @@ ghost use Rattle.tc_table.specs.Faults as faults;
 ghost use Rattle.tc_explore.specs.Course as courses;
 ghost use Rattle.tc_explore.specs.Inside.Going as going;
 ghost use Rattle.tc_explore.specs.Inside.Keys.{phase_code, comp_key, run_key_of, key_of};
+ghost use Rattle.tc_explore.specs.Inside.Twins.{local_code, local_key, twin_key, wake_key_of};
 
 use crate::entries::has_gone_on;
 use crate::standing::Standing;
@@ -127,6 +128,16 @@ fn phase_number(phase: Option<Phase>) -> u64
         Some(Phase::Stopped) => 2,
         Some(Phase::Killed) => 3,
         Some(Phase::Running(run)) => u64::from(run.0) + 4,
+    }
+}
+
+// A local verdict as a number.
+fn local_number(local: Option<Verdict>) -> u64
+    ensures { result ≡ local_code local }
+{
+    match local {
+        None => 0,
+        Some(verdict) => level(verdict) + 1,
     }
 }
 
@@ -302,6 +313,50 @@ impl Course {
         self.add_components(&mut key)?;
         self.add_runs(&mut key, n)?;
         Ok(key)
+    }
+
+    // Adds the local verdict of each component.
+    fn add_locals(&self, key: &mut Vec<u64>) -> Result<(), NoMemory>
+        ensures { OnOk result (key.new.items ≡ key.old.items ++ flat_map (local_key (past_of self.now)) (range_with_len 0 (faults.components (past_of self.now)))) }
+    {
+        for comp in 0..self.components() {
+            key.push(local_number(self.local(comp)))?;
+        }
+        Ok(())
+    }
+
+    // Adds what each of n runs waits for.
+    fn add_wakes(&self, key: &mut Vec<u64>, n: u16) -> Result<(), NoMemory>
+        requires { n ≡ self.now.behaviours }
+        ensures { OnOk result (key.new.items ≡ key.old.items ++ flat_map (wake_key_of (past_of self.now)) (range_with_len 0 n)) }
+    {
+        for run in 0..n {
+            let goes_on = self.is_active(Run(run));
+            self.standings[usize::from(run)].add_wake_key(key, goes_on)?;
+        }
+        Ok(())
+    }
+
+    /// All that what can still come depends on, local verdicts included, as numbers.
+    #[tactic(auto, unfolding(crate::specs::Inside::Twins::twin_key))]
+    pub(crate) fn twin_key(&self, alloc: Global, n: u16) -> Result<Vec<u64>, NoMemory>
+        requires { n ≡ self.now.behaviours }
+        ensures { IfOk result (λ key. key.items ≡ twin_key n (past_of self.now)) }
+    {
+        let rest = self.key(alloc, n)?;
+        let mut key = Vec::new(alloc);
+        key.push(u64::from(self.components()))?;
+        self.add_locals(&mut key)?;
+        self.add_wakes(&mut key, n)?;
+        key.extend_from_slice(rest.as_slice())?;
+        Ok(key)
+    }
+
+    /// The local verdict of a component.
+    pub(crate) fn local(&self, comp: u32) -> Option<Verdict>
+        ensures { result ≡ verdicts.local_if_any (past_of self.now) comp }
+    {
+        self.table.local(Comp(comp))
     }
 
     /// The overall verdict.

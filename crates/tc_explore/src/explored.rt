@@ -66,8 +66,8 @@ fn weight_for(scripts: &[Script], room: usize) -> Option<usize>
     (size / SIZE_OF_ONE_MORE).checked_add(1)
 }
 
-// How many states a search looks at, at most, if numbers can hold what they have room for.
-fn most_states(scripts: &[Script], limit: usize) -> Option<usize>
+/// How many states a search looks at, at most, if numbers can hold what they have room for.
+pub(crate) fn most_states(scripts: &[Script], limit: usize) -> Option<usize>
     ensures { IfSome result (λ n. n ≡ courses.most_states scripts.now limit) }
 {
     let room = room_for_one(scripts)?;

@@ -69,9 +69,9 @@ fn place(alloc: Global, scripts: &[Script], course: Course, met: &mut Met) -> Re
     Ok(true)
 }
 
-// The course with one more call; the course itself is kept.
+/// The course with one more call; the course itself is kept.
 #[tactic(auto, using(crate::proofs::Closed::closed_rules, crate::proofs::Lemmas::Turning::turn_rules))]
-fn with_call(
+pub(crate) fn with_call(
     alloc: Global,
     scripts: &[Script],
     course: &Course,

@@ -1,13 +1,14 @@
 //! What is known of one run.
-ghost use Rattle.std.specs.Prelude.{◌≡◌, ◌++◌, IfOk, IfSome, Some, OnOk, map};
+ghost use Rattle.std.specs.Prelude.{◌≡◌, ◌++◌, ◌∷◌, [], IfOk, IfSome, Some, OnOk, map};
 ghost use Rattle.tc_explore.specs.Course as courses;
 ghost use Rattle.tc_explore.specs.Inside.Keys.{comp_code, number_of, run_key};
+ghost use Rattle.tc_explore.specs.Inside.Twins.{target_key, wake_key};
 
 use crate::call::call_at;
 use crate::entries::{arguments, ends, is_wake, wake_after};
 use std::alloc::Global;
 use std::marker::Model;
-use tc_entry::{Comp, Entry, Op};
+use tc_entry::{Comp, Entry, Op, Target};
 use tc_step::Step;
 use tc_table::{Awaited, created, started_on};
 use tc_verdict::NoMemory;
@@ -148,6 +149,39 @@ impl Standing {
         key.push(self.called as u64)?;
         key.push(self.bound.len() as u64)?;
         add_numbers(key, self.bound.as_slice())
+    }
+
+    /// Adds what a run that continues waits for, as numbers.
+    pub(crate) fn add_wake_key(&self, key: &mut Vec<u64>, goes_on: bool) -> Result<(), NoMemory>
+        ensures { OnOk result (key.new.items ≡ key.old.items ++ wake_key goes_on self.now.wake) }
+    {
+        if !goes_on {
+            return add_pair(key, 0, 0);
+        }
+        match &self.wake {
+            Some(Op::Wake { killed, target }) => add_target(key, *killed, *target),
+            _ => add_pair(key, 0, 0),
+        }
+    }
+}
+
+// Adds two numbers.
+fn add_pair(key: &mut Vec<u64>, first: u64, second: u64) -> Result<(), NoMemory>
+    ensures { OnOk result (key.new.items ≡ key.old.items ++ first ∷ second ∷ []) }
+{
+    key.push(first)?;
+    key.push(second)?;
+    Ok(())
+}
+
+// Adds what is waited for.
+fn add_target(key: &mut Vec<u64>, killed: bool, target: Target) -> Result<(), NoMemory>
+    ensures { OnOk result (key.new.items ≡ key.old.items ++ target_key killed target) }
+{
+    match target {
+        Target::One(comp) => add_pair(key, if killed { 2 } else { 1 }, u64::from(comp.0)),
+        Target::Any => add_pair(key, if killed { 4 } else { 3 }, 0),
+        Target::All => add_pair(key, if killed { 6 } else { 5 }, 0),
     }
 }
 

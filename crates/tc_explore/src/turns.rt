@@ -6,7 +6,7 @@ ghost use Rattle.tc_table.specs.Case.{past_of};
 ghost use Rattle.tc_table.specs.History.{is_over};
 ghost use Rattle.tc_table.specs.Local.{overall};
 ghost use Rattle.tc_explore.specs.Course as courses;
-ghost use Rattle.tc_explore.specs.Inside.Going.{IsOn, IsNext, CannotGo, IsStepped};
+ghost use Rattle.tc_explore.specs.Inside.Going.{IsOn, IsNext, CannotGo, IsStepped, HasSameLocals};
 
 use crate::course::Course;
 use crate::entries::is_wake;
@@ -68,6 +68,7 @@ pub(crate) fn step_all(course: Course, scripts: &[Script]) -> Result<Course, NoM
     ensures on { IfOk result (IsOn scripts.now) }
     ensures complete { IfOk result (λ c. courses.IsComplete scripts.now (past_of c)) }
     ensures verdict { IfOk result (λ c. overall (past_of c) ≡ overall (past_of course)) }
+    ensures locals { IfOk result (λ c. HasSameLocals (past_of course) (past_of c)) }
 {
     let mut course = course;
     for run in 0..scripts.len() as u16 {

@@ -1,14 +1,15 @@
 //! The steps that no course which was looked at carries out.
-ghost use Rattle.std.specs.Prelude.{◌≡◌, ◌<◌, ◌≤◌, ◌+◌, [], ◌∷◌, OnOk, length, slice_index_or};
+ghost use Rattle.std.specs.Prelude.{◌≡◌, ◌<◌, ◌≤◌, ◌+◌, [], ◌∷◌, OnOk, Some, length, slice_index_or};
 ghost use Rattle.tc_entry.specs.declared.limits.TheConstants.{BEHAVIOURS};
 ghost use Rattle.tc_text.specs.Said.{TellsAmong, TellsLine};
 ghost use Rattle.std.specs.Fmt.{decimal};
+ghost use Rattle.tc_explore.specs.Details as details;
 ghost use Rattle.tc_explore.specs.Details.{unseen, unseen_among};
 
 use crate::course::steps_of;
 use crate::steps::append_step;
 use std::alloc::Global;
-use tc_step::{Script, Step};
+use tc_step::{Place, Script, Step, TargetPlace};
 use tc_text::{Part, append_parts};
 use tc_verdict::{NoMemory, Run};
 
@@ -49,7 +50,29 @@ fn append_at(
     )
 }
 
-// Appends the line of a run, if one of its steps is not carried out; if memory runs out, a part of it.
+// Whether the step waits for the component that it is on.
+fn waits_for_own(step: &Step) -> bool
+    ensures { result ≡ details.waits_for_own (Some step.now) }
+{
+    matches!(
+        step,
+        Step::Wait {
+            target: TargetPlace::One(Place::Own),
+            ..
+        }
+    )
+}
+
+// Whether only the last step is not carried out, and it waits for its own component.
+fn lasts_until_killed(steps: &[Step], before: usize) -> bool
+    requires { before < length steps.now }
+    ensures { result ≡ details.lasts_until_killed before steps.now }
+{
+    steps.len() == before + 1 && waits_for_own(&steps[before])
+}
+
+// Appends the line of a run, if one of its steps is not carried out, unless it continues until it is killed. If memory runs
+// out, a part of it.
 #[tactic(auto, unfolding(crate::specs::Details::unseen_among), using(tc_text::proofs::Lemmas::Among::among_rules))]
 fn append_among(
     alloc: Global,
@@ -58,9 +81,9 @@ fn append_among(
     before: usize,
     steps: &[Step],
 ) -> Result<(), NoMemory>
-    ensures { OnOk result (TellsAmong (unseen_among run before (length steps.now)) out.old.items out.new.items) }
+    ensures { OnOk result (TellsAmong (unseen_among run before steps.now) out.old.items out.new.items) }
 {
-    if before >= steps.len() {
+    if before >= steps.len() || lasts_until_killed(steps, before) {
         return Ok(());
     }
     append_at(alloc, out, run, before, steps)

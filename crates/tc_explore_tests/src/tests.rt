@@ -2,6 +2,7 @@
 mod checks;
 mod details;
 mod following;
+mod locals;
 mod play;
 mod random;
 mod runs;
@@ -13,7 +14,7 @@ use std::alloc::Global;
 use std::process::Abort;
 use std::test::Fail;
 use tc_entry::{Entry, Name, Op, Reply};
-use tc_explore::{Ending, Explored, Witness, explore};
+use tc_explore::{Ending, Explored, Locals, Witness, explore, explore_locals};
 use tc_step::{GroupPlace, Place, Places, Script, Status, Step, TargetPlace};
 use tc_table::{CheckFault, replay_check};
 use tc_verdict::{NoMemory, Run, UserVerdict, Verdict};

@@ -1,12 +1,12 @@
 -- Test cases that are taken one after the other.
-use Rattle.std.proofs.Common.{◌≡◌, ◌∙◌, ◌++◌, ◌∷◌, List, [], ap, sym, subst}
+use Rattle.std.proofs.Common.{ℕ, ◌≡◌, ◌∙◌, ◌++◌, ◌∷◌, Bool, true, false, List, [], refl, ap, sym, subst}
 use Rattle.std.specs.List.{AllZip}
 use Rattle.std.proofs.lemmas.List.{append-nil}
 use Rattle.tc_campaign.specs.Inside.{AreDone}
 use Rattle.tc_campaign.specs.declared.case.Case.{Case}
 use Rattle.tc_command.specs.declared.task.ExploreOptions.{ExploreOptions}
 use Rattle.tc_step.specs.Steps.{ScriptView}
-use Rattle.tc_program.specs.Explore.{IsExplored}
+use Rattle.tc_program.specs.Explore.{IsExplored, TellsLocals, TellsLocalsIf}
 use Rattle.tc_program.specs.Inside.{IsCaseOf, IsExploredOf}
 use Rattle.tc_program.specs.Scripted.{CaseView}
 use Rattle.tc_program.specs.declared.explore.ExploredCase.{ExploredCase}
@@ -25,3 +25,14 @@ explored_each o [] (k ∷ ks) es each are = absurd each
 explored_each o (c ∷ cs) [] es each are = absurd each
 explored_each o (c ∷ cs) (k ∷ ks) [] each are = absurd are
 explored_each o (c ∷ cs) (k ∷ ks) (e ∷ es) each are = (are.0 c each.0, explored_each o cs ks es each.1 are.1)
+
+-- local verdicts that are asked for, or not
+pub not_asked : (asked : Bool) (states : ℕ) (scripts : List ScriptView) (a : List ℕ) → asked ≡ false → TellsLocalsIf asked states scripts a a
+not_asked false states scripts a h = refl
+not_asked true states scripts a h = absurd cc
+
+pub asked : (asks : Bool) (states : ℕ) (scripts : List ScriptView) (a b : List ℕ) → asks ≡ true → TellsLocals states scripts a b → TellsLocalsIf asks states scripts a b
+asked true states scripts a b h t = t
+asked false states scripts a b h t = absurd cc
+
+pub ruleset asked_rules = (not_asked, asked)

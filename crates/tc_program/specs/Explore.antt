@@ -9,10 +9,33 @@ use Rattle.tc_explore.specs.Course.{most_states}
 use Rattle.tc_explore.specs.Found.{AreWitnesses, AreLegal, AreReached, IsOnce}
 use Rattle.tc_explore.specs.Found.{AllFound}
 use Rattle.tc_explore.specs.declared.explored.Ending.TheVariants as E
+use Rattle.tc_explore.specs.declared.explored.Explored.{Explored}
+use Rattle.tc_explore.specs.declared.locals.Locals.{Locals}
+use Rattle.tc_explore.specs.Locals.{AllLocalsFound, AreLocals, locals_lines}
+use Rattle.tc_step.specs.Steps.{ScriptView}
 use Rattle.tc_explore.specs.Told.{explored_line, explored_status, witnesses_text}
 use Rattle.tc_program.specs.declared.explore.ExploredCase.{ExploredCase}
 use Rattle.tc_program.specs.Passed.{AreToRun}
 use Rattle.tc_program.specs.Scripted.{CaseView, scripts_of}
+
+-- Each local verdict that was found of the components of these scripts has a complete course. If the search says that it is
+-- complete, that of each complete course was found, and otherwise it looked at as many states as it may. The lines say so.
+pub record TellsLocals (states : ℕ) (scripts : List ScriptView) (before after : List ℕ) : Type 0 where
+  pub locals : Locals
+  pub sound : AreLocals scripts locals.found
+  pub complete : locals.ending ≡ E.Complete → AllLocalsFound scripts locals.found
+  pub undecided : locals.ending ≡ E.Undecided → 1 ≤ length scripts → locals.states ≡ most_states scripts states
+  pub told : TellsAmong (locals_lines locals) before after
+
+-- the same, if they are asked for
+abbrev pub TellsLocalsIf : Bool → ℕ → List ScriptView → List ℕ → List ℕ → Type 0
+TellsLocalsIf true states scripts before after = TellsLocals states scripts before after
+TellsLocalsIf false states scripts before after = after ≡ before
+
+-- what is printed after the line of a test case: its local verdicts, and its details
+abbrev pub TellsAfter : ExploreOptions → List ScriptView → Explored → List ℕ → Type 0
+TellsAfter o scripts e text =
+    (middle : List ℕ) × TellsLocalsIf o.locals o.states scripts [] middle × TellsAmong (if o.details then of_details scripts e else []) middle text
 
 -- A test case was explored, and each verdict that was found has one witness: a complete course of its scripts, which is legal.
 -- If the search says that it is complete, the verdict of each complete course of its scripts was found. If it says that it is
@@ -27,7 +50,7 @@ pub record IsExplored (o : ExploreOptions) (c : CaseView) (e : ExploredCase) : T
   pub reached : AreReached (scripts_of c.1) e.explored.reached
   pub most : e.explored.states ≤ most_states (scripts_of c.1) o.states
   pub undecided : e.explored.ending ≡ E.Undecided → 1 ≤ length (scripts_of c.1) → e.explored.states ≡ most_states (scripts_of c.1) o.states
-  pub details_are : TellsAmong (if o.details then of_details (scripts_of c.1) e.explored else []) [] e.details
+  pub details_are : TellsAfter o (scripts_of c.1) e.explored e.details
 
 -- what is written of a test case: its line and its details, or the histories of its witnesses
 abbrev pub told_of : Bool → ExploredCase → List ℕ

@@ -1,11 +1,11 @@
 //! The subcommand `explore`.
-ghost use Rattle.std.specs.Prelude.{◌≡◌, ◌≤◌, [], All, IfOk, IfErr, length};
+ghost use Rattle.std.specs.Prelude.{◌≡◌, ◌≤◌, [], All, IfOk, IfErr, OnOk, length};
 ghost use Rattle.std.specs.List.{AllZip, flat_map};
 ghost use Rattle.tc_entry.specs.declared.limits.TheConstants.{BEHAVIOURS};
 ghost use Rattle.tc_explore.specs.Found.{AreLegal};
 ghost use Rattle.tc_text.specs.Said.{TellsAmong};
 ghost use Rattle.tc_program.specs.Inside.{HasFewJobs, IsExploredOf, details_if};
-ghost use Rattle.tc_program.specs.Explore.{Explores, has_status as status_in, status_of_all, told_of};
+ghost use Rattle.tc_program.specs.Explore.{Explores, TellsAfter, TellsLocals, TellsLocalsIf, has_status as status_in, status_of_all, told_of};
 ghost use Rattle.tc_program.specs.Passed.{RefusesRun};
 
 use crate::fault::RunFault;
@@ -15,7 +15,7 @@ use std::alloc::Global;
 use tc_campaign::Case;
 use tc_command::ExploreOptions;
 use tc_entry::{Name, Sequence};
-use tc_explore::{Explored, explore};
+use tc_explore::{Explored, explore, explore_locals};
 use tc_step::Script;
 use tc_verdict::NoMemory;
 
@@ -28,22 +28,73 @@ pub(crate) struct ExploredCase {
     pub(crate) details: Sequence<u8>,
 }
 
-// The details of a test case with these scripts, if they are asked for.
+// Appends the local verdicts of a test case with these scripts, of which it looks at that many states.
+fn append_locals(
+    alloc: Global,
+    out: &mut Vec<u8>,
+    scripts: &[Script],
+    states: usize,
+) -> Result<(), NoMemory>
+    requires few { length scripts.now ≤ BEHAVIOURS }
+    ensures { OnOk result (TellsLocals states scripts.now out.old.items out.new.items) }
+{
+    let locals = explore_locals(alloc, scripts, states)?;
+    locals.append_lines(alloc, out)?;
+    Ok(())
+}
+
+// Appends them, if they are asked for.
+#[tactic(auto, using(crate::proofs::Exploring::asked_rules))]
+fn append_locals_if(
+    alloc: Global,
+    out: &mut Vec<u8>,
+    locals: bool,
+    scripts: &[Script],
+    states: usize,
+) -> Result<(), NoMemory>
+    requires few { length scripts.now ≤ BEHAVIOURS }
+    ensures { OnOk result (TellsLocalsIf locals states scripts.now out.old.items out.new.items) }
+{
+    if !locals {
+        return Ok(());
+    }
+    append_locals(alloc, out, scripts, states)?;
+    Ok(())
+}
+
+// Appends the details of a test case with these scripts, if they are asked for.
 #[tactic(auto, using(tc_text::proofs::Lemmas::Among::among_none))]
+fn append_details_if(
+    alloc: Global,
+    out: &mut Vec<u8>,
+    details: bool,
+    scripts: &[Script],
+    explored: &Explored,
+) -> Result<(), NoMemory>
+    requires few { length scripts.now ≤ BEHAVIOURS }
+    requires legal { AreLegal scripts.now explored.now.found }
+    ensures { OnOk result (TellsAmong (details_if details scripts.now explored.now) out.old.items out.new.items) }
+{
+    if details {
+        explored.append_details(alloc, out, scripts)?;
+    }
+    Ok(())
+}
+
+// What is printed after the line of a test case with these scripts.
 fn details_of(
     alloc: Global,
-    details: bool,
+    options: &ExploreOptions,
     scripts: &[Script],
     explored: &Explored,
 ) -> Result<Vec<u8>, NoMemory>
     requires few { length scripts.now ≤ BEHAVIOURS }
     requires legal { AreLegal scripts.now explored.now.found }
-    ensures { IfOk result (λ text. TellsAmong (details_if details scripts.now explored.now) [] text.items) }
+    ensures { IfOk result (λ text. TellsAfter options.now scripts.now explored.now text.items) }
 {
     let mut out = Vec::new(alloc);
-    if details {
-        explored.append_details(alloc, &mut out, scripts)?;
-    }
+    append_locals_if(alloc, &mut out, options.locals, scripts, options.states)?;
+    append_details_if(alloc, &mut out, options.details, scripts, explored)?;
     Ok(out)
 }
 
@@ -60,7 +111,7 @@ fn explore_case(
     drop(names);
     let behaviours = jobs.len() as u16;
     let explored = explore(alloc, jobs.as_slice(), options.states)?;
-    let details = details_of(alloc, options.details, jobs.as_slice(), &explored)?;
+    let details = details_of(alloc, options, jobs.as_slice(), &explored)?;
     Ok(ExploredCase {
         name,
         behaviours,

@@ -80,6 +80,8 @@ ttrun explore --states 7 => explore --states=7
 ttrun explore --states=1000000 --history => explore --history --states=1000000
 ttrun explore --details => explore --details --states=100000
 ttrun explore --states 7 --details => explore --details --states=7
+ttrun explore --locals => explore --locals --states=100000
+ttrun explore --locals --states 7 --details => explore --details --locals --states=7
 ttrun explore --explain => explore --states=100000 --explain
 ttrun explore --shard 1/3 --only a --only b* --failed => explore --states=100000 --only=a --only=b* --shard=1/3 --failed
 ttrun explore --states 7 --explain --only a --history => explore --history --states=7 --only=a --explain";
@@ -214,6 +216,7 @@ fn append_explore(out: &mut String, options: &ExploreOptions) -> Result<(), Fail
     out.push_str("explore")?;
     append_if(out, options.histories, " --history")?;
     append_if(out, options.details, " --details")?;
+    append_if(out, options.locals, " --locals")?;
     write!(out, " --states={}", options.states)?;
     append_choice(out, &options.choice)?;
     append_explains(out, options.explains)

@@ -3,6 +3,7 @@ use Rattle.std.specs.Prelude.{ℕ, ◌==◌, ◌⊎◌, List, ◌∷◌, ◌≡�
 use Rattle.tc_verdict.specs.declared.run.Run.{Run}
 use Rattle.tc_entry.specs.declared.entry.Entry.{Entry}
 use Rattle.tc_entry.specs.declared.op.Op.{Op}
+use Rattle.tc_table.specs.Local.{local_if_any}
 use Rattle.tc_table.specs.Answers.{answer, is_active}
 use Rattle.tc_explore.specs.Course.{Stand, next, stand, one_more_if, carried, IsTurn, IsCourse}
 use Rattle.tc_step.specs.Steps.{ScriptView}
@@ -71,3 +72,7 @@ CountsOn e before after =
 pub record AreNoted (scripts : List ScriptView) (found : List Witness) : Type 0 where
   pub sound : AreWitnesses scripts found
   pub once : IsOnce found
+
+-- after both each component has the same local verdict
+abbrev pub HasSameLocals : List Entry → List Entry → Type 0
+HasSameLocals p q = (c : ℕ) → local_if_any q c ≡ local_if_any p c

@@ -135,6 +135,23 @@ fn steps_behind_a_wait_that_is_never_over(rt: HostRuntime) -> Result<(), Fail> {
     Ok(())
 }
 
+// Adds a main behaviour that kills the one that it starts, and one that continues until it is killed.
+fn add_killed<R: Abort>(rt: &R, alloc: Global, scripts: &mut Vec<Script>) -> Result<(), Fail> {
+    let kill = Step::Kill(GroupPlace::One(P));
+    let steps = vec![in alloc; create(true), start(P, 1), kill]?;
+    scripts.push(script(rt, steps))?;
+    let waiting = vec![in alloc; Step::GetVerdict, wait_killed(Place::Own)]?;
+    Ok(scripts.push(script(rt, waiting))?)
+}
+
+#[test]
+fn a_last_wait_until_it_is_killed(rt: HostRuntime) -> Result<(), Fail> {
+    let mut scripts = Vec::new(rt.alloc());
+    add_killed(&rt, rt.alloc(), &mut scripts)?;
+    let wanted = "  none: mtc none, 1 none\n";
+    are_details(&rt, rt.alloc(), scripts.as_slice(), wanted)
+}
+
 // A main behaviour with this step after a wait that is stuck, and one that is not started.
 fn stuck_before<R: Abort>(rt: &R, alloc: Global, step: Step) -> Result<Vec<Script>, Fail> {
     let steps = vec![in alloc; create(true), wait(TargetPlace::One(P)), step]?;

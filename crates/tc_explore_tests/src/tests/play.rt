@@ -240,20 +240,36 @@ impl Play {
     }
 }
 
-/// What all schedules give: the overall verdicts, and how many calls each run carries out at most.
+/// What all schedules give: the overall verdicts, the local ones with their components, and how many calls each run
+/// carries out at most.
 #[derive(Drop)]
 pub struct All {
     pub verdicts: Vec<Verdict>,
+    pub locals: Vec<(u32, Verdict)>,
     pub reached: Vec<usize>,
 }
 
 impl All {
+    // Takes in the local verdicts of a case that is over.
+    fn take_locals(&mut self, state: &CaseState) -> Result<(), NoMemory> {
+        for comp in 0..state.components() {
+            let local = (comp, state.local(Comp(comp)).unwrap_or(Verdict::None));
+            if !self.locals.contains(&local) {
+                self.locals.push(local)?;
+            }
+        }
+        Ok(())
+    }
+
     fn take(&mut self, play: &Play) -> Result<(), NoMemory> {
         for (reached, player) in self.reached.iter_mut().zip(&play.players) {
             *reached = (*reached).max(player.carried);
         }
         if play.state.is_over() && !self.verdicts.contains(&play.verdict()) {
             self.verdicts.push(play.verdict())?;
+        }
+        if play.state.is_over() {
+            self.take_locals(&play.state)?;
         }
         Ok(())
     }
@@ -288,7 +304,11 @@ pub fn all_schedules(
 {
     let verdicts = Vec::new(alloc);
     let reached = vec![in alloc; 0; scripts.len()]?;
-    let mut all = All { verdicts, reached };
+    let mut all = All {
+        verdicts,
+        locals: Vec::new(alloc),
+        reached,
+    };
     let mut left = Vec::new(alloc);
     left.push(Play::opening(alloc, scripts.len() as u16)?)?;
     for _ in 0..most {

@@ -1,4 +1,3 @@
-use Rattle.std.proofs.Common.{length}
 use Rattle.std.specs.Prelude.{slice_index_or}
 use Rattle.std.specs.List.{flat_map, range_with_len}
 use Rattle.tc_text.specs.Said.{TellsAmong}
@@ -7,4 +6,4 @@ use Rattle.tc_explore.specs.Details.{unseen_among}
 use Rattle.tc_explore.proofs.unseen.append_unseen.Given as goal
 
 abbrev pub invariant-loop-run : goal.invariant-loop-run
-invariant-loop-run l = TellsAmong (flat_map (λ b. unseen_among b (slice_index_or l.reached b 0) (length (steps_of l.scripts b))) (range_with_len 0 l.run)) l.fn.out.items l.out.items
+invariant-loop-run l = TellsAmong (flat_map (λ b. unseen_among b (slice_index_or l.reached b 0) (steps_of l.scripts b)) (range_with_len 0 l.run)) l.fn.out.items l.out.items

@@ -1,10 +1,11 @@
-use Rattle.std.proofs.Common.{rules, ◌≡◌, ◌≤◌, ◌∙◌, List, length, ap, subst}
+use Rattle.std.proofs.Common.{◌≡◌, ◌≤◌, ◌∙◌, List, length, ap, subst}
 use Rattle.std.proofs.lemmas.List.{length-map}
 use Rattle.tc_step.specs.Steps.{ScriptView}
 use Rattle.tc_explore.specs.Course.{most_states}
 use Rattle.tc_explore.specs.Found.{AreLegal, AreReached, AreWitnesses}
 use Rattle.tc_explore.specs.Found.{AllFound}
 use Rattle.tc_explore.specs.declared.explored.Ending.TheVariants as E
+use Rattle.tc_program.specs.Explore.{TellsAfter}
 use Rattle.tc_program.specs.Scripted.{scripts_of}
 use Rattle.tc_program.proofs.explore.explore_case.Goals as goal
 
@@ -24,5 +25,5 @@ returns c v of =
       reached = subst (λ (s : List ScriptView). AreReached s e.reached) same so.reached;
       most = subst (λ (s : List ScriptView). e.states ≤ most_states s c.args.options.now.states) same so.most;
       undecided = subst (λ (s : List ScriptView). e.ending ≡ E.Undecided → 1 ≤ length s → e.states ≡ most_states s c.args.options.now.states) same so.undecided;
-      details_are = search rules;
+      details_are = subst (λ (s : List ScriptView). TellsAfter c.args.options.now s e c.in_ok-details.details.items) same c.in_ok-details.ensures;
     }

@@ -1,0 +1,328 @@
+-- Courses of which the same is known, local verdicts and waits included, are so after the next call of either.
+use Rattle.std.proofs.Common.{ℕ, ◌≡◌, ◌==◌, ◌<◌, ◌≤◌, ◌&&◌, ◌||◌, ◌⊎◌, inl, inr, not, if◌then◌else◌, Bool, true, false, Option, Some, None, List, [], ◌∷◌, length, refl, ap, sym, subst, ◌∙◌, arith}
+use Rattle.std.specs.List.{list_all}
+use Rattle.tc_verdict.specs.declared.run.Run.{Run}
+use Rattle.tc_verdict.specs.declared.verdict.Verdict.{Verdict}
+use Rattle.tc_entry.specs.declared.comp.Comp.{Comp}
+use Rattle.tc_entry.specs.declared.entry.Entry.{Entry}
+use Rattle.tc_entry.specs.declared.op.Op.{Op}
+use Rattle.tc_entry.specs.declared.op.Op.TheVariants as O
+use Rattle.tc_entry.specs.declared.phase.Phase.{Phase}
+use Rattle.tc_entry.specs.declared.phase.Phase.TheVariants as P
+use Rattle.tc_entry.specs.declared.reply.Fault.{Fault}
+use Rattle.tc_entry.specs.declared.reply.Fault.TheVariants as F
+use Rattle.tc_entry.specs.declared.reply.Reply.{Reply}
+use Rattle.tc_entry.specs.declared.reply.Reply.TheVariants as R
+use Rattle.tc_entry.specs.Reply.{is_fault}
+use Rattle.tc_step.specs.Steps.{ScriptView}
+use Rattle.tc_table.specs.declared.awaited.Awaited.{Awaited}
+use Rattle.tc_table.specs.History.{comps, comp_of, created, started_on, first_some, add_new, exists, is_comp, is_alive_type, halts, kills, ends_case, ends_pass, is_over}
+use Rattle.tc_table.specs.Phases.{phase, start_in}
+use Rattle.tc_table.specs.Local.{local_if_any, overall, gives}
+use Rattle.tc_table.specs.Waiting.{awaited, parks, waiting, holds, waits_in_vain, is_still, is_stuck}
+use Rattle.tc_table.specs.Faults.{fault, components}
+use Rattle.tc_table.specs.Answers.{answer, plain_answer, wake_reply, local_reply, is_active, is_run_of}
+use Rattle.tc_table.specs.Legal.{IsLegal}
+use Rattle.tc_table.specs.Inside.Step.{next_phase, next_local}
+use Rattle.tc_table.proofs.Lemmas.Deciding.{self_equal, equal_if, if_same, and_left}
+use Rattle.tc_table.proofs.Lemmas.Going.{halted_by_entry, last_on_it}
+use Rattle.tc_explore.specs.Course.{Stand, stand, next, after_own, after_other_by, ends, is_wake, is_idle, wake_for, wake_if, turn, IsTurn, IsCourse}
+use Rattle.tc_explore.specs.Inside.Simulation.{IsAlike, is_quiet}
+use Rattle.tc_explore.specs.Inside.Twins.{IsTwin}
+use Rattle.tc_explore.proofs.Legality.{course_legal}
+use Rattle.tc_explore.proofs.Alike.{alike_sym, alike_unchanged, active_alike, fault_alike, holds_alike, exists_same, components_same, phase_next, local_next, overall_next}
+use Rattle.tc_explore.proofs.Closing.{answer_fault, answer_plain, answer_inactive}
+use Rattle.tc_explore.proofs.LastCalls.{local_kept, turn_by}
+use Rattle.tc_explore.proofs.Lemmas.Standings.{stand_own, stand_other, stand_comp, stand_unstarted, wake_after_other, unstarted}
+use Rattle.tc_explore.proofs.Parking.{alike_then, active_if, phase_running}
+use Rattle.tc_explore.proofs.Simulation.{some_if, unchanged_ended, unchanged_quiet}
+
+-- ---- the relation
+
+pub twin_self : (p : List Entry) → IsTwin p p
+twin_self p = record {
+  alike = record { comps_same = refl; phase_same = λ c. refl; kind_same = λ c. refl; comp_same = λ b. refl; overall_same = refl };
+  locals = λ c. refl;
+  stands = λ b act. refl;
+}
+
+pub twin_then : (p q r : List Entry) → IsTwin p q → IsTwin q r → IsTwin p r
+twin_then p q r s t = record {
+  alike = alike_then p q r s.alike t.alike;
+  locals = λ c. s.locals c ∙ t.locals c;
+  stands = λ b act. s.stands b act ∙ t.stands b (sym (active_alike s.alike b) ∙ act);
+}
+
+pub locals_twin : (p q : List Entry) → IsTwin p q → (c : ℕ) → local_if_any p c ≡ local_if_any q c
+unfolding local_if_any
+locals_twin p q t c = rw (exists_same t.alike c, t.locals c) refl
+
+-- ---- waits
+
+abbrev awaited_by : Option Op → Option Awaited
+awaited_by None = None
+awaited_by (Some op) = awaited op
+
+parks_by : (op : Op) (r : Reply) → parks op r ≡ awaited_by (wake_if op r)
+parks_by (O.Wait k t) R.Parked = refl
+parks_by (O.Wake k t) R.Parked = refl
+parks_by (O.Create alive name) R.Parked = refl
+parks_by (O.Start c run args) R.Parked = refl
+parks_by (O.Stop g) R.Parked = refl
+parks_by (O.Kill g) R.Parked = refl
+parks_by O.StopCase R.Parked = refl
+parks_by (O.Running t) R.Parked = refl
+parks_by (O.Alive t) R.Parked = refl
+parks_by (O.Done t) R.Parked = refl
+parks_by (O.Killed t) R.Parked = refl
+parks_by (O.SetVerdict v) R.Parked = refl
+parks_by O.GetVerdict R.Parked = refl
+parks_by O.Finish R.Parked = refl
+parks_by op _ = refl
+
+-- what a run waits for is the Wake to come
+waiting_is : (past : List Entry) (b : ℕ) → waiting past b ≡ awaited_by (stand past b).wake
+waiting_is [] b = refl
+waiting_is (e ∷ past) b = by_test (waiting_is past b) (e.caller.0 == b) refl
+  where
+    by_test : waiting past b ≡ awaited_by (stand past b).wake → (t : Bool) → (e.caller.0 == b) ≡ t → (if t then parks e.op e.reply else waiting past b) ≡ awaited_by (stand (e ∷ past) b).wake
+    by_test before true k = parks_by e.op e.reply ∙ ap (λ (s : Stand). awaited_by s.wake) (sym (stand_own past e b (equal_if e.caller.0 b k)))
+    by_test before false k =
+        let other : stand (e ∷ past) b ≡ after_other_by (stand past b).comp e b (stand past b) = rw k refl in
+        before ∙ ap awaited_by (sym (ap (λ (s : Stand). s.wake) other ∙ wake_after_other (stand past b).comp (started_on e b) e b (stand past b) refl))
+
+module _ (scripts : List ScriptView) (q p : List Entry) (some : 1 ≤ length scripts) (cq : IsCourse scripts q) (t : IsTwin q p) where
+  vain_twin : (b : ℕ) → is_active q b ≡ true → waits_in_vain q (waiting q b) ≡ waits_in_vain p (waiting p b)
+  vain_twin b act = by_wait (waiting q b) (waiting p b) (waiting_is q b ∙ (ap (λ (s : Stand). awaited_by s.wake) (t.stands b act) ∙ sym (waiting_is p b)))
+    where
+      by_wait : (v w : Option Awaited) → v ≡ w → waits_in_vain q v ≡ waits_in_vain p w
+      by_wait None w h = ap (waits_in_vain p) h
+      by_wait (Some a) w h = ap not (holds_alike t.alike a) ∙ ap (waits_in_vain p) h
+
+  still_twin : (c : ℕ) (ph : Phase) → phase q c ≡ ph → is_still q ph ≡ is_still p ph
+  still_twin c (P.Running r) k =
+      let on = last_on_it (length scripts) q c r (omega arith) (course_legal scripts q cq) (phase_running q c r k) in
+      vain_twin r.0 (active_if q r.0 (record { 0 = c }) on.0 (ap (is_run_of r.0) k ∙ self_equal r.0))
+  still_twin c P.Inactive k = refl
+  still_twin c P.Stopped k = refl
+  still_twin c P.Killed k = refl
+
+  all_same_at : (f g : ℕ → Bool) (xs : List ℕ) → ((x : ℕ) → f x ≡ g x) → list_all f xs ≡ list_all g xs
+  all_same_at f g [] h = refl
+  all_same_at f g (x ∷ xs) h = rw (h x, all_same_at f g xs h)
+
+  stuck_twin : is_stuck q ≡ is_stuck p
+  unfolding is_stuck
+  stuck_twin =
+      all_same_at (λ c. is_still q (phase q c)) (λ c. is_still p (phase p c)) (comps q) (λ c. still_twin c (phase q c) refl ∙ ap (is_still p) (t.alike.phase_same c))
+      ∙ ap (list_all (λ c. is_still p (phase p c))) t.alike.comps_same
+
+-- ---- replies
+
+-- the call asks for the status of components
+abbrev is_question : Op → Bool
+is_question (O.Running t) = true
+is_question (O.Alive t) = true
+is_question (O.Done t) = true
+is_question (O.Killed t) = true
+is_question op = false
+
+-- the replies are the same, or both answer a question
+abbrev AreReplies : Op → Reply → Reply → Type 0
+AreReplies op r s = (r ≡ s) ⊎ ((is_question op ≡ true) × (x : Bool) × (y : Bool) × (r ≡ R.Answer x) × (s ≡ R.Answer y))
+
+module _ (scripts : List ScriptView) (q p : List Entry) (some : 1 ≤ length scripts) (cq : IsCourse scripts q) (t : IsTwin q p) where
+  local_reply_twin : (b : ℕ) → local_reply q (comp_of q b) ≡ local_reply p (comp_of p b)
+  local_reply_twin b = by_comp (comp_of q b) ∙ ap (local_reply p) (t.alike.comp_same b)
+    where
+      by_comp : (o : Option Comp) → local_reply q o ≡ local_reply p o
+      by_comp None = refl
+      by_comp (Some c) = ap R.Local (t.locals c.0)
+
+  wake_twin : (b : ℕ) (a : Awaited) → wake_reply q b a ≡ wake_reply p b a
+  wake_twin b a = rw (holds_alike t.alike a, stuck_twin scripts q p some cq t) refl
+
+  plain_twin : (b : ℕ) (op : Op) → AreReplies op (plain_answer q b op) (plain_answer p b op)
+  plain_twin b (O.Create alive name) = inl (rw (components_same t.alike) refl)
+  plain_twin b (O.Start c run args) = inl refl
+  plain_twin b (O.Stop g) = inl refl
+  plain_twin b (O.Kill g) = inl refl
+  plain_twin b O.StopCase = inl refl
+  plain_twin b (O.Running x) = inr (refl, _, _, refl, refl)
+  plain_twin b (O.Alive x) = inr (refl, _, _, refl, refl)
+  plain_twin b (O.Done x) = inr (refl, _, _, refl, refl)
+  plain_twin b (O.Killed x) = inr (refl, _, _, refl, refl)
+  plain_twin b (O.Wait k x) = inl (rw (holds_alike t.alike (record { killed = k; target = x })) refl)
+  plain_twin b (O.Wake k x) = inl (wake_twin b (record { killed = k; target = x }))
+  plain_twin b (O.SetVerdict v) = inl refl
+  plain_twin b O.GetVerdict = inl (local_reply_twin b)
+  plain_twin b O.Finish = inl refl
+
+  reply_twin : (b : ℕ) (op : Op) → is_active q b ≡ true → AreReplies op (answer (length scripts) q b op) (answer (length scripts) p b op)
+  reply_twin b op act = by_fault (fault (length scripts) q b op) refl
+    where
+      on : is_active p b ≡ true
+      on = sym (active_alike t.alike b) ∙ act
+
+      by_fault : (o : Option Fault) → fault (length scripts) q b op ≡ o → AreReplies op (answer (length scripts) q b op) (answer (length scripts) p b op)
+      by_fault (Some f) k =
+          inl (answer_fault (length scripts) q b op f act k ∙ sym (answer_fault (length scripts) p b op f on (sym (fault_alike t.alike (length scripts) b op) ∙ k)))
+      by_fault None k =
+          let one = answer_plain (length scripts) q b op act k in
+          let other = answer_plain (length scripts) p b op on (sym (fault_alike t.alike (length scripts) b op) ∙ k) in
+          rw (one, other) (plain_twin b op)
+
+-- ---- the same entry after both
+
+module _ (n : ℕ) (q p : List Entry) (e : Entry) (lq : IsLegal n (e ∷ q)) (lp : IsLegal n (e ∷ p)) (a : IsAlike q p) where
+  alike_both : IsAlike (e ∷ q) (e ∷ p)
+  alike_both = record {
+    comps_same = ap (add_new (created e.op e.reply)) a.comps_same;
+    phase_same = λ c. phase_next n q e c lq ∙ (rw (exists_same a c, a.comp_same e.caller.0, a.kind_same c, a.phase_same c) refl ∙ sym (phase_next n p e c lp));
+    kind_same = λ c. rw (exists_same a c, a.kind_same c) refl;
+    comp_same = λ b. ap (λ o. first_some o (started_on e b)) (a.comp_same b);
+    overall_same = overall_next n q e lq ∙ (ap (next_local (gives e.op e.reply)) a.overall_same ∙ sym (overall_next n p e lp));
+  }
+
+-- of a run that continues after one more entry the same was known, or it was not started
+known_before : (scripts : List ScriptView) (q p : List Entry) (e : Entry) (b : ℕ) → IsCourse scripts (e ∷ q) → IsCourse scripts p → IsTwin q p → is_active (e ∷ q) b ≡ true → stand q b ≡ stand p b
+known_before scripts q p e b cq cp t act = by_comp (comp_of q b) refl
+  where
+    by_comp : (o : Option Comp) → comp_of q b ≡ o → stand q b ≡ stand p b
+    by_comp None none = stand_unstarted scripts q b cq.1 none ∙ sym (stand_unstarted scripts p b cp (sym (t.alike.comp_same b) ∙ none))
+    by_comp (Some c) on = t.stands b (and_left (is_active q b) _ (sym (halted_by_entry (length scripts) q e b c (course_legal scripts (e ∷ q) cq) on) ∙ act))
+
+pub twin_both : (scripts : List ScriptView) (q p : List Entry) (e : Entry) → IsCourse scripts (e ∷ q) → IsCourse scripts (e ∷ p) → IsTwin q p → IsTwin (e ∷ q) (e ∷ p)
+twin_both scripts q p e cq cp t = record {
+  alike = alike_both (length scripts) q p e (course_legal scripts (e ∷ q) cq) (course_legal scripts (e ∷ p) cp) t.alike;
+  locals = λ c. local_next q e c ∙ (rw (t.alike.comp_same e.caller.0, t.locals c) refl ∙ sym (local_next p e c));
+  stands = λ b act. ap (next e b) (known_before scripts q p e b cq cp.1 t act);
+}
+
+-- ---- an entry that changes nothing but its caller's place
+
+-- a call that is replied Ended
+pub twin_ended : (scripts : List ScriptView) (q p : List Entry) (e : Entry) → IsCourse scripts (e ∷ p) → is_active p e.caller.0 ≡ false → IsTwin q p → IsTwin q (e ∷ p)
+twin_ended scripts q p e cp off t = record {
+  alike = alike_then q p (e ∷ p) t.alike (alike_sym (e ∷ p) p after);
+  locals = λ c. t.locals c ∙ sym (local_kept p e c (ap (gives e.op) r));
+  stands = λ b act. by_caller b act (e.caller.0 == b) refl;
+}
+  where
+    r : e.reply ≡ R.Ended
+    r = cp.0.reply ∙ answer_inactive (length scripts) p e.caller.0 e.op off
+
+    after : IsAlike (e ∷ p) p
+    after = alike_unchanged (length scripts) p e (course_legal scripts (e ∷ p) cp) (unchanged_ended p e r)
+
+    by_caller : (b : ℕ) → is_active q b ≡ true → (s : Bool) → (e.caller.0 == b) ≡ s → stand q b ≡ stand (e ∷ p) b
+    by_caller b act true k =
+        let on : is_active p e.caller.0 ≡ true = ap (is_active p) (equal_if e.caller.0 b k) ∙ (sym (active_alike t.alike b) ∙ act) in
+        absurd cc
+    by_caller b act false k =
+        let on = some_if p b (sym (active_alike t.alike b) ∙ act) in
+        t.stands b act ∙ sym (stand_other p e b on.0 k (stand_comp scripts p b cp.1 ∙ on.1))
+
+question_quiet : (w : Verdict) (op : Op) → is_question op ≡ true → is_quiet w op ≡ true
+question_quiet w (O.Running t) h = refl
+question_quiet w (O.Alive t) h = refl
+question_quiet w (O.Done t) h = refl
+question_quiet w (O.Killed t) h = refl
+question_quiet w _ h = absurd cc
+
+gives_answer : (op : Op) (x : Bool) → gives op (R.Answer x) ≡ []
+gives_answer op x = refl
+
+abbrev entry_of : Run → Op → Reply → Entry
+entry_of caller op reply = record { caller = caller; op = op; reply = reply }
+
+-- what an answered question leaves of its caller
+asked_ends : (caller : Run) (op : Op) (x y : Bool) (o : Option Comp) → is_question op ≡ true → ends o (entry_of caller op (R.Answer x)) ≡ ends o (entry_of caller op (R.Answer y))
+unfolding ends_pass
+asked_ends caller op x y None h = refl
+asked_ends caller (O.Running t) x y (Some own) h = refl
+asked_ends caller (O.Alive t) x y (Some own) h = refl
+asked_ends caller (O.Done t) x y (Some own) h = refl
+asked_ends caller (O.Killed t) x y (Some own) h = refl
+asked_ends caller _ x y (Some own) h = absurd cc
+
+asked_own : (caller : Run) (op : Op) (x y : Bool) (s : Stand) → is_question op ≡ true → after_own (entry_of caller op (R.Answer x)) s ≡ after_own (entry_of caller op (R.Answer y)) s
+asked_own caller (O.Running t) x y s h = rw (asked_ends caller (O.Running t) x y s.comp h) refl
+asked_own caller (O.Alive t) x y s h = rw (asked_ends caller (O.Alive t) x y s.comp h) refl
+asked_own caller (O.Done t) x y s h = rw (asked_ends caller (O.Done t) x y s.comp h) refl
+asked_own caller (O.Killed t) x y s h = rw (asked_ends caller (O.Killed t) x y s.comp h) refl
+asked_own caller _ x y s h = absurd cc
+
+asked_no_case : (caller : Run) (op : Op) (x : Bool) → is_question op ≡ true → ends_case (entry_of caller op (R.Answer x)) ≡ false
+asked_no_case caller (O.Running t) x h = refl
+asked_no_case caller (O.Alive t) x h = refl
+asked_no_case caller (O.Done t) x h = refl
+asked_no_case caller (O.Killed t) x h = refl
+asked_no_case caller _ x h = absurd cc
+
+asked : (scripts : List ScriptView) (q p : List Entry) (caller : Run) (op : Op) (x y : Bool) → IsCourse scripts (entry_of caller op (R.Answer x) ∷ q) → IsCourse scripts (entry_of caller op (R.Answer y) ∷ p) → is_question op ≡ true →
+    IsTwin q p → IsTwin (entry_of caller op (R.Answer x) ∷ q) (entry_of caller op (R.Answer y) ∷ p)
+asked scripts q p caller op x y cq cp question t = record {
+  alike = alike_then (d ∷ q) q (e ∷ p) after_q (alike_then q p (e ∷ p) t.alike (alike_sym (e ∷ p) p after_p));
+  locals = λ c. local_kept q d c (gives_answer op x) ∙ (t.locals c ∙ sym (local_kept p e c (gives_answer op y)));
+  stands = λ b act. by_caller b (sym (active_alike after_q b) ∙ act) (caller.0 == b) refl;
+}
+  where
+    d : Entry
+    d = entry_of caller op (R.Answer x)
+
+    e : Entry
+    e = entry_of caller op (R.Answer y)
+
+    after_q : IsAlike (d ∷ q) q
+    after_q = alike_unchanged (length scripts) q d (course_legal scripts (d ∷ q) cq) (unchanged_quiet q d (question_quiet (overall q) op question) refl)
+
+    after_p : IsAlike (e ∷ p) p
+    after_p = alike_unchanged (length scripts) p e (course_legal scripts (e ∷ p) cp) (unchanged_quiet p e (question_quiet (overall p) op question) refl)
+
+    by_caller : (b : ℕ) → is_active q b ≡ true → (s : Bool) → (caller.0 == b) ≡ s → stand (d ∷ q) b ≡ stand (e ∷ p) b
+    by_caller b act true k =
+        stand_own q d b (equal_if caller.0 b k)
+        ∙ (asked_own caller op x y (stand q b) question
+        ∙ (ap (after_own e) (t.stands b act) ∙ sym (stand_own p e b (equal_if caller.0 b k))))
+    by_caller b act false k =
+        let on = some_if q b act in
+        let in_p = some_if p b (sym (active_alike t.alike b) ∙ act) in
+        stand_other q d b on.0 k (stand_comp scripts q b cq.1 ∙ on.1)
+        ∙ (t.stands b act ∙ sym (stand_other p e b in_p.0 k (stand_comp scripts p b cp.1 ∙ in_p.1)))
+
+-- ---- the next call of both
+
+-- what q calls next if p makes this call
+pub record IsMatched (scripts : List ScriptView) (q p : List Entry) (e : Entry) : Type 0 where
+  pub entry : Entry
+  pub own : entry.caller.0 ≡ e.caller.0
+  pub turn : IsTurn scripts q entry
+  pub over : is_over (entry ∷ q) ≡ is_over (e ∷ p)
+  pub twin : IsTwin (entry ∷ q) (e ∷ p)
+
+pub matched : (scripts : List ScriptView) (q p : List Entry) (e : Entry) → 1 ≤ length scripts → IsCourse scripts q → IsCourse scripts (e ∷ p) → IsTwin q p → is_over q ≡ is_over p → is_active q e.caller.0 ≡ true →
+    IsMatched scripts q p e
+matched scripts q p e some cq cp t over act = by_reply (reply_twin scripts q p some cq t e.caller.0 e.op act)
+  where
+    turns : turn scripts q e.caller.0 ≡ Some e.op
+    turns = turn_by scripts q p e.caller.0 (t.stands e.caller.0 act) ∙ cp.0.turn
+
+    by_reply : AreReplies e.op (answer (length scripts) q e.caller.0 e.op) (answer (length scripts) p e.caller.0 e.op) → IsMatched scripts q p e
+    by_reply (inl same) =
+        let mine : IsTurn scripts q e = record { turn = turns; reply = cp.0.reply ∙ sym same; not_idle = cp.0.not_idle } in
+        record { entry = e; own = refl; turn = mine; over = rw over refl; twin = twin_both scripts q p e (mine, cq) cp t }
+    by_reply (inr h) =
+        let d : Entry = entry_of e.caller e.op (R.Answer h.1) in
+        let mine : IsTurn scripts q d = record { turn = turns; reply = sym h.3; not_idle = refl } in
+        let is : entry_of e.caller e.op (R.Answer h.2) ≡ e = ap (entry_of e.caller e.op) (sym (cp.0.reply ∙ h.4)) in
+        let other : IsCourse scripts (entry_of e.caller e.op (R.Answer h.2) ∷ p) = subst (λ x. IsCourse scripts (x ∷ p)) (sym is) cp in
+        let ends_d : ends_case d ≡ false = asked_no_case e.caller e.op h.1 h.0 in
+        let ends_e : ends_case e ≡ false = ap ends_case (sym is) ∙ asked_no_case e.caller e.op h.2 h.0 in
+        record {
+          entry = d;
+          own = refl;
+          turn = mine;
+          over = rw (ends_d, ends_e) over;
+          twin = subst (λ x. IsTwin (d ∷ q) (x ∷ p)) is (asked scripts q p e.caller e.op h.1 h.2 (mine, cq) other h.0 t);
+        }

@@ -1,0 +1,11 @@
+use Rattle.tc_table.specs.Case.{past_of}
+use Rattle.tc_explore.specs.Locals.{AreLocals}
+use Rattle.tc_explore.specs.Inside.Twins.{IsMore}
+use Rattle.tc_explore.proofs.Marking.{HasLocalsTo}
+use Rattle.tc_explore.proofs.marks.Marks.note_all.Given as goal
+
+abbrev pub invariant-loop-comp : goal.invariant-loop-comp
+invariant-loop-comp l =
+    AreLocals l.scripts l.self.found.items
+    × IsMore l.initial.self.found.items l.self.found.items
+    × HasLocalsTo l.self.found.items (past_of l.course) l.comp

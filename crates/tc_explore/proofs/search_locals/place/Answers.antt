@@ -1,0 +1,17 @@
+use Rattle.std.specs.Cmp.Lexicographic.{pointwise}
+use Rattle.std.specs.List.{list_any}
+use Rattle.std.proofs.Common.{rules, ◌≡◌, true, nat_eq, length}
+use Rattle.tc_table.specs.Case.{past_of}
+use Rattle.tc_explore.specs.Inside.Twins.{twin_key}
+use Rattle.tc_explore.proofs.LocalsClosed.{twin_seen_last}
+use Rattle.tc_explore.proofs.TwinKeys.{seen_by_twin_key}
+use Rattle.tc_explore.proofs.search_locals.place.Goals as goal
+
+pub returns-then-contains-clause-seen : goal.returns-then-contains-clause-seen
+returns-then-contains-clause-seen c h =
+    let is : c.in_ok-key.key.items ≡ twin_key (length c.args.scripts.now) (past_of c.args.course) = search rules in
+    let known : list_any (λ x. pointwise nat_eq c.in_ok-key.key.items x.items) c.args.met.now.keys.keys ≡ true = search rules in
+    seen_by_twin_key c.args.scripts.now c.args.met.now c.args.course c.in_ok-key.key.items c.requires.some c.requires.state c.requires.states c.requires.keyed is known
+
+pub returns-clause-seen : goal.returns-clause-seen
+returns-clause-seen c h = rw c.in_ok-push.ensures.items (twin_seen_last c.args.met.now.states.items c.args.course)

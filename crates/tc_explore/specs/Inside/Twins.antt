@@ -1,0 +1,125 @@
+-- Courses of which the same is known, local verdicts and waits included, and what a search for local verdicts keeps.
+use Rattle.std.specs.Prelude.{ℕ, ◌≡◌, ◌==◌, ◌<◌, ◌≤◌, ◌+◌, ◌++◌, ◌∷◌, if◌then◌else◌, Bool, true, false, Option, Some, None, List, [], All, length, map, slice_get, slice_index_or}
+use Rattle.std.specs.List.{flat_map, range_with_len}
+use Rattle.tc_verdict.specs.declared.verdict.Verdict.{Verdict}
+use Rattle.tc_verdict.specs.declared.run.Run.{Run}
+use Rattle.tc_verdict.specs.Verdict.{level_of}
+use Rattle.tc_entry.specs.declared.entry.Entry.{Entry}
+use Rattle.tc_entry.specs.declared.op.Op.{Op}
+use Rattle.tc_entry.specs.declared.op.Op.TheVariants as O
+use Rattle.tc_entry.specs.declared.op.Target.{Target}
+use Rattle.tc_entry.specs.declared.op.Target.TheVariants as T
+use Rattle.tc_step.specs.Steps.{ScriptView}
+use Rattle.tc_table.specs.Case.{Case, past_of}
+use Rattle.tc_table.specs.History.{is_over}
+use Rattle.tc_table.specs.Local.{local, local_if_any}
+use Rattle.tc_table.specs.Faults.{components}
+use Rattle.tc_table.specs.Answers.{is_active}
+use Rattle.tc_explore.specs.declared.search.Met.{Met}
+use Rattle.tc_explore.specs.Course.{stand, IsTurn, IsCourse}
+use Rattle.tc_explore.specs.Locals.{is_local}
+use Rattle.tc_explore.specs.Inside.Going.{IsOn}
+use Rattle.tc_explore.specs.Inside.Keys.{key_of}
+use Rattle.tc_explore.specs.Inside.Simulation.{IsAlike}
+
+-- the same is known after both, of each run that continues and of each local verdict
+pub record IsTwin (q p : List Entry) : Type 0 where
+  pub alike : IsAlike q p
+  pub locals : (c : ℕ) → local q c ≡ local p c
+  pub stands : (b : ℕ) → is_active q b ≡ true → stand q b ≡ stand p b
+
+-- ---- keys
+
+-- a local verdict, if there is one, as a number
+abbrev pub local_code : Option Verdict → ℕ
+local_code None = 0
+local_code (Some v) = level_of v + 1
+
+-- the local verdict of component c as a number
+abbrev pub local_key : List Entry → ℕ → List ℕ
+local_key past c = local_code (local_if_any past c) ∷ []
+
+-- what is waited for, as two numbers
+abbrev pub target_key : Bool → Target → List ℕ
+target_key killed (T.One c) = (if killed then 2 else 1) ∷ c.0 ∷ []
+target_key killed T.Any = (if killed then 4 else 3) ∷ 0 ∷ []
+target_key killed T.All = (if killed then 6 else 5) ∷ 0 ∷ []
+
+-- the Wake to come of a run that continues, if there is one
+abbrev pub wake_key : Bool → Option Op → List ℕ
+wake_key true (Some (O.Wake killed target)) = target_key killed target
+wake_key _ _ = 0 ∷ 0 ∷ []
+
+-- the same of run b
+abbrev pub wake_key_of : List Entry → ℕ → List ℕ
+wake_key_of past b = wake_key (is_active past b) (stand past b).wake
+
+-- the key of what n runs have done: the local verdicts, the waits, and all else
+unfoldable pub twin_key : ℕ → List Entry → List ℕ
+twin_key n past =
+    components past
+    ∷ (flat_map (local_key past) (range_with_len 0 (components past)) ++ (flat_map (wake_key_of past) (range_with_len 0 n) ++ key_of n past))
+
+-- ---- what a search keeps
+
+-- a case at a course of these scripts that is not over
+pub record IsGoing (scripts : List ScriptView) (t : Case) : Type 0 where
+  pub on : IsOn scripts t
+  pub going : is_over (past_of t) ≡ false
+
+-- its keys are those of its states
+abbrev pub HasTwinKeys : List ScriptView → Met → Type 0
+HasTwinKeys scripts met = map (λ k. k.items) met.keys.keys ≡ map (λ t. twin_key (length scripts) (past_of t)) met.states.items
+
+-- the states that a search has met, at most its limit
+pub record AreGoing (scripts : List ScriptView) (met : Met) : Type 0 where
+  pub few : length met.states.items ≤ met.limit
+  pub each : All (IsGoing scripts) met.states.items
+  pub keyed : HasTwinKeys scripts met
+
+-- what is found stays so
+abbrev pub IsMore : List Bool → List Bool → Type 0
+IsMore before after = (i : ℕ) → slice_index_or before i false ≡ true → slice_index_or after i false ≡ true
+
+-- the same is found at each place
+abbrev pub IsPadded : List Bool → List Bool → Type 0
+IsPadded before after = (i : ℕ) → slice_index_or after i false ≡ slice_index_or before i false
+
+-- at this place it is found, and nothing else is new
+abbrev pub IsMarked : List Bool → List Bool → ℕ → Type 0
+IsMarked before after at = (i : ℕ) → slice_index_or after i false ≡ (if i == at then true else slice_index_or before i false)
+
+-- the local verdict of component c is found, if there is one
+abbrev pub HasLocal : List Bool → List Entry → ℕ → Type 0
+HasLocal found past c = (v : Verdict) → local_if_any past c ≡ Some v → is_local found c v ≡ true
+
+-- so it is of all
+abbrev pub HasLocals : List Bool → List Entry → Type 0
+HasLocals found past = (c : ℕ) → HasLocal found past c
+
+-- one of these states is that after r
+abbrev pub IsTwinSeen : List Case → List Entry → Type 0
+IsTwinSeen states r = (i : ℕ) × (t : Case) × (slice_get states i ≡ Some t) × IsTwin (past_of t) r
+
+-- after this course the local verdicts are found, or the state is seen
+pub record IsLocalsAfter (states : List Case) (found : List Bool) (r : List Entry) : Type 0 where
+  pub over : is_over r ≡ true → HasLocals found r
+  pub more : is_over r ≡ false → IsTwinSeen states r
+
+-- so it is after the next call of run b, if it continues
+abbrev pub IsLocalsRun : List ScriptView → List Case → List Bool → List Entry → ℕ → Type 0
+IsLocalsRun scripts states found q b =
+    (e : Entry) → e.caller.0 ≡ b → IsTurn scripts q e → is_active q b ≡ true → IsLocalsAfter states found (e ∷ q)
+
+-- so it is of each of n runs
+abbrev pub AreLocalsRuns : List ScriptView → List Case → List Bool → List Entry → ℕ → Type 0
+AreLocalsRuns scripts states found q n = (b : ℕ) → b < n → IsLocalsRun scripts states found q b
+
+-- so it is of each run of the state at this place
+abbrev pub IsLocalsAt : List ScriptView → List Case → List Bool → ℕ → Type 0
+IsLocalsAt scripts states found i =
+    (t : Case) → slice_get states i ≡ Some t → IsGoing scripts t × AreLocalsRuns scripts states found (past_of t) (length scripts)
+
+-- so it is of each state
+abbrev pub AreLocalsClosed : List ScriptView → List Case → List Bool → Type 0
+AreLocalsClosed scripts states found = (i : ℕ) → IsLocalsAt scripts states found i

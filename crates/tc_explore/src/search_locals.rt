@@ -1,0 +1,210 @@
+//! The search for local verdicts. It follows the calls of all runs, one by one.
+ghost use Rattle.std.specs.Prelude.{◌≡◌, ◌≤◌, ◌<◌, ◌∷◌, true, false, IfOk, OnOk, All, length};
+ghost use Rattle.tc_entry.specs.declared.limits.TheConstants.{BEHAVIOURS};
+ghost use Rattle.tc_table.specs.Case.{past_of};
+ghost use Rattle.tc_explore.specs.Locals.{AllLocalsFound, AreLocals};
+ghost use Rattle.tc_explore.specs.Inside.Going.{taken, IsNext};
+ghost use Rattle.tc_explore.specs.Inside.Seen.{IsFull, IsLonger, IsWith};
+ghost use Rattle.tc_explore.specs.Inside.Twins.{AreGoing, AreLocalsClosed, AreLocalsRuns, HasTwinKeys, IsGoing, IsLocalsAfter, IsLocalsRun, IsMore, IsTwinSeen};
+
+use crate::course::Course;
+use crate::marks::Marks;
+use crate::search::{Extent, Met, with_call};
+use crate::turns::next_call;
+use indexmap::IndexSet;
+use std::alloc::Global;
+use tc_entry::Op;
+use tc_step::Script;
+use tc_verdict::{NoMemory, Run};
+
+// Takes in the state of a course, and returns whether it is among those that are seen: it is, unless as many as the
+// limit are met. No two of them have one key.
+#[tactic(auto, using(crate::proofs::Seeing::seeing_rules, crate::proofs::LocalsClosed::call_rules))]
+fn place(
+    alloc: Global,
+    scripts: &[Script],
+    course: Course,
+    met: &mut Met,
+) -> Result<bool, NoMemory>
+    requires some { 1 ≤ length scripts.now }
+    requires few { length scripts.now ≤ BEHAVIOURS }
+    requires state { IsGoing scripts.now course }
+    requires states { All (IsGoing scripts.now) met.old.states.items }
+    requires keyed { HasTwinKeys scripts.now met.old }
+    ensures with_it { OnOk result (IsWith met.old.states.items course met.new.states.items) }
+    ensures keyed { OnOk result (HasTwinKeys scripts.now met.new) }
+    ensures limit { met.new.limit ≡ met.old.limit }
+    ensures within { length met.old.states.items ≤ met.old.limit → length met.new.states.items ≤ met.old.limit }
+    ensures seen { IfOk result (λ is_seen. is_seen ≡ true → IsTwinSeen met.new.states.items (past_of course)) }
+    ensures full { IfOk result (λ is_seen. is_seen ≡ false → IsFull met.old) }
+{
+    let key = course.twin_key(alloc, scripts.len() as u16)?;
+    if met.keys.contains(&key) {
+        return Ok(true);
+    }
+    if met.states.len() >= met.limit {
+        return Ok(false);
+    }
+    met.keys.insert(key)?;
+    met.states.push(course)?;
+    Ok(true)
+}
+
+// Makes a call, and returns whether what it leads to is seen, or its local verdicts are found.
+#[tactic(auto, using(crate::proofs::Closed::closed_rules, crate::proofs::Seeing::seeing_rules, crate::proofs::LocalsClosed::call_rules))]
+fn after_call(
+    alloc: Global,
+    scripts: &[Script],
+    course: &Course,
+    run: Run,
+    op: Op,
+    met: &mut Met,
+    marks: &mut Marks,
+) -> Result<bool, NoMemory>
+    requires some { 1 ≤ length scripts.now }
+    requires few { length scripts.now ≤ BEHAVIOURS }
+    requires state { IsGoing scripts.now course.now }
+    requires turn { IsNext scripts.now course.now run op }
+    requires kept { AreGoing scripts.now met.old }
+    requires sound { AreLocals scripts.now marks.old.found.items }
+    ensures kept { OnOk result (AreGoing scripts.now met.new) }
+    ensures more_states { OnOk result (IsLonger met.old.states.items met.new.states.items) }
+    ensures sound { OnOk result (AreLocals scripts.now marks.new.found.items) }
+    ensures more_found { OnOk result (IsMore marks.old.found.items marks.new.found.items) }
+    ensures limit { OnOk result (met.new.limit ≡ met.old.limit) }
+    ensures closed { IfOk result (λ is_closed. is_closed ≡ true → IsLocalsAfter met.new.states.items marks.new.found.items (taken course.now.behaviours (past_of course.now) run op ∷ past_of course.now)) }
+    ensures full { IfOk result (λ is_closed. is_closed ≡ false → IsFull met.old) }
+{
+    let next = with_call(alloc, scripts, course, run, op)?;
+    if next.is_over() {
+        marks.note(scripts, next)?;
+        return Ok(true);
+    }
+    let is_seen = place(alloc, scripts, next, met)?;
+    Ok(is_seen)
+}
+
+// Makes the next call of a run, if it continues.
+#[tactic(auto, using(crate::proofs::Seeing::seeing_rules, crate::proofs::LocalsClosed::run_rules))]
+fn try_run(
+    alloc: Global,
+    scripts: &[Script],
+    course: &Course,
+    run: Run,
+    met: &mut Met,
+    marks: &mut Marks,
+) -> Result<bool, NoMemory>
+    requires few { length scripts.now ≤ BEHAVIOURS }
+    requires within { run.0 < length scripts.now }
+    requires state { IsGoing scripts.now course.now }
+    requires kept { AreGoing scripts.now met.old }
+    requires sound { AreLocals scripts.now marks.old.found.items }
+    ensures kept { OnOk result (AreGoing scripts.now met.new) }
+    ensures more_states { OnOk result (IsLonger met.old.states.items met.new.states.items) }
+    ensures sound { OnOk result (AreLocals scripts.now marks.new.found.items) }
+    ensures more_found { OnOk result (IsMore marks.old.found.items marks.new.found.items) }
+    ensures limit { OnOk result (met.new.limit ≡ met.old.limit) }
+    ensures closed { IfOk result (λ is_closed. is_closed ≡ true → IsLocalsRun scripts.now met.new.states.items marks.new.found.items (past_of course.now) run.0) }
+    ensures full { IfOk result (λ is_closed. is_closed ≡ false → IsFull met.old) }
+{
+    if !course.is_active(run) {
+        return Ok(true);
+    }
+    let Some(op) = next_call(course, scripts, run) else {
+        return Ok(true);
+    };
+    let is_closed = after_call(alloc, scripts, course, run, op, met, marks)?;
+    Ok(is_closed)
+}
+
+// Makes the next call of each run.
+#[tactic(auto, using(crate::proofs::Seeing::seeing_rules, crate::proofs::LocalsClosed::runs_rules))]
+fn try_runs(
+    alloc: Global,
+    scripts: &[Script],
+    course: &Course,
+    met: &mut Met,
+    marks: &mut Marks,
+) -> Result<bool, NoMemory>
+    requires few { length scripts.now ≤ BEHAVIOURS }
+    requires state { IsGoing scripts.now course.now }
+    requires kept { AreGoing scripts.now met.old }
+    requires sound { AreLocals scripts.now marks.old.found.items }
+    ensures kept { OnOk result (AreGoing scripts.now met.new) }
+    ensures more_states { OnOk result (IsLonger met.old.states.items met.new.states.items) }
+    ensures sound { OnOk result (AreLocals scripts.now marks.new.found.items) }
+    ensures more_found { OnOk result (IsMore marks.old.found.items marks.new.found.items) }
+    ensures limit { OnOk result (met.new.limit ≡ met.old.limit) }
+    ensures closed { IfOk result (λ is_closed. is_closed ≡ true → AreLocalsRuns scripts.now met.new.states.items marks.new.found.items (past_of course.now) (length scripts.now)) }
+    ensures full { IfOk result (λ is_closed. is_closed ≡ false → IsFull met.new) }
+{
+    let mut is_closed = true;
+    for run in 0..scripts.len() as u16 {
+        let is_one_closed = try_run(alloc, scripts, course, Run(run), met, marks)?;
+        is_closed = is_closed && is_one_closed;
+    }
+    Ok(is_closed)
+}
+
+// Looks at all states, and returns whether what comes after each is seen, or found.
+#[tactic(auto, using(crate::proofs::Seeing::seeing_rules, crate::proofs::LocalsClosed::runs_rules))]
+fn expand_all(
+    alloc: Global,
+    scripts: &[Script],
+    met: &mut Met,
+    marks: &mut Marks,
+) -> Result<bool, NoMemory>
+    requires few { length scripts.now ≤ BEHAVIOURS }
+    requires kept { AreGoing scripts.now met.old }
+    requires sound { AreLocals scripts.now marks.old.found.items }
+    ensures kept { OnOk result (AreGoing scripts.now met.new) }
+    ensures more_states { OnOk result (IsLonger met.old.states.items met.new.states.items) }
+    ensures sound { OnOk result (AreLocals scripts.now marks.new.found.items) }
+    ensures limit { OnOk result (met.new.limit ≡ met.old.limit) }
+    ensures closed { IfOk result (λ is_closed. is_closed ≡ true → AreLocalsClosed scripts.now met.new.states.items marks.new.found.items) }
+    ensures full { IfOk result (λ is_closed. is_closed ≡ false → IsFull met.new) }
+{
+    let mut is_closed = true;
+    let limit = met.limit;
+    for at in 0..limit {
+        if at >= met.states.len() {
+            return Ok(is_closed);
+        }
+        let course = met.states[at].copied(alloc)?;
+        let is_one_closed = try_runs(alloc, scripts, &course, met, marks)?;
+        is_closed = is_closed && is_one_closed;
+    }
+    Ok(is_closed)
+}
+
+/// Makes the calls of all runs from each state that is met, within a limit. It comes to its end unless it meets the
+/// limit, and then the local verdicts of each complete course are found.
+#[tactic(auto, using(crate::proofs::Lemmas::Turning::turn_rules, crate::proofs::Seeing::seeing_rules, crate::proofs::LocalsClosed::opening_rules))]
+pub(crate) fn search_locals(
+    alloc: Global,
+    scripts: &[Script],
+    limit: usize,
+    marks: &mut Marks,
+) -> Result<Extent, NoMemory>
+    requires some { 1 ≤ length scripts.now }
+    requires few { length scripts.now ≤ BEHAVIOURS }
+    requires sound { AreLocals scripts.now marks.old.found.items }
+    ensures sound { OnOk result (AreLocals scripts.now marks.new.found.items) }
+    ensures complete { IfOk result (λ e. e.is_whole ≡ true → AllLocalsFound scripts.now marks.new.found.items) }
+    ensures within { IfOk result (λ e. e.states ≤ limit) }
+    ensures full { IfOk result (λ e. e.is_whole ≡ false → e.states ≡ limit) }
+{
+    let mut met = Met {
+        states: Vec::new(alloc),
+        keys: IndexSet::new(alloc),
+        limit,
+    };
+    let opening = Course::opening(alloc, scripts.len() as u16)?;
+    let is_placed = place(alloc, scripts, opening, &mut met)?;
+    let is_closed = expand_all(alloc, scripts, &mut met, marks)?;
+    let is_whole = is_placed && is_closed;
+    Ok(Extent {
+        states: met.keys.len(),
+        is_whole,
+    })
+}

@@ -1,0 +1,10 @@
+use Rattle.tc_program.proofs.explore.append_locals.Goals as goal
+
+pub returns : goal.returns
+returns c = record {
+  locals = c.in_ok-locals.locals;
+  sound = c.in_ok-locals.ensures.sound;
+  complete = c.in_ok-locals.ensures.complete;
+  undecided = c.in_ok-locals.ensures.undecided;
+  told = c.in_ok-append_lines.ensures;
+}
