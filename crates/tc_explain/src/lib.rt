@@ -18,5 +18,6 @@ mod source;
 mod stop;
 mod telling;
 
+pub use nearest::near_word;
 pub use sort::Refusal;
 pub use telling::explain;

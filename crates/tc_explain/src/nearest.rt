@@ -125,8 +125,8 @@ fn is_near(word: &[u8], distance: usize) -> bool {
     0 < distance && distance < word.len() && distance <= word.len().max(3) / 3
 }
 
-/// The nearest word of the table, if it is near.
-pub(crate) fn near_word<'t>(
+/// The word of the table that is the nearest to a word, if it is near. Memory may run out instead.
+pub fn near_word<'t>(
     alloc: Global,
     word: &[u8],
     table: &[&'t [u8]],
