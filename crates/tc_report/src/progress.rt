@@ -181,6 +181,7 @@ impl<'a, O: Observer, E: Write, C: Clock> Progress<'a, O, E, C> {
         ensures same_writer { result.writer.ghost_name ≡ writer.entry.ghost_name }
         ensures same_failed { result.failed.ghost_name ≡ failed.entry.ghost_name }
         ensures observer { result.observer.now ≡ observer.old }
+        ensures writer { result.writer.now ≡ writer.old }
         ensures none { HasTold E.contents (E.contents writer.old) [] result }
     {
         failed.truncate(0);
