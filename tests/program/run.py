@@ -61,7 +61,7 @@ GROUPS = (
     ("compared", compared.cases, 59),
     ("compared reports", compared_reports.cases, 34),
     ("failed", failed.cases, 50),
-    ("explain", explain.cases, 100),
+    ("explain", explain.cases, 430),
     ("documents", documents_run.cases, 2),
 )
 
