@@ -63,7 +63,7 @@ GROUPS = (
     ("compared reports", compared_reports.cases, 34),
     ("failed", failed.cases, 50),
     ("chosen", chosen_rows.cases, 55),
-    ("explain", explain.cases, 100),
+    ("explain", explain.cases, 430),
     ("documents", documents_run.cases, 2),
 )
 
