@@ -24,8 +24,8 @@ returns-clause-done c =
       notes = found.notes.items;
       compared = λ all are. (c.in_ok-notes.ensures.done ready.cases all ready.each (here all are)).0;
       made = λ all are.
-          subst (λ t. IsReport c.args.form t all (missing (reverse all) ready.cases) found.notes.items c.in_ok-answer.answer) part
-          (subst (λ l. IsReport c.args.form c.split.result.1.now all l found.notes.items c.in_ok-answer.answer)
+          subst (λ t. IsReport c.args.form.now t all (missing (reverse all) ready.cases) found.notes.items c.in_ok-answer.answer) part
+          (subst (λ l. IsReport c.args.form.now c.split.result.1.now all l found.notes.items c.in_ok-answer.answer)
           (names ∙ (c.in_ok-notes.ensures.done ready.cases all ready.each (here all are)).1)
           (c.in_ok-answer.ensures all (c.in_ok-reporting.ensures.only all (here all are))));
     }

@@ -4,5 +4,5 @@ use Rattle.tc_program.proofs.report.legal_answer.Goals as goal
 
 pub returns : goal.returns
 returns c =
-    answer_made c.args.form c.args.text.now c.args.notes.items c.as_slice.result.now c.args.cases.now c.new.result c.new-2.result c.status_with-status.result
+    answer_made c.args.form.now c.args.text.now c.args.notes.items c.as_slice.result.now c.args.cases.now c.new.result c.new-2.result c.status_with-status.result
     (c.new.ensures ∙ c.in_ok-out.ensures) c.new-2.ensures c.as_slice.ensures.value c.status_with-status.ensures

@@ -8,6 +8,6 @@ returns-clause-done c =
     record {
       blocks = so.0;
       evidence = so.1;
-      made = λ all are. subst (λ notes. IsReport c.args.form c.args.text.now all [] notes c.in_ok-answer.answer) c.new.ensures.items
+      made = λ all are. subst (λ notes. IsReport c.args.form.now c.args.text.now all [] notes c.in_ok-answer.answer) c.new.ensures.items
           (c.in_ok-answer.ensures all (c.in_ok-reporting.ensures.only all are));
     }
