@@ -152,7 +152,7 @@ const SUITE: OptionRow = OptionRow(
     "calls the JUnit suite NAME instead of ttrun",
 );
 
-const RUN_OPTIONS: [OptionRow; 13] = [
+const RUN_OPTIONS: [OptionRow; 14] = [
     OptionRow("csv", Takes::Nothing, "writes the report as CSV"),
     OptionRow(
         "history",

@@ -21,7 +21,7 @@ use crate::word::{self, WordFault};
 use clap::parser::ValueSource;
 use clap::{ArgMatches, Command, Error};
 use std::alloc::{AllocError, Global};
-use tc_entry::Pattern;
+use tc_entry::{Name, Pattern};
 
 /// Why arguments ask for no task.
 #[derive(Drop)]

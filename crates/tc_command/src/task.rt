@@ -1,5 +1,5 @@
 //! What the program can be asked for.
-use tc_entry::{Pattern, Shard};
+use tc_entry::{Name, Pattern, Shard};
 use tc_verdict::Verdict;
 
 /// In which form the results are written.

@@ -10,7 +10,7 @@ ghost use Rattle.tc_command.specs.declared.word.WordFault.TheVariants as fault;
 
 use crate::refusal::Refusal;
 use std::alloc::Global;
-use tc_entry::{Pattern, Shard};
+use tc_entry::{Name, Pattern, Shard};
 use tc_text::{read_number, take_number};
 use tc_verdict::{Verdict, read_name};
 
