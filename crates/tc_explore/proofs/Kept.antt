@@ -1,9 +1,9 @@
 -- The states that a search keeps, and how many calls it counts.
-use Rattle.std.proofs.Common.{ℕ, zero, suc, ◌≡◌, ◌+◌, ◌==◌, ◌<◌, ◌≤◌, ◌⊎◌, inl, inr, max, Bool, true, false, nat_eq, nat_le, nat_lt, All, Option, Some, None, List, [], ◌∷◌, ◌++◌, length, map, reverse, slice_get, get_or, set, refl, ap, sym, subst, ◌∙◌, arith, append-nil}
+use Rattle.std.proofs.Common.{ℕ, zero, suc, ◌≡◌, ◌+◌, ◌==◌, ◌<◌, ◌≤◌, inl, inr, max, Bool, true, false, nat_eq, nat_le, All, Option, Some, None, List, [], ◌∷◌, ◌++◌, length, map, reverse, slice_get, get_or, set, refl, ap, sym, subst, ◌∙◌, arith, append-nil}
 use Rattle.std.specs.Cmp.Lexicographic.{pointwise}
 use Rattle.std.specs.List.{IsDistinct}
 use Rattle.std.proofs.lemmas.Bool.Decides.{nat_tests}
-use Rattle.std.proofs.lemmas.Option.{slice_get_within, get_or_from_slice_get}
+use Rattle.std.proofs.lemmas.Option.{get_or_from_slice_get}
 use Rattle.std.proofs.lemmas.List.{get_or-map, get_or-set_same, get_or-set_other, length-map, length-set}
 use Rattle.std.proofs.lemmas.List.Elements.{All-nil, All-same, All-push, All-map, All-weaker}
 use Rattle.tc_entry.specs.declared.entry.Entry.{Entry}

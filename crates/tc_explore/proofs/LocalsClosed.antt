@@ -1,13 +1,12 @@
 -- If what comes after each state that a search for local verdicts has seen is seen, or found, it has found the local
 -- verdicts of each complete course.
-use Rattle.std.proofs.Common.{ℕ, ◌≡◌, ◌+◌, ◌*◌, ◌<◌, ◌≤◌, ◌++◌, nat_lt, All, Bool, true, false, Some, None, List, [], ◌∷◌, length, map, reverse, slice_get, get_or, refl, ap, sym, subst, ◌∙◌, arith}
+use Rattle.std.proofs.Common.{ℕ, ◌≡◌, ◌+◌, ◌*◌, ◌<◌, ◌≤◌, ◌++◌, nat_lt, All, Bool, true, false, Some, None, List, [], ◌∷◌, length, reverse, slice_get, get_or, refl, ap, sym, subst, ◌∙◌, arith}
 use Rattle.std.proofs.lemmas.Bool.Decides.{nat_tests}
 use Rattle.std.proofs.lemmas.List.Elements.{All-nil, All-same}
 use Rattle.std.proofs.lemmas.List.{length-map}
 use Rattle.std.proofs.lemmas.Option.{slice_get_within, slice_get-get_or}
 use Rattle.std.specs.Option.{unwrap_or}
 use Rattle.tc_verdict.specs.declared.run.Run.{Run}
-use Rattle.tc_verdict.specs.declared.verdict.Verdict.{Verdict}
 use Rattle.tc_verdict.specs.Verdict.{level_of}
 use Rattle.tc_entry.specs.declared.comp.Comp.{Comp}
 use Rattle.tc_entry.specs.declared.entry.Entry.{Entry}
@@ -16,7 +15,6 @@ use Rattle.tc_entry.specs.declared.reply.Reply.TheVariants as R
 use Rattle.tc_step.specs.Steps.{ScriptView}
 use Rattle.tc_table.specs.Case.{Case, past_of}
 use Rattle.tc_table.specs.History.{ends_case, is_over}
-use Rattle.tc_table.specs.Local.{local_if_any}
 use Rattle.tc_table.specs.Answers.{is_active}
 use Rattle.tc_table.proofs.Lemmas.Over.{all_over}
 use Rattle.tc_explore.specs.declared.search.Met.{Met}

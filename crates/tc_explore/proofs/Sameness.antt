@@ -29,7 +29,7 @@ use Rattle.tc_explore.proofs.Alike.{alike_sym, active_alike, fresh}
 use Rattle.tc_explore.proofs.Ahead.{ahead_after}
 use Rattle.tc_explore.proofs.Lemmas.Standings.{stand_comp, run_in_range}
 use Rattle.tc_explore.proofs.Ordered.{order_alike}
-use Rattle.tc_explore.proofs.Simulation.{some_if, quiet_alike, followed_later}
+use Rattle.tc_explore.proofs.Simulation.{quiet_alike, followed_later}
 
 -- the components are numbered in the order of their creation
 numbered : (n : ℕ) (past : List Entry) → IsLegal n past → comps past ≡ numbers_from 0 (components past)

@@ -1,5 +1,5 @@
 -- Courses of which the same is known, local verdicts and waits included, are so after the next call of either.
-use Rattle.std.proofs.Common.{ℕ, ◌≡◌, ◌==◌, ◌<◌, ◌≤◌, ◌&&◌, ◌||◌, ◌⊎◌, inl, inr, not, if◌then◌else◌, Bool, true, false, Option, Some, None, List, [], ◌∷◌, length, refl, ap, sym, subst, ◌∙◌, arith}
+use Rattle.std.proofs.Common.{ℕ, ◌≡◌, ◌==◌, ◌≤◌, ◌⊎◌, inl, inr, not, if◌then◌else◌, Bool, true, false, Option, Some, None, List, [], ◌∷◌, length, refl, ap, sym, subst, ◌∙◌, arith}
 use Rattle.std.specs.List.{list_all}
 use Rattle.tc_verdict.specs.declared.run.Run.{Run}
 use Rattle.tc_verdict.specs.declared.verdict.Verdict.{Verdict}
@@ -10,30 +10,28 @@ use Rattle.tc_entry.specs.declared.op.Op.TheVariants as O
 use Rattle.tc_entry.specs.declared.phase.Phase.{Phase}
 use Rattle.tc_entry.specs.declared.phase.Phase.TheVariants as P
 use Rattle.tc_entry.specs.declared.reply.Fault.{Fault}
-use Rattle.tc_entry.specs.declared.reply.Fault.TheVariants as F
 use Rattle.tc_entry.specs.declared.reply.Reply.{Reply}
 use Rattle.tc_entry.specs.declared.reply.Reply.TheVariants as R
-use Rattle.tc_entry.specs.Reply.{is_fault}
 use Rattle.tc_step.specs.Steps.{ScriptView}
 use Rattle.tc_table.specs.declared.awaited.Awaited.{Awaited}
-use Rattle.tc_table.specs.History.{comps, comp_of, created, started_on, first_some, add_new, exists, is_comp, is_alive_type, halts, kills, ends_case, ends_pass, is_over}
-use Rattle.tc_table.specs.Phases.{phase, start_in}
+use Rattle.tc_table.specs.History.{comps, comp_of, created, started_on, first_some, add_new, ends_case, ends_pass, is_over}
+use Rattle.tc_table.specs.Phases.{phase}
 use Rattle.tc_table.specs.Local.{local_if_any, overall, gives}
-use Rattle.tc_table.specs.Waiting.{awaited, parks, waiting, holds, waits_in_vain, is_still, is_stuck}
-use Rattle.tc_table.specs.Faults.{fault, components}
+use Rattle.tc_table.specs.Waiting.{awaited, parks, waiting, waits_in_vain, is_still, is_stuck}
+use Rattle.tc_table.specs.Faults.{fault}
 use Rattle.tc_table.specs.Answers.{answer, plain_answer, wake_reply, local_reply, is_active, is_run_of}
 use Rattle.tc_table.specs.Legal.{IsLegal}
-use Rattle.tc_table.specs.Inside.Step.{next_phase, next_local}
-use Rattle.tc_table.proofs.Lemmas.Deciding.{self_equal, equal_if, if_same, and_left}
+use Rattle.tc_table.specs.Inside.Step.{next_local}
+use Rattle.tc_table.proofs.Lemmas.Deciding.{self_equal, equal_if, and_left}
 use Rattle.tc_table.proofs.Lemmas.Going.{halted_by_entry, last_on_it}
-use Rattle.tc_explore.specs.Course.{Stand, stand, next, after_own, after_other_by, ends, is_wake, is_idle, wake_for, wake_if, turn, IsTurn, IsCourse}
+use Rattle.tc_explore.specs.Course.{Stand, stand, next, after_own, after_other_by, ends, wake_if, turn, IsTurn, IsCourse}
 use Rattle.tc_explore.specs.Inside.Simulation.{IsAlike, is_quiet}
 use Rattle.tc_explore.specs.Inside.Twins.{IsTwin}
 use Rattle.tc_explore.proofs.Legality.{course_legal}
 use Rattle.tc_explore.proofs.Alike.{alike_sym, alike_unchanged, active_alike, fault_alike, holds_alike, exists_same, components_same, phase_next, local_next, overall_next}
 use Rattle.tc_explore.proofs.Closing.{answer_fault, answer_plain, answer_inactive}
 use Rattle.tc_explore.proofs.LastCalls.{local_kept, turn_by}
-use Rattle.tc_explore.proofs.Lemmas.Standings.{stand_own, stand_other, stand_comp, stand_unstarted, wake_after_other, unstarted}
+use Rattle.tc_explore.proofs.Lemmas.Standings.{stand_own, stand_other, stand_comp, stand_unstarted, wake_after_other}
 use Rattle.tc_explore.proofs.Parking.{alike_then, active_if, phase_running}
 use Rattle.tc_explore.proofs.Simulation.{some_if, unchanged_ended, unchanged_quiet}
 

@@ -1,18 +1,13 @@
 -- The states that a search has seen.
-use Rattle.std.specs.Prelude.{ℕ, zero, suc, ◌≡◌, ◌<◌, ◌≤◌, ◌⊎◌, true, None, Option, Some, List, [], ◌∷◌, ◌++◌, ◌+◌, false, length, map, slice_get, slice_index_or, All}
+use Rattle.std.specs.Prelude.{ℕ, ◌≡◌, ◌<◌, ◌≤◌, ◌⊎◌, true, None, Some, List, [], ◌∷◌, ◌++◌, false, length, map, slice_get, slice_index_or, All}
 use Rattle.tc_verdict.specs.declared.run.Run.{Run}
-use Rattle.tc_entry.specs.declared.comp.Comp.{Comp}
 use Rattle.tc_entry.specs.declared.entry.Entry.{Entry}
 use Rattle.tc_entry.specs.declared.op.Op.{Op}
-use Rattle.tc_entry.specs.declared.phase.Phase.{Phase}
-use Rattle.tc_entry.specs.declared.phase.Phase.TheVariants as P
 use Rattle.tc_entry.specs.Reply.{is_fault}
 use Rattle.tc_step.specs.Steps.{ScriptView}
 use Rattle.tc_table.specs.Case.{Case, past_of}
-use Rattle.tc_table.specs.History.{is_alive_type, is_over}
-use Rattle.tc_table.specs.Phases.{phase_if_any}
+use Rattle.tc_table.specs.History.{is_over}
 use Rattle.tc_table.specs.Local.{overall}
-use Rattle.tc_table.specs.Faults.{components}
 use Rattle.tc_table.specs.Answers.{answer, is_active}
 use Rattle.tc_explore.specs.declared.witness.Witness.{Witness}
 use Rattle.tc_explore.specs.declared.findings.Findings.{Findings}

@@ -2,7 +2,6 @@
 use Rattle.std.specs.Prelude.{ℕ, ◌≡◌, ◌==◌, ◌<◌, ◌≤◌, ◌+◌, ◌++◌, ◌∷◌, if◌then◌else◌, Bool, true, false, Option, Some, None, List, [], All, length, map, slice_get, slice_index_or}
 use Rattle.std.specs.List.{flat_map, range_with_len}
 use Rattle.tc_verdict.specs.declared.verdict.Verdict.{Verdict}
-use Rattle.tc_verdict.specs.declared.run.Run.{Run}
 use Rattle.tc_verdict.specs.Verdict.{level_of}
 use Rattle.tc_entry.specs.declared.entry.Entry.{Entry}
 use Rattle.tc_entry.specs.declared.op.Op.{Op}
@@ -16,7 +15,7 @@ use Rattle.tc_table.specs.Local.{local, local_if_any}
 use Rattle.tc_table.specs.Faults.{components}
 use Rattle.tc_table.specs.Answers.{is_active}
 use Rattle.tc_explore.specs.declared.search.Met.{Met}
-use Rattle.tc_explore.specs.Course.{stand, IsTurn, IsCourse}
+use Rattle.tc_explore.specs.Course.{stand, IsTurn}
 use Rattle.tc_explore.specs.Locals.{is_local}
 use Rattle.tc_explore.specs.Inside.Going.{IsOn}
 use Rattle.tc_explore.specs.Inside.Keys.{key_of}

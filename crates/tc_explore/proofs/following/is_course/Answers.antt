@@ -1,4 +1,4 @@
-use Rattle.std.proofs.Common.{rules, ◌≡◌, ◌<◌, ◌≤◌, length, get_or, refl}
+use Rattle.std.proofs.Common.{rules, ◌≡◌, ◌<◌, ◌≤◌, length, get_or}
 use Rattle.tc_explore.proofs.Followed.{no_witness, witness_at}
 use Rattle.tc_explore.proofs.following.is_course.Goals as goal
 

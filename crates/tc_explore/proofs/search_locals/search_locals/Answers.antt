@@ -1,4 +1,4 @@
-use Rattle.std.proofs.Common.{rules, ◌≡◌, ◌≤◌, ◌∙◌, true, false, length, ap, sym, subst, arith}
+use Rattle.std.proofs.Common.{rules, ◌≡◌, ◌≤◌, ◌∙◌, true, false, length, ap, subst, arith}
 use Rattle.tc_explore.specs.declared.search.Met.{Met}
 use Rattle.tc_explore.specs.Inside.Twins.{IsGoing, IsTwinSeen}
 use Rattle.tc_explore.proofs.LocalsClosed.{all_locals_found, as_many_twin_keys, going_none, going_with, no_twin_keys, opening_rules, twin_seen_longer}
