@@ -264,8 +264,8 @@ fn lacks_script(subcommand: Subcommand, options: &ArgMatches<'_>) -> bool
     }
 }
 
-// What a subcommand with its options asks for.
-fn subcommand_task(
+/// What a subcommand with its options asks for.
+pub(crate) fn subcommand_task(
     alloc: Global,
     subcommand: Subcommand,
     options: &ArgMatches<'_>,
