@@ -151,8 +151,8 @@ HasBadWord rows W.StopOn =
     × IsBad IsRuleOf (first_of (codes "stop-on") rows)
 HasBadWord rows W.States = IsBad IsStatesOf (first_of (codes "states") rows)
 
--- what a line is read as, in which the command finds these faults: the task that it asks for; or clap's error, of the
--- kind of its first fault; or, if there is none, an option value that names nothing
+-- What a line is read as, in which the command finds these faults: the task that it asks for, or clap's error, of the
+-- kind of its first fault. If it has none, it may be an option value that names nothing.
 abbrev pub IsReadAs : Kinds → Subcommand × List Row → Result Task Refused → Type 0
 IsReadAs found line (Ok task) = (faults found line ≡ []) × Asks line task
 IsReadAs found line (Err (R.Line e)) = HasKind (faults found line) e

@@ -14,9 +14,9 @@ use std::alloc::{AllocError, Global};
 // What its help says at its end.
 const CASES_HELP: &str = "\
 Standard output is the report. VERDICT is none, pass, inconc, fail or error.
---shard K/N runs every N-th of the chosen test cases, from the K-th on. --list
-takes no other option than --only and --shard, and --junit is not taken with
---live.
+--shard K/N runs every N-th test case that --only chooses, from the K-th on.
+--list takes no other option than --only and --shard, and --junit is not taken
+with --live.
 Status: 0 for none and pass, 1 for inconc and fail, 2 for error, 3 for an
 abort or a refusal.";
 
