@@ -13,7 +13,7 @@ use std::sync::Wait;
 use std::thread::Threads;
 use tc_book::Pass;
 use tc_entry::BEHAVIOURS;
-use tc_exec::{Back, CaseReport, Job, run_case};
+use tc_exec::{CaseReport, Job, run_case};
 use tc_report::verdict_status;
 use tc_verdict::name;
 
