@@ -1,0 +1,100 @@
+-- Test cases of a program's own, as a task asks for them.
+use Rattle.std.proofs.Common.{ℕ, ◌≡◌, All, true, List, Option, IfOk, Result, Ok, Err, inl, inr, refl, subst, sym}
+use Rattle.std.specs.Prelude.{◌≢◌}
+use Rattle.std.specs.Global.{Vec}
+use Rattle.clap.specs.Words.{Row}
+use Rattle.tc_book.specs.Passes.{PassState}
+use Rattle.tc_campaign.specs.Campaign.{IsCalled}
+use Rattle.tc_campaign.specs.Choosing.{case_name, chosen, have_names}
+use Rattle.tc_campaign.specs.Outline.{HasNames, outline_of}
+use Rattle.tc_campaign.specs.declared.case.Case.{Case}
+use Rattle.tc_command.specs.Asked.{Asks}
+use Rattle.tc_command.specs.declared.command.Subcommand.TheVariants as S
+use Rattle.tc_command.specs.declared.task.Choice.{Choice}
+use Rattle.tc_command.specs.declared.task.RunOptions.{RunOptions}
+use Rattle.tc_command.specs.declared.task.Task.{Task}
+use Rattle.tc_command.specs.declared.task.Task.TheVariants as T
+use Rattle.tc_exec.specs.declared.job.Back.{Back}
+use Rattle.tc_report.specs.declared.fault.OutFault.{OutFault}
+use Rattle.tc_program.proofs.Chosen.{all_chosen}
+use Rattle.tc_program.specs.Cases.{DoesCases, IsMadeOfCases, RefusesCases, WereMade}
+use Rattle.tc_program.specs.Choosing.{AreChosenOf}
+use Rattle.tc_program.specs.Fault.{line_of, of_output}
+use Rattle.tc_program.specs.Inside.{IsOfCases, RefusesNames}
+use Rattle.tc_program.specs.Made.{IsListed}
+use Rattle.tc_program.specs.Program.{IsDoneBy}
+use Rattle.tc_program.specs.Run.{IsRun, IsUnwritten}
+use Rattle.tc_program.specs.Stderr.{IsRefusal}
+use Rattle.tc_program.specs.Streams.{Streams}
+use Rattle.tc_program.specs.declared.fault.RunFault.{RunFault}
+use Rattle.tc_program.specs.declared.fault.RunFault.TheVariants as F
+use Rattle.tc_program.specs.declared.outcome.Outcome.{Outcome}
+use Rattle.tc_program.specs.declared.reply.Answer.{Answer}
+
+-- what such arguments ask for is a run or a list
+pub of_cases : (rows : List Row) (task : Task) → Asks (S.Run, rows) task → IsOfCases task
+of_cases rows (T.Run o) asks = tt
+of_cases rows (T.List choice) asks = tt
+of_cases rows (T.Replay explains) asks = absurd asks
+of_cases rows (T.Check explains) asks = absurd asks
+of_cases rows (T.Compare form choice) asks = absurd asks
+of_cases rows (T.Report form explains) asks = absurd asks
+of_cases rows (T.Explore histories details states) asks = absurd asks
+of_cases rows T.Serve asks = absurd asks
+
+-- such a task is one of these two
+pub no_other : (task : Task) → IsOfCases task → ((o : RunOptions) → task ≢ T.Run o) → ((choice : Choice) → task ≢ T.List choice) → ⊥
+no_other (T.Run o) is no_run no_list = no_run o refl
+no_other (T.List choice) is no_run no_list = no_list choice refl
+no_other task is no_run no_list = is
+
+module _ {B E : Type 0} (made : Result (Vec (Case B)) E) where
+  -- the chosen ones of test cases that were made are chosen of these
+  pub chosen_made : (v : Vec (Case B)) (choice : Choice) (ks : List (Case B)) → made ≡ Ok v → have_names case_name choice.only.items v.items ≡ true
+      → ks ≡ chosen case_name choice.only.items choice.shard v.items → AreChosenOf case_name (WereMade made) choice ks
+  chosen_made v choice ks is have are = record { all = v.items; spelled = subst (λ r. WereMade r v.items) (sym is) refl; named = have; are = are }
+
+  -- a choice that is refused of these is refused
+  pub unchosen_made : (v : Vec (Case B)) (choice : Choice) (fault : RunFault) → made ≡ Ok v → RefusesNames (have_names case_name choice.only.items v.items) fault
+      → RefusesCases (WereMade made) choice fault
+  unchosen_made v choice F.Only is have = (v.items, subst (λ r. WereMade r v.items) (sym is) refl, have)
+  unchosen_made v choice F.NoMemory is have = tt
+  unchosen_made v choice fault is have = absurd have
+
+  -- the list of the chosen ones is what a task makes that asks for it
+  pub list_made : (task : Task) (choice : Choice) (a : Answer) → task ≡ T.List choice → IsListed case_name (AreChosenOf case_name (WereMade made) choice) a
+      → IsMadeOfCases (WereMade made) task (Ok a)
+  list_made task choice a is listed = subst (λ t. IsMadeOfCases (WereMade made) t (Ok a)) (sym is) listed
+
+  pub list_refused : (task : Task) (choice : Choice) (fault : RunFault) → task ≡ T.List choice → RefusesCases (WereMade made) choice fault
+      → IsMadeOfCases (WereMade made) task (Err fault)
+  list_refused task choice fault is refused = subst (λ t. IsMadeOfCases (WereMade made) t (Err fault)) (sym is) refused
+
+  pub run_refused : (task : Task) (o : RunOptions) (fault : RunFault) → task ≡ T.Run o → RefusesCases (WereMade made) o.choice fault
+      → IsMadeOfCases (WereMade made) task (Err fault)
+  run_refused task o fault is refused = subst (λ t. IsMadeOfCases (WereMade made) t (Err fault)) (sym is) refused
+
+-- chosen ones of test cases with names of their behaviours have such names
+pub named_still : {B E : Type 0} (made : Result (Vec (Case B)) E) (choice : Choice) (ks : List (Case B)) → IfOk made (λ v. All HasNames v.items)
+    → AreChosenOf case_name (WereMade made) choice ks → All HasNames ks
+named_still (Ok v) choice ks names are =
+    subst (All HasNames) (sym are.are) (all_chosen HasNames case_name choice.only.items choice.shard are.all (subst (All HasNames) are.spelled names))
+named_still (Err e) choice ks names are = absurd are.spelled
+
+module _ {B E : Type 0} (called : B → PassState → Back → Type 0) (made : Result (Vec (Case B)) E) (task : Task) (o : RunOptions) (is : task ≡ T.Run o)
+    (ks : List (Case B)) (are : AreChosenOf case_name (WereMade made) o.choice ks) where
+  -- a run of the chosen ones is what a task does that asks for it
+  pub ran : (s : Streams) (outcome : Outcome) → IsRun outline_of (IsCalled called) ks o s outcome → DoesCases called (WereMade made) task s outcome
+  ran s outcome run = IsDoneBy.run o is (inl (record { cases = ks; chosen = are; run = run }))
+
+  -- and so is one whose results were not written whole
+  pub ran_unwritten : (s : Streams) (fault : OutFault) (told : Option (List ℕ)) (outcome : Outcome) → IsUnwritten outline_of (IsCalled called) ks o s fault
+      → IsRefusal s.told told (line_of (of_output fault)) outcome → DoesCases called (WereMade made) task (record s { told = told }) outcome
+  ran_unwritten s fault told outcome run refusal = IsDoneBy.run o is (inr (record {
+    cases = ks;
+    chosen = are;
+    fault = fault;
+    between = s.told;
+    run = record { results = run.results; left = run.left; told = run.told };
+    refusal = refusal;
+  }))
