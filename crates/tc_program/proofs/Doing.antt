@@ -96,10 +96,10 @@ made_by task other text made r is same done refused =
     subst (λ x. IsMade task text x) (sym same) (subst (λ t. IsMade t text r) (sym is) (made_either other text r done refused))
 
 -- a task that makes an answer is done if the answer is given
-pub done_by : (task : Task) (Makes : Result Answer RunFault → Type 0) (Refused : RunFault → Type 0) (Runs : RunOptions → Type 0) (a : Answer) (s : Streams) (outcome : Outcome)
-    → Makes (Ok a) → GivesAnswer a s outcome → IsDoneBy task Makes Refused Runs s outcome
-done_by task Makes Refused Runs a s outcome makes (inl given) = IsDoneBy.whole a makes given.0 given.1.0 given.1.1
-done_by task Makes Refused Runs a s outcome makes (inr given) = IsDoneBy.part a makes given.0 given.1
+pub done_by : (task : Task) (Made : Result Answer RunFault → Type 0) (Refused : RunFault → Type 0) (Runs : RunOptions → Type 0) (a : Answer) (s : Streams) (outcome : Outcome)
+    → Made (Ok a) → GivesAnswer a s outcome → IsDoneBy task Made Refused Runs s outcome
+done_by task Made Refused Runs a s outcome makes (inl given) = IsDoneBy.whole a makes given.0 given.1 given.2
+done_by task Made Refused Runs a s outcome makes (inr given) = IsDoneBy.part a makes given.0 given.1
 
 -- a task that is no service is carried out by its whole input
 pub carried_out : (task : Task) (input : Option (List ℕ)) (s : Streams) (outcome : Outcome) → task ≢ T.Serve → IsDoneWhole task input s outcome

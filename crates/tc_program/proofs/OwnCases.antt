@@ -2,14 +2,13 @@
 use Rattle.std.proofs.Common.{ℕ, ◌≡◌, All, true, List, Option, IfOk, Result, Ok, Err, inl, inr, refl, subst, sym}
 use Rattle.std.specs.Prelude.{◌≢◌}
 use Rattle.std.specs.Global.{Vec}
-use Rattle.clap.specs.Words.{Row}
 use Rattle.tc_book.specs.Passes.{PassState}
 use Rattle.tc_campaign.specs.Campaign.{IsCalled}
 use Rattle.tc_campaign.specs.Choosing.{case_name, chosen, have_names}
 use Rattle.tc_campaign.specs.Outline.{HasNames, outline_of}
 use Rattle.tc_campaign.specs.declared.case.Case.{Case}
-use Rattle.tc_command.specs.Asked.{Asks}
-use Rattle.tc_command.specs.declared.command.Subcommand.TheVariants as S
+use Rattle.tc_command.specs.Asked.{IsCasesReading}
+use Rattle.tc_command.specs.declared.read.Refused.{Refused}
 use Rattle.tc_command.specs.declared.task.Choice.{Choice}
 use Rattle.tc_command.specs.declared.task.RunOptions.{RunOptions}
 use Rattle.tc_command.specs.declared.task.Task.{Task}
@@ -17,6 +16,7 @@ use Rattle.tc_command.specs.declared.task.Task.TheVariants as T
 use Rattle.tc_exec.specs.declared.job.Back.{Back}
 use Rattle.tc_report.specs.declared.fault.OutFault.{OutFault}
 use Rattle.tc_program.proofs.Chosen.{all_chosen}
+use Rattle.tc_program.specs.Answer.{IsAnsweredBy, IsRefused}
 use Rattle.tc_program.specs.Cases.{DoesCases, IsMadeOfCases, RefusesCases, WereMade}
 use Rattle.tc_program.specs.Choosing.{AreChosenOf}
 use Rattle.tc_program.specs.Fault.{line_of, of_output}
@@ -32,21 +32,34 @@ use Rattle.tc_program.specs.declared.outcome.Outcome.{Outcome}
 use Rattle.tc_program.specs.declared.reply.Answer.{Answer}
 
 -- what such arguments ask for is a run or a list
-pub of_cases : (rows : List Row) (task : Task) → Asks (S.Run, rows) task → IsOfCases task
-of_cases rows (T.Run o) asks = tt
-of_cases rows (T.List choice) asks = tt
-of_cases rows (T.Replay explains) asks = absurd asks
-of_cases rows (T.Check explains) asks = absurd asks
-of_cases rows (T.Compare form choice) asks = absurd asks
-of_cases rows (T.Report form explains) asks = absurd asks
-of_cases rows (T.Explore histories details states) asks = absurd asks
-of_cases rows T.Serve asks = absurd asks
+pub of_cases : (words : List (List ℕ)) (task : Task) → IsCasesReading words (Ok task) → IsOfCases task
+of_cases words (T.Run o) reads = tt
+of_cases words (T.List choice) reads = tt
+of_cases words (T.Replay explains) reads = absurd reads.1
+of_cases words (T.Check explains) reads = absurd reads.1
+of_cases words (T.Compare form choice) reads = absurd reads.1
+of_cases words (T.Report form explains) reads = absurd reads.1
+of_cases words (T.Explore histories details states) reads = absurd reads.1
+of_cases words T.Serve reads = absurd reads.1
 
 -- such a task is one of these two
 pub no_other : (task : Task) → IsOfCases task → ((o : RunOptions) → task ≢ T.Run o) → ((choice : Choice) → task ≢ T.List choice) → ⊥
 no_other (T.Run o) is no_run no_list = no_run o refl
 no_other (T.List choice) is no_run no_list = no_list choice refl
 no_other task is no_run no_list = is
+
+-- what holds of the value of an answer
+pub of_value : {V E : Type 0} (P : V → Type 0) (r : Result V E) (v : V) → r ≡ Ok v → P v → IfOk r P
+of_value P r v is holds = subst (λ x. IfOk x P) (sym is) holds
+
+module _ (Reads : Result Task Refused → Type 0) (Does : Task → Type 0) (s : Streams) (Unwritten : Type 0) (outcome : Outcome) where
+  -- arguments that are a task are answered if it is done
+  pub task_answered : (task : Task) → Reads (Ok task) → Does task → IsAnsweredBy Reads Does s (Unit {0}) Unwritten outcome
+  task_answered task reads does = record { answer = Ok task; reading = reads; task = does; no_task = tt; unread = tt }
+
+  -- and those that are none, if that is said
+  pub refusal_answered : (why : Refused) → Reads (Err why) → IsRefused why s Unwritten outcome → IsAnsweredBy Reads Does s (Unit {0}) Unwritten outcome
+  refusal_answered why reads refused = record { answer = Err why; reading = reads; task = tt; no_task = refused; unread = tt }
 
 module _ {B E : Type 0} (made : Result (Vec (Case B)) E) where
   -- the chosen ones of test cases that were made are chosen of these
