@@ -21,7 +21,7 @@ RUN: Tuple[Tuple[str, str, str, str], ...] = (
     (GUIDE, "", BLOCKS, "blocks_of_the_guide"), (GUIDE, "printf 'testcase", SHOWN, "shown_cases"),
     (GUIDE, "./ttrun explore --details < race.script", SHOWN, "shown_cases"),
     (LIBRARY, "cp -r crates/car_window", "tests/documents/tables.py", "the_copy_is_a_crate_as_the_claims_have_it"),
-    (LIBRARY, "rt try > bench.history", "tests/documents/tables.py", "histories_of_a_bench_are_read"),
+    (LIBRARY, "> bench.history", "tests/documents/tables.py", "options_of_a_bench_are_taken"),
     ("docs/titan.md", "clients/titan/ttrun-titan", "tests/titan/command_tests.py", "the_commands_of_the_document_run"),
     ("docs/benches.md", "", BLOCKS, "blocks_of_the_bench"),
     ("docs/benches.md", "bash heater.sh", "tests/python/document_tests.py", "the_bench_in_bash"),

@@ -24,7 +24,10 @@ def source(path: str) -> str:
 
 
 def exported(crate: str) -> List[str]:
-    """The names that a crate's root offers."""
+    """The names that a crate's root offers, or a module of it."""
+    crate, _, module = crate.partition("::")
+    if module:
+        return re.findall(r"(?m)^pub fn (\w+)", source(f"crates/{crate}/src/{module}.rt"))
     found: List[str] = []
     for names, alone in re.findall(r"pub use [\w:]+::(?:\{([^}]*)\}|(\w+(?: as \w+)?));", source(f"crates/{crate}/src/lib.rt")):
         found += [it.split(" as ")[-1].strip() for it in (names or alone).split(",") if it.strip()]
@@ -81,20 +84,23 @@ def the_copy_is_a_crate_as_the_claims_have_it(room: str, program: str) -> str:
     return checked.stdout.splitlines()[-1]
 
 
-def histories_of_a_bench_are_read(room: str, program: str) -> str:
-    """Follows the block that makes histories instead of a report, with an rt that prints some: `check` and `report` take them."""
+def options_of_a_bench_are_taken(room: str, program: str) -> str:
+    """Follows the block that gives a bench options, with an rt that runs the one that is copied."""
+    bench = os.path.join(TOP, "crates", COPIED, "out", COPIED)
+    hold(os.access(bench, os.X_OK), f"there is no program {bench}: `rt run` in its crate builds it")
     block = next(it for it in read(TOP, LIBRARY).blocks() if it.language == "sh" and "bench.history" in it.text)
     it = Room(os.path.join(room, "it"), program)
-    histories = source("examples/verdicts.history")
-    shown = os.path.join(TOP, "examples/verdicts.history")
-    it.write(os.path.join(it.bin, "rt"), f"#!/bin/sh\n[ \"$*\" = try ] || exit 9\ncat {shown}\nexit 2\n")
+    it.write(os.path.join(it.bin, "rt"), f'#!/bin/sh\n[ "$1 $2" = "try --" ] || exit 9\nshift 2\nexec {bench} "$@"\n')
     os.makedirs(it.path(f"crates/{COPY}"))
     ran = it.shell(SHELLS["github"], f"cd crates/{COPY}\n{block.text}")
-    hold(not ran.errors and it.text(f"crates/{COPY}/bench.history") == histories, f"{ran}")
+    wrong = [line for line in ran.errors.splitlines() if not line.startswith(("pinches ", "failed: pinches "))]
+    hold(ran.status == 0 and not wrong, f"{ran}")
+    listed = ran.output.splitlines()[:3]
     legal = [line.split()[1] for line in ran.output.splitlines() if line.startswith("legal ")]
-    named = re.findall(r'<testcase name="(\w+)"', ran.output)
-    hold(legal == named and len(legal) == histories.count("history "), f"{ran}")
+    suite, page = (it.text(f"crates/{COPY}/bench.{form}") for form in ("xml", "html"))
+    named = re.findall(r'<testcase name="(\w+)"', suite)
+    hold(listed == legal == named and len(legal) == 3 and page.startswith("<!DOCTYPE html>"), f"{ran}")
     return f"{len(legal)} test cases"
 
 
-TESTS = (each_name_is_of_its_crate, the_main_is_whole, the_copy_is_a_crate_as_the_claims_have_it, histories_of_a_bench_are_read)
+TESTS = (each_name_is_of_its_crate, the_main_is_whole, the_copy_is_a_crate_as_the_claims_have_it, options_of_a_bench_are_taken)

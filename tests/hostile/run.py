@@ -3,7 +3,7 @@
 
 usage: tests/hostile/run.py [--program FILE] [--all] [--jobs N]
 
-The programs are crates/ttrun/out/ttrun and crates/refused_memory/out/refused_memory, which `rt ci` and `rt run` leave there.
+The programs are those of crates/ttrun, refused_memory and car_window, which `rt ci` and `rt run` leave in their folders `out`.
 Without --all, as ./gate runs it, every so manyth growth and byte is tried; with it each one, which takes minutes. If there is
 no compiler of C nothing can be refused by a library: that fails. If the tests are not root's no other user can be refused threads:
 those tests are skipped, and said to be. The last line is 'N passed, M failed'; the status is 0 if nothing failed, otherwise 1, and
@@ -28,6 +28,7 @@ import crowds
 import cuts
 import false_answers
 import narrow
+import own
 import sweeps
 import turmoil
 from refusing import TOP, Refusing, refusing
@@ -37,6 +38,7 @@ from lanes import lanes
 
 # What must be met in the gate, by the tests that refuse something, and by those of texts.
 REFUSING_FLOORS = {"right": 900, "refused": 5000, "aborted": 2000, "served in part": 60}
+OWN_FLOORS = {"right": 150, "refused": 1000, "aborted": 50}
 DEVICE_FLOORS = {"reads failed": 300, "writes failed": 200, "right": 100, "long inputs": 3}
 TEXT_FLOORS = {"accepted": 100, "refused text": 4000}
 CROWD_FLOORS = {"right": 145, "aborted": 39}
@@ -69,7 +71,8 @@ def refused(library: Optional[Refusing], program: str, is_whole: bool, threads: 
     """Runs the tests that a library refuses something; if there is none they fail."""
     parts = (("calls of the library", calls.jobs(library), {}),
              ("failing devices", narrow.jobs(library, program, is_whole), DEVICE_FLOORS),
-             ("refused memory and threads", sweeps.jobs(library, program, is_whole), REFUSING_FLOORS))
+             ("refused memory and threads", sweeps.jobs(library, program, is_whole), REFUSING_FLOORS),
+             ("a program with test cases of its own", own.jobs(library, is_whole), OWN_FLOORS))
     if library is not None:
         return [it for title, work, floors in parts for it in judged(title, work, floors, threads)]
     fault = f"{sum(len(work) for _, work, _ in parts)} tests are not run, since there is no compiler of C to build refuse.c"
@@ -109,7 +112,7 @@ def main() -> int:
     parser.add_argument("--jobs", type=int, default=lanes(), help="runs at a time")
     given = parser.parse_args()
     program = os.path.abspath(given.program)
-    for it in (program, calls.PROGRAM):
+    for it in (program, calls.PROGRAM, own.PROGRAM):
         if not os.access(it, os.X_OK):
             print(f"there is no program {it}: `rt run` in its crate builds it", file=sys.stderr)
             return 3

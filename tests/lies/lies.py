@@ -283,7 +283,7 @@ LIES = (
         ("""in alloc; "ttrun run < {word}""", """in alloc; "ttrun check < {word}"""),
     ), shown="refused_file_"),
     Lie("a_clash_is_told_the_other_way_round", (
-        ("""conflict_error(alloc, subcommand, first, second)?""", """conflict_error(alloc, subcommand, second, first)?"""),
+        ("""conflict_error(alloc, command, first, second)?""", """conflict_error(alloc, command, second, first)?"""),
     ), shown="refused: report"),
     Lie("the_help_counts_shards_from_0", (
         ("""the chosen test cases, from the K-th on.""", """the chosen test cases, after the K-th."""),

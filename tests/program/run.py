@@ -29,6 +29,7 @@ import examples
 import explain
 import failed
 import live
+import own_cases
 import progress
 import random_courses
 import random_moves
@@ -77,7 +78,7 @@ def tests(seed: int) -> List[Test]:
             sys.exit(f"{name}: {len(group)} tests are fewer than {fewest}")
         found += group
     found += random_moves.judgements(seed) + random_scripts.judgements(seed) + random_courses.judgements(seed)
-    found += devices.judgements() + [words.help_in_78_columns()]
+    found += devices.judgements() + [words.help_in_78_columns()] + own_cases.judgements()
     found += reports.judgements(seed)
     found += evidence_rows.judgements(seed)
     found += choosing.judgements(seed)

@@ -1,11 +1,13 @@
 //! What the judges say of each window, and of a window that moves while it is looked at.
-use crate::WORKERS;
 use crate::behaviour::{Part, close};
 use crate::cases::{CLOSES, OPENS_AGAIN, case, cases};
 use crate::window::{OPEN, Window};
 use std::test::Fail;
 use tc_campaign::run_campaign;
 use tc_entry::Verdict;
+
+/// How many workers a test case needs: one for each behaviour but the first.
+const WORKERS: u16 = 2;
 
 #[test]
 fn a_broken_window_fails(rt: HostRuntime) -> Result<(), Fail> {

@@ -3,7 +3,7 @@ use Rattle.std.specs.Prelude.{◌≡◌, Bool, true, false, ◌&&◌, ◌||◌, 
 use Rattle.std.specs.Prelude.{if◌then◌else◌, is_none, option_and_then, unwrap_or}
 use Rattle.std.specs.List.{list_any}
 use Rattle.std.specs.Str.{bytes_eq}
-use Rattle.clap.specs.Words.{HasKind, Row, Text, all_of, first_of, fault_of, subcommand_of}
+use Rattle.clap.specs.Words.{HasKind, Row, Text, all_of, first_of, fault_of, matches_of, subcommand_of}
 use Rattle.clap.specs.Kinds.{Kinds, or_else}
 use Rattle.clap.specs.declared.error.kind.ErrorKind.TheVariants.{ArgumentConflict, MissingRequiredArgument}
 use Rattle.clap.specs.declared.parser.matches.ValueSource.{ValueSource}
@@ -25,7 +25,7 @@ use Rattle.tc_command.specs.declared.task.Task.{Task}
 use Rattle.tc_command.specs.declared.task.Task.TheVariants as T
 use Rattle.tc_command.specs.declared.word.WordFault.{WordFault}
 use Rattle.tc_command.specs.declared.word.WordFault.TheVariants as W
-use Rattle.tc_command.specs.Command.{ttrun}
+use Rattle.tc_command.specs.Command.{cases, ttrun}
 use Rattle.tc_command.specs.Words.{IsBad, IsGood, IsRuleOf, IsShardOf, IsStatesOf}
 
 -- the value comes from the arguments, and is no default
@@ -126,10 +126,10 @@ option_faults line =
     if list_any (are_both line.1) (apart line.0) then ArgumentConflict ∷ []
     else (if lacks_option line then MissingRequiredArgument ∷ [] else [])
 
--- why the arguments are refused, as the kinds of the first fault, or that they ask for help or the version; none if
--- they are taken
-abbrev pub faults : List Text → Kinds
-faults words = or_else (fault_of ttrun words) (option_faults (line_of (subcommand_of ttrun words)))
+-- why arguments are refused, as the kinds of the first fault, or that they ask for help or the version: those that the
+-- command finds, or those of the options; none if they are taken
+abbrev pub faults : Kinds → Subcommand × List Row → Kinds
+faults found line = or_else found (option_faults line)
 
 -- faults are explained: if that is asked for, and at a terminal unless it is declined
 abbrev pub is_explained : Bool → List Row → Bool
@@ -189,9 +189,17 @@ HasBadWord rows W.States =
     IsGood IsShardOf (first_of (codes "shard") rows) × All IsPattern (words_of (codes "only") rows)
     × IsBad IsStatesOf (first_of (codes "states") rows)
 
--- what the arguments are read as: the task that they ask for; or clap's error, of the kind of their first fault; or, if
--- there is none, an option value that names nothing
+-- What a line is read as, in which the command finds these faults: the task that it asks for, or clap's error, of the
+-- kind of its first fault. If it has none, it may be an option value that names nothing.
+abbrev pub IsReadAs : Bool → Kinds → Subcommand × List Row → Result Task Refused → Type 0
+IsReadAs at_terminal found line (Ok task) = (faults found line ≡ []) × Asks at_terminal line task
+IsReadAs at_terminal found line (Err (R.Line e)) = HasKind (faults found line) e
+IsReadAs at_terminal found line (Err (R.Word fault)) = (faults found line ≡ []) × HasBadWord line.1 fault
+
+-- what the arguments of the program are read as
 abbrev pub IsReading : Bool → List Text → Result Task Refused → Type 0
-IsReading at_terminal words (Ok task) = (faults words ≡ []) × Asks at_terminal (line_of (subcommand_of ttrun words)) task
-IsReading at_terminal words (Err (R.Line e)) = HasKind (faults words) e
-IsReading at_terminal words (Err (R.Word fault)) = (faults words ≡ []) × HasBadWord (line_of (subcommand_of ttrun words)).1 fault
+IsReading at_terminal words = IsReadAs at_terminal (fault_of ttrun words) (line_of (subcommand_of ttrun words))
+
+-- what those of a program with test cases of its own are read as: as those of `run`
+abbrev pub IsCasesReading : List Text → Result Task Refused → Type 0
+IsCasesReading words = IsReadAs false (fault_of cases words) (S.Run, matches_of cases words)

@@ -1,5 +1,5 @@
 -- The program's command as a command line reads it: its subcommands, and their options.
-use Rattle.std.specs.Prelude.{List, [], ◌∷◌, Some, true, codes}
+use Rattle.std.specs.Prelude.{List, [], ◌∷◌, ◌++◌, Some, true, codes}
 use Rattle.clap.specs.Words.{App, Rule, Text, new_app, new_rule, with_rule, with_subcommand}
 use Rattle.clap.specs.declared.builder.action.ArgAction.TheVariants.{Append, Set, SetTrue}
 
@@ -24,13 +24,16 @@ with_rules app (rule ∷ rules) = with_rules (with_rule app rule) rules
 abbrev pub explaining : List Rule
 explaining = flag_rule (codes "explain") ∷ flag_rule (codes "no-explain") ∷ []
 
--- the options of `run`: its forms, as it finishes, how it is stopped, which test cases, and whether a fault is explained
-abbrev pub run : App
-run = with_rules (new_app (codes "run")) (
+-- the options of a run of test cases: its forms, as it finishes, how it is stopped, and which test cases
+abbrev pub run_options : List Rule
+run_options =
     flag_rule (codes "csv") ∷ flag_rule (codes "history") ∷ flag_rule (codes "evidence") ∷ flag_rule (codes "junit")
     ∷ word_rule (codes "suite") ∷ flag_rule (codes "live") ∷ flag_rule (codes "progress")
-    ∷ word_rule (codes "stop-on") ∷ flag_rule (codes "list") ∷ words_rule (codes "only") ∷ word_rule (codes "shard")
-    ∷ flag_rule (codes "failed") ∷ explaining)
+    ∷ word_rule (codes "stop-on") ∷ flag_rule (codes "list") ∷ words_rule (codes "only") ∷ word_rule (codes "shard") ∷ []
+
+-- `run` has these and those of its script: which test cases, and whether a fault is explained
+abbrev pub run : App
+run = with_rules (new_app (codes "run")) (run_options ++ flag_rule (codes "failed") ∷ explaining)
 
 -- the options of `explore`
 abbrev pub explore : App
@@ -64,3 +67,7 @@ with_commands app (sub ∷ subs) = with_commands (with_subcommand app sub.top) s
 -- the program's command prints its version, and has these six subcommands; `serve` has no option
 abbrev pub ttrun : App
 ttrun = with_commands (with_version (new_app (codes "ttrun"))) (run ∷ new_app (codes "serve") ∷ explore ∷ check ∷ report ∷ replay ∷ [])
+
+-- the command of a program with test cases of its own prints its version too, and has the options of their run
+abbrev pub cases : App
+cases = with_rules (with_version (new_app (codes "program"))) run_options

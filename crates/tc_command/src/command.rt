@@ -98,7 +98,7 @@ case that is not over, 3 for a refused line or a fault.";
 
 // The values that an option takes, by what the help calls one: none, one, or one each time that the option is given.
 #[derive(Clone, Copy)]
-enum Takes {
+pub(crate) enum Takes {
     Nothing,
     Word(&'static str),
     Words(&'static str),
@@ -106,7 +106,7 @@ enum Takes {
 
 // An option: its name, the values that it takes, and what the help says of it.
 #[derive(Clone, Copy)]
-struct OptionRow(&'static str, Takes, &'static str);
+pub(crate) struct OptionRow(&'static str, Takes, &'static str);
 
 const EXPLAIN: OptionRow = OptionRow(
     "explain",
@@ -152,7 +152,8 @@ const SUITE: OptionRow = OptionRow(
     "calls the JUnit suite NAME instead of ttrun",
 );
 
-const RUN_OPTIONS: [OptionRow; 14] = [
+/// The options of a run of test cases.
+pub(crate) const RUN_OPTIONS: [OptionRow; 11] = [
     OptionRow("csv", Takes::Nothing, "writes the report as CSV"),
     OptionRow(
         "history",
@@ -200,6 +201,10 @@ const RUN_OPTIONS: [OptionRow; 14] = [
         Takes::Word("K/N"),
         "runs the K-th of N shards of the test cases",
     ),
+];
+
+// The options of `run` that are of its script.
+const RUN_SCRIPT_OPTIONS: [OptionRow; 3] = [
     FAILED,
     EXPLAIN,
     NO_EXPLAIN,
@@ -307,8 +312,8 @@ fn option_of<'a>(alloc: Global, row: OptionRow) -> Arg<'a>
     }
 }
 
-// The command with these options more.
-fn with_options<'a>(
+/// The command with these options more.
+pub(crate) fn with_options<'a>(
     alloc: Global,
     mut command: Command<'a>,
     rows: &[OptionRow],
@@ -338,7 +343,8 @@ fn run_command<'a>(alloc: Global) -> Result<Command<'a>, AllocError>
         "run",
         "runs the campaign of a script, and writes its report",
     );
-    with_options(alloc, command.after_help(RUN_HELP), &RUN_OPTIONS)
+    let command = with_options(alloc, command.after_help(RUN_HELP), &RUN_OPTIONS)?;
+    with_options(alloc, command, &RUN_SCRIPT_OPTIONS)
 }
 
 fn explore_command<'a>(alloc: Global) -> Result<Command<'a>, AllocError>
@@ -462,6 +468,14 @@ fn subcommand_of<'a>(alloc: Global, subcommand: Subcommand) -> Result<Command<'a
     }
 }
 
+/// The command of the subcommand, with the program's name in its usage.
+pub(crate) fn usage_command<'a>(
+    alloc: Global,
+    subcommand: Subcommand,
+) -> Result<Command<'a>, AllocError> {
+    subcommand_of(alloc, subcommand)?.bin_name(subcommand.usage_name())
+}
+
 /// An error with the usage of the subcommand.
 pub(crate) fn usage_error(
     alloc: Global,
@@ -471,7 +485,7 @@ pub(crate) fn usage_error(
 ) -> Result<Error, AllocError>
     ensures { IfOk result (λ e. kind_of e ≡ kind) }
 {
-    let mut command = subcommand_of(alloc, subcommand)?.bin_name(subcommand.usage_name())?;
+    let mut command = usage_command(alloc, subcommand)?;
     command.error(kind, text)
 }
 

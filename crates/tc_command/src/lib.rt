@@ -1,6 +1,7 @@
 //! What the arguments of the program ask for.
 #![tactic(auto)]
 
+mod cases;
 mod command;
 mod read;
 mod refusal;
@@ -8,6 +9,7 @@ mod stray;
 mod task;
 mod word;
 
+pub use cases::read_cases_task;
 pub use command::VERSION;
 pub use read::{Refused, read_task};
 pub use task::{Choice, ExploreOptions, Form, ReportForm, RunOptions, Task};

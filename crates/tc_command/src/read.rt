@@ -371,8 +371,8 @@ fn refuse_lack(subcommand: Subcommand, options: &ArgMatches<'_>) -> Result<(), R
     Ok(())
 }
 
-// What a subcommand with its options asks for.
-fn subcommand_task(
+/// What a subcommand with its options asks for.
+pub(crate) fn subcommand_task(
     alloc: Global,
     subcommand: Subcommand,
     options: &ArgMatches<'_>,

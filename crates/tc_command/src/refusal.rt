@@ -4,11 +4,11 @@ ghost use Rattle.clap.specs.Words.{kind_of};
 ghost use Rattle.clap.specs.declared.error.kind.ErrorKind.TheVariants.{ArgumentConflict, MissingRequiredArgument};
 ghost use Rattle.tc_command.specs.Inside.{IsToldBy};
 
-use crate::command::{Subcommand, usage_error};
+use crate::command::{Subcommand, usage_command};
 use crate::read::Refused;
 use crate::word::WordFault;
-use clap::Error;
 use clap::error::ErrorKind;
+use clap::{Command, Error};
 use std::alloc::{AllocError, AllocFailed, Global};
 
 /// Why options ask for nothing.
@@ -61,32 +61,56 @@ impl From<WordFault> for Refusal {
     }
 }
 
-// The error that names options that exclude each other, with the usage of the subcommand.
+// The error that names options that exclude each other, with the usage of the command.
 fn conflict_error(
     alloc: Global,
-    subcommand: Subcommand,
+    command: &mut Command<'_>,
     first: &str,
     second: &str,
 ) -> Result<Error, AllocError>
     ensures { IfOk result (λ e. kind_of e ≡ ArgumentConflict) }
 {
     let text = format!(in alloc; "the argument '--{first}' cannot be used with '--{second}'")?;
-    usage_error(
-        alloc,
-        subcommand,
-        ErrorKind::ArgumentConflict,
-        text.as_str(),
-    )
+    command.error(ErrorKind::ArgumentConflict, text.as_str())
 }
 
-// The error that says what is needed, with the usage of the subcommand.
-fn lack_error(alloc: Global, subcommand: Subcommand, text: &str) -> Result<Error, AllocError>
+// The error that says what is needed, with the usage of the command.
+fn lack_error(command: &mut Command<'_>, text: &str) -> Result<Error, AllocError>
     ensures { IfOk result (λ e. kind_of e ≡ MissingRequiredArgument) }
 {
-    usage_error(alloc, subcommand, ErrorKind::MissingRequiredArgument, text)
+    command.error(ErrorKind::MissingRequiredArgument, text)
 }
 
-/// The refusal as it is said: as a value that names nothing, or by an error with the usage of the subcommand.
+/// The refusal as it is said: as a value that names nothing, or by an error with the usage of the command.
+pub(crate) fn told_by(
+    alloc: Global,
+    command: &mut Command<'_>,
+    refusal: Refusal,
+) -> Result<Refused, AllocError>
+    ensures { IfOk result (IsToldBy refusal) }
+{
+    match refusal {
+        Refusal::Conflict(first, second) => {
+            Ok(Refused::Line(conflict_error(alloc, command, first, second)?))
+        }
+        Refusal::NoForm => Ok(Refused::Line(lack_error(
+            command,
+            "one of the arguments '--csv', '--junit', '--html' and '--summary' is needed",
+        )?)),
+        Refusal::NoScript => Ok(Refused::Line(lack_error(
+            command,
+            "the arguments '--only' and '--shard' need '--script'",
+        )?)),
+        Refusal::NoJunit => Ok(Refused::Line(lack_error(
+            command,
+            "the argument '--suite' needs '--junit'",
+        )?)),
+        Refusal::Word(fault) => Ok(Refused::Word(fault)),
+        Refusal::NoMemory => Err(AllocError),
+    }
+}
+
+/// The refusal as it is said, with the usage of the subcommand.
 pub(crate) fn told_of(
     alloc: Global,
     subcommand: Subcommand,
@@ -94,26 +118,5 @@ pub(crate) fn told_of(
 ) -> Result<Refused, AllocError>
     ensures { IfOk result (IsToldBy refusal) }
 {
-    match refusal {
-        Refusal::Conflict(first, second) => {
-            Ok(Refused::Line(conflict_error(alloc, subcommand, first, second)?))
-        }
-        Refusal::NoForm => Ok(Refused::Line(lack_error(
-            alloc,
-            subcommand,
-            "one of the arguments '--csv', '--junit', '--html' and '--summary' is needed",
-        )?)),
-        Refusal::NoScript => Ok(Refused::Line(lack_error(
-            alloc,
-            subcommand,
-            "the arguments '--only' and '--shard' need '--script'",
-        )?)),
-        Refusal::NoJunit => Ok(Refused::Line(lack_error(
-            alloc,
-            subcommand,
-            "the argument '--suite' needs '--junit'",
-        )?)),
-        Refusal::Word(fault) => Ok(Refused::Word(fault)),
-        Refusal::NoMemory => Err(AllocError),
-    }
+    told_by(alloc, &mut usage_command(alloc, subcommand)?, refusal)
 }

@@ -1,7 +1,7 @@
 -- The chosen ones of the test cases that were made of a script are those of the chosen ones of the script.
 use Rattle.std.proofs.Common.{ℕ, ◌≡◌, ◌∙◌, ◌+◌, ◌++◌, ◌&&◌, ◌||◌, Bool, true, false, List, [], ◌∷◌, Option, Some, None, Ok, All, ap, ap₂, refl, subst, sym, true≢false}
 use Rattle.std.proofs.lemmas.List.Elements.{All-cons, All-head, All-tail}
-use Rattle.std.specs.List.{AllZip, flat_map, list_any}
+use Rattle.std.specs.List.{AllZip, list_any}
 use Rattle.std.specs.Prelude.{filter, if◌then◌else◌, map}
 use Rattle.tc_entry.specs.Pattern.{matches}
 use Rattle.tc_entry.specs.Shard.{ShardView, has_place}
@@ -16,7 +16,7 @@ use Rattle.tc_script.specs.Campaign.{CampaignView, campaign}
 use Rattle.tc_script.specs.Law.{IsCase}
 use Rattle.tc_script.specs.Names.{Word, among, has_twice}
 use Rattle.tc_line.specs.Words.{is_text}
-use Rattle.tc_program.specs.Inside.{AreReady, AreReadyAs, IsCaseOf, RefusesNames, case_line, case_parts}
+use Rattle.tc_program.specs.Inside.{AreReady, AreReadyAs, IsCaseOf, RefusesNames, case_parts}
 use Rattle.tc_program.specs.Scripted.{CaseView}
 
 module _ {C : Type 0} (P : C → Type 0) where
@@ -145,15 +145,12 @@ pub same_names : (only : List (List ℕ)) (cs : List CaseView) (ks : List (Case 
 same_names [] cs ks each = refl
 same_names (pattern ∷ only) cs ks each = ap₂ ◌&&◌ (same_any pattern cs ks each) (same_names only cs ks each)
 
-same_lines : (cs : List CaseView) (ks : List (Case ScriptView)) → AreCases cs ks → flat_map case_line ks ≡ list_text cs
+-- the list of test cases that were made of a script is the list of the script
+pub same_lines : (cs : List CaseView) (ks : List (Case ScriptView)) → AreCases cs ks → list_text case_name ks ≡ list_text script_name cs
 same_lines [] [] each = refl
 same_lines [] (k ∷ ks) each = absurd each
 same_lines (c ∷ cs) [] each = absurd each
 same_lines (c ∷ cs) (k ∷ ks) each = ap₂ (λ (n : List ℕ) rest. (n ++ (10 ∷ [])) ++ rest) each.0.name (same_lines cs ks each.1)
-
--- the list of test cases that were made of a script is the list of the script
-pub listed : (cs : List CaseView) (ks : List (Case ScriptView)) (text : List ℕ) → AreCases cs ks → text ≡ flat_map case_line ks → text ≡ list_text cs
-listed cs ks text each is = is ∙ same_lines cs ks each
 
 -- the chosen ones of test cases that were made of a script are ready to be run
 pub ready : (choice : Choice) (text : List ℕ) (all : CampaignView) (made ks : List (Case ScriptView)) → campaign text ≡ Ok all → IsDistinct all → All (λ c. IsCase c.1) all

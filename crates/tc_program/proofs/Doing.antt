@@ -5,17 +5,18 @@ use Rattle.std.specs.Global.{Vec}
 use Rattle.tc_program.specs.declared.reply.Answer.{Answer}
 use Rattle.std.specs.Io.KnownBytes.{Keeps}
 use Rattle.tc_command.specs.declared.task.Choice.{Choice}
+use Rattle.tc_command.specs.declared.task.RunOptions.{RunOptions}
 use Rattle.tc_command.specs.declared.task.Task.{Task}
 use Rattle.tc_command.specs.declared.task.Task.TheVariants as T
 use Rattle.tc_program.specs.declared.fault.RunFault.{RunFault}
 use Rattle.tc_program.specs.declared.fault.RunFault.TheVariants as F
 use Rattle.tc_program.specs.Input.{IsUnread}
-use Rattle.tc_program.specs.Inside.{Makes, Refuses, WritesTo}
+use Rattle.tc_program.specs.Inside.{GivesAnswer, Makes, Refuses, WritesTo}
 use Rattle.tc_program.specs.Limits.{limit_of}
 use Rattle.tc_program.specs.Made.{Does, IsMade}
 use Rattle.tc_program.specs.Alone.{IsLeft, IsNotBegun}
 use Rattle.tc_program.specs.Passed.{RefusesRunBy}
-use Rattle.tc_program.specs.Program.{IsCarriedOut, IsDone, IsDoneWhole}
+use Rattle.tc_program.specs.Program.{IsCarriedOut, IsDone, IsDoneBy, IsDoneWhole}
 use Rattle.tc_program.specs.Streams.{Streams}
 use Rattle.tc_program.specs.declared.outcome.Outcome.{Outcome}
 
@@ -93,6 +94,12 @@ pub made_by : (task other : Task) (text : List ℕ) (made r : Result Answer RunF
     → IsMade task text made
 made_by task other text made r is same done refused =
     subst (λ x. IsMade task text x) (sym same) (subst (λ t. IsMade t text r) (sym is) (made_either other text r done refused))
+
+-- a task that makes an answer is done if the answer is given
+pub done_by : (task : Task) (Made : Result Answer RunFault → Type 0) (Refused : RunFault → Type 0) (Runs : RunOptions → Type 0) (a : Answer) (s : Streams) (outcome : Outcome)
+    → Made (Ok a) → GivesAnswer a s outcome → IsDoneBy task Made Refused Runs s outcome
+done_by task Made Refused Runs a s outcome makes (inl given) = IsDoneBy.whole a makes given.0 given.1 given.2
+done_by task Made Refused Runs a s outcome makes (inr given) = IsDoneBy.part a makes given.0 given.1
 
 -- a task that is no service is carried out by its whole input
 pub carried_out : (task : Task) (input : Option (List ℕ)) (s : Streams) (outcome : Outcome) → task ≢ T.Serve → IsDoneWhole task input s outcome

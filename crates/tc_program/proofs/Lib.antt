@@ -5,6 +5,7 @@ pub mod Replaying
 pub mod Running
 pub mod Telling
 pub mod Chosen
+pub mod OwnCases
 pub mod Passing
 pub mod Scripted
 pub mod Checking

@@ -50,11 +50,16 @@ abbrev pub IsRefused : Refused → Streams → Type 0 → Outcome → Type 0
 IsRefused (R.Line error) streams Unwritten outcome = IsNoTask (kind_of error) streams Unwritten outcome
 IsRefused (R.Word fault) streams Unwritten outcome = IsRefusal streams.untold streams.told (said (text_of fault)) outcome × Unwritten
 
--- The arguments are read as what they ask for by the rules of the command line. They are a task, which was carried out;
--- or they ask for no task, and the input was not read.
-pub record IsAnswered (at_terminal : Bool) (words : List (List ℕ)) (input : Option (List ℕ)) (streams : Streams) (Unread Unwritten : Type 0) (outcome : Outcome) : Type 0 where
+-- The arguments are read as what they ask for by the rules of a command line. They are a task, which was carried out; or
+-- they ask for no task, and the input was not read.
+pub record IsAnsweredBy (Reads : Result Task Refused → Type 0) (Does : Task → Type 0) (streams : Streams) (Unread Unwritten : Type 0) (outcome : Outcome) : Type 0 where
   pub answer : Result Task Refused
-  pub reading : IsReading at_terminal words answer
-  pub task : IfOk answer (λ task. IsCarriedOut task input streams outcome)
+  pub reading : Reads answer
+  pub task : IfOk answer Does
   pub no_task : IfErr answer (λ why. IsRefused why streams Unwritten outcome)
   pub unread : OnErr answer Unread
+
+-- the same by the rules of the program's command line, and what it does with a task
+abbrev pub IsAnswered : Bool → List (List ℕ) → Option (List ℕ) → Streams → Type 0 → Type 0 → Outcome → Type 0
+IsAnswered at_terminal words input streams Unread Unwritten outcome =
+    IsAnsweredBy (IsReading at_terminal words) (λ task. IsCarriedOut task input streams outcome) streams Unread Unwritten outcome

@@ -13,12 +13,25 @@ use Rattle.tc_program.specs.declared.fault.RunFault.TheVariants as F
 abbrev pub script_name : CaseView → Word
 script_name c = c.0
 
--- these test cases are those that are chosen of the ones that the text spells, which have each name that is asked for
-pub record AreChosen (choice : Choice) (text : List ℕ) (cases : CampaignView) : Type 0 where
-  pub all : CampaignView
-  pub spelled : campaign text ≡ Ok all
-  pub named : have_names script_name choice.only.items all ≡ true
-  pub are : cases ≡ chosen script_name choice.only.items choice.shard all
+module _ {C : Type 0} (name_of : C → List ℕ) (Are : List C → Type 0) where
+  -- these test cases are those that are chosen of the ones that there are, which have each name that is asked for
+  pub record AreChosenOf (choice : Choice) (cases : List C) : Type 0 where
+    pub all : List C
+    pub spelled : Are all
+    pub named : have_names name_of choice.only.items all ≡ true
+    pub are : cases ≡ chosen name_of choice.only.items choice.shard all
+
+  -- of the ones that there are none has a name that is asked for
+  abbrev pub LackName : Choice → Type 0
+  LackName choice = (all : List C) × Are all × (have_names name_of choice.only.items all ≡ false)
+
+-- the text spells these test cases
+abbrev pub Spells : List ℕ → CampaignView → Type 0
+Spells text all = campaign text ≡ Ok all
+
+-- the same of the test cases that the text spells
+abbrev pub AreChosen : Choice → List ℕ → CampaignView → Type 0
+AreChosen choice text = AreChosenOf script_name (Spells text) choice
 
 -- a text is refused as a script; if memory runs out, nothing is said about it
 abbrev pub RefusesScript : List ℕ → RunFault → Type 0
@@ -28,9 +41,9 @@ RefusesScript text fault = ⊥
 
 -- the same, or it spells test cases, and none of a name that is asked for
 abbrev pub RefusesChoice : Choice → List ℕ → RunFault → Type 0
-RefusesChoice choice text F.Only = (all : CampaignView) × (campaign text ≡ Ok all) × (have_names script_name choice.only.items all ≡ false)
+RefusesChoice choice text F.Only = LackName script_name (Spells text) choice
 RefusesChoice choice text fault = RefusesScript text fault
 
 -- the list of test cases: a line with the name of each
-abbrev pub list_text : CampaignView → List ℕ
-list_text cases = flat_map (λ c. c.0 ++ (10 ∷ [])) cases
+abbrev pub list_text : {C : Type 0} → (C → List ℕ) → List C → List ℕ
+list_text name_of cases = flat_map (λ c. name_of c ++ (10 ∷ [])) cases

@@ -1,5 +1,5 @@
 -- What the functions inside of the program say, which no public clause names.
-use Rattle.std.specs.Prelude.{ℕ, ◌≡◌, ◌≢◌, ◌&&◌, ◌≤◌, ◌+◌, nat_lt, slice_get, slice_index_or, All, Bool, true, false, Option, Some, None, Result, Ok, Err, MatchResult, List, [], ◌∷◌, ◌++◌, length, map, reverse, take, codes, filter, if◌then◌else◌, not}
+use Rattle.std.specs.Prelude.{ℕ, ◌≡◌, ◌≢◌, ◌⊎◌, ◌&&◌, ◌≤◌, ◌+◌, nat_lt, slice_get, slice_index_or, All, Bool, true, false, Option, Some, None, Result, Ok, Err, MatchResult, List, [], ◌∷◌, ◌++◌, length, map, reverse, take, codes, filter, if◌then◌else◌, not}
 use Rattle.std.specs.List.{AllZip, flat_map}
 use Rattle.tc_entry.specs.declared.limits.TheConstants.{BEHAVIOURS}
 use Rattle.tc_script.specs.Names.{Word, add, among, has_twice}
@@ -76,12 +76,15 @@ use Rattle.tc_stream.specs.Output.{AppendsPrefix}
 use Rattle.tc_command.specs.declared.read.Refused.{Refused}
 use Rattle.tc_command.specs.declared.task.Choice.{Choice}
 use Rattle.tc_command.specs.declared.task.Task.{Task}
+use Rattle.tc_command.specs.declared.task.Task.TheVariants as Tasks
 use Rattle.tc_script.specs.Campaign.{CampaignView}
 use Rattle.tc_script.specs.Law.{IsCase}
 use Rattle.tc_program.specs.Answer.{IsRefused}
 use Rattle.tc_program.specs.Choosing.{AreChosen}
 use Rattle.tc_program.specs.Made.{IsMade}
 use Rattle.tc_program.specs.Program.{IsDone}
+use Rattle.tc_program.specs.Fault.{line_of}
+use Rattle.tc_program.specs.Stderr.{IsRefusal, IsTold}
 use Rattle.tc_program.specs.declared.reply.Answer.{Answer}
 use Rattle.tc_report.specs.declared.summary.Summary.{Summary}
 use Rattle.tc_report.specs.Summary.{block_summary}
@@ -315,9 +318,17 @@ WritesTo task text before after (Err fault) = Refuses task text fault × Keeps b
 abbrev pub Finishes : Task → List ℕ → Result Answer RunFault → Streams → Outcome → Type 0
 Finishes task text made s outcome = IsMade task text made → IsDone task text s outcome
 
--- by this, each task is done if this answer is made of its text
+-- the answer was written and printed, and the status is its; or the writer failed, and that is printed
 abbrev pub GivesAnswer : Answer → Streams → Outcome → Type 0
-GivesAnswer a s outcome = (task : Task) (text : List ℕ) → Finishes task text (Ok a) s outcome
+GivesAnswer a s outcome =
+    (Appends s.before s.after a.out × IsTold s.untold s.told a.told outcome.told × (outcome.status ≡ a.status))
+    ⊎ (AppendsPrefix s.before s.after a.out × IsRefusal s.untold s.told (line_of F.Write) outcome)
+
+-- a task that is done with test cases of a program's own
+abbrev pub IsOfCases : Task → Type 0
+IsOfCases (Tasks.Run o) = Unit {0}
+IsOfCases (Tasks.List choice explains) = Unit {0}
+IsOfCases task = ⊥
 
 -- by this answer some text was written whole; without memory nothing was, if the writer failed a prefix
 abbrev pub ShowsText : Option (List ℕ) → Option (List ℕ) → Result (Unit {0}) RunFault → Type 0

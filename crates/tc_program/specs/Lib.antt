@@ -16,6 +16,7 @@ pub mod Serve
 pub mod Program
 pub mod Answer
 pub mod Alone
+pub mod Cases
 pub mod Check
 pub mod Compared
 pub mod Passed

@@ -2,16 +2,14 @@
 use Rattle.std.specs.Prelude.{ℕ, ◌≡◌, ◌⊎◌, List, [], MatchResult, Option, Some, None, Result, Ok, Err}
 use Rattle.std.specs.Io.KnownBytes.{Appends, Keeps}
 use Rattle.tc_stream.specs.Output.{AppendsPrefix}
-use Rattle.tc_command.specs.declared.task.Choice.{Choice}
 use Rattle.tc_command.specs.declared.task.Task.{Task}
 use Rattle.tc_command.specs.declared.task.Task.TheVariants as T
-use Rattle.tc_script.specs.Campaign.{CampaignView}
 use Rattle.tc_program.specs.declared.fault.RunFault.{RunFault}
 use Rattle.tc_program.specs.declared.fault.RunFault.TheVariants as F
 use Rattle.tc_program.specs.declared.reply.Answer.{Answer}
 use Rattle.tc_program.specs.Check.{IsChecked, RefusesHistory}
 use Rattle.tc_program.specs.Compared.{IsCheckedAgainst, IsReportedAgainst, RefusesAgainst}
-use Rattle.tc_program.specs.Choosing.{list_text}
+use Rattle.tc_program.specs.Choosing.{list_text, script_name}
 use Rattle.tc_program.specs.Explore.{Explores}
 use Rattle.tc_program.specs.Input.{IsRead, IsUnread}
 use Rattle.tc_program.specs.Limits.{limit_of}
@@ -20,8 +18,8 @@ use Rattle.tc_program.specs.Replay.{RefusesMoves, Replays}
 use Rattle.tc_program.specs.Report.{IsReported}
 
 -- the answer is the list of the test cases that would be run
-abbrev pub IsListed : Choice → List ℕ → Answer → Type 0
-IsListed choice text a = (cases : CampaignView) × AreToRun choice text cases × (a ≡ record { out = list_text cases; told = []; status = 0 })
+abbrev pub IsListed : {C : Type 0} → (C → List ℕ) → (List C → Type 0) → Answer → Type 0
+IsListed {C} name_of AreToBeRun a = (cases : List C) × AreToBeRun cases × (a ≡ record { out = list_text name_of cases; told = []; status = 0 })
 
 -- an answer of which nothing is printed, with such an output and status
 abbrev pub IsSilent : (List ℕ → ℕ → Type 0) → Answer → Type 0
@@ -36,7 +34,7 @@ IsMade (T.Compare None choice e) text made = MatchResult made (IsSilent (IsCheck
 IsMade (T.Compare (Some form) choice e) text made = MatchResult made (IsReportedAgainst form choice text) (RefusesAgainst choice text)
 IsMade (T.Report form e) text made = MatchResult made (IsReported form text) (RefusesHistory text)
 IsMade (T.Explore o) text made = MatchResult made (IsSilent (Explores o text)) (RefusesRun o.choice text)
-IsMade (T.List choice e) text made = MatchResult made (IsListed choice text) (RefusesRun choice text)
+IsMade (T.List choice e) text made = MatchResult made (IsListed script_name (AreToRun choice text)) (RefusesRun choice text)
 IsMade (T.Run o) text made = MatchResult made (λ a. ⊥) (RefusesRun o.choice text)
 IsMade T.Serve text made = ⊥
 

@@ -1,9 +1,10 @@
 -- What the program does with what it is asked for: what it writes, its statuses, and its lines on standard error.
-use Rattle.std.specs.Prelude.{ℕ, ◌≡◌, ◌⊎◌, List, Ok, Err, Option}
+use Rattle.std.specs.Prelude.{ℕ, ◌≡◌, ◌⊎◌, List, Result, Ok, Err, Option}
 use Rattle.std.specs.Io.KnownBytes.{Appends, Keeps}
 use Rattle.tc_stream.specs.Output.{AppendsPrefix}
-use Rattle.tc_script.specs.Campaign.{CampaignView}
+use Rattle.tc_campaign.specs.Outline.{Outline}
 use Rattle.tc_report.specs.declared.fault.OutFault.{OutFault}
+use Rattle.tc_report.specs.declared.results.Finished.{Finished}
 use Rattle.tc_command.specs.declared.task.RunOptions.{RunOptions}
 use Rattle.tc_command.specs.declared.task.Task.{Task}
 use Rattle.tc_command.specs.declared.task.Task.TheVariants as T
@@ -23,37 +24,52 @@ use Rattle.tc_program.specs.Serve.{Serves}
 use Rattle.tc_program.specs.Streams.{Streams}
 use Rattle.tc_program.specs.Stderr.{IsRefusal, IsTold}
 
--- The test cases that are asked for were run, of the campaign that the text spells, as it is asked for. Their right results were
--- written, and their status and the line of an aborted campaign are those of the outcome. Each report is of the test
--- case at its place, and made of what its scripts do.
-pub record RunsScript (o : RunOptions) (text : List ℕ) (streams : Streams) (outcome : Outcome) : Type 0 where
-  pub cases : CampaignView
-  pub chosen : AreToRun o.choice text cases
-  pub run : IsRun script_outline IsScripted cases o streams outcome
+module _ {C : Type 0} (outline : C → Outline) (called : C → Finished → Type 0) (AreToBeRun : List C → Type 0) (o : RunOptions) (streams : Streams) (outcome : Outcome) where
+  -- The test cases that are asked for were run, as it is asked for. Their right results were written, and their status
+  -- and the line of an aborted campaign are those of the outcome.
+  pub record RunsCases : Type 0 where
+    pub cases : List C
+    pub chosen : AreToBeRun cases
+    pub run : IsRun outline called cases o streams outcome
 
--- the test cases were run so, their results were not written whole, and that is printed after what was printed
--- of them
-pub record LeavesScript (o : RunOptions) (text : List ℕ) (streams : Streams) (outcome : Outcome) : Type 0 where
-  pub cases : CampaignView
-  pub chosen : AreToRun o.choice text cases
-  pub fault : OutFault
-  pub between : Option (List ℕ)
-  pub run : IsUnwritten script_outline IsScripted cases o (record streams { told = between }) fault
-  pub refusal : IsRefusal between streams.told (line_of (of_output fault)) outcome
+  -- the test cases were run so, their results were not written whole, and that is printed after what was printed
+  -- of them
+  pub record LeavesCases : Type 0 where
+    pub cases : List C
+    pub chosen : AreToBeRun cases
+    pub fault : OutFault
+    pub between : Option (List ℕ)
+    pub run : IsUnwritten outline called cases o (record streams { told = between }) fault
+    pub refusal : IsRefusal between streams.told (line_of (of_output fault)) outcome
+
+-- The same of test cases of the campaign that the text spells. Each report is of the test case at its place, and made of
+-- what its scripts do.
+abbrev pub RunsScript : RunOptions → List ℕ → Streams → Outcome → Type 0
+RunsScript o text = RunsCases script_outline IsScripted (AreToRun o.choice text) o
+
+-- the test cases of the script were run so, and their results were not written whole
+abbrev pub LeavesScript : RunOptions → List ℕ → Streams → Outcome → Type 0
+LeavesScript o text = LeavesCases script_outline IsScripted (AreToRun o.choice text) o
+
+-- what the program does with a task, by what the task makes of what is given, what is printed of its refusal, and what a
+-- run of it is
+pub data IsDoneBy (task : Task) (Makes : Result Answer RunFault → Type 0) (Refuses : RunFault → Type 0) (Runs : RunOptions → Type 0) (s : Streams) (outcome : Outcome) : Type 0 where
+  -- what is made was written, and what is due on standard error printed; the status is its
+  whole : (a : Answer) → Makes (Ok a) → Appends s.before s.after a.out → IsTold s.untold s.told a.told outcome.told → outcome.status ≡ a.status
+      → IsDoneBy task Makes Refuses Runs s outcome
+  -- the writer failed: a prefix of it was written, and that is printed
+  part : (a : Answer) → Makes (Ok a) → AppendsPrefix s.before s.after a.out → IsRefusal s.untold s.told (line_of F.Write) outcome
+      → IsDoneBy task Makes Refuses Runs s outcome
+  -- what is given is refused: nothing was written, and why is printed
+  refused : (fault : RunFault) → Makes (Err fault) → Keeps s.before s.after → Refuses fault → IsDoneBy task Makes Refuses Runs s outcome
+  -- a campaign was run, and its results were written whole or not
+  run : (o : RunOptions) → task ≡ T.Run o → Runs o → IsDoneBy task Makes Refuses Runs s outcome
 
 -- what the program does with the text of a task
-pub data IsDone (task : Task) (text : List ℕ) (s : Streams) (outcome : Outcome) : Type 0 where
-  -- what is made of the text was written, and what is due on standard error printed; the status is its
-  whole : (a : Answer) → IsMade task text (Ok a) → Appends s.before s.after a.out → IsTold s.untold s.told a.told outcome.told → outcome.status ≡ a.status
-      → IsDone task text s outcome
-  -- the writer failed: a prefix of it was written, and that is printed
-  part : (a : Answer) → IsMade task text (Ok a) → AppendsPrefix s.before s.after a.out → IsRefusal s.untold s.told (line_of F.Write) outcome
-      → IsDone task text s outcome
-  -- the text is refused: nothing was written, and why is printed
-  refused : (fault : RunFault) → IsMade task text (Err fault) → Keeps s.before s.after → IsExplained task text fault s.untold s.told outcome
-      → IsDone task text s outcome
-  -- a campaign was run, and its results were written whole or not
-  run : (o : RunOptions) → task ≡ T.Run o → RunsScript o text s outcome ⊎ LeavesScript o text s outcome → IsDone task text s outcome
+abbrev pub IsDone : Task → List ℕ → Streams → Outcome → Type 0
+IsDone task text s outcome =
+    IsDoneBy task (IsMade task text) (λ fault. IsExplained task text fault s.untold s.told outcome)
+    (λ o. RunsScript o text s outcome ⊎ LeavesScript o text s outcome) s outcome
 
 -- what the program does with a task by its whole input: it was read, and the text is done; or it was not, nothing was
 -- written, and why is printed

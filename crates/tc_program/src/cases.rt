@@ -46,9 +46,9 @@ fn cases_of(alloc: Global, campaign: Campaign) -> Result<Vec<Case<Script>>, NoMe
     Ok(cases)
 }
 
-// The test cases of the names that are asked for, in their order, and of these those of the shard. Each name has to be that
-// of a test case.
-fn choose_cases<B: Drop>(
+/// The test cases of the names that are asked for, in their order, and of these those of the shard. Each name has to be
+/// that of a test case.
+pub(crate) fn choose_cases<B: Drop>(
     alloc: Global,
     cases: Vec<Case<B>>,
     choice: &Choice,

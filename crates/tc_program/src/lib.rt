@@ -4,6 +4,7 @@
 
 pub mod alone;
 pub mod answer;
+pub mod answer_cases;
 pub mod carry_out;
 mod cases;
 pub mod check;

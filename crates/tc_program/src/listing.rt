@@ -1,9 +1,11 @@
 //! The list of the chosen test cases of a script.
-ghost use Rattle.std.specs.Prelude.{◌≡◌, IfOk, IfErr};
+ghost use Rattle.std.specs.Prelude.{◌≡◌, [], IfOk, IfErr};
 ghost use Rattle.std.specs.List.{flat_map};
+ghost use Rattle.tc_campaign.specs.Choosing.{case_name};
+ghost use Rattle.tc_program.specs.Choosing.{list_text as text_of_list, script_name};
 ghost use Rattle.tc_program.specs.Inside.{case_line};
 ghost use Rattle.tc_program.specs.Made.{IsListed};
-ghost use Rattle.tc_program.specs.Passed.{RefusesRun};
+ghost use Rattle.tc_program.specs.Passed.{AreToRun, RefusesRun};
 
 use crate::fault::RunFault;
 use crate::passed::cases_to_run;
@@ -26,16 +28,23 @@ fn list_of<B: Drop>(alloc: Global, cases: &[Case<B>]) -> Result<Vec<u8>, NoMemor
     Ok(text)
 }
 
-/// What `run --list` makes of a script: the names of the test cases that a run is asked for, one a line; nothing is run.
-pub(crate) fn list_text(alloc: Global, choice: &Choice, text: &[u8]) -> Result<Answer, RunFault>
-    ensures done { IfOk result (IsListed choice.now text.now) }
-    ensures refused { IfErr result (RefusesRun choice.now text.now) }
+/// The list of the test cases, as an answer.
+pub(crate) fn listed<B: Drop>(alloc: Global, cases: &[Case<B>]) -> Result<Answer, NoMemory>
+    ensures { IfOk result (λ a. a ≡ record { out = text_of_list case_name cases.now; told = []; status = 0 }) }
 {
-    let cases = cases_to_run(alloc, text, choice)?;
-    let list = list_of(alloc, cases.as_slice())?;
+    let list = list_of(alloc, cases)?;
     Ok(Answer {
         out: Sequence::new(list),
         told: Sequence::new(Vec::new(alloc)),
         status: 0,
     })
+}
+
+/// What `run --list` makes of a script: the names of the test cases that a run is asked for, one a line; nothing is run.
+pub(crate) fn list_text(alloc: Global, choice: &Choice, text: &[u8]) -> Result<Answer, RunFault>
+    ensures done { IfOk result (IsListed script_name (AreToRun choice.now text.now)) }
+    ensures refused { IfErr result (RefusesRun choice.now text.now) }
+{
+    let cases = cases_to_run(alloc, text, choice)?;
+    Ok(listed(alloc, cases.as_slice())?)
 }

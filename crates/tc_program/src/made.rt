@@ -27,9 +27,9 @@ pub(crate) fn write_answer<W: Write>(
     Ok(answer.status)
 }
 
-// Writes an answer, prints what it has for standard error, and has its status; if the writer fails, that is printed
-// instead.
-fn give_answer<W: Write, E: Write>(
+/// Writes an answer, prints what it has for standard error, and has its status; if the writer fails, that is printed
+/// instead.
+pub(crate) fn give_answer<W: Write, E: Write>(
     alloc: Global,
     answer: &Answer,
     writer: &mut W,

@@ -1,14 +1,14 @@
 use Rattle.std.proofs.Common.{inl, inr, subst, sym}
 use Rattle.tc_program.specs.Alone.{IsNotBegun}
 use Rattle.tc_program.specs.Inside.{Refuses}
-use Rattle.tc_program.specs.Program.{IsDone}
+use Rattle.tc_program.specs.Program.{IsDoneBy}
 use Rattle.tc_program.specs.Streams.{held}
 use Rattle.tc_program.proofs.Doing.{keeps_same}
 use Rattle.tc_program.proofs.alone.leave_run.Goals as goal
 
 pub returns-in-Err : goal.returns-in-Err
 returns-in-Err g c =
-    inl (IsDone.refused c.in-Err.fault (subst (λ task. Refuses task c.args.text.now c.in-Err.fault) (sym c.requires) c.in-Err.ensures.refused)
+    inl (IsDoneBy.refused c.in-Err.fault (subst (λ task. Refuses task c.args.text.now c.in-Err.fault) (sym c.requires) c.in-Err.ensures.refused)
     (keeps_same (g.W.Write.contents c.args.writer.now)) c.refuse_text.ensures)
 
 pub returns : goal.returns

@@ -1,7 +1,7 @@
 use Rattle.std.proofs.Common.{inl, inr, subst, sym}
 use Rattle.tc_program.specs.Fault.{line_of}
 use Rattle.tc_program.specs.Inside.{Refuses}
-use Rattle.tc_program.specs.Program.{IsDone}
+use Rattle.tc_program.specs.Program.{IsDoneBy}
 use Rattle.tc_program.specs.Streams.{held}
 use Rattle.tc_program.specs.Stderr.{IsRefusal}
 use Rattle.tc_program.proofs.Doing.{keeps_same}
@@ -10,7 +10,7 @@ use Rattle.tc_program.proofs.carry_out.run_text.Goals as goal
 
 pub returns-in-Err : goal.returns-in-Err
 returns-in-Err g c =
-    IsDone.refused c.in-Err.fault (subst (λ task. Refuses task c.args.text.now c.in-Err.fault) (sym c.requires) c.in-Err.ensures.refused)
+    IsDoneBy.refused c.in-Err.fault (subst (λ task. Refuses task c.args.text.now c.in-Err.fault) (sym c.requires) c.in-Err.ensures.refused)
     (keeps_same (g.W.Write.contents c.args.writer.now)) c.refuse_text.ensures
 
 pub run_cases-requires-clause-names : goal.run_cases-requires-clause-names
@@ -19,14 +19,14 @@ run_cases-requires-clause-names g c κs within = even c.in-Ok.ensures.chosen.cas
 pub returns-in-Ok-run_cases : goal.returns-in-Ok-run_cases
 returns-in-Ok-run_cases g c =
     let are = c.in-Ok.ensures.chosen in
-    IsDone.run c.args.options.now c.requires
+    IsDoneBy.run c.args.options.now c.requires
     (inl (run_done c.args.options.now c.args.text.now are.cases c.in-Ok.cases.items are.chosen are.lawful are.each
     (held g.W.Write.contents c.args.writer.now c.run_cases.new.writer g.E.Write.contents c.args.errors.now c.run_cases.new.errors) c.in-Ok-run_cases.outcome c.in-Ok-run_cases.ensures.done))
 
 pub returns-in-Err-run_cases : goal.returns-in-Err-run_cases
 returns-in-Err-run_cases g c =
     let are = c.in-Ok.ensures.chosen in
-    IsDone.run c.args.options.now c.requires
+    IsDoneBy.run c.args.options.now c.requires
     (inr (run_left c.args.options.now c.args.text.now are.cases c.in-Ok.cases.items are.chosen are.lawful are.each
     (held g.W.Write.contents c.args.writer.now c.run_cases.new.writer g.E.Write.contents c.args.errors.now c.run_cases.new.errors) c.in-Err-run_cases.fault
     (g.E.Write.contents c.refuse.new.errors) c.refuse.result c.in-Err-run_cases.ensures.refused

@@ -1,19 +1,21 @@
-use Rattle.std.proofs.Common.{refl, subst}
+use Rattle.std.proofs.Common.{inl, inr, refl, subst}
 use Rattle.std.specs.Io.KnownBytes.{Appends}
 use Rattle.tc_stream.specs.Output.{AppendsPrefix}
 use Rattle.tc_program.specs.Fault.{line_of}
-use Rattle.tc_program.specs.Program.{IsDone}
 use Rattle.tc_program.specs.Stderr.{IsRefusal, IsTold}
 use Rattle.tc_program.proofs.made.give_answer.Goals as goal
 
 pub returns-in-Ok : goal.returns-in-Ok
-returns-in-Ok g c task text makes =
-    IsDone.whole c.args.answer.now makes
-    (subst (Appends (g.W.Write.contents c.args.writer.now) (g.W.Write.contents c.write_whole.new.writer)) c.as_slice.ensures c.in-Ok.ensures.all)
-    (subst (λ t. IsTold (g.E.Write.contents c.args.errors.now) (g.E.Write.contents c.tell.new.errors) t c.tell.result) c.as_slice-in-Ok.ensures c.tell.ensures) refl
+returns-in-Ok g c =
+    inl (
+      subst (Appends (g.W.Write.contents c.args.writer.now) (g.W.Write.contents c.write_whole.new.writer)) c.as_slice.ensures c.in-Ok.ensures.all,
+      subst (λ t. IsTold (g.E.Write.contents c.args.errors.now) (g.E.Write.contents c.tell.new.errors) t c.tell.result) c.as_slice-in-Ok.ensures c.tell.ensures,
+      refl,
+    )
 
 pub returns-in-Err : goal.returns-in-Err
-returns-in-Err g c task text makes =
-    IsDone.part c.args.answer.now makes
-    (subst (AppendsPrefix (g.W.Write.contents c.args.writer.now) (g.W.Write.contents c.write_whole.new.writer)) c.as_slice.ensures c.in-Err.ensures.part)
-    (subst (λ f. IsRefusal (g.E.Write.contents c.args.errors.now) (g.E.Write.contents c.refuse.new.errors) (line_of f) c.refuse.result) c.from.ensures c.refuse.ensures)
+returns-in-Err g c =
+    inr (
+      subst (AppendsPrefix (g.W.Write.contents c.args.writer.now) (g.W.Write.contents c.write_whole.new.writer)) c.as_slice.ensures c.in-Err.ensures.part,
+      subst (λ f. IsRefusal (g.E.Write.contents c.args.errors.now) (g.E.Write.contents c.refuse.new.errors) (line_of f) c.refuse.result) c.from.ensures c.refuse.ensures,
+    )

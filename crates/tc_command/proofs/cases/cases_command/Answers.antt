@@ -1,0 +1,15 @@
+use Rattle.std.proofs.Common.{◌≡◌, ◌∙◌, ap, codes}
+use Rattle.std.proofs.lemmas.Result.{IfOk-weaker}
+use Rattle.clap.specs.Words.{app_of, new_app}
+use Rattle.clap.specs.Simple.{app_of_fields}
+use Rattle.tc_command.specs.Command.{with_version}
+use Rattle.tc_command.proofs.Growing.{grown}
+use Rattle.tc_command.proofs.cases.cases_command.Goals as goal
+
+pub returns : goal.returns
+returns c =
+    let about_is : app_of c.about.result ≡ new_app (codes "program") = ap app_of_fields c.about.ensures ∙ c.new.ensures.app in
+    let version_is : app_of c.version.result ≡ with_version (new_app (codes "program")) = ap app_of_fields c.version.ensures ∙ ap with_version about_is in
+    let help_is : app_of c.after_help.result ≡ with_version (new_app (codes "program")) = ap app_of_fields c.after_help.ensures ∙ version_is in
+    let top_is : app_of c.in_ok-program.program ≡ with_version (new_app (codes "program")) = ap app_of_fields c.in_ok-program.ensures.0 ∙ help_is in
+    IfOk-weaker c.with_options.result _ _ (λ r grows. grown grows top_is) c.with_options.ensures

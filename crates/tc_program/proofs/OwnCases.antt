@@ -1,0 +1,113 @@
+-- Test cases of a program's own, as a task asks for them.
+use Rattle.std.proofs.Common.{ℕ, ◌≡◌, All, Bool, true, List, Option, IfOk, Result, Ok, Err, inl, inr, refl, subst, sym}
+use Rattle.std.specs.Prelude.{◌≢◌}
+use Rattle.std.specs.Global.{Vec}
+use Rattle.tc_book.specs.Passes.{PassState}
+use Rattle.tc_campaign.specs.Campaign.{IsCalled}
+use Rattle.tc_campaign.specs.Choosing.{case_name, chosen, have_names}
+use Rattle.tc_campaign.specs.Outline.{HasNames, outline_of}
+use Rattle.tc_campaign.specs.declared.case.Case.{Case}
+use Rattle.tc_command.specs.Asked.{IsCasesReading}
+use Rattle.tc_command.specs.declared.read.Refused.{Refused}
+use Rattle.tc_command.specs.declared.task.Choice.{Choice}
+use Rattle.tc_command.specs.declared.task.RunOptions.{RunOptions}
+use Rattle.tc_command.specs.declared.task.Task.{Task}
+use Rattle.tc_command.specs.declared.task.Task.TheVariants as T
+use Rattle.tc_exec.specs.declared.job.Back.{Back}
+use Rattle.tc_report.specs.declared.fault.OutFault.{OutFault}
+use Rattle.tc_program.proofs.Chosen.{all_chosen}
+use Rattle.tc_program.specs.Answer.{IsAnsweredBy, IsRefused}
+use Rattle.tc_program.specs.Cases.{DoesCases, IsMadeOfCases, RefusesCases, WereMade}
+use Rattle.tc_program.specs.Choosing.{AreChosenOf}
+use Rattle.tc_program.specs.Fault.{line_of, of_output}
+use Rattle.tc_program.specs.Inside.{IsOfCases, RefusesNames}
+use Rattle.tc_program.specs.Made.{IsListed}
+use Rattle.tc_program.specs.Program.{IsDoneBy}
+use Rattle.tc_program.specs.Run.{IsRun, IsUnwritten}
+use Rattle.tc_program.specs.Stderr.{IsRefusal}
+use Rattle.tc_program.specs.Streams.{Streams}
+use Rattle.tc_program.specs.declared.fault.RunFault.{RunFault}
+use Rattle.tc_program.specs.declared.fault.RunFault.TheVariants as F
+use Rattle.tc_program.specs.declared.outcome.Outcome.{Outcome}
+use Rattle.tc_program.specs.declared.reply.Answer.{Answer}
+
+-- what such arguments ask for is a run or a list
+pub of_cases : (words : List (List ℕ)) (task : Task) → IsCasesReading words (Ok task) → IsOfCases task
+of_cases words (T.Run o) reads = tt
+of_cases words (T.List choice explains) reads = tt
+of_cases words (T.Replay explains) reads = absurd reads.1
+of_cases words (T.Check explains) reads = absurd reads.1
+of_cases words (T.Compare form choice explains) reads = absurd reads.1
+of_cases words (T.Report form explains) reads = absurd reads.1
+of_cases words (T.Explore o) reads = absurd reads.1
+of_cases words T.Serve reads = absurd reads.1
+
+-- such a task is one of these two
+pub no_other : (task : Task) → IsOfCases task → ((o : RunOptions) → task ≢ T.Run o) → ((choice : Choice) (explains : Bool) → task ≢ T.List choice explains) → ⊥
+no_other (T.Run o) is no_run no_list = no_run o refl
+no_other (T.List choice explains) is no_run no_list = no_list choice explains refl
+no_other task is no_run no_list = is
+
+-- what holds of the value of an answer
+pub of_value : {V E : Type 0} (P : V → Type 0) (r : Result V E) (v : V) → r ≡ Ok v → P v → IfOk r P
+of_value P r v is holds = subst (λ x. IfOk x P) (sym is) holds
+
+module _ (Reads : Result Task Refused → Type 0) (Does : Task → Type 0) (s : Streams) (Unwritten : Type 0) (outcome : Outcome) where
+  -- arguments that are a task are answered if it is done
+  pub task_answered : (task : Task) → Reads (Ok task) → Does task → IsAnsweredBy Reads Does s (Unit {0}) Unwritten outcome
+  task_answered task reads does = record { answer = Ok task; reading = reads; task = does; no_task = tt; unread = tt }
+
+  -- and those that are none, if that is said
+  pub refusal_answered : (why : Refused) → Reads (Err why) → IsRefused why s Unwritten outcome → IsAnsweredBy Reads Does s (Unit {0}) Unwritten outcome
+  refusal_answered why reads refused = record { answer = Err why; reading = reads; task = tt; no_task = refused; unread = tt }
+
+module _ {B E : Type 0} (made : Result (Vec (Case B)) E) where
+  -- the chosen ones of test cases that were made are chosen of these
+  pub chosen_made : (v : Vec (Case B)) (choice : Choice) (ks : List (Case B)) → made ≡ Ok v → have_names case_name choice.only.items v.items ≡ true
+      → ks ≡ chosen case_name choice.only.items choice.shard v.items → AreChosenOf case_name (WereMade made) choice ks
+  chosen_made v choice ks is have are = record { all = v.items; spelled = subst (λ r. WereMade r v.items) (sym is) refl; named = have; are = are }
+
+  -- a choice that is refused of these is refused
+  pub unchosen_made : (v : Vec (Case B)) (choice : Choice) (fault : RunFault) → made ≡ Ok v → RefusesNames (have_names case_name choice.only.items v.items) fault
+      → RefusesCases (WereMade made) choice fault
+  unchosen_made v choice F.Only is have = (v.items, subst (λ r. WereMade r v.items) (sym is) refl, have)
+  unchosen_made v choice F.NoMemory is have = tt
+  unchosen_made v choice fault is have = absurd have
+
+  -- the list of the chosen ones is what a task makes that asks for it
+  pub list_made : (task : Task) (choice : Choice) (explains : Bool) (a : Answer) → task ≡ T.List choice explains → IsListed case_name (AreChosenOf case_name (WereMade made) choice) a
+      → IsMadeOfCases (WereMade made) task (Ok a)
+  list_made task choice explains a is listed = subst (λ t. IsMadeOfCases (WereMade made) t (Ok a)) (sym is) listed
+
+  pub list_refused : (task : Task) (choice : Choice) (explains : Bool) (fault : RunFault) → task ≡ T.List choice explains → RefusesCases (WereMade made) choice fault
+      → IsMadeOfCases (WereMade made) task (Err fault)
+  list_refused task choice explains fault is refused = subst (λ t. IsMadeOfCases (WereMade made) t (Err fault)) (sym is) refused
+
+  pub run_refused : (task : Task) (o : RunOptions) (fault : RunFault) → task ≡ T.Run o → RefusesCases (WereMade made) o.choice fault
+      → IsMadeOfCases (WereMade made) task (Err fault)
+  run_refused task o fault is refused = subst (λ t. IsMadeOfCases (WereMade made) t (Err fault)) (sym is) refused
+
+-- chosen ones of test cases with names of their behaviours have such names
+pub named_still : {B E : Type 0} (made : Result (Vec (Case B)) E) (choice : Choice) (ks : List (Case B)) → IfOk made (λ v. All HasNames v.items)
+    → AreChosenOf case_name (WereMade made) choice ks → All HasNames ks
+named_still (Ok v) choice ks names are =
+    subst (All HasNames) (sym are.are) (all_chosen HasNames case_name choice.only.items choice.shard are.all (subst (All HasNames) are.spelled names))
+named_still (Err e) choice ks names are = absurd are.spelled
+
+module _ {B E : Type 0} (called : B → PassState → Back → Type 0) (made : Result (Vec (Case B)) E) (task : Task) (o : RunOptions) (is : task ≡ T.Run o)
+    (ks : List (Case B)) (are : AreChosenOf case_name (WereMade made) o.choice ks) where
+  -- a run of the chosen ones is what a task does that asks for it
+  pub ran : (s : Streams) (outcome : Outcome) → IsRun outline_of (IsCalled called) ks o s outcome → DoesCases called (WereMade made) task s outcome
+  ran s outcome run = IsDoneBy.run o is (inl (record { cases = ks; chosen = are; run = run }))
+
+  -- and so is one whose results were not written whole
+  pub ran_unwritten : (s : Streams) (fault : OutFault) (told : Option (List ℕ)) (outcome : Outcome) → IsUnwritten outline_of (IsCalled called) ks o s fault
+      → IsRefusal s.told told (line_of (of_output fault)) outcome → DoesCases called (WereMade made) task (record s { told = told }) outcome
+  ran_unwritten s fault told outcome run refusal = IsDoneBy.run o is (inr (record {
+    cases = ks;
+    chosen = are;
+    fault = fault;
+    between = s.told;
+    run = record { results = run.results; left = run.left; told = run.told };
+    refusal = refusal;
+  }))

@@ -1,0 +1,61 @@
+-- What a program with test cases of its own does with its arguments.
+use Rattle.std.specs.Prelude.{ℕ, ◌≡◌, ◌⊎◌, List, MatchResult, Result, IsOkAnd}
+use Rattle.std.specs.Global.{Vec}
+use Rattle.tc_book.specs.Passes.{PassState}
+use Rattle.tc_campaign.specs.Campaign.{IsCalled}
+use Rattle.tc_campaign.specs.Choosing.{case_name}
+use Rattle.tc_campaign.specs.Outline.{outline_of}
+use Rattle.tc_campaign.specs.declared.case.Case.{Case}
+use Rattle.tc_command.specs.Asked.{IsCasesReading}
+use Rattle.tc_command.specs.declared.task.Choice.{Choice}
+use Rattle.tc_command.specs.declared.task.RunOptions.{RunOptions}
+use Rattle.tc_command.specs.declared.task.Task.{Task}
+use Rattle.tc_command.specs.declared.task.Task.TheVariants as T
+use Rattle.tc_exec.specs.declared.job.Back.{Back}
+use Rattle.tc_program.specs.Answer.{IsAnsweredBy}
+use Rattle.tc_program.specs.Choosing.{AreChosenOf, LackName}
+use Rattle.tc_program.specs.Fault.{line_of}
+use Rattle.tc_program.specs.Made.{IsListed}
+use Rattle.tc_program.specs.Program.{IsDoneBy, LeavesCases, RunsCases}
+use Rattle.tc_program.specs.Stderr.{IsRefusal}
+use Rattle.tc_program.specs.Streams.{Streams}
+use Rattle.tc_program.specs.declared.fault.RunFault.{RunFault}
+use Rattle.tc_program.specs.declared.fault.RunFault.TheVariants as F
+use Rattle.tc_program.specs.declared.outcome.Outcome.{Outcome}
+use Rattle.tc_program.specs.declared.reply.Answer.{Answer}
+
+-- these are the test cases that were made
+abbrev pub WereMade : {B E : Type 0} → Result (Vec (Case B)) E → List (Case B) → Type 0
+WereMade made all = IsOkAnd made (λ v. v.items ≡ all)
+
+module _ {B : Type 0} (Are : List (Case B) → Type 0) where
+  -- the choice is refused, since no test case has a name that is asked for, or memory ran out
+  abbrev pub RefusesCases : Choice → RunFault → Type 0
+  RefusesCases choice F.Only = LackName case_name Are choice
+  RefusesCases choice F.NoMemory = Unit {0}
+  RefusesCases choice fault = ⊥
+
+  -- the answer is what a task, a list of the test cases, makes of them; or a task, a list or a run, refuses them
+  abbrev pub IsMadeOfCases : Task → Result Answer RunFault → Type 0
+  IsMadeOfCases (T.List choice explains) made = MatchResult made (IsListed case_name (AreChosenOf case_name Are choice)) (RefusesCases choice)
+  IsMadeOfCases (T.Run o) made = MatchResult made (λ a. ⊥) (RefusesCases o.choice)
+  IsMadeOfCases task made = ⊥
+
+module _ {B : Type 0} (called : B → PassState → Back → Type 0) (Are : List (Case B) → Type 0) where
+  -- the chosen test cases were run, and their results were written whole or not; each report is of the test case at its
+  -- place, and made of what its behaviours handed back
+  abbrev pub RunsThem : RunOptions → Streams → Outcome → Type 0
+  RunsThem o s outcome =
+      RunsCases outline_of (IsCalled called) (AreChosenOf case_name Are o.choice) o s outcome
+      ⊎ LeavesCases outline_of (IsCalled called) (AreChosenOf case_name Are o.choice) o s outcome
+
+  -- what is done with the test cases for a task
+  abbrev pub DoesCases : Task → Streams → Outcome → Type 0
+  DoesCases task s outcome =
+      IsDoneBy task (IsMadeOfCases Are task) (λ fault. IsRefusal s.untold s.told (line_of fault) outcome) (λ o. RunsThem o s outcome) s outcome
+
+  -- the arguments are read as those of a program with test cases of its own; they are a task, which was done, or ask for
+  -- none. There is no input.
+  abbrev pub IsAnsweredWithCases : List (List ℕ) → Streams → Type 0 → Outcome → Type 0
+  IsAnsweredWithCases words s Unwritten outcome =
+      IsAnsweredBy (IsCasesReading words) (λ task. DoesCases task s outcome) s (Unit {0}) Unwritten outcome
