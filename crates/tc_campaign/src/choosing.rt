@@ -8,11 +8,18 @@ use crate::case::Case;
 use std::alloc::Global;
 use tc_entry::{Name, NoMemory, Pattern, Shard};
 
+// Whether one of the patterns matches the name.
+fn is_matched(only: &[Pattern], name: &Name) -> bool
+    ensures { result ≡ list_any (λ pattern. matches pattern name.now) only.now }
+{
+    only.iter().any(|pattern| pattern.matches(name))
+}
+
 // Whether the name is asked for; without a pattern each is.
 fn is_asked(only: &[Pattern], name: &Name) -> bool
     ensures { result ≡ spec_asked only.now name.now }
 {
-    only.is_empty() || only.iter().any(|pattern| pattern.matches(name))
+    only.is_empty() || is_matched(only, name)
 }
 
 // Those whose names are asked for.

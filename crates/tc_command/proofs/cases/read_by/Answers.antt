@@ -1,4 +1,4 @@
-use Rattle.std.proofs.Common.{◌≡◌, List, [], ap, map, refl, string_bytes, sym}
+use Rattle.std.proofs.Common.{◌≡◌, List, [], ap, false, map, refl, string_bytes, sym}
 use Rattle.clap.specs.Words.{Row, fault_of, found_of, is_simple, is_simple_and_free, matches_of, rows_of}
 use Rattle.tc_command.specs.Command.{cases}
 use Rattle.tc_command.specs.declared.command.Subcommand.{Subcommand}
