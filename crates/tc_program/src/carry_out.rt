@@ -9,7 +9,7 @@ ghost use Rattle.tc_program.specs.Streams.{held};
 use crate::check::check_text;
 use crate::compare::{compare_text, report_compared};
 use crate::explained::refuse_text;
-use crate::explore::{Details, explore_text};
+use crate::explore::explore_text;
 use crate::fault::RunFault;
 use crate::input::read_text;
 use crate::limits::limit_of;
