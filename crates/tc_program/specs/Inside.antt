@@ -75,12 +75,15 @@ use Rattle.std.specs.Io.KnownBytes.{Appends, Keeps}
 use Rattle.tc_stream.specs.Output.{AppendsPrefix}
 use Rattle.tc_command.specs.declared.read.Refused.{Refused}
 use Rattle.tc_command.specs.declared.task.Choice.{Choice}
+use Rattle.tc_command.specs.declared.task.ExploreOptions.{ExploreOptions}
 use Rattle.tc_command.specs.declared.task.Task.{Task}
 use Rattle.tc_command.specs.declared.task.Task.TheVariants as Tasks
 use Rattle.tc_script.specs.Campaign.{CampaignView}
 use Rattle.tc_script.specs.Law.{IsCase}
 use Rattle.tc_program.specs.Answer.{IsRefused}
 use Rattle.tc_program.specs.Choosing.{AreChosen}
+use Rattle.tc_program.specs.Explore.{IsExplored}
+use Rattle.tc_program.specs.declared.explore.ExploredCase.{ExploredCase}
 use Rattle.tc_program.specs.Made.{IsMade}
 use Rattle.tc_program.specs.Program.{IsDone}
 use Rattle.tc_program.specs.Fault.{line_of}
