@@ -1,13 +1,13 @@
 -- Test cases of a program's own, as a task asks for them.
-use Rattle.std.proofs.Common.{ℕ, ◌≡◌, All, Bool, true, List, Option, IfOk, Result, Ok, Err, inl, inr, refl, subst, sym}
-use Rattle.std.specs.Prelude.{◌≢◌}
+use Rattle.std.proofs.Common.{ℕ, ◌≡◌, All, Bool, false, true, List, Option, IfOk, Result, Ok, Err, inl, inr, refl, subst, sym}
+use Rattle.std.specs.Prelude.{◌≢◌, ◌⊎◌}
 use Rattle.std.specs.Global.{Vec}
 use Rattle.tc_book.specs.Passes.{PassState}
 use Rattle.tc_campaign.specs.Campaign.{IsCalled}
 use Rattle.tc_campaign.specs.Choosing.{case_name, chosen, have_names}
 use Rattle.tc_campaign.specs.Outline.{HasNames, outline_of}
 use Rattle.tc_campaign.specs.declared.case.Case.{Case}
-use Rattle.tc_command.specs.Asked.{IsCasesReading}
+use Rattle.tc_command.specs.Asked.{IsCasesReading, IsReading}
 use Rattle.tc_command.specs.declared.read.Refused.{Refused}
 use Rattle.tc_command.specs.declared.task.Choice.{Choice}
 use Rattle.tc_command.specs.declared.task.RunOptions.{RunOptions}
@@ -16,13 +16,14 @@ use Rattle.tc_command.specs.declared.task.Task.TheVariants as T
 use Rattle.tc_exec.specs.declared.job.Back.{Back}
 use Rattle.tc_report.specs.declared.fault.OutFault.{OutFault}
 use Rattle.tc_program.proofs.Chosen.{all_chosen}
+use Rattle.tc_program.specs.Alone.{IsAnsweredAlone, IsLeft}
 use Rattle.tc_program.specs.Answer.{IsAnsweredBy, IsRefused}
 use Rattle.tc_program.specs.Cases.{DoesCases, IsMadeOfCases, RefusesCases, WereMade}
 use Rattle.tc_program.specs.Choosing.{AreChosenOf}
 use Rattle.tc_program.specs.Fault.{line_of, of_output}
 use Rattle.tc_program.specs.Inside.{IsOfCases, RefusesNames}
 use Rattle.tc_program.specs.Made.{IsListed}
-use Rattle.tc_program.specs.Program.{IsDoneBy}
+use Rattle.tc_program.specs.Program.{IsCarriedOut, IsDoneBy}
 use Rattle.tc_program.specs.Run.{IsRun, IsUnwritten}
 use Rattle.tc_program.specs.Stderr.{IsRefusal}
 use Rattle.tc_program.specs.Streams.{Streams}
@@ -51,6 +52,12 @@ no_other task is no_run no_list = is
 -- what holds of the value of an answer
 pub of_value : {V E : Type 0} (P : V → Type 0) (r : Result V E) (v : V) → r ≡ Ok v → P v → IfOk r P
 of_value P r v is holds = subst (λ x. IfOk x P) (sym is) holds
+
+-- arguments that are a task are answered without threads if it is done, or is a run that is not begun
+pub alone_answered : (words : List (List ℕ)) (task : Task) (input : Option (List ℕ)) (s : Streams) (Unread Unwritten : Type 0) (outcome : Outcome) → IsReading false words (Ok task)
+    → IsCarriedOut task input s outcome ⊎ IsLeft task input s outcome → IsAnsweredAlone words input s Unread Unwritten outcome
+alone_answered words task input s Unread Unwritten outcome reads (inl done) = inl (record { answer = Ok task; reading = reads; task = done; no_task = tt; unread = tt })
+alone_answered words task input s Unread Unwritten outcome reads (inr left) = inr (task, reads, left)
 
 module _ (Reads : Result Task Refused → Type 0) (Does : Task → Type 0) (s : Streams) (Unwritten : Type 0) (outcome : Outcome) where
   -- arguments that are a task are answered if it is done

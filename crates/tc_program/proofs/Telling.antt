@@ -1,5 +1,5 @@
 -- What was printed about a campaign, and what the observer after it was given.
-use Rattle.std.proofs.Common.{Bool, true, false, ℕ, ◌≡◌, List, [], Option, Some, None, Result, Ok, Err, sym, subst}
+use Rattle.std.proofs.Common.{Bool, true, ℕ, ◌≡◌, List, [], Option, Some, None, Result, sym, subst}
 use Rattle.std.specs.Prelude.{IfNone, IfSome}
 use Rattle.tc_book.specs.Passes.{PassState}
 use Rattle.tc_exec.specs.declared.job.Back.{Back}

@@ -109,9 +109,10 @@ fn explore_case(
 {
     let Case { name, names, jobs } = case;
     drop(names);
-    let behaviours = jobs.len() as u16;
-    let explored = explore(alloc, jobs.as_slice(), options.states)?;
-    let details = details_of(alloc, options, jobs.as_slice(), &explored)?;
+    let scripts = jobs.as_slice();
+    let behaviours = scripts.len() as u16;
+    let explored = explore(alloc, scripts, options.states)?;
+    let details = details_of(alloc, options, scripts, &explored)?;
     Ok(ExploredCase {
         name,
         behaviours,

@@ -1,4 +1,9 @@
+use Rattle.std.proofs.Common.{List, ℕ, subst}
+use Rattle.tc_program.specs.Explore.{TellsLocalsIf}
 use Rattle.tc_program.proofs.explore.details_of.Goals as goal
 
 pub returns : goal.returns
-returns c = (c.append_locals_if.new.out.items, c.in_ok-append_locals_if.ensures, c.in_ok-append_details_if.ensures)
+returns c =
+    let o = c.args.options.now in
+    let middle = c.append_locals_if.new.out.items in
+    (middle, subst (λ (b : List ℕ). TellsLocalsIf o.locals o.states c.args.scripts.now b middle) c.new-out.ensures.items c.in_ok-append_locals_if.ensures, c.in_ok-append_details_if.ensures)

@@ -1,4 +1,4 @@
-use Rattle.std.proofs.Common.{◌≡◌, ◌≤◌, ◌∙◌, List, length, ap, subst}
+use Rattle.std.proofs.Common.{◌≡◌, ◌≤◌, ◌∙◌, List, length, ap, subst, sym}
 use Rattle.std.proofs.lemmas.List.{length-map}
 use Rattle.tc_step.specs.Steps.{ScriptView}
 use Rattle.tc_explore.specs.Course.{most_states}
@@ -13,11 +13,10 @@ pub returns : goal.returns
 returns c v of =
     let e = c.in_ok-explored.explored in
     let so = c.in_ok-explored.ensures in
-    let same : c.as_slice.result.now ≡ scripts_of v.1 = c.as_slice.ensures.value ∙ of.jobs in
-    let as_many : c.len-behaviours.result ≡ length c.as_slice.result.now = cc in
+    let same : c.as_slice-scripts.result.now ≡ scripts_of v.1 = c.as_slice-scripts.ensures.value ∙ of.jobs in
     record {
       name = of.name;
-      behaviours = as_many ∙ (ap length same ∙ length-map v.1 _);
+      behaviours = ap length same ∙ length-map v.1 _;
       sound = subst (λ (s : List ScriptView). AreWitnesses s e.found) same so.sound;
       legal = subst (λ (s : List ScriptView). AreLegal s e.found) same so.legal;
       once = so.once;
@@ -25,5 +24,6 @@ returns c v of =
       reached = subst (λ (s : List ScriptView). AreReached s e.reached) same so.reached;
       most = subst (λ (s : List ScriptView). e.states ≤ most_states s c.args.options.now.states) same so.most;
       undecided = subst (λ (s : List ScriptView). e.ending ≡ E.Undecided → 1 ≤ length s → e.states ≡ most_states s c.args.options.now.states) same so.undecided;
-      details_are = subst (λ (s : List ScriptView). TellsAfter c.args.options.now s e c.in_ok-details.details.items) same c.in_ok-details.ensures;
+      details_are = subst (λ (s : List ScriptView). TellsAfter c.args.options.now s e c.new.result) same
+        (subst (TellsAfter c.args.options.now c.as_slice-scripts.result.now e) (sym c.new.ensures) c.in_ok-details.ensures);
     }

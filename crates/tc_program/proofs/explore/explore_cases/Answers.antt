@@ -1,12 +1,12 @@
-use Rattle.std.proofs.Common.{rules, ◌∷◌, ◌∙◌, ap, All, arith, length, subst, sym}
+use Rattle.std.proofs.Common.{rules, ◌∙◌, ap, All, arith, length, subst, sym}
 use Rattle.std.proofs.lemmas.List.Elements.{All-head, All-tail}
-use Rattle.tc_campaign.proofs.Lemmas.Running.{done_more, done_none}
+use Rattle.tc_campaign.proofs.Lemmas.Running.{done_more}
 use Rattle.tc_program.specs.Inside.{HasFewJobs}
-use Rattle.tc_program.proofs.Exploring.{done_all}
+use Rattle.tc_program.proofs.Exploring.{done_all, done_start, none_left}
 use Rattle.tc_program.proofs.explore.explore_cases.Goals as goal
 
 pub loop-case-init : goal.loop-case-init
-loop-case-init c = (tt, tt, search rules, done_none _ _ _ (search rules), search rules)
+loop-case-init c = (tt, tt, search rules, done_start _ _ _ _ (search rules) c.new-explored.ensures.items, search rules)
 
 pub loop-case-preserved : goal.loop-case-preserved
 loop-case-preserved c =
@@ -23,4 +23,4 @@ pub explore_case-requires : goal.explore_case-requires
 explore_case-requires c = All-head HasFewJobs _ _ (subst (All HasFewJobs) c.in-Some.ensures.steps.0 c.loop-case.invariant.4)
 
 pub returns : goal.returns
-returns c = done_all _ _ _ _ c.loop-case.invariant.3 (sym c.loop-case.invariant.2 ∙ c.in-None.ensures.steps.0)
+returns c = done_all _ _ _ _ c.loop-case.invariant.3 (none_left _ (sym c.loop-case.invariant.2 ∙ c.in-None.ensures.steps.0))
