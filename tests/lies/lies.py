@@ -286,7 +286,7 @@ LIES = (
         ("""conflict_error(alloc, command, first, second)?""", """conflict_error(alloc, command, second, first)?"""),
     ), shown="refused: report"),
     Lie("the_help_counts_shards_from_0", (
-        ("""the chosen test cases, from the K-th on.""", """the chosen test cases, after the K-th."""),
+        ("""cases, from the K-th on. --list takes""", """cases, after the K-th. --list takes"""),
     ), shown="help_"),
     Lie("the_help_of_serve_opens_smaller_test_cases", (
         ("""opens a test case of N behaviours, 1 to 256""", """opens a test case of N behaviours, 1 to 64"""),

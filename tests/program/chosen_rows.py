@@ -10,7 +10,7 @@ ONLY = b"ttrun: --only takes the name of a test case of the script\n"
 NAMES = ("t_one", "t_two", "u_one", "one")
 SCRIPT = ";".join(f"testcase {it};behaviour main;end;end" for it in NAMES)
 
-# Name, the patterns, and the test cases that they choose; none where a pattern matches no name.
+# Name, the patterns, and the test cases that they choose; none if a pattern matches no name.
 PATTERNS: List[Tuple[str, str, str]] = [
     ("a_star_alone", "*", "t_one t_two u_one one"),
     ("a_star_at_the_end", "t_*", "t_one t_two"),

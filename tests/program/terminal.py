@@ -14,7 +14,7 @@ import examples
 from case import SECONDS, Case, difference, run
 from judged import Judgement
 
-# A history that is refused, behind its script.
+# A history that is refused, after its script.
 BEHIND = b"testcase a\nbehaviour m\nend\nend\nhistory 2 a 1\n0 crate\nend none\n"
 # Each with its words, what is typed, or nothing for an input from a file, and that input.
 CALLS: List[Tuple[str, Tuple[str, ...], bool, bytes]] = [
