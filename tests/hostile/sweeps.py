@@ -46,6 +46,8 @@ def tasks() -> List[Task]:
     chosen = ("--only", "t_fail", "--only", "t_pass")
     found += [Task("verdicts", ("run", *chosen, *form), bytes_of("verdicts.script")) for form in FORMS]
     found.append(Task("verdicts", ("run", "--only", "t_nowhere"), bytes_of("verdicts.script")))
+    found += [Task("verdicts", (it, "--explain", "--only", "t_fial"), bytes_of("verdicts.script")) for it in ("run", "explore")]
+    found.append(Task("verdicts", ("explore", "--only", "t_*", "--shard", "2/3"), bytes_of("verdicts.script")))
     found += [Task("verdicts", ("run", "--shard", "2/3", it), bytes_of("verdicts.script")) for it in ("--list", "--junit")]
     found.append(Task("a_refused_script", ("run",), text("testcase t;behaviour main;alive nobody;end;end")))
     found.append(Task("a_misspelt_script", ("run", "--explain"), text("testcase t;behaviour main;setverdct pass;end;end")))

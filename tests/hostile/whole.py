@@ -12,7 +12,7 @@ Exempt = Tuple[Tuple[str, ...], str]
 REFUSED_BY_THE_PROGRAM = ("explain", "html_page", "read_task", "read_cases_task", "answer", "answer_cases", "carry_out", "tc_program::replay",
                           "check", "take_script", "run_cases", "give", "fault_line", "abort_line", "Progress::end", "serve",
                           "run_case_with", "run_campaign_with", "choose", "read_evidence", "Block::history",
-                          "explore_locals", "Locals::append_lines")
+                          "explore_locals", "Locals::append_lines", "near_word")
 # The tasks by which nothing else refuses these calls each growth: in the gate too each one is refused.
 EACH = ("--explain", "--html", "serve", "--live", "--progress", "--shard", "--script", "--failed", "--summary", "--suite", "--locals")
 # These can answer that memory ran out, and are refused none by themselves.
@@ -41,7 +41,7 @@ WITHOUT_ALLOCATOR = (
     "WordFault::text", "Step::operation", "Step::is_bound", "Place::is_bound", "Place::map", "GroupPlace::map", "TargetPlace::map",
     "Places::new", "Places::push", "Places::as_slice", "Script::is_script", "ScriptKind::text", "read_reference", "is_comment", "is_word",
     "Keyword::text", "read_keyword", "read_verdict", "tc_line::read_name", "Lines::new", "Lines::next", "awaited_line",
-    "deciding_entry", "component_of", "name_of", "Refusal::text",
+    "deciding_entry", "component_of", "name_of", "Refusal::text", "Pattern::read", "Pattern::bytes", "Pattern::matches",
 )
 # These take no memory, and are not made with every growth refused by themselves.
 UNTRIED: Tuple[Exempt, ...] = (

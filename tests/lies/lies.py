@@ -286,7 +286,7 @@ LIES = (
         ("""conflict_error(alloc, command, first, second)?""", """conflict_error(alloc, command, second, first)?"""),
     ), shown="refused: report"),
     Lie("the_help_counts_shards_from_0", (
-        ("""the chosen test cases, from the K-th on.""", """the chosen test cases, after the K-th."""),
+        ("""cases, from the K-th on. --list takes""", """cases, after the K-th. --list takes"""),
     ), shown="help_"),
     Lie("the_help_of_serve_opens_smaller_test_cases", (
         ("""opens a test case of N behaviours, 1 to 256""", """opens a test case of N behaviours, 1 to 64"""),
@@ -381,6 +381,12 @@ LIES = (
         }
 """),
     ), "tc_exec_tests"),
+    Lie("an_unknown_test_case_is_explained_unasked", (
+        ("""(RunFault::Only, Some(choice)) if explains(task) => {""", """(RunFault::Only, Some(choice)) => {"""),
+    ), shown="listed_by_"),
+    Lie("a_known_test_case_is_told_unknown", (
+        ("""only.iter().find(|pattern| is_unknown(pattern, names))""", """only.iter().find(|pattern| !is_unknown(pattern, names))"""),
+    ), shown="a_name_that_is_nearly_one_"),
     Lie("a_campaign_has_no_workers", (
         ("""run_campaign_with(rt, alloc, cases, stop_on, threads, &mut kept);""",
          """run_campaign_with(rt, alloc, cases, stop_on, 0, &mut kept);"""),

@@ -36,7 +36,7 @@ class Script:
 
 @dataclass(frozen=True)
 class Choice:
-    """The words of a choice; a `*` in a name stands for any letters, or none."""
+    """The words of a choice; a `*` in a name matches any letters, or none."""
 
     only: Tuple[str, ...]
     shard: Optional[Tuple[int, int]]

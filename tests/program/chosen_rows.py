@@ -10,7 +10,7 @@ ONLY = b"ttrun: --only takes the name of a test case of the script\n"
 NAMES = ("t_one", "t_two", "u_one", "one")
 SCRIPT = ";".join(f"testcase {it};behaviour main;end;end" for it in NAMES)
 
-# Name, the patterns, and the test cases that they choose; none where a pattern matches no name.
+# Name, the patterns, and the test cases that they choose; none if a pattern matches no name.
 PATTERNS: List[Tuple[str, str, str]] = [
     ("a_star_alone", "*", "t_one t_two u_one one"),
     ("a_star_at_the_end", "t_*", "t_one t_two"),
@@ -55,6 +55,12 @@ def cases() -> Iterator[Case]:
     for name, only in NO_PATTERNS:
         for words in (("run",), ("explore",), ("check", "--script")):
             yield Case(f"no_pattern_of_{name}_{words[0]}", words + ("--only", only), b"not a script\n", errors=ONLY, status=3)
+    for name, words in (("run", ("run",)), ("list", ("run", "--list")), ("explore", ("explore",)), ("check", ("check", "--script"))):
+        yield Case(f"a_name_that_is_nearly_one_{name}", words + ("--explain", "--only", "t_one", "--only", "t_tow"), text(SCRIPT),
+                   errors=ONLY + b"  no test case has the name t_tow\n  nearest: t_two\n", status=3)
+    yield Case("a_pattern_of_no_name_explained", ("run", "--explain", "--only=v*"), text(SCRIPT),
+               errors=ONLY + b"  no test case has the name v*\n", status=3)
+    yield Case("a_name_of_no_test_case_not_explained", ("run", "--no-explain", "--only=t_tow"), text(SCRIPT), errors=ONLY, status=3)
     many = "a" + "*a" * 31 + "b"
     yield Case("a_pattern_of_many_stars", ("run", "--list", "--only", many), text(SLOW), errors=ONLY, status=3)
     yield Case("a_pattern_of_stars_that_matches", ("run", "--list", "--only", "*a" * 32), text(SLOW), output=b"a" * 32 + b"\n")

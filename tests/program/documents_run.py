@@ -55,7 +55,7 @@ def shown_cases() -> List[Case]:
         else:
             verdicts = set(written.split(b"\n")[0].split()[1:-1])
             found.append(Case(name, words, script, output=written, status=int(len(verdicts) > 1)))
-    assert [it.words[1] for it in found] == ["--explain", "--details", "--details"], [it.name for it in found]
+    assert [it.words[1] for it in found] == ["--explain", "--explain", "--locals", "--details", "--details"], [it.name for it in found]
     return found
 
 

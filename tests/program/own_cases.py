@@ -5,19 +5,22 @@ import os
 import re
 from typing import List, Tuple
 
-from case import Case, SomeText, Wanted, faults_of, run
+from case import Case, SomeText, Timed, Wanted, faults_of, run
 from examples import TOP
 from judged import Judgement
+from progress import lines_of
 from words import version_line
 
 BENCH = os.path.join(TOP, "crates", "car_window", "out", "car_window")
 NAMES = ("closes", "opens_again", "pinches")
 VERDICTS = dict(zip(NAMES, ("pass", "pass", "fail")))
+# What decides the verdict of the one that fails.
+WHY = b"run 2 on component 2 judge: setverdict fail -> ok"
 HEAD = b"testcase,components,none,pass,inconc,fail,error,verdict\n"
 ONLY = b"ttrun: --only takes the name of a test case of the script\n"
 SHARD = b"ttrun: --shard takes K/N, with K from 1 to N\n"
 STOP_ON = b"ttrun: --stop-on takes none, pass, inconc, fail or error\n"
-OPTIONS = ("csv", "history", "evidence", "junit", "live", "progress", "stop-on", "list", "only", "shard")
+OPTIONS = ("csv", "history", "evidence", "junit", "suite", "live", "progress", "stop-on", "list", "only", "shard")
 FEWEST = 60
 
 
@@ -46,10 +49,11 @@ def table_of(names: Tuple[str, ...]) -> bytes:
     return HEAD + "".join(f"{name},{rows[VERDICTS[name]]}\n" for name in names).encode()
 
 
-def told_of(names: Tuple[str, ...]) -> bytes:
+def told_of(names: Tuple[str, ...]) -> Timed:
     """What `--progress` prints of them."""
-    failed = [name for name in names if VERDICTS[name] == "fail"]
-    return "".join([*(f"{it} {VERDICTS[it]}\n" for it in names), *(f"failed: {it} fail\n" for it in failed)]).encode()
+    lines = [lines_of(place, len(names), it.encode(), VERDICTS[it].encode(), WHY if VERDICTS[it] == "fail" else b"")
+             for place, it in enumerate(names, 1)]
+    return Timed(b"".join([*(begun + ended for begun, ended, _ in lines), *(again for _, _, again in lines)]))
 
 
 def status_of(names: Tuple[str, ...]) -> int:
@@ -62,6 +66,7 @@ CHOICES: Tuple[Tuple[str, Tuple[str, ...]], ...] = (
     ("", NAMES), ("--only pinches", ("pinches",)), ("--only=pinches --only closes", ("closes", "pinches")), ("--only closes --only closes", ("closes",)),
     ("--shard 1/2", ("closes", "pinches")), ("--shard=2/2", ("opens_again",)), ("--shard 4/4", ()), ("--shard 1/1", NAMES),
     ("--only opens_again --only pinches --shard 2/2", ("pinches",)), ("--stop-on error", NAMES),
+    ("--only *es", ("closes", "pinches")), ("--only o* --only pin*", ("opens_again", "pinches")), ("--only * --shard 2/3", ("opens_again",)),
 )
 # Words that are refused, and what standard error says.
 REFUSED: Tuple[Tuple[str, Wanted], ...] = tuple(
@@ -69,12 +74,12 @@ REFUSED: Tuple[Tuple[str, Wanted], ...] = tuple(
      for line, one, other in (("--csv --junit", "csv", "junit"), ("--list --live", "list", "live"), ("--live --junit", "junit", "live"),
                               ("--history --evidence", "history", "evidence"), ("--list --stop-on fail", "list", "stop-on"))]
     + [(line, SomeText((f"error: unexpected argument '{word}' found\n", "Usage: car_window [OPTIONS]\n"), ("ttrun",)))
-       for line, word in (("--failed", "--failed"), ("--explain", "--explain"), ("run", "run"), ("a.script", "a.script"), ("help", "help"),
+       for line, word in (("--failed", "--failed"), ("--explain", "--explain"), ("--no-explain", "--no-explain"), ("run", "run"), ("a.script", "a.script"), ("help", "help"),
                           ("--csv run", "run"), ("--html", "--html"), ("-x", "-x"))]
     + [("--stop-on", SomeText(("a value is required for '--stop-on <VERDICT>'",), ("ttrun",))),
        ("--csv --csv", SomeText(("the argument '--csv' cannot be used multiple times",), ("ttrun",)))]
     + [(line, SHARD) for line in ("--shard 0/1", "--shard 3/2", "--shard x --only z", "--list --shard=")]
-    + [(line, ONLY) for line in ("--only x", "--list --only x", "--only closes --only x", "--only z- --stop-on x", "--live --progress --only x", "--junit --only=")]
+    + [(line, ONLY) for line in ("--only x", "--list --only x", "--only closes --only x", "--only x*", "--only * --only x*", "--only z- --stop-on x", "--live --progress --only x", "--junit --only=")]
     + [(line, STOP_ON) for line in ("--stop-on maybe", "--only x --stop-on maybe")])
 
 

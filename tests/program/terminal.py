@@ -14,7 +14,7 @@ import examples
 from case import SECONDS, Case, difference, run
 from judged import Judgement
 
-# A history that is refused, behind its script.
+# A history that is refused, after its script.
 BEHIND = b"testcase a\nbehaviour m\nend\nend\nhistory 2 a 1\n0 crate\nend none\n"
 # Each with its words, what is typed, or nothing for an input from a file, and that input.
 CALLS: List[Tuple[str, Tuple[str, ...], bool, bytes]] = [
@@ -26,6 +26,7 @@ CALLS: List[Tuple[str, Tuple[str, ...], bool, bytes]] = [
     ("refused_script", ("run",), False, b"testcase\n"),
     ("refused_script_of_a_list", ("run", "--list"), False, b"testcase t\nbehavior b\n"),
     ("refused_script_of_a_search", ("explore",), False, b"testcase t\nbehavior b\n"),
+    ("unknown_test_case", ("run", "--only", "t_fial"), False, examples.bytes_of("restart.script")),
     ("refused_script_not_explained", ("run", "--no-explain"), False, b"testcase\n"),
     ("refused_history", ("check",), False, b"history 2 a 1\n0 crate\n"),
     ("refused_history_not_explained", ("check", "--no-explain"), False, b"history 2 a 1\n0 crate\n"),

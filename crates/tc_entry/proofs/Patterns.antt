@@ -40,7 +40,7 @@ and_false : (a : Bool) → (a && false) ≡ false
 and_false true = refl
 and_false false = refl
 
--- at the first place alone the test is of the whole name
+-- at the first place the test is of the whole name
 pub first_alone : (test : List ℕ → Bool) (name other : List ℕ) → any_of test (true ∷ map (λ b. false) other) name ≡ test name
 first_alone test [] other = refl
 first_alone test (b ∷ bs) other = or_none (test (b ∷ bs)) (any_of test (map (λ b. false) other) bs) (either_none test bs other)
@@ -106,7 +106,7 @@ or_right : (a b : Bool) → (a || b) ≡ false → b ≡ false
 or_right false b none = none
 or_right true b none = absurd (true≢false none)
 
--- it matches itself alone
+-- it matches only itself
 pub matches_same : (pattern name : List ℕ) → list_any (λ b. b == 42) pattern ≡ false → matches pattern name ≡ bytes_eq pattern name
 matches_same [] [] none = refl
 matches_same [] (b ∷ bs) none = refl
@@ -124,7 +124,7 @@ first_length (b ∷ bs) =
     let rest = first_length bs in
     grind (arith, common_steps, rest)
 
--- the rest of the pattern matches what is behind one of these places of a name exactly if the whole matches the name
+-- the rest of the pattern matches what follows one of these places of a name exactly if the whole matches the name
 abbrev Leads : List ℕ → List Bool → List ℕ → List ℕ → Type 0
 Leads rest places name whole = (any_of (matches rest) places name ≡ matches whole name) × (length places ≡ length name + 1)
 

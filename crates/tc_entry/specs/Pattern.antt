@@ -13,12 +13,12 @@ pub record IsWild (bs : List ℕ) : Type 0 where
 abbrev pub IsPattern : List ℕ → Type 0
 IsPattern bs = IsName bs ⊎ IsWild bs
 
--- the test holds of the bytes, or of what is behind some of the first of them
+-- the test holds of the bytes, or of what follows some of the first of them
 abbrev pub some_end : (List ℕ → Bool) → List ℕ → Bool
 some_end test [] = test []
 some_end test (b ∷ bs) = test (b ∷ bs) || some_end test bs
 
--- this byte comes first, and the test holds of what is behind it
+-- this byte comes first, and the test holds of what follows it
 abbrev pub begins : ℕ → (List ℕ → Bool) → List ℕ → Bool
 begins byte test [] = false
 begins byte test (b ∷ bs) = (byte == b) && test bs

@@ -22,7 +22,7 @@ const PLACES: usize = NAME_BYTES + 1;
 /// Which places of a name are reached.
 type Places = ArrayVec<bool, PLACES>;
 
-/// A pattern of names: a name, or 1 to 64 bytes of names and `*`, which stands for any bytes, or none.
+/// A pattern of names: a name, or 1 to 64 bytes of names and `*`, which matches any bytes, or none.
 #[derive(Debug, Drop)]
 pub struct Pattern {
     bytes: ArrayVec<u8, PATTERN_BYTES>,
@@ -53,7 +53,7 @@ impl Eq for Pattern {
     ghost laws = { nat_list_eq_equiv };
 }
 
-// The first place of the name alone.
+// Only the first place of the name.
 fn first_place(name: &[u8]) -> Places
     requires { length name.now < PLACES }
     ensures { result.items ≡ true ∷ map (λ b. false) name.now }

@@ -14,14 +14,14 @@ abbrev pub script_name : CaseView → Word
 script_name c = c.0
 
 module _ {C : Type 0} (name_of : C → List ℕ) (Are : List C → Type 0) where
-  -- these test cases are those that are chosen of the ones that there are, which have each name that is asked for
+  -- these test cases are those that are chosen of the ones that there are, and each pattern matches the name of one
   pub record AreChosenOf (choice : Choice) (cases : List C) : Type 0 where
     pub all : List C
     pub spelled : Are all
     pub named : have_names name_of choice.only.items all ≡ true
     pub are : cases ≡ chosen name_of choice.only.items choice.shard all
 
-  -- of the ones that there are none has a name that is asked for
+  -- some pattern that is asked for matches the name of none that there is
   abbrev pub LackName : Choice → Type 0
   LackName choice = (all : List C) × Are all × (have_names name_of choice.only.items all ≡ false)
 
@@ -39,7 +39,7 @@ RefusesScript text (F.Script fault) = campaign text ≡ Err fault
 RefusesScript text F.NoMemory = Unit {0}
 RefusesScript text fault = ⊥
 
--- the same, or it spells test cases, and none of a name that is asked for
+-- the same, or it spells test cases, and some pattern that is asked for matches the name of none
 abbrev pub RefusesChoice : Choice → List ℕ → RunFault → Type 0
 RefusesChoice choice text F.Only = LackName script_name (Spells text) choice
 RefusesChoice choice text fault = RefusesScript text fault

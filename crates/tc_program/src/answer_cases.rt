@@ -129,7 +129,7 @@ where
 }
 
 /// Does with test cases what the arguments ask for, the first of which is the program's name: what `ttrun run` does with
-/// those of a script, by the same options, but `--failed` and `--explain`. The arguments, or the test cases, may not be
+/// those of a script, by the same options, except those of a text. The arguments, or the test cases, may not be
 /// available.
 pub fn answer_cases<R, B: Callable, W: Write, E: Write>(
     rt: &R,

@@ -136,7 +136,7 @@ fn choice_of(task: &Task) -> Option<&Choice> {
     }
 }
 
-// Appends which name of `--only` is that of no test case, if that is the fault, and is explained.
+// Appends which value of `--only` matches no test case, if that is the fault, and is explained.
 #[tactic(auto, using(tc_text::proofs::Lemmas::Among::among_none))]
 fn append_only(
     alloc: Global,

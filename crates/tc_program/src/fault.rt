@@ -34,7 +34,7 @@ pub enum RunFault {
     Script(ScriptFault),
     /// The value of `--stop-on` is the name of no verdict.
     StopOn,
-    /// A name of `--only` is that of no test case of the script.
+    /// A value of `--only` matches no test case.
     Only,
 }
 

@@ -3,7 +3,7 @@ use Rattle.tc_entry.specs.Inside.{any_of}
 use Rattle.tc_entry.specs.Pattern.{matches}
 use Rattle.tc_entry.proofs.pattern.places_of.Given as goal
 
--- the rest of the pattern matches what is behind a place exactly if the pattern matches the name
+-- the rest of the pattern matches what follows a place exactly if the pattern matches the name
 abbrev pub invariant-loop-byte : goal.invariant-loop-byte
 invariant-loop-byte l =
     (any_of (matches l.bytes) l.places.items l.name ≡ matches l.fn.pattern l.name) × (length l.places.items ≡ length l.name + 1)
