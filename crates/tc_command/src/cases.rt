@@ -13,10 +13,10 @@ use std::alloc::{AllocError, Global};
 
 // What its help says at its end.
 const CASES_HELP: &str = "\
-Standard output is the report. VERDICT is none, pass, inconc, fail or error.
---shard K/N runs every N-th test case that --only chooses, from the K-th on.
---list takes no other option than --only and --shard, and --junit is not taken
-with --live.
+Standard output is the report. VERDICT is none, pass, inconc, fail or error. A
+* in a NAME of --only stands for any letters, or none: --only 't_*'. --shard
+K/N runs every N-th of the chosen test cases, from the K-th on. --list takes
+no other option than --only and --shard, and --junit is not taken with --live.
 Status: 0 for none and pass, 1 for inconc and fail, 2 for error, 3 for an
 abort or a refusal.";
 

@@ -1,5 +1,5 @@
 -- What is printed about a text that is refused.
-use Rattle.std.specs.Prelude.{ℕ, Bool, false, Option, Some, None, if◌then◌else◌, List, []}
+use Rattle.std.specs.Prelude.{ℕ, Bool, true, false, ◌≡◌, ◌&&◌, Option, Some, None, if◌then◌else◌, List, []}
 use Rattle.tc_text.specs.declared.fault.TextKind.{TextKind}
 use Rattle.tc_text.specs.declared.fault.TextFault.TheVariants as X
 use Rattle.tc_explain.specs.declared.sort.Refusal.{Refusal}
@@ -47,18 +47,27 @@ refusal_at task (F.Text (X.At line kind)) = Some (refusal_by task kind, line)
 refusal_at task (F.Script fault) = Some (R.Script fault.kind, fault.line)
 refusal_at task fault = None
 
--- the same, if the task is asked to explain it
-abbrev pub refusal_of : Task → RunFault → Option (Refusal × ℕ)
-refusal_of task fault = if explains task then refusal_at task fault else None
-
 -- what is explained of the text at least, if something is
 abbrev pub notes_of : Option (Refusal × ℕ) → List ℕ → List Line
 notes_of None text = []
 notes_of (Some what) text = explanation what.0 text what.1
 
--- this is printed for the text of a task that has this fault: its line, and after it lines, among which is what is explained at least
+-- the fault is one of the text
+abbrev pub is_of_text : RunFault → Bool
+is_of_text (F.Text fault) = true
+is_of_text (F.Script fault) = true
+is_of_text F.Only = true
+is_of_text fault = false
+
+-- by whether a fault is explained, this is its line alone, or with lines after it, among which are these
+abbrev pub TellsIf : Bool → List Line → List ℕ → List ℕ → Type 0
+TellsIf true notes line told = TellsAmong notes line told
+TellsIf false notes line told = told ≡ line
+
+-- this is printed for the text of a task that has this fault: its line, and what is explained of the text
 abbrev pub IsToldOf : Task → List ℕ → RunFault → List ℕ → Type 0
-IsToldOf task text fault told = TellsAmong (notes_of (refusal_of task fault) (part_of task fault text)) (line_of fault) told
+IsToldOf task text fault told =
+    TellsIf (explains task && is_of_text fault) (notes_of (refusal_at task fault) (part_of task fault text)) (line_of fault) told
 
 -- the outcome of a task whose text has this fault: that is printed
 abbrev pub IsExplained : Task → List ℕ → RunFault → Option (List ℕ) → Option (List ℕ) → Outcome → Type 0

@@ -2,7 +2,7 @@
 ghost use Rattle.std.specs.Prelude.{◌≡◌, [], IfOk, OnOk};
 ghost use Rattle.tc_explain.specs.Explanation.{explanation};
 ghost use Rattle.tc_text.specs.Said.{TellsAmong};
-ghost use Rattle.tc_program.specs.Explained.{IsExplained, IsToldOf, explains as spec_explains, notes_of, part_by as spec_part_by, part_of as spec_part_of, refusal_at as spec_at, refusal_by as spec_by, refusal_of as spec_refusal};
+ghost use Rattle.tc_program.specs.Explained.{IsExplained, IsToldOf, explains as spec_explains, is_of_text as spec_of_text, notes_of, part_by as spec_part_by, part_of as spec_part_of, refusal_at as spec_at, refusal_by as spec_by};
 
 use crate::fault::{RunFault, fault_line};
 use crate::limits::has_blocks;
@@ -84,17 +84,6 @@ fn refusal_at(task: &Task, fault: RunFault) -> Option<(Refusal, usize)>
     }
 }
 
-// The same, if the task is asked to explain it.
-fn refusal_of(task: &Task, fault: RunFault) -> Option<(Refusal, usize)>
-    ensures { result ≡ spec_refusal task.now fault }
-{
-    if explains(task) {
-        refusal_at(task, fault)
-    } else {
-        None
-    }
-}
-
 // Appends what is explained of the text, the fault of which is of this kind and in this line.
 fn append_notes(
     alloc: Global,
@@ -149,23 +138,48 @@ fn append_only(
 {
     let script = if has_blocks(task) { split(text).0 } else { text };
     match (fault, choice_of(task)) {
-        (RunFault::Only, Some(choice)) if explains(task) => {
+        (RunFault::Only, Some(choice)) => {
             append_unknown(alloc, out, choice.only.as_slice(), script)
         }
         _ => Ok(()),
     }
 }
 
-// The fault's line, and after it what is explained of the text.
+// Appends what is explained of the text of the task.
 #[tactic(auto, using(tc_text::proofs::Lemmas::Among::among_more))]
+fn append_why(
+    alloc: Global,
+    out: &mut Vec<u8>,
+    task: &Task,
+    text: &[u8],
+    fault: RunFault,
+) -> Result<(), NoMemory>
+    ensures { OnOk result (TellsAmong (notes_of (spec_at task.now fault) (spec_part_of task.now fault text.now))
+        out.old.items out.new.items) }
+{
+    append_explained(alloc, out, part_of(task, fault, text), refusal_at(task, fault))?;
+    append_only(alloc, out, task, text, fault)
+}
+
+// Whether the fault is one of the text.
+fn is_of_text(fault: RunFault) -> bool
+    ensures { result ≡ spec_of_text fault }
+{
+    matches!(
+        fault,
+        RunFault::Text(_) | RunFault::Script(_) | RunFault::Only
+    )
+}
+
+// The fault's line, and after it what is explained of the text.
 fn told_text(alloc: Global, task: &Task, text: &[u8], fault: RunFault) -> Result<Vec<u8>, NoMemory>
     ensures { IfOk result (λ v. IsToldOf task.now text.now fault v.items) }
 {
     let mut out = Vec::new(alloc);
     fault_line(&fault, &mut out)?;
-    let part = part_of(task, fault, text);
-    append_explained(alloc, &mut out, part, refusal_of(task, fault))?;
-    append_only(alloc, &mut out, task, text, fault)?;
+    if explains(task) && is_of_text(fault) {
+        append_why(alloc, &mut out, task, text, fault)?;
+    }
     Ok(out)
 }
 
