@@ -286,7 +286,7 @@ LIES = (
         ("""conflict_error(alloc, command, first, second)?""", """conflict_error(alloc, command, second, first)?"""),
     ), shown="refused: report"),
     Lie("the_help_counts_shards_from_0", (
-        ("""cases, from the K-th on. --list takes""", """cases, after the K-th. --list takes"""),
+        ("""cases, from the K-th on. --list takes no form""", """cases, after the K-th. --list takes no form"""),
     ), shown="help_"),
     Lie("the_help_of_serve_opens_smaller_test_cases", (
         ("""opens a test case of N behaviours, 1 to 256""", """opens a test case of N behaviours, 1 to 64"""),
@@ -381,9 +381,6 @@ LIES = (
         }
 """),
     ), "tc_exec_tests"),
-    Lie("an_unknown_test_case_is_explained_unasked", (
-        ("""(RunFault::Only, Some(choice)) if explains(task) => {""", """(RunFault::Only, Some(choice)) => {"""),
-    ), shown="listed_by_"),
     Lie("a_known_test_case_is_told_unknown", (
         ("""only.iter().find(|pattern| is_unknown(pattern, names))""", """only.iter().find(|pattern| !is_unknown(pattern, names))"""),
     ), shown="a_name_that_is_nearly_one_"),

@@ -59,7 +59,7 @@ is_of_text (F.Script fault) = true
 is_of_text F.Only = true
 is_of_text fault = false
 
--- by whether a fault is explained, this is its line alone, or with lines after it, among which are these
+-- by whether a fault is explained, this is only its line, or that and lines after it, among which are these
 abbrev pub TellsIf : Bool → List Line → List ℕ → List ℕ → Type 0
 TellsIf true notes line told = TellsAmong notes line told
 TellsIf false notes line told = told ≡ line
