@@ -49,6 +49,10 @@ class Choice:
             spelled.insert(source.randint(0, len(spelled)), ["--shard", word] if source.random() < 0.5 else [f"--shard={word}"])
         return [word for words in spelled for word in words]
 
+    def lacks(self, names: List[str]) -> bool:
+        """Whether one of the names that are asked for is none of these."""
+        return not all(any(takes(it, name) for name in names) for it in self.only)
+
     def of(self, names: List[str]) -> List[str]:
         """The names that it takes of these."""
         named = [name for name in names if not self.only or any(takes(it, name) for it in self.only)]
@@ -132,7 +136,7 @@ def faults_of_choice(program: str, given: Script, asked: Choice, source: random.
     shown = " ".join(words)
     explored = on(program, given.text, "explore", *words)
     met["stars"] += any("*" in it for it in asked.only)
-    if not all(any(takes(it, name) for name in names) for it in asked.only):
+    if asked.lacks(names):
         met["unknown names"] += 1
         wanted = Ran(b"", ONLY, 3)
         return [f"{shown}: {it}" for it in (listed, ran, explored) if it != wanted]

@@ -224,7 +224,7 @@ def runs_and_changed_runs(seed: int) -> Judgement:
                 behind = b"".join(b"".join(it) for it in blocks)
                 ran = run(Case("", ("check", "--script", *asked.words(chance)), script + behind), program)
                 wanted = wanted_of(taken, behind)
-                if any(it not in [case.name for case in campaign] for it in asked.only):
+                if asked.lacks([case.name for case in campaign]):
                     wanted = Ran(b"", ONLY, 3)
                     met["names of none"] += 1
                 if ran != wanted:

@@ -143,7 +143,7 @@ def of_random_campaigns(seed: int) -> Judgement:
                     blocks = changed(chance, blocks) or blocks
                 behind, form = b"".join(b"".join(it) for it in blocks), chance.choice(reports.FORMS)
                 words = asked.words(chance)
-                if any(it not in [case.name for case in campaign] for it in asked.only):
+                if asked.lacks([case.name for case in campaign]):
                     ran = run(Case("", ("report", f"--{form}", "--script", *words), script + behind), program)
                     if ran != Ran(b"", ONLY, 3):
                         return [f"came {ran}", f"the choice: {asked}"]

@@ -74,7 +74,7 @@ def of_random_campaigns(seed: int) -> Judgement:
                 behind = b"".join(b"".join(it) for it in blocks)
                 ran = run(Case("", ("run", "--list", "--failed", *asked.words(chance)), script + behind), program)
                 read, refusal = read_history(behind)
-                if any(it not in [case.name for case in campaign] for it in asked.only):
+                if asked.lacks([case.name for case in campaign]):
                     wanted = Ran(b"", ONLY, 3)
                 elif refusal is not None:
                     wanted = Ran(b"", refusal.errors, 3)

@@ -131,7 +131,7 @@ const FAILED: OptionRow = OptionRow(
 const SCRIPT: OptionRow = OptionRow(
     "script",
     Takes::Nothing,
-    "reads their script before them, and compares them with it",
+    "reads their script first, and compares them with it",
 );
 
 const SCRIPT_ONLY: OptionRow = OptionRow(
