@@ -133,7 +133,9 @@ def help_names_the_program(_: str) -> List[str]:
         text = ran.output.decode()
         faults += [f"{len(line)} columns: {line}" for line in text.splitlines() if len(line) > 78]
         faults += [f"{word} names no --{it}" for it in OPTIONS if f"--{it}" not in text]
-        wrong = "Usage: car_window [OPTIONS]\n" not in text or "ttrun" in text or "failed" in text or "explain" in text
+        # (a JUnit suite without a name of its own is called ttrun)
+        others = text.replace("instead of ttrun", "")
+        wrong = "Usage: car_window [OPTIONS]\n" not in text or "ttrun" in others or "failed" in text or "explain" in text
         faults += [f"{word}: {ran}"] if wrong or ran.status or ran.errors else []
     return faults
 
