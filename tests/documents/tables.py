@@ -93,7 +93,7 @@ def options_of_a_bench_are_taken(room: str, program: str) -> str:
     it.write(os.path.join(it.bin, "rt"), f'#!/bin/sh\n[ "$1 $2" = "try --" ] || exit 9\nshift 2\nexec {bench} "$@"\n')
     os.makedirs(it.path(f"crates/{COPY}"))
     ran = it.shell(SHELLS["github"], f"cd crates/{COPY}\n{block.text}")
-    wrong = [line for line in ran.errors.splitlines() if not line.startswith(("pinches ", "failed: pinches "))]
+    wrong = [line for line in ran.errors.splitlines() if not line.startswith(("1/1 pinches ", "failed: pinches "))]
     hold(ran.status == 0 and not wrong, f"{ran}")
     listed = ran.output.splitlines()[:3]
     legal = [line.split()[1] for line in ran.output.splitlines() if line.startswith("legal ")]
