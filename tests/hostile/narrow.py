@@ -13,6 +13,7 @@ from sweeps import Sweep, numbers, tasks
 
 sys.path.append(os.path.join(TOP, "tests", "program"))
 
+from case import untimed
 from sizes import PASSED, TOO_LONG, padded_script
 from texts import MOST_BYTES_OF_A_LIST, MOST_BYTES_OF_A_SCRIPT
 
@@ -35,7 +36,13 @@ def told_of(task: Task, ample: Ran, written: int) -> bytes:
     if not task.has(PROGRESS) or not task.has("--live"):
         return ample.errors
     ends = accumulate(map(len, pieces_of(task, ample.output)))
-    return b"".join(told_of_first(ample.errors, sum(it <= written for it in ends) + 1))
+    ended = sum(it <= written for it in ends) + 1
+    return b"".join(told_of_first(ample.errors, ended, ended))
+
+
+def is_same(ran: Ran, wanted: Ran) -> bool:
+    """Whether both wrote, printed and ended the same, apart from the times of test cases."""
+    return (ran.output, untimed(ran.errors), ran.status) == (wanted.output, untimed(wanted.errors), wanted.status)
 
 
 def served_of(task: Task, ample: Ran, what: str, number: int) -> Ran:
@@ -61,7 +68,7 @@ def failing(refusing: Refusing, program: str, task: Task, what: str, stride: int
     ample = refusing.run(words, task.given, is_narrow=True)
     done = Sweep(f"{' '.join(task.words)} < {task.name}, {what} N fails")
     plain = refusing.run(words, task.given)
-    if (plain.output, plain.errors, plain.status) != (ample.output, ample.errors, ample.status):
+    if not is_same(plain, ample):
         done.faults.append("by narrow devices it answers otherwise")
     for number in numbers((ample.reads if what == "read" else ample.writes) + 2, stride):
         ran = refusing.run(words, task.given, f"{what}:{number}", is_narrow=True)
@@ -69,7 +76,7 @@ def failing(refusing: Refusing, program: str, task: Task, what: str, stride: int
         done.runs += 1
         done.refused += ran.refused
         done.met[f"{what}s failed" if wanted is not ample else "right"] += 1
-        if (ran.output, ran.errors, ran.status) != (wanted.output, wanted.errors, wanted.status):
+        if not is_same(ran, wanted):
             done.faults.append(f"{what}:{number}: status {ran.status}, {ran.errors!r}, {ran.output[-100:]!r}")
     return done
 
@@ -79,7 +86,7 @@ def slow(refusing: Refusing, program: str, task: Task, wanted: Ran) -> Sweep:
     done = Sweep(f"{' '.join(task.words)} < {task.name}, byte by byte", runs=1)
     ran = refusing.run([program, *task.words], task.given, is_narrow=True)
     done.met["long inputs"] += ran.reads > 1_000_000
-    if (ran.output, ran.errors, ran.status) != (wanted.output, wanted.errors, wanted.status):
+    if not is_same(ran, wanted):
         done.faults.append(f"status {ran.status}, {ran.errors!r}, {ran.output[-100:]!r}")
     return done
 
