@@ -204,11 +204,7 @@ pub(crate) const RUN_OPTIONS: [OptionRow; 11] = [
 ];
 
 // The options of `run` that are of its script.
-const RUN_SCRIPT_OPTIONS: [OptionRow; 3] = [
-    FAILED,
-    EXPLAIN,
-    NO_EXPLAIN,
-];
+const RUN_SCRIPT_OPTIONS: [OptionRow; 3] = [FAILED, EXPLAIN, NO_EXPLAIN];
 
 const EXPLORE_OPTIONS: [OptionRow; 9] = [
     OptionRow(
@@ -392,7 +388,11 @@ fn replay_command<'a>(alloc: Global) -> Result<Command<'a>, AllocError>
         "replay",
         "replays a list of moves, and prints each reply and the verdict",
     );
-    with_options(alloc, command.after_help(REPLAY_HELP), &[EXPLAIN, NO_EXPLAIN])
+    with_options(
+        alloc,
+        command.after_help(REPLAY_HELP),
+        &[EXPLAIN, NO_EXPLAIN],
+    )
 }
 
 fn serve_command<'a>(alloc: Global) -> Command<'a>

@@ -223,11 +223,7 @@ fn run_options(
 }
 
 // What the options of `run` ask for.
-fn run_task(
-    alloc: Global,
-    options: &ArgMatches<'_>,
-    at_terminal: bool,
-) -> Result<Task, Refusal>
+fn run_task(alloc: Global, options: &ArgMatches<'_>, at_terminal: bool) -> Result<Task, Refusal>
     ensures taken { IfOk result (Asks at_terminal (Run, rows_of (found_of options.now))) }
     ensures refused { IfErr result (IsWordRefused (rows_of (found_of options.now))) }
 {
@@ -243,11 +239,7 @@ fn run_task(
 }
 
 // What the options of `explore` ask for.
-fn explore_task(
-    alloc: Global,
-    options: &ArgMatches<'_>,
-    at_terminal: bool,
-) -> Result<Task, Refusal>
+fn explore_task(alloc: Global, options: &ArgMatches<'_>, at_terminal: bool) -> Result<Task, Refusal>
     ensures taken { IfOk result (Asks at_terminal (Explore, rows_of (found_of options.now))) }
     ensures refused { IfErr result (IsWordRefused (rows_of (found_of options.now))) }
 {
@@ -264,12 +256,7 @@ fn explore_task(
 }
 
 // What the options of `report` ask for, in this form, with the test cases that they choose.
-fn report_in(
-    options: &ArgMatches<'_>,
-    at_terminal: bool,
-    form: ReportForm,
-    choice: Choice,
-) -> Task
+fn report_in(options: &ArgMatches<'_>, at_terminal: bool, form: ReportForm, choice: Choice) -> Task
     requires form { report_form_of (rows_of (found_of options.now)) ≡ Some form }
     requires choice { Chooses (rows_of (found_of options.now)) choice }
     ensures { Asks at_terminal (Report, rows_of (found_of options.now)) result }
@@ -287,11 +274,7 @@ fn report_in(
 }
 
 // What the options of `report` ask for.
-fn report_task(
-    alloc: Global,
-    options: &ArgMatches<'_>,
-    at_terminal: bool,
-) -> Result<Task, Refusal>
+fn report_task(alloc: Global, options: &ArgMatches<'_>, at_terminal: bool) -> Result<Task, Refusal>
     requires { spec_lacks_form Report (rows_of (found_of options.now)) ≡ false }
     ensures taken { IfOk result (Asks at_terminal (Report, rows_of (found_of options.now))) }
     ensures refused { IfErr result (IsWordRefused (rows_of (found_of options.now))) }
@@ -305,11 +288,7 @@ fn report_task(
 }
 
 // What the options of `check` ask for.
-fn check_task(
-    alloc: Global,
-    options: &ArgMatches<'_>,
-    at_terminal: bool,
-) -> Result<Task, Refusal>
+fn check_task(alloc: Global, options: &ArgMatches<'_>, at_terminal: bool) -> Result<Task, Refusal>
     ensures taken { IfOk result (Asks at_terminal (Check, rows_of (found_of options.now))) }
     ensures refused { IfErr result (IsWordRefused (rows_of (found_of options.now))) }
 {
@@ -481,11 +460,7 @@ fn read_by<'a>(
 /// the kind DisplayHelp answers arguments that ask for help, one of the kind DisplayVersion those that ask for the
 /// version, any other one arguments that are refused. If each option may be given, and the value of one names nothing,
 /// that value is refused. Faults are explained at a terminal, unless that is declined; elsewhere if it is asked for.
-pub fn read_task(
-    alloc: Global,
-    words: &[String],
-    at_terminal: bool,
-) -> Result<Task, Refused>
+pub fn read_task(alloc: Global, words: &[String], at_terminal: bool) -> Result<Task, Refused>
     ensures { IsReading at_terminal (map string_bytes words.entry.now) result }
 {
     match command(alloc) {

@@ -84,8 +84,8 @@ passed_is test byte reached name [] long = absurd (grind (arith, common_steps, l
 passed_is test byte reached [] (place ∷ places) long = sym (or_none (reached && test []) (place && false) (and_false place))
 passed_is test byte reached (b ∷ bs) (place ∷ places) long =
     ap (λ x. (reached && test (b ∷ bs)) || x)
-      (passed_is test byte (place && (byte == b)) bs places (grind (arith, common_steps, long))
-      ∙ and_with place (byte == b) (test bs) (any_of (begins byte test) places bs))
+    (passed_is test byte (place && (byte == b)) bs places (grind (arith, common_steps, long))
+    ∙ and_with place (byte == b) (test bs) (any_of (begins byte test) places bs))
 
 -- ---- the end
 
@@ -135,7 +135,7 @@ passed_leads : (rest name whole : List ℕ) (byte : ℕ) (places : List Bool) �
     → Leads rest (passed false byte name places) name whole
 passed_leads rest name whole byte places other so =
     let at : any_of (begins byte (matches rest)) places name ≡ matches whole name =
-      subst (λ is. any_of (λ n. if is then some_end (matches rest) n else begins byte (matches rest) n) places name ≡ matches whole name) other so.0 in
+    subst (λ is. any_of (λ n. if is then some_end (matches rest) n else begins byte (matches rest) n) places name ≡ matches whole name) other so.0 in
     (passed_is (matches rest) byte false name places so.1 ∙ at, passed_length false byte name places so.1)
 
 pub next_behind : (bytes rest : List ℕ) (byte : ℕ) (name whole : List ℕ) (places given after : List Bool) → bytes ≡ byte ∷ rest → byte ≡ 42

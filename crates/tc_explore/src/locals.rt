@@ -51,11 +51,7 @@ fn locals_of(marks: Marks, states: usize, ending: Ending) -> Locals
 /// two courses are the same only if the local verdicts are. So it looks at more of them than `explore`, which it bounds
 /// alike. A test case without behaviours is left undecided.
 #[tactic(auto, using(crate::proofs::Room::weight_rules, crate::proofs::Marking::found_rules))]
-pub fn explore_locals(
-    alloc: Global,
-    scripts: &[Script],
-    limit: usize,
-) -> Result<Locals, NoMemory>
+pub fn explore_locals(alloc: Global, scripts: &[Script], limit: usize) -> Result<Locals, NoMemory>
     requires few { length scripts.now ≤ BEHAVIOURS }
     ensures sound { IfOk result (λ l. AreLocals scripts.now l.found) }
     ensures complete { IfOk result (λ l. l.ending ≡ Complete → AllLocalsFound scripts.now l.found) }

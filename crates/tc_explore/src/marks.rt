@@ -78,12 +78,7 @@ impl Marks {
 
     // Notes the local verdict of a component in a complete course, if it is new.
     #[tactic(auto, using(crate::proofs::Marking::marking_rules))]
-    fn note_one(
-        &mut self,
-        scripts: &[Script],
-        course: &Course,
-        comp: u32,
-    ) -> Result<(), NoMemory>
+    fn note_one(&mut self, scripts: &[Script], course: &Course, comp: u32) -> Result<(), NoMemory>
         requires on { IsOn scripts.now course.now }
         requires complete { IsComplete scripts.now (past_of course.now) }
         requires sound { AreLocals scripts.now self.old.found.items }

@@ -20,12 +20,7 @@ use tc_verdict::{NoMemory, Run};
 // Takes in the state of a course, and returns whether it is among those that are seen: it is, unless as many as the
 // limit are met. No two of them have one key.
 #[tactic(auto, using(crate::proofs::Seeing::seeing_rules, crate::proofs::LocalsClosed::call_rules))]
-fn place(
-    alloc: Global,
-    scripts: &[Script],
-    course: Course,
-    met: &mut Met,
-) -> Result<bool, NoMemory>
+fn place(alloc: Global, scripts: &[Script], course: Course, met: &mut Met) -> Result<bool, NoMemory>
     requires some { 1 ≤ length scripts.now }
     requires few { length scripts.now ≤ BEHAVIOURS }
     requires state { IsGoing scripts.now course }

@@ -65,7 +65,9 @@ pub(crate) fn made_text(alloc: Global, task: &Task, text: &[u8]) -> Result<Answe
         Task::Replay { .. } => replay_text(alloc, text),
         Task::Check { .. } => check_text(alloc, text),
         Task::Compare {
-            form: None, choice, ..
+            form: None,
+            choice,
+            ..
         } => compare_text(alloc, choice, text),
         Task::Compare {
             form: Some(form),

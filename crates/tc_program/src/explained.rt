@@ -70,9 +70,7 @@ fn refusal_at(task: &Task, fault: RunFault) -> Option<(Refusal, usize)>
     ensures { result ≡ spec_at task.now fault }
 {
     match fault {
-        RunFault::Text(TextFault::At { line, kind }) => {
-            Some((refusal_by(task, kind), line))
-        }
+        RunFault::Text(TextFault::At { line, kind }) => { Some((refusal_by(task, kind), line)) }
         RunFault::Script(fault) => Some((Refusal::Script(fault.kind), fault.line)),
         RunFault::Text(TextFault::NoMemory)
         | RunFault::TooLong
@@ -136,7 +134,11 @@ fn append_only(
 ) -> Result<(), NoMemory>
     ensures { OnOk result (TellsAmong [] out.old.items out.new.items) }
 {
-    let script = if has_blocks(task) { split(text).0 } else { text };
+    let script = if has_blocks(task) {
+        split(text).0
+    } else {
+        text
+    };
     match (fault, choice_of(task)) {
         (RunFault::Only, Some(choice)) => {
             append_unknown(alloc, out, choice.only.as_slice(), script)
@@ -157,7 +159,12 @@ fn append_why(
     ensures { OnOk result (TellsAmong (notes_of (spec_at task.now fault) (spec_part_of task.now fault text.now))
         out.old.items out.new.items) }
 {
-    append_explained(alloc, out, part_of(task, fault, text), refusal_at(task, fault))?;
+    append_explained(
+        alloc,
+        out,
+        part_of(task, fault, text),
+        refusal_at(task, fault),
+    )?;
     append_only(alloc, out, task, text, fault)
 }
 

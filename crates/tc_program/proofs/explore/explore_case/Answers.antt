@@ -25,5 +25,5 @@ returns c v of =
       most = subst (λ (s : List ScriptView). e.states ≤ most_states s c.args.options.now.states) same so.most;
       undecided = subst (λ (s : List ScriptView). e.ending ≡ E.Undecided → 1 ≤ length s → e.states ≡ most_states s c.args.options.now.states) same so.undecided;
       details_are = subst (λ (s : List ScriptView). TellsAfter c.args.options.now s e c.new.result) same
-        (subst (TellsAfter c.args.options.now c.as_slice-scripts.result.now e) (sym c.new.ensures) c.in_ok-details.ensures);
+          (subst (TellsAfter c.args.options.now c.as_slice-scripts.result.now e) (sym c.new.ensures) c.in_ok-details.ensures);
     }

@@ -13,8 +13,7 @@ explore_cases-requires c =
 pub returns-clause-done : goal.returns-clause-done
 returns-clause-done c =
     let are = c.in_ok-cases.ensures.are in
-    let explored = c.in_ok-explored.explored.items in
-    (
+    let explored = c.in_ok-explored.explored.items in (
       record {
         cases = are.cases;
         explored = explored;
