@@ -92,12 +92,16 @@ class Browser:
         self.call("Emulation.setEmulatedMedia", features=theme)
         self.call("Page.navigate", url="about:blank")
         self.call("Page.navigate", url=f"file://{os.path.abspath(path)}{after and '#'}{after}")
-        began = time.monotonic()
-        while not self.js("location.protocol === 'file:' && document.readyState === 'complete'"):
-            if time.monotonic() - began > SECONDS:
-                raise RuntimeError(f"{path} was not loaded in {SECONDS} seconds")
-            time.sleep(0.02)
+        self.until("location.protocol === 'file:' && document.readyState === 'complete'")
         self.settle()
+
+    def until(self, condition: str) -> None:
+        """Waits until a condition of the page holds."""
+        began = time.monotonic()
+        while not self.js(condition):
+            if time.monotonic() - began > SECONDS:
+                raise RuntimeError(f"this did not come to hold in {SECONDS} seconds: {condition}")
+            time.sleep(0.02)
 
     def settle(self) -> None:
         """Waits until what was done is drawn."""
@@ -136,10 +140,14 @@ class Browser:
         self.settle()
 
     def choose_files(self, paths: List[str]) -> None:
-        """Opens files as a user does by the button."""
+        """Opens files as a user does by the button, and waits until a page that lists its sources has them."""
+        sources = "typeof app === 'object' && app.sources ? app.sources.length : -1"
+        before = self.js(sources)
         root = self.call("DOM.getDocument")["root"]["nodeId"]
         node = self.call("DOM.querySelector", nodeId=root, selector="#file")["nodeId"]
         self.call("DOM.setFileInputFiles", nodeId=node, files=paths)
+        if before >= 0:
+            self.until(f"app.sources.length >= {before + len(paths)}")
         self.settle(), time.sleep(0.1), self.settle()
 
     def picture(self) -> bytes:

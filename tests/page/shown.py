@@ -361,7 +361,7 @@ def it_opens_files(context: Context, browser: Browser) -> str:
     browser.open(viewer)
     browser.js("""(() => { const data = new DataTransfer(); data.items.add(new File([%s], "dropped <b>.history"));
       document.dispatchEvent(new DragEvent("drop", { dataTransfer: data, bubbles: true, cancelable: true })) })()""" % json.dumps(example("workers")))
-    browser.settle(), browser.settle()
+    browser.until("app.cases.length > 1"), browser.settle()
     same((2, True), (browser.js("app.cases.length"), browser.js("$('#source').textContent").startswith("dropped <b>.history")))
     browser.open(viewer)
     browser.js("$('#paste').value = %s" % json.dumps(example("restart"))), browser.click("#read")
