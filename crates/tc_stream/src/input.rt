@@ -43,9 +43,13 @@ impl fmt::Display for InputFault {
     }
 }
 
-// One read, whose bytes go after those that are there. It says whether there were any.
+// How many bytes are read at a time, at most.
+const CHUNK: usize = 8192;
+
+// One read into the chunk, whose bytes go after those that are there. It says whether there were any.
 fn read_more<R: CountedRead>(
     reader: &mut R,
+    chunk: &mut [u8; CHUNK],
     bytes: &mut Vec<u8>,
     limit: usize,
 ) -> Result<bool, InputFault>
@@ -63,8 +67,7 @@ fn read_more<R: CountedRead>(
     ensures sound { OnOk result (R.has_failed reader.new ≡ false) }
     ensures same { R.name reader.new ≡ R.name reader.old }
 {
-    let mut chunk = [0u8; 8192];
-    let Ok(count) = reader.read(&mut chunk) else {
+    let Ok(count) = reader.read(chunk) else {
         return Err(InputFault::Read);
     };
     if limit - bytes.len() < count {
@@ -94,7 +97,8 @@ pub fn read_counted<R: CountedRead>(
     ensures same { R.name reader.new ≡ R.name reader.old }
 {
     let mut bytes = Vec::new(alloc);
-    while read_more(reader, &mut bytes, limit)? {}
+    let mut chunk = [0; CHUNK];
+    while read_more(reader, &mut chunk, &mut bytes, limit)? {}
     Ok(bytes)
 }
 
