@@ -99,10 +99,14 @@ impl CaseState {
         ensures refused { OnErr result (self.new ≡ self.old) }
         ensures sure { history.is_create op ≡ false → IsOk result }
     {
-        let reply = self.would(caller, &op);
-        let entry = Entry { caller, op, reply };
+        let mut entry = Entry {
+            caller,
+            op,
+            reply: Reply::Ended,
+        };
+        entry.reply = self.would(caller, &entry.op);
         self.take(&entry)?;
-        Ok(reply)
+        Ok(entry.reply)
     }
 
     /// Takes in an entry whose reply is the table's. If the reply is another, it takes in nothing, and returns the

@@ -293,6 +293,7 @@ fn next_run(entry: &Entry, run: u16, state: RunState) -> RunState
 }
 
 /// Brings what is known of one run up to one more entry.
+#[inline(always)]
 fn take_in_run(runs: &mut Vec<RunState>, entry: &Entry, run: Run)
     ensures as_many { length runs.new.items ≡ length runs.old.items }
     ensures at { step.IsNextRun entry.now run.0 runs.old.items runs.new.items }
@@ -306,6 +307,7 @@ fn take_in_run(runs: &mut Vec<RunState>, entry: &Entry, run: Run)
 }
 
 /// The same of all runs, for an entry that starts none: it changes its caller.
+#[inline(always)]
 pub fn take_in_caller(runs: &mut Vec<RunState>, entry: &Entry)
     requires starts_none { step.started_run entry.now.op ≡ None }
     ensures as_many { length runs.new.items ≡ length runs.old.items }

@@ -31,6 +31,7 @@ impl CaseState {
 
     /// Takes in an entry that asks or waits, without an error.
     #[tactic(auto, using(crate::proofs::Lemmas::Kept::kept_rules, crate::proofs::Settled::settled_rules), unfolding(crate::specs::Standing::StandsFor))]
+    #[inline(always)]
     pub(crate) fn ask(&mut self, entry: &Entry)
         requires legal { IsReply self.old entry.now.caller entry.now.op entry.now.reply }
         requires asks { step.asks entry.now.op ≡ true }
@@ -55,7 +56,28 @@ impl CaseState {
         Ok(())
     }
 
+    /// Takes in an entry with the reply that is the answer to it, which may change components. If memory runs out, the
+    /// state stays as it was.
+    #[inline(never)]
+    pub(crate) fn change(&mut self, entry: &Entry) -> Result<(), NoMemory>
+        requires legal { IsReply self.old entry.now.caller entry.now.op entry.now.reply }
+        ensures behaviours { self.new.behaviours ≡ self.old.behaviours }
+        ensures stands { OnOk result (TakesIn self.old entry.now self.new) }
+        ensures refused { OnErr result (self.new ≡ self.old) }
+        ensures sure { history.is_create entry.now.op ≡ false → IsOk result }
+    {
+        match created(&entry.op, entry.reply) {
+            None => {
+                let own = self.comp_of(entry.caller);
+                self.add(own, entry);
+                Ok(())
+            }
+            Some(comp) => self.make(entry, comp),
+        }
+    }
+
     /// Takes in an entry with the reply that is the answer to it. If memory runs out, the state stays as it was.
+    #[inline(always)]
     pub(crate) fn take(&mut self, entry: &Entry) -> Result<(), NoMemory>
         requires legal { IsReply self.old entry.now.caller entry.now.op entry.now.reply }
         ensures behaviours { self.new.behaviours ≡ self.old.behaviours }
@@ -65,15 +87,9 @@ impl CaseState {
     {
         if asks(&entry.op) && !entry.reply.is_fault() {
             self.ask(entry);
-            return Ok(());
-        }
-        match created(&entry.op, entry.reply) {
-            None => {
-                let own = self.comp_of(entry.caller);
-                self.add(own, entry);
-                Ok(())
-            }
-            Some(comp) => self.make(entry, comp),
+            Ok(())
+        } else {
+            self.change(entry)
         }
     }
 }
