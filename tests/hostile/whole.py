@@ -51,7 +51,7 @@ UNTRIED: Tuple[Exempt, ...] = (
     (("Progress::begin",), "the sweeps of the whole program refuse its line: it has no answer for that, and Progress::end has"),
     (("write_whole", "write_counted", "write_abort"), "the memory that their writer takes is the writer's"),
     (("Words::record_of", "Words::follow"), "Book::word_of, Book::wake and Book::leave make them"),
-    (("Sentence::bytes", "take_behaviours", "take_end_line", "take_entry_line"), "they only look at what they are lent"),
+    (("Sentence::bytes", "take_behaviours", "take_end_line", "take_entry_line", "take_short_line"), "they only look at what they are lent"),
     (("MetRuns::none", "MetRuns::add_line", "MetRuns::add_refused", "MetRuns::contains"), "they are handed no allocator"),
     (("Words::carried_to",), "it only looks at what it is lent; Book::record makes it"),
     (("counts",), "it compares a word with the settings of a log, one by one; close_case makes it"),

@@ -1,15 +1,19 @@
 -- Histories as texts, and what is wrong with other texts.
 use Rattle.std.specs.Prelude.{ℕ, ◌≡◌, ◌≢◌, ◌<◌, ◌≤◌, ◌+◌, ◌^◌, ◌⊎◌, Some, List, [], ◌∷◌, ◌++◌, length, map}
+use Rattle.tc_verdict.specs.declared.run.Run.{Run}
 use Rattle.tc_verdict.specs.declared.verdict.Verdict.{Verdict}
 use Rattle.tc_entry.specs.Name.{IsName}
 use Rattle.tc_entry.specs.declared.entry.Entry.{Entry}
 use Rattle.tc_entry.specs.declared.op.Op.{Op}
 use Rattle.tc_entry.specs.declared.op.Op.TheVariants as O
+use Rattle.tc_entry.specs.declared.reply.Reply.{Reply}
 use Rattle.tc_text.specs.declared.fault.TextFault.{TextFault}
 use Rattle.tc_text.specs.declared.fault.TextFault.TheVariants as F
 use Rattle.tc_text.specs.declared.fault.TextKind.{TextKind}
 use Rattle.tc_text.specs.declared.fault.TextKind.TheVariants as K
+use Rattle.tc_text.specs.declared.short.ShortOp.{ShortOp}
 use Rattle.tc_text.specs.Lines.{lines_of}
+use Rattle.tc_text.specs.Reading.{op_of}
 use Rattle.tc_entry.specs.Limits.{IsBehaviours}
 use Rattle.tc_text.specs.Spelling.{IsOp, IsReply}
 use Rattle.tc_history.specs.declared.header.Header.{Header}
@@ -31,6 +35,10 @@ pub record IsEntry (f : ℕ) (e : Entry) : Type 0 where
   pub op : IsOp e.op
   pub reply : IsReply e.reply
   pub names : f ≡ 1 → IsUnnamed e.op
+
+-- the entry of this caller with a short operation and a reply
+abbrev pub short_entry : Run → ShortOp → Reply → Entry
+short_entry caller short reply = record { caller = caller; op = op_of short; reply = reply }
 
 -- entries of a block of this format
 abbrev pub AreEntries : ℕ → List Entry → Type 0

@@ -1,5 +1,5 @@
 //! The lines inside a block.
-ghost use Rattle.std.specs.Prelude.{◌≡◌, ◌<◌, ◌↔◌, ◌∷◌, ℕ, List, length, IfSome, IsTrue};
+ghost use Rattle.std.specs.Prelude.{◌≡◌, ◌<◌, ◌↔◌, ◌∷◌, ℕ, List, length, IfSome, IsTrue, MatchOption};
 ghost use Rattle.tc_verdict.specs.declared.verdict.Verdict.{Verdict as AnyVerdict};
 ghost use Rattle.tc_entry.specs.declared.entry.Entry.{Entry as AnyEntry};
 ghost use Rattle.tc_entry.specs.declared.reply.Reply.{Reply as AnyReply};
@@ -7,10 +7,12 @@ ghost use Rattle.tc_text.specs.Lines.{lines_of};
 ghost use Rattle.tc_text.specs.Inside.{TakesLine};
 ghost use Rattle.tc_text.specs.Spelling.{IsLong, IsReply};
 ghost use Rattle.tc_history.specs.Block.{end_text, entry_text, outcome_text};
-ghost use Rattle.tc_history.specs.Text.{IsEntry, IsUnnamed};
+ghost use Rattle.tc_history.specs.Text.{IsEntry, IsUnnamed, short_entry};
 
-use tc_entry::{Entry, Op, Reply, Verdict};
-use tc_text::{after, take_line_end, take_long_move, take_reply, take_short_move, take_verdict};
+use tc_entry::{Entry, Op, Reply, Run, Verdict};
+use tc_text::{
+    ShortOp, after, take_line_end, take_long_move, take_reply, take_short_move, take_verdict,
+};
 
 /// The overall verdict, if the first line is the last one of a block, and what follows that line.
 #[inline(always)]
@@ -67,6 +69,23 @@ fn take_long_line(format: u16, text: &[u8]) -> Option<(Entry, &[u8])>
     Some((Entry { caller, op, reply }, rest))
 }
 
+/// The caller, the operation and the reply of the entry that the first line spells, if its operation is a short one, and
+/// what follows that line; None also if it is a long one. An entry of any format may have a short operation.
+#[inline(always)]
+pub fn take_short_line(text: &[u8]) -> Option<((Run, ShortOp, Reply), &[u8])>
+    ensures spelled { IfSome result (λ r. lines_of text.now ≡ entry_text (short_entry r.0.0 r.0.1 r.0.2) ∷ lines_of r.1.now) }
+    ensures fits { (format : ℕ) → IfSome result (λ r. IsEntry format (short_entry r.0.0 r.0.1 r.0.2)) }
+    ensures less { IfSome result (λ r. length r.1.now < length text.now) }
+    ensures only { (format : ℕ) (e : AnyEntry) (others : List (List ℕ)) → IsEntry format e → lines_of text.now ≡ entry_text e ∷ others
+        → MatchOption result (IsLong e.op) (λ r. (short_entry r.0.0 r.0.1 r.0.2 ≡ e) × (lines_of r.1.now ≡ others)) }
+{
+    let Some(((caller, op), rest)) = take_short_move(text) else {
+        return None;
+    };
+    let (reply, rest) = take_outcome(rest)?;
+    Some(((caller, op, reply), rest))
+}
+
 /// The entry of a block of this format that the first line spells, and what follows that line.
 #[inline(never)]
 pub fn take_entry_line(format: u16, text: &[u8]) -> Option<(Entry, &[u8])>
@@ -76,14 +95,15 @@ pub fn take_entry_line(format: u16, text: &[u8]) -> Option<(Entry, &[u8])>
     ensures only { (e : AnyEntry) (others : List (List ℕ)) → IsEntry format e → lines_of text.now ≡ entry_text e ∷ others
         → TakesLine result e others }
 {
-    let Some(((caller, short), rest)) = take_short_move(text) else {
-        return take_long_line(format, text);
-    };
-    let (reply, rest) = take_outcome(rest)?;
-    let entry = Entry {
-        caller,
-        op: short.op(),
-        reply,
-    };
-    Some((entry, rest))
+    match take_short_line(text) {
+        Some(((caller, short, reply), rest)) => {
+            let entry = Entry {
+                caller,
+                op: short.op(),
+                reply,
+            };
+            Some((entry, rest))
+        }
+        None => take_long_line(format, text),
+    }
 }

@@ -1,39 +1,13 @@
-use Rattle.std.proofs.Common.{◌∙◌, ap}
-use Rattle.tc_text.specs.Lines.{lines_of}
-use Rattle.tc_text.specs.Reading.{op_of}
-use Rattle.tc_history.proofs.InnerLines.{begins_with_move, entry_and_outcome, same_parts, short_unnamed}
 use Rattle.tc_history.proofs.line.take_entry_line.Goals as goal
 
-pub returns-in_default-clause-only : goal.returns-in_default-clause-only
-returns-in_default-clause-only c e others fits lines =
-    let begins = begins_with_move c.args.text.now c.args.format e others fits lines in
-    let long = c.in_default.ensures.only e.caller.0 e.op begins.rest fits.caller fits.op begins.ends begins.parts in
-    c.take_long_line.ensures.only e others long fits lines
+pub returns-in-None-clause-only : goal.returns-in-None-clause-only
+returns-in-None-clause-only c e others fits lines = c.take_long_line.ensures.only e others (c.in-None.ensures.only c.args.format e others fits lines) fits lines
 
-pub returns-in_err-reply-clause-only : goal.returns-in_err-reply-clause-only
-returns-in_err-reply-clause-only c e others fits lines =
-    let begins = begins_with_move c.args.text.now c.args.format e others fits lines in
-    let moved = c.in-Some.ensures.only e.caller.0 e.op begins.rest fits.caller fits.op begins.ends begins.parts in
-    absurd (c.in_err-reply.ensures.only e.reply others fits.reply (ap lines_of moved.2 ∙ begins.lines))
+pub returns-in-Some-clause-spelled : goal.returns-in-Some-clause-spelled
+returns-in-Some-clause-spelled c = rw c.op.ensures c.in-Some.ensures.spelled
 
-pub returns-clause-spelled : goal.returns-clause-spelled
-returns-clause-spelled c =
-    let moved = c.in-Some.ensures in
-    let replied = c.in_ok-reply.ensures in
-    rw c.op.ensures
-    (entry_and_outcome c.args.text.now c.in-Some.rest.now c.in_ok-reply.rest.now c.args.format
-    (record { caller = c.in-Some.caller; op = op_of c.in-Some.short; reply = c.in_ok-reply.reply }) moved.spelled replied.spelled
-    (record { caller = moved.fits.0; op = moved.fits.1; reply = replied.fits; names = λ one. short_unnamed c.in-Some.short }))
+pub returns-in-Some-clause-fits : goal.returns-in-Some-clause-fits
+returns-in-Some-clause-fits c = rw c.op.ensures (c.in-Some.ensures.fits c.args.format)
 
-pub returns-clause-fits : goal.returns-clause-fits
-returns-clause-fits c =
-    let moved = c.in-Some.ensures in
-    let replied = c.in_ok-reply.ensures in
-    rw c.op.ensures (record { caller = moved.fits.0; op = moved.fits.1; reply = replied.fits; names = λ one. short_unnamed c.in-Some.short })
-
-pub returns-clause-only : goal.returns-clause-only
-returns-clause-only c e others fits lines =
-    let begins = begins_with_move c.args.text.now c.args.format e others fits lines in
-    let moved = c.in-Some.ensures.only e.caller.0 e.op begins.rest fits.caller fits.op begins.ends begins.parts in
-    let replied = c.in_ok-reply.ensures.only e.reply others fits.reply (ap lines_of moved.2 ∙ begins.lines) in
-    (same_parts c.in-Some.caller c.op.result c.in_ok-reply.reply e moved.0 (c.op.ensures ∙ moved.1) replied.0, replied.1)
+pub returns-in-Some-clause-only : goal.returns-in-Some-clause-only
+returns-in-Some-clause-only c e others fits lines = rw c.op.ensures (c.in-Some.ensures.only c.args.format e others fits lines)
