@@ -17,8 +17,8 @@ use crate::met::MetRuns;
 use crate::note::take_note;
 use crate::taking::TakesEvidence;
 use std::alloc::Global;
-use tc_entry::{NoMemory, Sequence, Verdict};
-use tc_history::{take_end_line, take_entry_line};
+use tc_entry::{Entry, NoMemory, Sequence, Verdict};
+use tc_history::{take_end_line, take_entry_line, take_short_line};
 use tc_text::{TextFault, TextKind};
 
 // The line that is no entry and may come inside such a block after lines that are about these runs, which the first line
@@ -41,8 +41,9 @@ fn take_other<'a>(
 }
 
 // Takes the line that the text begins with, which has this number, if it may come inside such a block after lines that
-// are about these runs; gives what follows it. An entry is passed on at once: of all lines most are entries.
-fn take_line<'a, H: TakesEvidence>(
+// are about these runs; gives what follows it.
+#[inline(never)]
+fn take_any_line<'a, H: TakesEvidence>(
     alloc: Global,
     kind: Kind,
     behaviours: u16,
@@ -65,6 +66,34 @@ fn take_line<'a, H: TakesEvidence>(
     };
     met.add_line(&other);
     H::take(begun, line, other)?;
+    Ok(Some(rest))
+}
+
+// The same: of all lines most are entries with short operations, each of which is made where it is passed on.
+#[inline(always)]
+fn take_line<'a, H: TakesEvidence>(
+    alloc: Global,
+    kind: Kind,
+    behaviours: u16,
+    met: &mut MetRuns,
+    begun: &mut H::Begun,
+    text: &'a [u8],
+    line: usize,
+) -> Result<Option<&'a [u8]>, NoMemory>
+    requires { behaviours ≤ 256 }
+    ensures { IfOk result (λ found. MatchOption found (IsNoLine kind behaviours met.old text.now)
+        (λ rest. IsLineTakenBy H.opens kind behaviours text.now line met.old met.new begun.old begun.new rest.now)) }
+{
+    let Some(((caller, short, reply), rest)) = take_short_line(text) else {
+        return take_any_line::<H>(alloc, kind, behaviours, met, begun, text, line);
+    };
+    let entry = Entry {
+        caller,
+        op: short.op(),
+        reply,
+    };
+    met.add_entry(&entry);
+    H::take_entry(begun, line, entry)?;
     Ok(Some(rest))
 }
 
