@@ -6,7 +6,7 @@ use tc_book::CloseFault;
 use tc_entry::{Name, NoMemory, Sequence, Verdict};
 use tc_exec::CaseError;
 use tc_report::{
-    CampaignEnd, LiveForm, LiveWriter, OutFault, csv_report, junit_report, status_of,
+    CampaignEnd, LiveForm, LiveWriter, OutFault, csv_report, is_met, junit_report, status_of,
     summaries_of_results, summary_of_case, summary_of_state, summary_report, tally, verdict_status,
     worst_status, write_csv, write_evidence, write_history, write_junit, write_text,
 };
@@ -134,7 +134,7 @@ pub(crate) fn ask(trial: &mut Trial, stock: &Stock) {
     let bytes = Vec::new(trial.alloc);
     trial.begin_each(
         "\
-Sequence::new Sequence::as_slice tally status_of worst_status verdict_status OutFault::text CaseError::text CloseFault::text",
+Sequence::new Sequence::as_slice tally status_of worst_status verdict_status is_met OutFault::text CaseError::text CloseFault::text",
     );
     let list: Sequence<u8> = Sequence::new(bytes);
     let texts = [
@@ -146,6 +146,7 @@ Sequence::new Sequence::as_slice tally status_of worst_status verdict_status Out
         & (status_of(&stock.results) == 3)
         & (worst_status(&[]) == 0)
         & (verdict_status(Verdict::Error) == 2)
+        & is_met(Some(Verdict::Fail), Verdict::Error)
         & list.as_slice().is_empty();
     trial.holds(is_right);
     for it in &texts {

@@ -9,7 +9,7 @@ use Rattle.tc_exec.specs.declared.job.Back.{Back}
 use Rattle.tc_report.specs.declared.results.CampaignEnd.{CampaignEnd}
 use Rattle.tc_report.specs.declared.results.Finished.{Finished}
 use Rattle.tc_campaign.specs.declared.case.Case.{Case}
-use Rattle.tc_campaign.specs.Stopping.{IsBetter, IsMet}
+use Rattle.tc_report.specs.Stopping.{IsBetter, IsMet}
 use Rattle.tc_campaign.specs.Outline.{Outline, HasNames, outline_of}
 use Rattle.tc_campaign.specs.Campaign.{AreFinished, HasBehaviours, IsCalled, IsCutShort, IsEnding, IsObserved, IsOfCase, IsReported}
 use Rattle.tc_campaign.specs.Inside.{IsNamed, IsOf, IsSoFar, IsRun, WasRun}

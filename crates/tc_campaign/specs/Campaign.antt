@@ -15,7 +15,7 @@ use Rattle.tc_report.specs.declared.results.Finished.{Finished}
 use Rattle.tc_campaign.specs.declared.case.Case.{Case}
 use Rattle.tc_report.specs.Observers.{AreTaken, IsEndedAt}
 use Rattle.tc_campaign.specs.Outline.{Outline, outline_of}
-use Rattle.tc_campaign.specs.Stopping.{IsBetter, IsMet}
+use Rattle.tc_report.specs.Stopping.{IsBetter, IsMet}
 
 -- a finished case has the name and the behaviour names of this case
 pub record IsOfCase (c : Outline) (f : Finished) : Type 0 where

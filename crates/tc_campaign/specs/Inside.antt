@@ -17,7 +17,7 @@ use Rattle.tc_campaign.specs.declared.case.Case.{Case}
 use Rattle.tc_campaign.specs.declared.step.Step.{Step}
 use Rattle.tc_campaign.specs.declared.step.Step.TheVariants as S
 use Rattle.tc_campaign.specs.Outline.{Outline, outline_of}
-use Rattle.tc_campaign.specs.Stopping.{IsBetter, IsMet}
+use Rattle.tc_report.specs.Stopping.{IsBetter, IsMet}
 use Rattle.tc_campaign.specs.Campaign.{IsCalled, IsOfCase, IsRefusal, IsTorn, IsTornAt, IsWhy}
 
 -- a finished case has a name for each behaviour

@@ -1,5 +1,4 @@
 -- The definitions that the contracts of this crate cite.
-pub mod Stopping
 pub mod Outline
 pub mod Campaign
 pub mod Choosing

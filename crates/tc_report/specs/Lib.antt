@@ -5,6 +5,7 @@ pub mod Names
 pub mod Summary
 pub mod Status
 pub mod Ending
+pub mod Stopping
 pub mod Progress
 pub mod Report
 pub mod Csv

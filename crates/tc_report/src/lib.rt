@@ -19,6 +19,7 @@ mod records;
 mod report;
 mod results;
 mod status;
+mod stopping;
 mod summary;
 mod summary_text;
 
@@ -37,5 +38,6 @@ pub use records::{csv_report, write_csv};
 pub use report::{append_verdict, write_text};
 pub use results::{CampaignEnd, CaseEnd, Finished, Results, Tally};
 pub use status::{status_of, verdict_status, worst_status};
+pub use stopping::is_met;
 pub use summary::{Summary, bare_summary, summaries_of_results, summary_of_case, summary_of_state};
 pub use summary_text::summary_report;

@@ -10,12 +10,13 @@ use crate::observer::Observer;
 use crate::output::write_made;
 use crate::results::{CaseEnd, Finished};
 use crate::status::verdict_status;
+use crate::stopping::is_met;
 use std::alloc::Global;
 use std::io::Write;
 use std::time::{Clock, Duration, Instant};
 use tc_entry::{Name, NoMemory, Verdict};
 use tc_text::{append_number, append_text};
-use tc_verdict::{name as name_of, worse_of};
+use tc_verdict::name as name_of;
 
 // Appends the place of a test case among all that are run.
 fn append_place(out: &mut Vec<u8>, place: usize, count: usize) -> Result<(), NoMemory> {
@@ -129,14 +130,6 @@ fn append_failed(
         return Ok(());
     }
     append_line(alloc, out, b"failed:", case, None, cause)
-}
-
-// Whether a test case with this verdict is the last of its campaign.
-fn is_last(stop_on: Option<Verdict>, verdict: Verdict) -> bool {
-    match stop_on {
-        Some(worst) => worse_of(worst, verdict) == verdict,
-        None => false,
-    }
 }
 
 /// Reports each test case by a line as it begins and by one as it finishes, and passes it on to another observer, which
@@ -330,7 +323,7 @@ impl<O: Observer, E: Write, C: Clock> Observer for Progress<'_, O, E, C> {
         × (after.failed.ghost_name ≡ before.failed.ghost_name) };
 
     fn take(&mut self, case: Finished) -> bool {
-        let last = is_last(self.stop_on, case.report.verdict);
+        let last = is_met(self.stop_on, case.report.verdict);
         self.tell(&case);
         let goes_on = self.observer.take(case);
         if goes_on && !last {
