@@ -13,6 +13,7 @@ SECOND = text("testcase b;run 0 main on 0;  finish -> ok;local 0 none;verdict no
 WHOLE = FIRST + SECOND + text("cases 2 none 1 pass 1 inconc 0 fail 0 error 0;complete")
 ABORTED = FIRST + text("cases 1 none 0 pass 1 inconc 0 fail 0 error 0;aborted at b: no memory")
 AT_B = b"ttrun: aborted at b: no memory\n"
+AT_A = AT_B.replace(b" b:", b" a:")
 # What clap says of itself if memory runs out.
 BY_CLAP = b"error: out of memory\n"
 HEADER = text("testcase,components,none,pass,inconc,fail,error,verdict")
@@ -25,9 +26,12 @@ HEAD = (b'<?xml version="1.0" encoding="UTF-8"?>\n<testsuites COUNTS>\n<testsuit
 OF_A = b'<testcase name="a" classname="ttrun">\n<system-out>\nlocal 0 pass\n</system-out>\n</testcase>\n'
 OF_B = b'<testcase name="b" classname="ttrun">\n<skipped/>\n<system-out>\nlocal 0 none\n</system-out>\n</testcase>\n'
 NOT_B = OF_B.replace(b"<skipped/>", b'<error type="aborted" message="no memory"/>').replace(b"local 0 none\n", b"")
+UNRUN_B = NOT_B.replace(b'<error type="aborted" message="no memory"/>', b'<skipped message="not run"/>')
 TAIL = b"</testsuite>\n</testsuites>\n"
 JUNIT = HEAD.replace(b"COUNTS", COUNTS).replace(b"SKIPPED", b"1") + OF_A + OF_B + TAIL
 ABORTED_JUNIT = HEAD.replace(b"COUNTS", b'tests="2" failures="0" errors="1"').replace(b"SKIPPED", b"0") + OF_A + NOT_B + TAIL
+JUNIT_AT_A = (HEAD.replace(b"COUNTS", b'tests="2" failures="0" errors="1"').replace(b"SKIPPED", b"1")
+              + NOT_B.replace(b'name="b"', b'name="a"') + UNRUN_B + TAIL)
 
 PLAIN = Task("two", ("run",), SCRIPT)
 LIVE = Task("two", ("run", "--live"), SCRIPT)
@@ -52,7 +56,7 @@ def answers() -> Iterator[Tuple[str, Task, Ran]]:
         (PLAIN, b"", b"", -11), (PLAIN, b"", b"", -6), (PLAIN, b"", b"", 0), (PLAIN, WHOLE, b"", 3), (PLAIN, WHOLE, b"", 1),
         (PLAIN, WHOLE[:-9], b"", 0), (PLAIN, FIRST, NO_MEMORY, 3), (PLAIN, WHOLE, NO_MEMORY, 3), (PLAIN, b"", NO_MEMORY, 0),
         (PLAIN, b"", NO_MEMORY + NO_MEMORY, 3), (PLAIN, b"", b"ttrun: read fault\n", 3), (PLAIN, WHOLE, b"ttrun: no memory\n", 0),
-        (PLAIN, b"", AT_B, 3), (PLAIN, FIRST, AT_B, 3), (PLAIN, ABORTED, AT_B, 0), (PLAIN, ABORTED, AT_B.replace(b" b:", b" a:"), 3),
+        (PLAIN, b"", AT_B, 3), (PLAIN, FIRST, AT_B, 3), (PLAIN, ABORTED, AT_B, 0), (PLAIN, ABORTED, AT_A, 3),
         (PLAIN, ABORTED, AT_B.replace(b"no memory", b"no thread"), 3), (PLAIN, ABORTED, AT_B.replace(b"no memory", b"torn"), 3),
         (PLAIN, ABORTED.replace(b"pass 1", b"pass 0"), AT_B, 3), (PLAIN, FIRST, BY_CLAP, 3), (PLAIN, FIRST, b"", 3),
         (PLAIN, b"", BY_CLAP, 3), (PLAIN, b"", b"", 3), (PLAIN, ABORTED, b"", 3), (PLAIN, ABORTED, NO_MEMORY, 3), (LIVE, FIRST, b"", 3),
@@ -63,6 +67,8 @@ def answers() -> Iterator[Tuple[str, Task, Ran]]:
         (HISTORIES, b"", AT_B, 3), (HISTORIES, HISTORY, AT_B, 3), (SUITE, JUNIT, AT_B, 3), (SUITE, JUNIT, NO_MEMORY, 3),
         (SUITE, ABORTED_JUNIT, NO_MEMORY, 3), (SUITE, ABORTED_JUNIT.replace(b'errors="1"', b'errors="0"', 1), AT_B, 3),
         (SUITE, ABORTED_JUNIT.replace(NOT_B, b""), AT_B, 3), (SUITE, JUNIT.replace(TAIL, b""), b"", 0),
+        (SUITE, JUNIT_AT_A.replace(UNRUN_B, b""), AT_A, 3), (SUITE, JUNIT_AT_A.replace(b'skipped="1"', b'skipped="0"'), AT_A, 3),
+        (SUITE, ABORTED_JUNIT.replace(TAIL, UNRUN_B + TAIL), AT_B, 3),
     ]
     both = TOLD[PROGRESS.words]
     wrong += [
@@ -89,7 +95,7 @@ def answers() -> Iterator[Tuple[str, Task, Ran]]:
     true: List[Tuple[str, Task, bytes, bytes, int]] = [
         ("right", PLAIN, WHOLE, b"", 0), ("right", HISTORIES, HISTORY, b"", 0), ("refused", PLAIN, b"", NO_MEMORY, 3),
         ("aborted", PLAIN, ABORTED, AT_B, 3), ("aborted", TABLE, HEADER + RECORD, AT_B, 3), ("aborted", HISTORIES, one, AT_B, 3),
-        ("right", SUITE, JUNIT, b"", 0), ("aborted", SUITE, ABORTED_JUNIT, AT_B, 3), ("refused", SUITE, b"", NO_MEMORY, 3),
+        ("right", SUITE, JUNIT, b"", 0), ("aborted", SUITE, ABORTED_JUNIT, AT_B, 3), ("aborted", SUITE, JUNIT_AT_A, AT_A, 3), ("refused", SUITE, b"", NO_MEMORY, 3),
         ("refused", LIVE, FIRST, NO_MEMORY, 3), ("refused", LIVE, FIRST + SECOND, NO_MEMORY, 3), ("aborted", LIVE, ABORTED, AT_B, 3),
     ]
     true += [

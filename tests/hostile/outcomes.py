@@ -97,12 +97,16 @@ def tally_of(verdicts: List[str]) -> str:
     return " ".join([f"cases {len(verdicts)}", *(f"{it} {verdicts.count(it)}" for it in VERDICTS)]) + "\n"
 
 
-def aborted_suite(ample: bytes, pieces: List[bytes], name: str, why: str) -> bytes:
-    """The JUnit report of a campaign that was aborted at this test case, after those that had finished."""
-    refused = (f'<testcase name="{name}" classname="ttrun">\n<error type="aborted" message="{why}"/>\n'
-               "<system-out>\n</system-out>\n</testcase>\n").encode()
-    elements = [*pieces, refused]
-    failures, errors, skipped = (sum(it.count(kind) for it in elements) for kind in (b"\n<failure ", b"\n<error ", b"\n<skipped/>"))
+def bare_element(name: str, end: str) -> bytes:
+    """The element of a test case without a report, which ended so."""
+    return f'<testcase name="{name}" classname="ttrun">\n{end}\n<system-out>\n</system-out>\n</testcase>\n'.encode()
+
+
+def aborted_suite(ample: bytes, pieces: List[bytes], names: List[str], why: str) -> bytes:
+    """The JUnit report of a campaign that was aborted at the first of these test cases, after those that had finished."""
+    unrun = [bare_element(it, '<skipped message="not run"/>') for it in names[1:]]
+    elements = [*pieces, bare_element(names[0], f'<error type="aborted" message="{why}"/>'), *unrun]
+    failures, errors, skipped = (sum(it.count(kind) for it in elements) for kind in (b"\n<failure ", b"\n<error ", b"\n<skipped"))
     counts = f'tests="{len(elements)}" failures="{failures}" errors="{errors}"'
     head = re.sub(rb'tests="\d+" failures="\d+" errors="\d+"', counts.encode(), ample[: ample.index(b"<testcase ")])
     head = re.sub(rb'skipped="\d+"', f'skipped="{skipped}"'.encode(), head)
@@ -113,7 +117,7 @@ def aborted_report(task: Task, ample: bytes, finished: int, name: str, why: str)
     """The output of a campaign that was aborted at this test case, after that many that had finished."""
     pieces = pieces_of(task, ample)[:finished]
     if task.has(JUNIT):
-        return aborted_suite(ample, pieces, name, why)
+        return aborted_suite(ample, pieces, [it.name for it in task.campaign()][finished:], why)
     text = b"".join(pieces) or header_of(task, ample)
     if task.has(CSV) or task.block:
         return text

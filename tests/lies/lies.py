@@ -38,13 +38,13 @@ LIES = (
     )),
     Lie("csv_is_ignored", (
         ("""\
-    ensures refused { IfErr result (LeavesPrefix (W.contents writer.old) (W.contents writer.new) (text_of form.now results.now)) }
+    ensures refused { IfErr result (LeavesPrefix (W.contents writer.old) (W.contents writer.new) (text_of form.now names.now results.now)) }
 {
     match form {
         Form::Text => write_text(alloc, results, writer),
         Form::Csv => write_csv(alloc, results, writer),
 """, """\
-    ensures refused { IfErr result (LeavesPrefix (W.contents writer.old) (W.contents writer.new) (text_of form.now results.now)) }
+    ensures refused { IfErr result (LeavesPrefix (W.contents writer.old) (W.contents writer.new) (text_of form.now names.now results.now)) }
 {
     match form {
         Form::Text => write_text(alloc, results, writer),

@@ -110,6 +110,15 @@ def each_row(_: str) -> List[str]:
     return faults + ([f"{len(rows)} rows"] if len(rows) < FEWEST else [])
 
 
+def faults_of_unrun(choice: Tuple[str, ...]) -> List[str]:
+    """What is wrong with its JUnit report if the first test case is the last."""
+    ran = run(Case("", ("--junit", "--stop-on=none", *choice)), BENCH)
+    names = run(Case("", ("--list", *choice)), BENCH).output.decode().split()
+    skipped = re.findall(r'<testcase name="(\w+)" [^>]*>\n<skipped message="not run"/>', ran.output.decode())
+    counts = f'tests="{len(names)}" failures="0" errors="0" skipped="{len(names) - 1}"'
+    return [] if (ran.status, skipped) == (0, names[1:]) and counts in ran.output.decode() else [f"{ran}"]
+
+
 def forms_are_read(program: str) -> List[str]:
     """`ttrun check` finds its histories and its evidence legal, live or not, and its JUnit report is what `ttrun report` makes of them."""
     faults: List[str] = []
@@ -122,7 +131,8 @@ def forms_are_read(program: str) -> List[str]:
     suite = run(Case("", ("--junit",)), BENCH)
     named = tuple(it.decode() for it in re.findall(rb'<testcase name="(\w+)"', suite.output))
     counts = b'tests="3" failures="1" errors="0"'
-    return faults + ([f"--junit: {suite}"] if suite.status != 1 or named != NAMES or counts not in suite.output else [])
+    faults += [f"--junit: {suite}"] if suite.status != 1 or named != NAMES or counts not in suite.output else []
+    return faults + faults_of_unrun(()) + faults_of_unrun(("--only", "*s")) + faults_of_unrun(("--only", "closes"))
 
 
 def help_names_the_program(_: str) -> List[str]:

@@ -33,6 +33,8 @@ SCHEMA: Dict[str, Tuple[Tuple[str, ...], str]] = {
     "skipped": ((), ""),
     "system-out": ((), ""),
 }
+# The attributes that an element need not have.
+OPTIONAL: Dict[str, Tuple[str, ...]] = {"skipped": ("message",)}
 # The element for each end of a test case but pass: its name and its type.
 ELEMENTS: Dict[str, Tuple[str, str]] = {
     "none": ("skipped", ""),
@@ -41,6 +43,7 @@ ELEMENTS: Dict[str, Tuple[str, str]] = {
     "error": ("error", "error"),
     "unfinished": ("error", "unfinished"),
     "missing": ("error", "missing"),
+    "not run": ("skipped", ""),
 }
 # The messages of the ends that have no text of their own.
 MESSAGES = {"unfinished": "the test case is not over", "missing": "there is no history of the test case"}
@@ -93,11 +96,21 @@ class Told:
             self.before = lines_by(block.entries[:at], block.entries[at].caller)[-5:]
 
 
-def missing_case(name: str) -> Told:
+def bare_case(name: str, end: str, message: str) -> Told:
     """What a form prints of a test case of which there is no block."""
     told = Told(Block("history 2", name, 1, [], 0, "none"))
-    told.locals, told.components, told.end, told.message = [], [], "missing", MESSAGES["missing"]
+    told.locals, told.components, told.end, told.message = [], [], end, message
     return told
+
+
+def missing_case(name: str) -> Told:
+    """What a form prints of a test case that its script has, and of which there is no block."""
+    return bare_case(name, "missing", MESSAGES["missing"])
+
+
+def unrun_case(name: str) -> Told:
+    """What a JUnit report prints of a test case after the last that was run."""
+    return bare_case(name, "not run", "not run")
 
 
 def blocks_of(text: bytes) -> List[Told]:
@@ -135,7 +148,7 @@ def junit_of(told: List[Told], version: str, name: str = "ttrun") -> bytes:
         elif kind:
             lines += [f'<{element} type="{kind}" message="{it.message}">', it.message, *it.lines, f"</{element}>"]
         elif element:
-            lines.append(f"<{element}/>")
+            lines.append(f'<{element} message="{it.message}"/>' if it.message else f"<{element}/>")
         lines += ["<system-out>", *(f"local {at} {v}" for at, v in enumerate(it.locals)), "</system-out>", "</testcase>"]
     return "".join(f"{it}\n" for it in [*lines, "</testsuite>", "</testsuites>"]).encode()
 
@@ -178,7 +191,7 @@ def faults_of_element(element: ElementTree.Element) -> Iterator[str]:
         yield f"an element {element.tag}"
         return
     attributes, inside = SCHEMA[element.tag]
-    if tuple(element.attrib) != attributes:
+    if tuple(it for it in element.attrib if it not in OPTIONAL.get(element.tag, ())) != attributes:
         yield f"{element.tag} has the attributes {list(element.attrib)}"
     if not re.fullmatch(inside, " ".join(it.tag for it in element)):
         yield f"{element.tag} has {[it.tag for it in element]}"

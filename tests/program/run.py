@@ -39,6 +39,7 @@ import rows
 import scripts
 import sizes
 import terminal
+import unrun
 import words
 from case import Case, faults_of, run, shown_command
 from judged import Judgement
@@ -59,6 +60,7 @@ GROUPS = (
     ("progress", progress.cases, 30),
     ("examples", examples.cases, 42),
     ("reports", reports.cases, 30),
+    ("not run", unrun.cases, 6),
     ("evidence", evidence_rows.cases, 145),
     ("compared", compared.cases, 59),
     ("compared reports", compared_reports.cases, 34),

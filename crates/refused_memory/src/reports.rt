@@ -29,7 +29,7 @@ pub(crate) fn make(trial: &mut Trial, stock: &Stock) {
 
 /// The forms of histories.
 fn make_texts(trial: &mut Trial, stock: &Stock) {
-    if let Ok(cases) = summaries_of_results(trial.alloc, &stock.results) {
+    if let Ok(cases) = summaries_of_results(trial.alloc, &[], &stock.results) {
         trial.begin("csv_report junit_report summary_report");
         made(csv_report(trial.alloc, &cases), NoMemory, trial);
         made(
@@ -55,7 +55,7 @@ fn written(trial: &mut Trial, answer: Result<(), OutFault>) {
 fn write(trial: &mut Trial, stock: &Stock) {
     let (alloc, results) = (trial.alloc, &stock.results);
     trial.begin("write_junit write_text write_csv write_history write_evidence");
-    let answer = write_junit(alloc, VERSION, &None, results, &mut trial.out);
+    let answer = write_junit(alloc, VERSION, &None, &[], results, &mut trial.out);
     written(trial, answer);
     let answer = write_text(alloc, results, &mut trial.out);
     written(trial, answer);
@@ -81,7 +81,7 @@ fn summarize(trial: &mut Trial, stock: &Stock) {
         );
         made(summary_of_case(trial.alloc, case), NoMemory, trial);
         made(
-            summaries_of_results(trial.alloc, &stock.results),
+            summaries_of_results(trial.alloc, &[], &stock.results),
             NoMemory,
             trial,
         );

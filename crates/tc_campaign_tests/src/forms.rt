@@ -7,7 +7,7 @@ use std::process::Abort;
 use std::test::Fail;
 use tc_book::Sequence;
 use tc_campaign::{CampaignEnd, OutFault, Results, write_abort, write_evidence};
-use tc_entry::UserVerdict;
+use tc_entry::{Name, UserVerdict};
 use tc_exec::CaseError;
 use tc_report::{
     Summary, csv_report, junit_report, summaries_of_results, summary_report, worst_status,
@@ -19,11 +19,12 @@ a,1,0,1,0,0,0,pass
 b,1,0,0,0,1,0,fail
 c,1,0,0,1,0,0,inconc
 d,0,0,0,0,0,0,aborted
+e,0,0,0,0,0,0,notrun
 ";
 
 const SUITE: &str = "<?xml version=\"1.0\" encoding=\"UTF-8\"?>
-<testsuites tests=\"4\" failures=\"2\" errors=\"1\">
-<testsuite name=\"ttrun\" tests=\"4\" failures=\"2\" errors=\"1\" skipped=\"0\">
+<testsuites tests=\"5\" failures=\"2\" errors=\"1\">
+<testsuite name=\"ttrun\" tests=\"5\" failures=\"2\" errors=\"1\" skipped=\"1\">
 <properties>
 <property name=\"version\" value=\"7\"/>
 </properties>
@@ -57,12 +58,18 @@ local 0 inconc
 <system-out>
 </system-out>
 </testcase>
+<testcase name=\"e\" classname=\"ttrun\">
+<skipped message=\"not run\"/>
+<system-out>
+</system-out>
+</testcase>
 </testsuite>
 </testsuites>
 ";
 
-const SUMMARY: &str = "cases 4 none 0 pass 1 inconc 1 fail 1 error 0
+const SUMMARY: &str = "cases 5 none 0 pass 1 inconc 1 fail 1 error 0
 aborted 1
+notrun 1
 
 b: fail
   run 0 on component 0: setverdict fail -> ok
@@ -95,20 +102,26 @@ fn have_forms<R: Abort>(rt: &R, alloc: Global, cases: &[Summary]) -> Result<(), 
     Ok(())
 }
 
-/// Checks the suite that is written of results.
-fn has_suite<R: Abort>(rt: &R, alloc: Global, results: &Results) -> Result<(), Fail> {
+/// Checks the suite that is written of results of test cases with these names.
+fn has_suite<R: Abort>(
+    rt: &R,
+    alloc: Global,
+    names: &[Name],
+    results: &Results,
+) -> Result<(), Fail> {
     let mut suite = Vec::new(alloc);
-    write_junit(alloc, "7", &None, results, &mut suite)?;
+    write_junit(alloc, "7", &None, names, results, &mut suite)?;
     is(rt, "the suite", suite.as_slice(), SUITE.as_bytes());
     Ok(())
 }
 
 #[test]
 fn forms_of_an_aborted_campaign(rt: HostRuntime) -> Result<(), Fail> {
+    let names = [name("a")?, name("b")?, name("c")?, name("d")?, name("e")?];
     let results = results(rt.alloc(), aborted("d", CaseError::Torn)?)?;
-    let summaries = summaries_of_results(rt.alloc(), &results)?;
+    let summaries = summaries_of_results(rt.alloc(), &names, &results)?;
     have_forms(&rt, rt.alloc(), summaries.as_slice())?;
-    has_suite(&rt, rt.alloc(), &results)
+    has_suite(&rt, rt.alloc(), &names, &results)
 }
 
 /// Checks the line of an abort at the test case d.

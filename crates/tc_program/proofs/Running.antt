@@ -1,13 +1,15 @@
 -- What comes of a campaign that was run.
-use Rattle.std.proofs.Common.{ℕ, ◌≡◌, ◌∙◌, [], Bool, true, false, subst, ap, List, Option, Some, None, Result, Ok, Err, IfErr, sym}
+use Rattle.std.proofs.Common.{ℕ, ◌≡◌, ◌∙◌, [], ◌∷◌, Bool, true, false, subst, ap, List, Option, Some, None, Result, Ok, Err, IfErr, map, refl, sym}
 use Rattle.std.specs.Borrow.{GName}
 use Rattle.std.specs.Prelude.{IfNone, IfSome, IsErrAnd, unwrap_or}
-use Rattle.std.specs.Io.KnownBytes.{Appends}
+use Rattle.std.specs.Io.KnownBytes.{Appends, Keeps}
 use Rattle.tc_verdict.specs.declared.verdict.Verdict.TheVariants as V
+use Rattle.tc_case.specs.declared.refusal.CaseError.TheVariants as C
 use Rattle.tc_stream.specs.Output.{AppendsPrefix}
 use Rattle.tc_book.specs.Passes.{PassState}
 use Rattle.tc_exec.specs.declared.job.Back.{Back}
 use Rattle.tc_report.specs.declared.fault.OutFault.{OutFault}
+use Rattle.tc_report.specs.declared.fault.OutFault.TheVariants as OutFaults
 use Rattle.tc_report.specs.declared.live_form.LiveForm.{LiveForm}
 use Rattle.tc_report.specs.declared.live_form.LiveForm.TheVariants as LiveForms
 use Rattle.tc_report.specs.declared.live.LiveWriter.{LiveWriter}
@@ -24,9 +26,11 @@ use Rattle.tc_report.specs.Tally.{tally_of_cases}
 use Rattle.tc_report.proofs.Lemmas.Pieces.{IsAt, Takes, all_at, all_written, begun, case_left, closing_left, ended_at, opening_left, status_at}
 use Rattle.tc_report.proofs.Lemmas.Telling.{nothing_of}
 use Rattle.tc_campaign.specs.declared.case.Case.{Case}
+use Rattle.tc_campaign.specs.Choosing.{case_name}
+use Rattle.tc_campaign.specs.Inside.{IsUnrun}
 use Rattle.tc_campaign.specs.Outline.{outline_of}
 use Rattle.tc_campaign.specs.Campaign.{AreFinished, IsCalled, IsRunTo}
-use Rattle.tc_campaign.proofs.Lemmas.Keeping.{none_finished}
+use Rattle.tc_campaign.proofs.Lemmas.Keeping.{none_finished, unrun_run}
 use Rattle.tc_command.specs.declared.task.Form.{Form}
 use Rattle.tc_command.specs.declared.task.Form.TheVariants as Forms
 use Rattle.tc_command.specs.declared.task.RunOptions.{RunOptions}
@@ -35,18 +39,20 @@ use Rattle.tc_program.specs.declared.outcome.Outcome.{Outcome}
 use Rattle.tc_program.specs.Output.{live_form, text_of}
 use Rattle.tc_program.specs.Inside.{AreGiven}
 use Rattle.tc_program.specs.Limits.{worker_limit}
-use Rattle.tc_program.specs.Run.{IsLeft, IsRun, IsUnwritten, first_fault}
+use Rattle.tc_program.specs.Run.{IsLeft, IsRun, IsUnwritten, first_fault, results_text}
 use Rattle.tc_program.specs.Streams.{Streams}
 use Rattle.tc_program.specs.Stderr.{IsTold}
+use Rattle.tc_program.proofs.Doing.{keeps_same}
 
 -- the text in a form that is written live is that of the form that was asked for
-live_text : (live : Bool) (form : Form) (found : LiveForm) (r : Results) → live_form live form ≡ Some found → form_text found r ≡ text_of form r
-live_text true Forms.Text found r is = sym (ap (λ o. form_text (unwrap_or o LiveForms.Text) r) is)
-live_text true Forms.Csv found r is = sym (ap (λ o. form_text (unwrap_or o LiveForms.Text) r) is)
-live_text true Forms.History found r is = sym (ap (λ o. form_text (unwrap_or o LiveForms.Text) r) is)
-live_text true Forms.Evidence found r is = sym (ap (λ o. form_text (unwrap_or o LiveForms.Text) r) is)
-live_text true (Forms.Junit suite) found r is = absurd (cc is)
-live_text false form found r is = absurd (cc is)
+live_text : (live : Bool) (form : Form) (found : LiveForm) (names : List (List ℕ)) (r : Results) → live_form live form ≡ Some found
+    → form_text found r ≡ text_of form names r
+live_text true Forms.Text found names r is = sym (ap (λ o. form_text (unwrap_or o LiveForms.Text) r) is)
+live_text true Forms.Csv found names r is = sym (ap (λ o. form_text (unwrap_or o LiveForms.Text) r) is)
+live_text true Forms.History found names r is = sym (ap (λ o. form_text (unwrap_or o LiveForms.Text) r) is)
+live_text true Forms.Evidence found names r is = sym (ap (λ o. form_text (unwrap_or o LiveForms.Text) r) is)
+live_text true (Forms.Junit suite) found names r is = absurd (cc is)
+live_text false form found names r is = absurd (cc is)
 
 -- what is printed after the test cases, and what comes of both
 abbrev pub EndsTold : Option (List ℕ) → Option (List ℕ) → CampaignEnd → Result (Unit {0}) OutFault → Result (Unit {0}) RunFault → Type 0
@@ -57,6 +63,15 @@ EndsTold between told ending telling answer =
 pub untold : (tells : Bool) (start : Option (List ℕ)) (finished : List Finished) → finished ≡ []
     → IsToldBy tells start start finished (Ok tt)
 untold tells start finished none = subst (λ fs. IsToldBy tells start start fs (Ok tt)) (sym none) (nothing_of tells start)
+
+-- the ending of a campaign that runs none of these test cases because memory ran out
+abbrev unrun_ending : {B : Type 0} → List (Case B) → CampaignEnd
+unrun_ending [] = E.Complete
+unrun_ending (k ∷ ks) = E.Aborted k.name C.NoMemory
+
+is_unrun : {B : Type 0} (ks : List (Case B)) → IsUnrun (map outline_of ks) (unrun_ending ks)
+is_unrun [] = refl
+is_unrun (k ∷ ks) = refl
 
 -- which writer a live writer writes to
 abbrev pub name_of : {W : Type 0} → LiveWriter W → GName
@@ -73,7 +88,7 @@ module _ {B : Type 0} (outcome : B → PassState → Back → Type 0) (cases : L
   pub whole_done : (streams : Streams) (between : Option (List ℕ)) (r : Results) (telling : Result (Unit {0}) OutFault) (ended : Outcome)
       → IsRunTo outline_of (IsCalled outcome) cases options.stop_on worker_limit r.finished r.ending
       → IsToldBy options.progress streams.untold between r.finished telling
-      → ended.status ≡ results_status r → Appends streams.before streams.after (text_of options.form r)
+      → ended.status ≡ results_status r → Appends streams.before streams.after (results_text outline_of cases options r)
       → EndsTold between streams.told r.ending telling ended.told → IsRun outline_of (IsCalled outcome) cases options streams ended
   whole_done streams between r telling ended run told status written line = record {
     results = r;
@@ -88,13 +103,13 @@ module _ {B : Type 0} (outcome : B → PassState → Back → Type 0) (cases : L
       → IsErrAnd answer (λ f. f ≡ fault) → live_form options.live options.form ≡ None
       → IsRunTo outline_of (IsCalled outcome) cases options.stop_on worker_limit r.finished r.ending
       → IsToldBy options.progress streams.untold streams.told r.finished telling
-      → LeavesPrefix streams.before streams.after (text_of options.form r) fault
+      → LeavesPrefix streams.before streams.after (results_text outline_of cases options r) fault
       → IfErr answer (IsUnwritten outline_of (IsCalled outcome) cases options streams)
   whole_left streams r telling fault (Ok ended) what is run told left = absurd what
   whole_left streams r telling fault (Err f) what is run told left = record {
     results = r;
     left = subst (λ live. IsLeft outline_of (IsCalled outcome) cases options live streams r f) (sym is)
-        (run, subst (LeavesPrefix streams.before streams.after (text_of options.form r)) (sym what) left);
+        (run, subst (LeavesPrefix streams.before streams.after (results_text outline_of cases options r)) (sym what) left);
     told = (telling, told);
   }
 
@@ -107,7 +122,7 @@ module _ {B : Type 0} (outcome : B → PassState → Back → Type 0) (cases : L
     cut_up r telling fault each told left = record {
       results = r;
       left = subst (λ live. IsLeft outline_of (IsCalled outcome) cases options live streams r fault) (sym same)
-          (each, subst (AppendsPrefix streams.before streams.after) (live_text options.live options.form form r same) left);
+          (each, subst (AppendsPrefix streams.before streams.after) (live_text options.live options.form form (map case_name cases) r same) left);
       told = (telling, told);
     }
 
@@ -166,5 +181,20 @@ module _ {B : Type 0} (outcome : B → PassState → Back → Type 0) (cases : L
           let r : Results = record { finished = finished; ending = ending } in
           whole_done streams between r telling ended had.0 told
           (status ∙ status_at state name form streams.before before after first finished ending had.1)
-          (subst (Appends streams.before streams.after) (live_text options.live options.form form r same)
+          (subst (Appends streams.before streams.after) (live_text options.live options.form form (map case_name cases) r same)
           (all_written state name form streams.before before after first finished ending had.1 streams.after out)) line
+
+  -- nothing was run or written, since memory ran out
+  pub unrun_left : (streams : Streams) → streams.after ≡ streams.before → streams.told ≡ streams.untold
+      → IsUnwritten outline_of (IsCalled outcome) cases options streams OutFaults.NoMemory
+  unrun_left streams unwritten untold = go (live_form options.live options.form) refl
+    where
+      keeps : Keeps streams.before streams.after
+      keeps = subst (Keeps streams.before) (sym unwritten) (keeps_same streams.before)
+
+      go : (live : Option LiveForm) → live_form options.live options.form ≡ live → IsUnwritten outline_of (IsCalled outcome) cases options streams OutFaults.NoMemory
+      go None is =
+          whole_left streams (record { finished = []; ending = unrun_ending cases }) (Ok tt) OutFaults.NoMemory (Err OutFaults.NoMemory) refl is
+          (unrun_run outcome [] (unrun_ending cases) refl cases options.stop_on worker_limit (is_unrun cases))
+          (subst (λ t. IsToldBy options.progress streams.untold t [] (Ok tt)) (sym untold) (nothing_of options.progress streams.untold)) keeps
+      go (Some form) is = at_opening streams form is OutFaults.NoMemory untold keeps

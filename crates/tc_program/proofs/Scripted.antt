@@ -3,8 +3,10 @@ use Rattle.std.proofs.Common.{ℕ, zero, suc, ◌≡◌, ◌∙◌, ◌-◌, ◌
 use Rattle.std.proofs.lemmas.List.{length-map}
 use Rattle.std.proofs.lemmas.List.Elements.{All-nil, All-cons, All-tail}
 use Rattle.std.specs.List.{AllZip}
+use Rattle.std.specs.Io.KnownBytes.{Appends}
 use Rattle.std.specs.Vec.{vec_len}
 use Rattle.std.specs.Prelude.{slice_get}
+use Rattle.tc_stream.specs.Output.{AppendsPrefix}
 use Rattle.tc_verdict.specs.declared.verdict.Verdict.{Verdict}
 use Rattle.tc_step.specs.Steps.{ScriptView}
 use Rattle.tc_behaviour.specs.Acts.{Acts, MakesItsCalls}
@@ -23,7 +25,8 @@ use Rattle.tc_report.specs.declared.results.Results.{Results}
 use Rattle.tc_campaign.specs.declared.case.Case.{Case}
 use Rattle.tc_campaign.specs.Outline.{Outline, HasNames, outline_of}
 use Rattle.tc_campaign.specs.Campaign.{AreFinished, IsCalled, IsEnding, IsOfCase, IsReported, IsRunTo, IsWhy, IsWithoutRoom}
-use Rattle.tc_program.specs.Output.{live_form}
+use Rattle.tc_report.specs.Output.{LeavesPrefix}
+use Rattle.tc_program.specs.Output.{live_form, text_of}
 use Rattle.tc_program.specs.Limits.{worker_limit}
 use Rattle.tc_command.specs.declared.task.RunOptions.{RunOptions}
 use Rattle.tc_report.specs.declared.fault.OutFault.{OutFault}
@@ -60,6 +63,12 @@ outlines [] [] each = refl
 outlines [] (k ∷ ks) each = absurd each
 outlines (c ∷ cs) [] each = absurd each
 outlines (c ∷ cs) (k ∷ ks) each = ap (λ o. o ∷ map outline_of ks) (same_outline c k each.0) ∙ ap (λ os. script_outline c ∷ os) (outlines cs ks each.1)
+
+same_names : (cs : List CaseView) (ks : List (Case ScriptView)) → AllZip IsCaseOf cs ks → map (λ k. (outline_of k).name) ks ≡ map (λ c. (script_outline c).name) cs
+same_names [] [] each = refl
+same_names [] (k ∷ ks) each = absurd each
+same_names (c ∷ cs) [] each = absurd each
+same_names (c ∷ cs) (k ∷ ks) each = rw (each.0.name, same_names cs ks each.1) refl
 
 -- a script hands back the pass of its own run
 own : (s : ScriptView) (p : PassState) (k : Back) → MakesItsCalls s p k → k.pass.run ≡ p.run
@@ -126,15 +135,21 @@ module _ (o : RunOptions) (text : List ℕ) (cs : List CaseView) (ks : List (Cas
       results = run.results;
       right = results cs ks o.stop_on worker_limit lawful each run.results.finished run.results.ending run.right;
       status = run.status;
-      written = run.written;
+      written = subst (λ ns. Appends streams.before streams.after (text_of o.form ns run.results)) (same_names cs ks each) run.written;
       told = run.told;
     };
   }
 
   left_of : (live : Option LiveForm) (s : Streams) (r : Results) (fault : OutFault) → IsLeft outline_of (IsCalled Acts) ks o live s r fault
       → IsLeft script_outline IsScripted cs o live s r fault
-  left_of None s r fault left = (results cs ks o.stop_on worker_limit lawful each r.finished r.ending left.0, left.1)
-  left_of (Some form) s r fault left = (finished cs ks o.stop_on worker_limit lawful each r.finished left.0, left.1)
+  left_of None s r fault left = (
+    results cs ks o.stop_on worker_limit lawful each r.finished r.ending left.0,
+    subst (λ ns. LeavesPrefix s.before s.after (text_of o.form ns r) fault) (same_names cs ks each) left.1,
+  )
+  left_of (Some form) s r fault left = (
+    finished cs ks o.stop_on worker_limit lawful each r.finished left.0,
+    subst (λ ns. AppendsPrefix s.before s.after (text_of o.form ns r)) (same_names cs ks each) left.1,
+  )
 
   -- and so is one whose results were not written whole
   pub run_left : (streams : Streams) (fault : OutFault) (told : Option (List ℕ)) (outcome : Outcome) → IsUnwritten outline_of (IsCalled Acts) ks o streams fault

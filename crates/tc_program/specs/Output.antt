@@ -24,13 +24,13 @@ live_form true Forms.History = Some LiveForms.History
 live_form true Forms.Evidence = Some LiveForms.Evidence
 live_form true (Forms.Junit suite) = None
 
--- the text of the results in this form
-abbrev pub text_of : Form → Results → List ℕ
-text_of Forms.Text r = form_text LiveForms.Text r
-text_of Forms.Csv r = form_text LiveForms.Csv r
-text_of Forms.History r = form_text LiveForms.History r
-text_of Forms.Evidence r = form_text LiveForms.Evidence r
-text_of (Forms.Junit suite) r = junit_of VERSION.now suite (results_summaries r)
+-- the text of the results of test cases with these names in this form
+abbrev pub text_of : Form → List (List ℕ) → Results → List ℕ
+text_of Forms.Text names r = form_text LiveForms.Text r
+text_of Forms.Csv names r = form_text LiveForms.Csv r
+text_of Forms.History names r = form_text LiveForms.History r
+text_of Forms.Evidence names r = form_text LiveForms.Evidence r
+text_of (Forms.Junit suite) names r = junit_of VERSION.now suite (results_summaries names r)
 
 -- why a text was not written whole: without memory nothing was, if the writer failed a prefix; there is no other fault
 abbrev pub LeavesUnwritten : Option (List ℕ) → Option (List ℕ) → List ℕ → RunFault → Type 0

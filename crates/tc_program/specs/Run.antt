@@ -1,5 +1,5 @@
 -- The run of a campaign, and what is written of it.
-use Rattle.std.specs.Prelude.{ℕ, ◌≡◌, Bool, List, Option, Some, None, Result, Ok, Err}
+use Rattle.std.specs.Prelude.{ℕ, ◌≡◌, Bool, List, Option, Some, None, Result, Ok, Err, map}
 use Rattle.std.specs.Io.KnownBytes.{Appends}
 use Rattle.tc_stream.specs.Output.{AppendsPrefix}
 use Rattle.tc_campaign.specs.Outline.{Outline}
@@ -36,6 +36,10 @@ pub record TellsRun (progress : Bool) (r : Results) (untold told : Option (List 
   pub line_told : IsTold between told (abort_text r.ending) line
   pub first : answer ≡ first_fault telling line
 
+-- the text of the results of these cases, in the form asked for
+abbrev pub results_text : {C : Type 0} → (C → Outline) → List C → RunOptions → Results → List ℕ
+results_text outline cases options r = text_of options.form (map (λ c. (outline c).name) cases) r
+
 module _ {C : Type 0} (outline : C → Outline) (called : C → Finished → Type 0) (cases : List C) (options : RunOptions) where
   -- these cases were run under these options, and the results were given
   pub record IsRun (streams : Streams) (outcome : Outcome) : Type 0 where
@@ -44,7 +48,7 @@ module _ {C : Type 0} (outline : C → Outline) (called : C → Finished → Typ
     -- the outcome has their status
     pub status : outcome.status ≡ results_status results
     -- their text was written in the form asked for
-    pub written : Appends streams.before streams.after (text_of options.form results)
+    pub written : Appends streams.before streams.after (results_text outline cases options results)
     -- what is due on standard error was printed, as the outcome says
     pub told : TellsRun options.progress results streams.untold streams.told outcome.told
 
@@ -52,9 +56,10 @@ module _ {C : Type 0} (outline : C → Outline) (called : C → Finished → Typ
   -- prefix of it is out, and the fault may have ended the campaign.
   abbrev pub IsLeft : Option LiveForm → Streams → Results → OutFault → Type 0
   IsLeft None s r fault =
-      IsRunTo outline called cases options.stop_on worker_limit r.finished r.ending × LeavesPrefix s.before s.after (text_of options.form r) fault
+      IsRunTo outline called cases options.stop_on worker_limit r.finished r.ending
+      × LeavesPrefix s.before s.after (results_text outline cases options r) fault
   IsLeft (Some form) s r fault =
-      AreFinished outline called cases options.stop_on worker_limit r.finished × AppendsPrefix s.before s.after (text_of options.form r)
+      AreFinished outline called cases options.stop_on worker_limit r.finished × AppendsPrefix s.before s.after (results_text outline cases options r)
 
   -- these cases were run under these options, and the text of the results was not written whole; what is due of them was
   -- printed, or not all of it

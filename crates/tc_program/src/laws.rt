@@ -1,5 +1,5 @@
 //! What the program's parts say together: each function changes nothing, and its contract is the law.
-ghost use Rattle.std.specs.Prelude.{All, List};
+ghost use Rattle.std.specs.Prelude.{All, List, map};
 ghost use Rattle.tc_entry.specs.Name.{IsName};
 ghost use Rattle.tc_evidence.specs.declared.header.Kind.TheVariants as kinds;
 ghost use Rattle.tc_command.specs.declared.task.Form.TheVariants as forms;
@@ -57,9 +57,9 @@ fn were_run(results: &Results)
 /// It is refused only if memory runs out.
 pub fn written_is_legal(results: &Results)
     ensures histories { (cases : List Outline) → AreReported cases results.now
-        → AreFoundLegal (text_of forms.History results.now) results.now }
+        → AreFoundLegal (text_of forms.History (map (λ c. c.name) cases) results.now) results.now }
     ensures evidence { (cases : List Outline) → AreReported cases results.now
-        → AreFoundLegal (text_of forms.Evidence results.now) results.now }
+        → AreFoundLegal (text_of forms.Evidence (map (λ c. c.name) cases) results.now) results.now }
 {
     were_run(results);
 }

@@ -3,15 +3,15 @@ ghost use Rattle.std.specs.Prelude.{◌≡◌, IfOk, IfErr, OnOk};
 ghost use Rattle.std.specs.Io.KnownBytes.{Appends};
 ghost use Rattle.tc_report.specs.Status.{results_status};
 ghost use Rattle.tc_report.specs.Output.{LeavesPrefix};
-ghost use Rattle.tc_program.specs.Output.{LeavesUnwritten, live_form as spec_form, text_of};
+ghost use Rattle.tc_program.specs.Output.{live_form as spec_form, text_of};
 
-use crate::fault::RunFault;
 use std::alloc::Global;
 use std::io::Write;
 use tc_campaign::{
     LiveForm, OutFault, Results, status_of, write_csv, write_evidence, write_history, write_text,
 };
 use tc_command::{Form, VERSION};
+use tc_entry::Name;
 use tc_report::write_junit;
 
 /// The form in which test cases are written as they finish, if it is asked for that they are; a JUnit report has none,
@@ -31,37 +31,39 @@ pub(crate) fn live_form(live: bool, form: &Form) -> Option<LiveForm>
     }
 }
 
-/// Writes the results in this form. The text is made whole before anything is written.
-pub(crate) fn write_results<W: Write>(
+// Writes the results of test cases with these names in this form.
+fn write_results<W: Write>(
     alloc: Global,
-    results: &Results,
     form: &Form,
+    names: &[Name],
+    results: &Results,
     writer: &mut W,
 ) -> Result<(), OutFault>
-    ensures done { OnOk result (Appends (W.contents writer.old) (W.contents writer.new) (text_of form.now results.now)) }
-    ensures refused { IfErr result (LeavesPrefix (W.contents writer.old) (W.contents writer.new) (text_of form.now results.now)) }
+    ensures done { OnOk result (Appends (W.contents writer.old) (W.contents writer.new) (text_of form.now names.now results.now)) }
+    ensures refused { IfErr result (LeavesPrefix (W.contents writer.old) (W.contents writer.new) (text_of form.now names.now results.now)) }
 {
     match form {
         Form::Text => write_text(alloc, results, writer),
         Form::Csv => write_csv(alloc, results, writer),
         Form::History => write_history(alloc, results, writer),
         Form::Evidence => write_evidence(alloc, results, writer),
-        Form::Junit(suite) => write_junit(alloc, VERSION, suite, results, writer),
+        Form::Junit(suite) => write_junit(alloc, VERSION, suite, names, results, writer),
     }
 }
 
-/// Writes the results in this form, and returns the exit status for them. The text is made whole before anything is
-/// written.
+/// Writes the results of test cases with these names in this form, and returns the exit status for them. The text is made
+/// whole before anything is written.
 pub fn give<W: Write>(
     alloc: Global,
-    results: &Results,
     form: &Form,
+    names: &[Name],
+    results: &Results,
     writer: &mut W,
-) -> Result<u8, RunFault>
+) -> Result<u8, OutFault>
     ensures status { IfOk result (λ status. status ≡ results_status results.now) }
-    ensures done { OnOk result (Appends (W.contents writer.old) (W.contents writer.new) (text_of form.now results.now)) }
-    ensures refused { IfErr result (LeavesUnwritten (W.contents writer.old) (W.contents writer.new) (text_of form.now results.now)) }
+    ensures done { OnOk result (Appends (W.contents writer.old) (W.contents writer.new) (text_of form.now names.now results.now)) }
+    ensures refused { IfErr result (LeavesPrefix (W.contents writer.old) (W.contents writer.new) (text_of form.now names.now results.now)) }
 {
-    write_results(alloc, results, form, writer)?;
+    write_results(alloc, form, names, results, writer)?;
     Ok(status_of(results))
 }

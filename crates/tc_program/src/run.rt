@@ -1,11 +1,11 @@
 //! A run of a campaign: who is given its test cases, and what is written and printed of it.
-ghost use Rattle.std.specs.Prelude.{ℕ, List, Option, true, false, ◌≡◌, ◌≤◌, [], All, Ok, Err, IfOk, IfErr, IfNone, IfSome, Some};
+ghost use Rattle.std.specs.Prelude.{true, ◌≡◌, ◌≤◌, [], All, Err, IfOk, IfErr, IfNone, IfSome, Some, map};
 ghost use Rattle.std.specs.Io.KnownBytes.{Appends};
 ghost use Rattle.std.specs.Vec.{vec_capacity, vec_len};
 ghost use Rattle.tc_verdict.specs.declared.verdict.Verdict.TheVariants.{None as NoVerdict};
+ghost use Rattle.tc_campaign.specs.Choosing.{case_name};
 ghost use Rattle.tc_campaign.specs.Outline.{HasNames, outline_of};
 ghost use Rattle.tc_campaign.specs.Campaign.{IsCalled, IsRunTo};
-ghost use Rattle.tc_report.specs.declared.fault.OutFault.{OutFault as AnyFault};
 ghost use Rattle.tc_report.specs.Live.{closing_text};
 ghost use Rattle.tc_report.specs.Output.{LeavesPrefix};
 ghost use Rattle.tc_report.specs.Progress.{HasTold, IsToldBy};
@@ -18,7 +18,7 @@ ghost use Rattle.tc_program.specs.Run.{IsRun, IsUnwritten};
 ghost use Rattle.tc_program.specs.Streams.{held};
 
 use crate::outcome::Outcome;
-use crate::output::{live_form, write_results};
+use crate::output::{give, live_form};
 use crate::stderr::tell_end;
 use std::alloc::Global;
 use std::io::Write;
@@ -28,7 +28,7 @@ use std::time::Clock;
 use tc_book::Sequence;
 use tc_campaign::{
     CampaignEnd, Case, Kept, LiveWriter, Observer, OutFault, Progress, Results, run_campaign_with,
-    status_of, without_room,
+    without_room,
 };
 use tc_command::RunOptions;
 use tc_entry::{BEHAVIOURS, Name, NoMemory};
@@ -38,7 +38,9 @@ use tc_exec::Callable;
 const THREADS: u16 = BEHAVIOURS as u16;
 
 // The names of the test cases, in their order.
-fn names_of<B: Callable>(alloc: Global, cases: &[Case<B>]) -> Result<Vec<Name>, NoMemory> {
+fn names_of<B: Callable>(alloc: Global, cases: &[Case<B>]) -> Result<Vec<Name>, NoMemory>
+    ensures { IfOk result (λ v. v.items ≡ map case_name cases.now) }
+{
     Ok(cases.iter().map(|case| case.name.copy()).collect(alloc)?)
 }
 
@@ -68,8 +70,9 @@ where
     (ending, told)
 }
 
-// Runs the test cases of these names with this observer, and reports each.
-fn run_reported<R, B: Callable, O: Observer, E: Write>(
+// Runs the test cases, which have these names, with this observer, and reports each if it is asked for. Says how the
+// campaign ended, if the observer did not end it, and what came of the reporting.
+fn run_told<R, B: Callable, O: Observer, E: Write>(
     rt: &R,
     alloc: Global,
     cases: Vec<Case<B>>,
@@ -81,12 +84,15 @@ fn run_reported<R, B: Callable, O: Observer, E: Write>(
 where
     R: Threads + Wait + Clock + Copy + Send + 'static,
     requires names { All HasNames cases.items }
-    requires tells { options.now.progress ≡ true }
     ensures { WasTold B.outcome O.takes cases.items options.now observer.old observer.new
         (E.contents errors.old) (E.contents errors.new) result.0 result.1 }
 {
-    let mut failed = Vec::new(alloc);
     let stop_on = options.stop_on;
+    if !options.progress {
+        let ending = run_campaign_with(rt, alloc, cases, stop_on, THREADS, observer);
+        return (ending, Ok(()));
+    }
+    let mut failed = Vec::new(alloc);
     run_with(
         rt,
         alloc,
@@ -96,82 +102,13 @@ where
     )
 }
 
-// Runs the test cases with this observer, and reports none.
-fn run_unreported<R, B: Callable, O: Observer>(
-    rt: &R,
-    alloc: Global,
-    cases: Vec<Case<B>>,
-    options: &RunOptions,
-    observer: &mut O,
-) -> Option<CampaignEnd>
-where
-    R: Threads + Wait + Copy + Send + 'static,
-    requires names { All HasNames cases.items }
-    ensures silent { (held : Option (List ℕ)) → options.now.progress ≡ false
-        → WasTold B.outcome O.takes cases.items options.now observer.old observer.new held held result (Ok tt) }
-    ensures unprinted { (held : Option (List ℕ)) (fault : AnyFault) → options.now.progress ≡ true
-        → WasTold B.outcome O.takes cases.items options.now observer.old observer.new held held result (Err fault) }
-{
-    run_campaign_with(rt, alloc, cases, options.stop_on, THREADS, observer)
-}
-
-// Runs the test cases with this observer, and reports each, if memory does not run out for their names.
-fn run_named<R, B: Callable, O: Observer, E: Write>(
-    rt: &R,
-    alloc: Global,
-    cases: Vec<Case<B>>,
-    options: &RunOptions,
-    observer: &mut O,
-    errors: &mut E,
-) -> (Option<CampaignEnd>, Result<(), OutFault>)
-where
-    R: Threads + Wait + Clock + Copy + Send + 'static,
-    requires names { All HasNames cases.items }
-    requires tells { options.now.progress ≡ true }
-    ensures { WasTold B.outcome O.takes cases.items options.now observer.old observer.new
-        (E.contents errors.old) (E.contents errors.new) result.0 result.1 }
-{
-    match names_of(alloc, cases.as_slice()) {
-        Ok(names) => {
-            let names = names.as_slice();
-            run_reported(rt, alloc, cases, options, names, observer, errors)
-        }
-        Err(NoMemory) => {
-            let ending = run_unreported(rt, alloc, cases, options, observer);
-            (ending, Err(OutFault::NoMemory))
-        }
-    }
-}
-
-// Runs the test cases with this observer, and reports each if it is asked for. Says how the campaign ended, if the
-// observer did not end it, and what came of the reporting.
-fn run_told<R, B: Callable, O: Observer, E: Write>(
-    rt: &R,
-    alloc: Global,
-    cases: Vec<Case<B>>,
-    options: &RunOptions,
-    observer: &mut O,
-    errors: &mut E,
-) -> (Option<CampaignEnd>, Result<(), OutFault>)
-where
-    R: Threads + Wait + Clock + Copy + Send + 'static,
-    requires names { All HasNames cases.items }
-    ensures { WasTold B.outcome O.takes cases.items options.now observer.old observer.new
-        (E.contents errors.old) (E.contents errors.new) result.0 result.1 }
-{
-    if options.progress {
-        return run_named(rt, alloc, cases, options, observer, errors);
-    }
-    let ending = run_unreported(rt, alloc, cases, options, observer);
-    (ending, Ok(()))
-}
-
 // Runs the test cases, and keeps and reports all of them: there is room.
 fn run_kept<R, B: Callable, E: Write>(
     rt: &R,
     alloc: Global,
     cases: Vec<Case<B>>,
     options: &RunOptions,
+    names: &[Name],
     kept: Kept,
     errors: &mut E,
 ) -> (Results, Result<(), OutFault>)
@@ -185,7 +122,7 @@ where
         result.0.finished result.1 }
 {
     let mut kept = kept;
-    let (ending, told) = run_told(rt, alloc, cases, options, &mut kept, errors);
+    let (ending, told) = run_told(rt, alloc, cases, options, names, &mut kept, errors);
     match ending {
         Some(ending) => (kept.into_results(ending), told),
         None => unreachable!(),
@@ -198,6 +135,7 @@ fn run_or_not<R, B: Callable, E: Write>(
     alloc: Global,
     cases: Vec<Case<B>>,
     options: &RunOptions,
+    names: &[Name],
     errors: &mut E,
 ) -> (Results, Result<(), OutFault>)
 where
@@ -208,7 +146,7 @@ where
         result.0.finished result.1 }
 {
     match Kept::with_room(alloc, cases.len()) {
-        Ok(kept) => run_kept(rt, alloc, cases, options, kept, errors),
+        Ok(kept) => run_kept(rt, alloc, cases, options, names, kept, errors),
         Err(_) => (without_room(alloc, cases), Ok(())),
     }
 }
@@ -241,6 +179,7 @@ fn write_live<R, B: Callable, W: Write, E: Write>(
     alloc: Global,
     cases: Vec<Case<B>>,
     options: &RunOptions,
+    names: &[Name],
     live: &mut LiveWriter<'_, W>,
     errors: &mut E,
 ) -> Result<Outcome, OutFault>
@@ -259,7 +198,7 @@ where
     if let Err(fault) = live.begin() {
         return Err(fault);
     }
-    let (ending, told) = run_told(rt, alloc, cases, options, live, errors);
+    let (ending, told) = run_told(rt, alloc, cases, options, names, live, errors);
     match close(ending, live) {
         Ok((ending, status)) => {
             let unkept = Results {
@@ -273,9 +212,38 @@ where
     }
 }
 
+// Runs the test cases, which have these names, writes their results, and returns what came of them.
+fn run_named<R, B: Callable, W: Write, E: Write>(
+    rt: &R,
+    alloc: Global,
+    cases: Vec<Case<B>>,
+    options: &RunOptions,
+    names: &[Name],
+    writer: &mut W,
+    errors: &mut E,
+) -> Result<Outcome, OutFault>
+where
+    R: Threads + Wait + Clock + Copy + Send + 'static,
+    requires names { All HasNames cases.items }
+    requires are { names.now ≡ map case_name cases.items }
+    ensures done { IfOk result (IsRun outline_of (IsCalled B.outcome) cases.items options.now
+        (held W.contents writer.old writer.new E.contents errors.old errors.new)) }
+    ensures refused { IfErr result (IsUnwritten outline_of (IsCalled B.outcome) cases.items options.now
+        (held W.contents writer.old writer.new E.contents errors.old errors.new)) }
+{
+    if let Some(form) = live_form(options.live, &options.form) {
+        let mut live = LiveWriter::new(alloc, form, writer);
+        return write_live(rt, alloc, cases, options, names, &mut live, errors);
+    }
+    let (results, told) = run_or_not(rt, alloc, cases, options, names, errors);
+    let status = give(alloc, &options.form, names, &results, writer)?;
+    let told = tell_end(errors, &results, told);
+    Ok(Outcome { status, told })
+}
+
 /// Runs the test cases, writes their results as they finish, if that is asked for and the form has it, or at the end,
 /// and returns what came of them. If it is asked for, each test case is reported as it finishes; an aborted campaign
-/// always is.
+/// always is. If there is no memory for the names of the test cases, none is run.
 pub fn run_cases<R, B: Callable, W: Write, E: Write>(
     rt: &R,
     alloc: Global,
@@ -293,13 +261,8 @@ where
         (held W.contents writer.old writer.new E.contents errors.old errors.new)) }
     ensures workers { THREADS ≡ worker_limit }
 {
-    if let Some(form) = live_form(options.live, &options.form) {
-        let mut live = LiveWriter::new(alloc, form, writer);
-        return write_live(rt, alloc, cases, options, &mut live, errors);
+    match names_of(alloc, cases.as_slice()) {
+        Ok(names) => run_named(rt, alloc, cases, options, names.as_slice(), writer, errors),
+        Err(NoMemory) => Err(OutFault::NoMemory),
     }
-    let (results, told) = run_or_not(rt, alloc, cases, options, errors);
-    write_results(alloc, &results, &options.form, writer)?;
-    let status = status_of(&results);
-    let told = tell_end(errors, &results, told);
-    Ok(Outcome { status, told })
 }

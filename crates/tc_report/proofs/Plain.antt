@@ -51,6 +51,7 @@ end-unquoted (C.Over v) = verdict-unquoted v
 end-unquoted C.Unfinished = refl
 end-unquoted (C.Aborted why) = refl
 end-unquoted C.Missing = refl
+end-unquoted C.NotRun = refl
 
 counts-unquoted : (ns : List ℕ) (rest : List (List ℕ)) → All IsBoundedDecimal ns → All IsUnquoted rest → All IsUnquoted (map decimal ns ++ rest)
 counts-unquoted [] rest digits plain = plain

@@ -19,12 +19,13 @@ abbrev pub counts_of : List Verdict → List ℕ
 counts_of locals =
     length locals ∷ count_of V.None locals ∷ count_of V.Pass locals ∷ count_of V.Inconc locals ∷ count_of V.Fail locals ∷ count_of V.Error locals ∷ []
 
--- the word for the end of a test case: its overall verdict, that it is not over, has no report, or is missing
+-- the word for the end of a test case: its overall verdict, or that it is not over, has no report, is missing or was not run
 abbrev pub end_word : CaseEnd → List ℕ
 end_word (C.Over v) = name_of v
 end_word C.Unfinished = codes "unfinished"
 end_word (C.Aborted why) = codes "aborted"
 end_word C.Missing = codes "missing"
+end_word C.NotRun = codes "notrun"
 
 -- a test case: its name, the counts, and its end
 abbrev pub row_fields : Summary → List (List ℕ)

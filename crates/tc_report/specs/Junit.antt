@@ -68,6 +68,7 @@ end_element (C.Over V.Error) cause = verdict_element (codes "<error type=\"error
 end_element C.Unfinished cause = codes "<error type=\"unfinished\" message=\"the test case is not over\"/>\n"
 end_element (C.Aborted why) cause = codes "<error type=\"aborted\" message=\"" ++ (refusal_text why ++ codes "\"/>\n")
 end_element C.Missing cause = codes "<error type=\"missing\" message=\"there is no history of the test case\"/>\n"
+end_element C.NotRun cause = codes "<skipped message=\"not run\"/>\n"
 
 -- the first tag of a test case, with its name and that of its suite
 unfoldable pub name_tag : List ℕ → List ℕ → List ℕ
@@ -81,11 +82,8 @@ locals_element locals = codes "<system-out>\n" ++ (local_lines 0 locals ++ codes
 abbrev pub case_element : List ℕ → Summary → List ℕ
 case_element suite s = name_tag suite s.name ++ (end_element s.ending s.cause ++ locals_element s.locals)
 
--- the suite of this name, with all test cases
-abbrev pub suite_of : List ℕ → List ℕ → List Summary → List ℕ
-suite_of version suite ss =
-    head_text suite ss ++ (version_text version ++ (flat_map (case_element suite) ss ++ codes "</testsuite>\n</testsuites>\n"))
-
--- the same by the name that was given, if one was
+-- the suite of the name that was given, if one was, with all test cases
 abbrev pub junit_of : List ℕ → Option (List ℕ) → List Summary → List ℕ
-junit_of version suite ss = suite_of version (suite_name suite) ss
+junit_of version suite ss =
+    let name = suite_name suite in
+    head_text name ss ++ (version_text version ++ (flat_map (case_element name) ss ++ codes "</testsuite>\n</testsuites>\n"))

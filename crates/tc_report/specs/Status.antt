@@ -24,9 +24,11 @@ abbrev pub ending_status : CampaignEnd → Verdict → ℕ
 ending_status (E.Aborted name why) v = 3
 ending_status ending v = verdict_status v
 
--- the verdict that an end counts as: a test case that is not over, is missing, or has no report, counts as error
+-- the verdict that an end counts as: a test case that is not over, is missing, or has no report, counts as error, and one
+-- that was not run as none
 abbrev pub counted_as : CaseEnd → Verdict
 counted_as (C.Over v) = v
+counted_as C.NotRun = V.None
 counted_as ending = V.Error
 
 -- the worst of the verdicts that the test cases count as, none if there is no test case

@@ -1,5 +1,5 @@
 -- What reports say of a test case: by its history, or by its own report.
-use Rattle.std.specs.Prelude.{ℕ, if◌then◌else◌, None, List, [], ◌∷◌, ◌++◌, map, reverse}
+use Rattle.std.specs.Prelude.{ℕ, if◌then◌else◌, None, List, [], ◌∷◌, ◌++◌, drop, length, map, reverse}
 use Rattle.tc_verdict.specs.declared.verdict.Verdict.{Verdict}
 use Rattle.tc_entry.specs.declared.entry.Entry.{Entry}
 use Rattle.tc_table.specs.History.{comps, is_over}
@@ -49,6 +49,9 @@ abbrev pub aborted_summary : CampaignEnd → List Summary
 aborted_summary (E.Aborted name why) = bare_summary (C.Aborted why) name ∷ []
 aborted_summary ending = []
 
--- each finished test case, and the one that has no report
-abbrev pub results_summaries : Results → List Summary
-results_summaries r = map case_summary r.finished ++ aborted_summary r.ending
+-- of a campaign of test cases with these names: each finished one, the one that has no report, and those after them, which
+-- were not run
+abbrev pub results_summaries : List (List ℕ) → Results → List Summary
+results_summaries names r =
+    let begun = map case_summary r.finished ++ aborted_summary r.ending in
+    begun ++ map (bare_summary C.NotRun) (drop (length begun) names)

@@ -29,6 +29,7 @@ kind_of (C.Over v) = level_of v
 kind_of C.Unfinished = 5
 kind_of (C.Aborted why) = 6
 kind_of C.Missing = 7
+kind_of C.NotRun = 8
 
 -- how many of the test cases ended so
 abbrev pub ended : ℕ → List Summary → ℕ
@@ -47,7 +48,7 @@ other_line word count = if count == 0 then [] else word ++ (decimal count ++ (10
 unfoldable pub counts_text : List Summary → List ℕ
 counts_text ss =
     tally_line (tally_of_summaries ss) ++ (other_line (codes "unfinished ") (ended 5 ss) ++
-    (other_line (codes "aborted ") (ended 6 ss) ++ other_line (codes "missing ") (ended 7 ss)))
+    (other_line (codes "aborted ") (ended 6 ss) ++ (other_line (codes "missing ") (ended 7 ss) ++ other_line (codes "notrun ") (ended 8 ss))))
 
 -- ---- the components
 

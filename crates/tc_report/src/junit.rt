@@ -1,5 +1,5 @@
 //! The JUnit report.
-ghost use Rattle.std.specs.Prelude.{◌≡◌, ◌==◌, ◌++◌, filter, length, IfOk, IfErr, OnOk};
+ghost use Rattle.std.specs.Prelude.{◌≡◌, ◌==◌, ◌++◌, filter, length, IfOk, IfErr, OnOk, Some};
 ghost use Rattle.tc_verdict.specs.Verdict.{level_of};
 ghost use Rattle.tc_report.specs.declared.summary.Summary.{Summary as AnySummary};
 ghost use Rattle.std.specs.Io.KnownBytes.{Appends};
@@ -208,6 +208,7 @@ fn append_end_element(
             out,
             "<error type=\"missing\" message=\"there is no history of the test case\"/>\n",
         ),
+        CaseEnd::NotRun => append_text(out, "<skipped message=\"not run\"/>\n"),
     }
 }
 
@@ -259,7 +260,7 @@ fn append_suite(
     suite: &[u8],
     cases: &[Summary],
 ) -> Result<(), NoMemory>
-    ensures { OnOk result (out.new.items ≡ out.old.items ++ spec.suite_of version.now suite.now cases.now) }
+    ensures { OnOk result (out.new.items ≡ out.old.items ++ spec.junit_of version.now (Some suite.now) cases.now) }
 {
     append_head(out, suite, cases)?;
     append_version(out, version)?;
@@ -282,20 +283,21 @@ pub fn junit_report(
     Ok(out)
 }
 
-/// Writes the JUnit report of the results of a campaign: each finished test case, and the one that has no report. The text is
-/// made whole before anything is written.
+/// Writes the JUnit report of the results of a campaign of test cases with these names: each finished test case, the one
+/// that has no report, and those after them, which are skipped. The text is made whole before anything is written.
 pub fn write_junit<W: Write>(
     alloc: Global,
     version: &str,
     suite: &Option<Name>,
+    names: &[Name],
     results: &Results,
     writer: &mut W,
 ) -> Result<(), OutFault>
-    ensures all { OnOk result (Appends (W.contents writer.old) (W.contents writer.new) (spec.junit_of version.now suite.now (results_summaries results.now))) }
+    ensures all { OnOk result (Appends (W.contents writer.old) (W.contents writer.new) (spec.junit_of version.now suite.now (results_summaries names.now results.now))) }
     ensures part { IfErr result (LeavesPrefix (W.contents writer.old) (W.contents writer.new)
-        (spec.junit_of version.now suite.now (results_summaries results.now))) }
+        (spec.junit_of version.now suite.now (results_summaries names.now results.now))) }
 {
-    let cases = summaries_of_results(alloc, results)?;
+    let cases = summaries_of_results(alloc, names, results)?;
     let text = junit_report(alloc, version, suite, cases.as_slice())?;
     write_made(writer, text.as_slice())
 }

@@ -33,7 +33,7 @@ fn push_count(alloc: Global, row: &mut ByteRecord, count: usize) -> Result<(), N
     Ok(())
 }
 
-/// The word for the end of a test case: its overall verdict, `unfinished`, `aborted` or `missing`.
+/// The word for the end of a test case: its overall verdict, `unfinished`, `aborted`, `missing` or `notrun`.
 pub(crate) fn end_word(ending: CaseEnd) -> &'static str
     ensures { result.now ≡ spec_word ending }
 {
@@ -42,6 +42,7 @@ pub(crate) fn end_word(ending: CaseEnd) -> &'static str
         CaseEnd::Unfinished => "unfinished",
         CaseEnd::Aborted(_) => "aborted",
         CaseEnd::Missing => "missing",
+        CaseEnd::NotRun => "notrun",
     }
 }
 

@@ -24,6 +24,8 @@ pub enum CaseEnd {
     Aborted(CaseError),
     /// Its script has it, and it has no history.
     Missing,
+    /// Its campaign ended before it.
+    NotRun,
 }
 
 /// How a campaign ended.

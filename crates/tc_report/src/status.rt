@@ -8,12 +8,14 @@ use crate::summary::Summary;
 use tc_entry::Verdict;
 use tc_verdict::worse_of;
 
-/// The verdict that an end counts as: error for a test case that is not over, is missing, or has no report.
+/// The verdict that an end counts as: error for a test case that is not over, is missing, or has no report, and none for
+/// one that was not run.
 pub(crate) fn counted_as(ending: CaseEnd) -> Verdict
     ensures { result ≡ spec_counted ending }
 {
     match ending {
         CaseEnd::Over(verdict) => verdict,
+        CaseEnd::NotRun => Verdict::None,
         CaseEnd::Unfinished | CaseEnd::Aborted(_) | CaseEnd::Missing => Verdict::Error,
     }
 }

@@ -1,7 +1,8 @@
 //! What reports say of a test case.
-ghost use Rattle.std.specs.Prelude.{◌≡◌, ◌++◌, IfOk, OnOk, List, map, reverse};
+ghost use Rattle.std.specs.Prelude.{◌≡◌, ◌++◌, IfOk, OnOk, List, drop, map, reverse};
 ghost use Rattle.tc_entry.specs.declared.entry.Entry.{Entry as AnyEntry};
 ghost use Rattle.tc_table.specs.Standing.{StandsFor};
+ghost use Rattle.tc_report.specs.declared.results.CaseEnd.TheVariants.{NotRun};
 ghost use Rattle.tc_report.specs.Summary.{aborted_summary, bare_summary as spec_bare, case_summary, end_of, results_summaries, summary_of, summary_with as spec_with};
 
 use crate::cause::{Cause, cause_of};
@@ -136,11 +137,36 @@ pub(crate) fn summaries_of_cases(
     Ok(summaries)
 }
 
-/// The summaries of the results of a campaign: of each finished test case, and of the one that has no report.
-pub fn summaries_of_results(alloc: Global, results: &Results) -> Result<Vec<Summary>, NoMemory>
-    ensures { IfOk result (λ v. v.items ≡ results_summaries results.now) }
+// The names after that many.
+#[tactic(auto, using(std::proofs::lemmas::List::drop_min))]
+fn names_after(names: &[Name], count: usize) -> &[Name]
+    ensures { result.now ≡ drop count names.now }
+{
+    &names[count.min(names.len())..]
+}
+
+// Adds the summary of each test case of these names, none of which was run.
+fn add_unrun(alloc: Global, summaries: &mut Vec<Summary>, names: &[Name]) -> Result<(), NoMemory>
+    ensures { OnOk result (summaries.new.items ≡ summaries.old.items ++ map (spec_bare NotRun) names.now) }
+{
+    for name in names {
+        summaries.push(bare_summary(alloc, CaseEnd::NotRun, name))?;
+    }
+    Ok(())
+}
+
+/// The summaries of the results of a campaign of test cases with these names: of each finished test case, of the one that
+/// has no report, and of those after them, which were not run. Without the names they are left out.
+pub fn summaries_of_results(
+    alloc: Global,
+    names: &[Name],
+    results: &Results,
+) -> Result<Vec<Summary>, NoMemory>
+    ensures { IfOk result (λ v. v.items ≡ results_summaries names.now results.now) }
 {
     let mut summaries = summaries_of_cases(alloc, results.finished.as_slice())?;
     add_aborted(alloc, &mut summaries, &results.ending)?;
+    let unrun = names_after(names, summaries.len());
+    add_unrun(alloc, &mut summaries, unrun)?;
     Ok(summaries)
 }

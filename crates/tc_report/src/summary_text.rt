@@ -28,6 +28,7 @@ fn kind_of(ending: CaseEnd) -> u8
         CaseEnd::Unfinished => 5,
         CaseEnd::Aborted(_) => 6,
         CaseEnd::Missing => 7,
+        CaseEnd::NotRun => 8,
     }
 }
 
@@ -74,7 +75,8 @@ fn append_counts(out: &mut Vec<u8>, cases: &[Summary]) -> Result<(), NoMemory>
     append_tally(out, &tally_of(cases))?;
     append_other(out, "unfinished ", ended(cases, 5))?;
     append_other(out, "aborted ", ended(cases, 6))?;
-    append_other(out, "missing ", ended(cases, 7))
+    append_other(out, "missing ", ended(cases, 7))?;
+    append_other(out, "notrun ", ended(cases, 8))
 }
 
 // The numbers of the components with this local verdict.
