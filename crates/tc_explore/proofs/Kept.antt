@@ -14,7 +14,7 @@ use Rattle.tc_explore.specs.declared.findings.Findings.{Findings}
 use Rattle.tc_explore.specs.declared.search.Met.{Met}
 use Rattle.tc_explore.specs.declared.witness.Witness.{Witness}
 use Rattle.tc_explore.specs.Course.{carried, IsCourse}
-use Rattle.tc_explore.specs.Found.{Reaches, AreReached, AreCovered, Covers, AreMet}
+use Rattle.tc_explore.specs.Found.{Reaches, AreReached, AreCourses, AreCovered, Covers, AreMet}
 use Rattle.tc_explore.specs.Inside.Going.{IsOn}
 use Rattle.tc_explore.specs.Inside.Keys.{key_of}
 use Rattle.tc_explore.specs.Inside.Seen.{AreKept, AreKeyed, IsCountedTo, IsLonger, IsNoLess, IsState, IsWith}
@@ -172,14 +172,26 @@ once_of states apart i j d near_i near_j same = by_states (slice_get states i) r
     by_states None h p k = absurd (none_within states i (within i near_i) h)
     by_states (Some s) h None k = absurd (none_within states j (within j near_j) k)
 
+pub no_courses : (scripts : List ScriptView) → AreCourses scripts 0 []
+no_courses scripts = record { as_many = refl; each = All-nil (IsCourse scripts); once = λ i j d near_i near_j same. absurd (omega arith) }
+
+-- the courses of states with distinct keys
+pub courses_of : (scripts : List ScriptView) (key : List Entry → List ℕ) (met : Met) → map (λ k. k.items) met.keys.keys ≡ map (λ t. key (past_of t)) met.states.items
+    → IsDistinct (λ x y. pointwise nat_eq x.items y.items) met.keys.keys → All (λ t. IsCourse scripts (past_of t)) met.states.items
+    → AreCourses scripts (length met.keys.keys) (map past_of met.states.items)
+courses_of scripts key met keyed distinct each = record {
+  as_many = length-map met.states.items past_of ∙ sym (sym (length-map met.keys.keys (λ k. k.items)) ∙ (ap length keyed ∙ length-map met.states.items (λ t. key (past_of t))));
+  each = All-map (IsCourse scripts) past_of met.states.items each;
+  once = once_of met.states.items (keys_apart (λ k. k.items) key met.keys.keys met.states.items keyed distinct);
+}
+
 pub met_none : (scripts : List ScriptView) (reached : List ℕ) → AreMet scripts reached 0
-met_none scripts reached = record { courses = []; as_many = refl; each = All-nil (IsCourse scripts); once = λ i j d near_i near_j same. absurd (omega arith); counted = All-nil (Covers reached) }
+met_none scripts reached = record { courses = []; are = no_courses scripts; counted = All-nil (Covers reached) }
 
 pub met_of : (scripts : List ScriptView) (met : Met) (found : Findings) → AreKept scripts met found → IsDistinct (λ x y. pointwise nat_eq x.items y.items) met.keys.keys → AreMet scripts found.reached.items (length met.keys.keys)
 met_of scripts met found kept distinct = record {
   courses = map past_of met.states.items;
-  as_many = length-map met.states.items past_of ∙ sym (as_many_keys scripts met kept.keyed);
-  each = All-map (IsCourse scripts) past_of met.states.items (All-weaker (λ t. IsState scripts t) (λ t. IsCourse scripts (past_of t)) (λ t s. s.opened.on.course) met.states.items kept.each);
-  once = once_of met.states.items (keys_apart (λ k. k.items) (length scripts) met.keys.keys met.states.items kept.keyed distinct);
+  are = courses_of scripts (key_of (length scripts)) met kept.keyed distinct
+      (All-weaker (λ t. IsState scripts t) (λ t. IsCourse scripts (past_of t)) (λ t s. s.opened.on.course) met.states.items kept.each);
   counted = All-map (Covers found.reached.items) past_of met.states.items kept.counted;
 }

@@ -235,23 +235,23 @@ abbrev pub AreApart : List Case → Type 0
 AreApart states = (i j : ℕ) (s t : Case) → slice_get states i ≡ Some s → slice_get states j ≡ Some t → past_of s ≡ past_of t → i ≡ j
 
 -- no two states of distinct keys are at one course
-pub keys_apart : {V : Type 0} (items : V → List ℕ) (n : ℕ) (ks : List V) (ts : List Case) → map items ks ≡ map (λ t. key_of n (past_of t)) ts → IsDistinct (λ x y. pointwise nat_eq (items x) (items y)) ks → AreApart ts
+pub keys_apart : {V : Type 0} (items : V → List ℕ) (key : List Entry → List ℕ) (ks : List V) (ts : List Case) → map items ks ≡ map (λ t. key (past_of t)) ts → IsDistinct (λ x y. pointwise nat_eq (items x) (items y)) ks → AreApart ts
 unfolding IsDistinct
-keys_apart items n ks [] h d i j s r here there same = absurd cc
-keys_apart items n [] (t ∷ ts) h d i j s r here there same = absurd cc
-keys_apart items n (x ∷ ks) (t ∷ ts) h d zero zero s r here there same = refl
-keys_apart items n (x ∷ ks) (t ∷ ts) h d (suc i) (suc j) s r here there same =
-    let others : map items ks ≡ map (λ u. key_of n (past_of u)) ts = cc in ap suc (keys_apart items n ks ts others d.1 i j s r here there same)
-keys_apart items n (x ∷ ks) (t ∷ ts) h d zero (suc j) s r here there same =
-    let others : map items ks ≡ map (λ u. key_of n (past_of u)) ts = cc in
-    let first : items x ≡ key_of n (past_of t) = cc in
+keys_apart items key ks [] h d i j s r here there same = absurd cc
+keys_apart items key [] (t ∷ ts) h d i j s r here there same = absurd cc
+keys_apart items key (x ∷ ks) (t ∷ ts) h d zero zero s r here there same = refl
+keys_apart items key (x ∷ ks) (t ∷ ts) h d (suc i) (suc j) s r here there same =
+    let others : map items ks ≡ map (λ u. key (past_of u)) ts = cc in ap suc (keys_apart items key ks ts others d.1 i j s r here there same)
+keys_apart items key (x ∷ ks) (t ∷ ts) h d zero (suc j) s r here there same =
+    let others : map items ks ≡ map (λ u. key (past_of u)) ts = cc in
+    let first : items x ≡ key (past_of t) = cc in
     let is : t ≡ s = cc in
-    absurd (not_later items (λ u. key_of n (past_of u)) (items x) ks ts j r others d.0 there (first ∙ ap (key_of n) (ap past_of is ∙ same)))
-keys_apart items n (x ∷ ks) (t ∷ ts) h d (suc i) zero s r here there same =
-    let others : map items ks ≡ map (λ u. key_of n (past_of u)) ts = cc in
-    let first : items x ≡ key_of n (past_of t) = cc in
+    absurd (not_later items (λ u. key (past_of u)) (items x) ks ts j r others d.0 there (first ∙ ap key (ap past_of is ∙ same)))
+keys_apart items key (x ∷ ks) (t ∷ ts) h d (suc i) zero s r here there same =
+    let others : map items ks ≡ map (λ u. key (past_of u)) ts = cc in
+    let first : items x ≡ key (past_of t) = cc in
     let is : t ≡ r = cc in
-    absurd (not_later items (λ u. key_of n (past_of u)) (items x) ks ts i s others d.0 here (first ∙ ap (key_of n) (ap past_of is ∙ sym same)))
+    absurd (not_later items (λ u. key (past_of u)) (items x) ks ts i s others d.0 here (first ∙ ap key (ap past_of is ∙ sym same)))
 
 -- what a key that is known leads to
 pub seen_by_key : (scripts : List ScriptView) (met : Met) (t : Case) (k : List ℕ) → 1 ≤ length scripts → IsState scripts t → All (λ u. IsState scripts u) met.states.items → AreKeyed scripts met → k ≡ key_of (length scripts) (past_of t) →

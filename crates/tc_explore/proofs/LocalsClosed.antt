@@ -1,8 +1,10 @@
 -- If what comes after each state that a search for local verdicts has seen is seen, or found, it has found the local
 -- verdicts of each complete course.
-use Rattle.std.proofs.Common.{ℕ, ◌≡◌, ◌+◌, ◌*◌, ◌<◌, ◌≤◌, ◌++◌, nat_lt, All, Bool, true, false, Some, None, List, [], ◌∷◌, length, reverse, slice_get, get_or, refl, ap, sym, subst, ◌∙◌, arith}
+use Rattle.std.proofs.Common.{ℕ, ◌≡◌, ◌+◌, ◌*◌, ◌<◌, ◌≤◌, ◌++◌, nat_lt, nat_eq, All, Bool, true, false, Some, None, List, [], ◌∷◌, length, map, reverse, slice_get, get_or, refl, ap, sym, subst, ◌∙◌, arith}
+use Rattle.std.specs.Cmp.Lexicographic.{pointwise}
+use Rattle.std.specs.List.{IsDistinct}
 use Rattle.std.proofs.lemmas.Bool.Decides.{nat_tests}
-use Rattle.std.proofs.lemmas.List.Elements.{All-nil, All-same}
+use Rattle.std.proofs.lemmas.List.Elements.{All-nil, All-same, All-weaker}
 use Rattle.std.proofs.lemmas.List.{length-map}
 use Rattle.std.proofs.lemmas.Option.{slice_get_within, slice_get-get_or}
 use Rattle.std.specs.Option.{unwrap_or}
@@ -20,6 +22,7 @@ use Rattle.tc_table.proofs.Lemmas.Over.{all_over}
 use Rattle.tc_explore.specs.declared.search.Met.{Met}
 use Rattle.tc_explore.specs.Course.{stand, call_of, steps_of, turn, IsTurn, IsCourse, IsComplete}
 use Rattle.tc_explore.specs.Locals.{is_local, AllLocalsFound}
+use Rattle.tc_explore.specs.Found.{HasCourses}
 use Rattle.tc_explore.specs.Inside.Going.{taken, IsOn, CannotGo}
 use Rattle.tc_explore.specs.Inside.Seen.{IsLonger, IsWith}
 use Rattle.tc_explore.specs.Inside.Twins.{IsTwin, IsGoing, AreGoing, HasTwinKeys, IsMore, HasLocals, IsTwinSeen, IsLocalsAfter, IsLocalsRun, AreLocalsRuns, IsLocalsAt, AreLocalsClosed, twin_key}
@@ -27,7 +30,7 @@ use Rattle.tc_explore.proofs.Alike.{active_alike}
 use Rattle.tc_explore.proofs.Closed.{same_entry}
 use Rattle.tc_explore.proofs.Closing.{answer_inactive}
 use Rattle.tc_explore.proofs.Keeping.{active_stays, comp_main, main_goes}
-use Rattle.tc_explore.proofs.Kept.{all_with, longer_with}
+use Rattle.tc_explore.proofs.Kept.{all_with, courses_of, longer_with, no_courses}
 use Rattle.tc_explore.proofs.Legality.{course_legal}
 use Rattle.tc_explore.proofs.LastCalls.{locals_ended}
 use Rattle.tc_explore.proofs.Lemmas.Standings.{run_in_range, stand_comp, turn_of}
@@ -239,6 +242,14 @@ going_with scripts met after t a state with keyed limit within = record {
 
 pub as_many_twin_keys : (scripts : List ScriptView) (met : Met) → HasTwinKeys scripts met → length met.keys.keys ≡ length met.states.items
 as_many_twin_keys scripts met keyed = sym (length-map met.keys.keys (λ k. k.items)) ∙ (ap length keyed ∙ length-map met.states.items (λ t. twin_key (length scripts) (past_of t)))
+
+pub courses_met : (scripts : List ScriptView) (met : Met) → AreGoing scripts met → IsDistinct (λ x y. pointwise nat_eq x.items y.items) met.keys.keys → HasCourses scripts (length met.keys.keys)
+courses_met scripts met a distinct =
+    (map past_of met.states.items, courses_of scripts (twin_key (length scripts)) met a.keyed distinct (All-weaker (λ t. IsGoing scripts t) (λ t. IsCourse scripts (past_of t)) (λ t g. g.on.course) met.states.items a.each))
+
+-- a search that has met none
+pub courses_none : (scripts : List ScriptView) → HasCourses scripts 0
+courses_none scripts = ([], no_courses scripts)
 
 pub ruleset call_rules = (going_on, going_next, are_keyed, are_each, more_self, longer_with, locals_over)
 

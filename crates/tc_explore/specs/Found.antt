@@ -49,13 +49,21 @@ Covers reached past = (b : ℕ) → b < length reached → carried past b ≤ sl
 abbrev pub AreCovered : List ℕ → List Witness → Type 0
 AreCovered reached found = All (λ w. Covers reached (reverse w.history)) found
 
+-- these are that many different courses
+pub record AreCourses (scripts : List ScriptView) (count : ℕ) (courses : List (List Entry)) : Type 0 where
+  pub as_many : length courses ≡ count
+  pub each : All (IsCourse scripts) courses
+  pub once : (i j : ℕ) (d : List Entry) → i < length courses → j < length courses → slice_index_or courses i d ≡ slice_index_or courses j d → i ≡ j
+
+-- there are that many
+abbrev pub HasCourses : List ScriptView → ℕ → Type 0
+HasCourses scripts count = (courses : List (List Entry)) × AreCourses scripts count courses
+
 -- a search of that many states has met as many different courses, and counts for no run fewer calls than it carries out in
 -- one of them
 pub record AreMet (scripts : List ScriptView) (reached : List ℕ) (states : ℕ) : Type 0 where
   pub courses : List (List Entry)
-  pub as_many : length courses ≡ states
-  pub each : All (IsCourse scripts) courses
-  pub once : (i j : ℕ) (d : List Entry) → i < length courses → j < length courses → slice_index_or courses i d ≡ slice_index_or courses j d → i ≡ j
+  pub are : AreCourses scripts states courses
   pub counted : All (Covers reached) courses
 
 -- each is a history in which each reply is the component table's

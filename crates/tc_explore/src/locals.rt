@@ -3,6 +3,7 @@ ghost use Rattle.std.specs.Prelude.{◌≡◌, ◌≤◌, ◌+◌, ◌*◌, ◌/
 ghost use Rattle.std.specs.List.{flat_map, range_with_len};
 ghost use Rattle.tc_entry.specs.declared.limits.TheConstants.{BEHAVIOURS};
 ghost use Rattle.tc_explore.specs.Course as courses;
+ghost use Rattle.tc_explore.specs.Found.{HasCourses};
 ghost use Rattle.tc_explore.specs.Inside.Adding.{AddsWords};
 ghost use Rattle.tc_explore.specs.Locals as told;
 ghost use Rattle.tc_explore.specs.Locals.{AllLocalsFound, AreLocals};
@@ -50,11 +51,12 @@ fn locals_of(marks: Marks, states: usize, ending: Ending) -> Locals
 /// Looks for the local verdicts that the components of a test case have at the end of its complete courses. The states of
 /// two courses are the same only if the local verdicts are. So it looks at more of them than `explore`, which it bounds
 /// alike. A test case without behaviours is left undecided.
-#[tactic(auto, using(crate::proofs::Room::weight_rules, crate::proofs::Marking::found_rules))]
+#[tactic(auto, using(crate::proofs::Room::weight_rules, crate::proofs::Marking::found_rules, crate::proofs::LocalsClosed::courses_none))]
 pub fn explore_locals(alloc: Global, scripts: &[Script], limit: usize) -> Result<Locals, NoMemory>
     requires few { length scripts.now ≤ BEHAVIOURS }
     ensures sound { IfOk result (λ l. AreLocals scripts.now l.found) }
     ensures complete { IfOk result (λ l. l.ending ≡ Complete → AllLocalsFound scripts.now l.found) }
+    ensures met { IfOk result (λ l. HasCourses scripts.now l.states) }
     ensures most { IfOk result (λ l. l.states ≤ courses.most_states scripts.now limit) }
     ensures undecided { IfOk result (λ l. l.ending ≡ Undecided → 1 ≤ length scripts.now → l.states ≡ courses.most_states scripts.now limit) }
 {

@@ -2,6 +2,7 @@
 ghost use Rattle.std.specs.Prelude.{◌≡◌, ◌≤◌, ◌<◌, ◌∷◌, true, false, IfOk, OnOk, All, length};
 ghost use Rattle.tc_entry.specs.declared.limits.TheConstants.{BEHAVIOURS};
 ghost use Rattle.tc_table.specs.Case.{past_of};
+ghost use Rattle.tc_explore.specs.Found.{HasCourses};
 ghost use Rattle.tc_explore.specs.Locals.{AllLocalsFound, AreLocals};
 ghost use Rattle.tc_explore.specs.Inside.Going.{taken, IsNext};
 ghost use Rattle.tc_explore.specs.Inside.Seen.{IsFull, IsLonger, IsWith};
@@ -186,6 +187,7 @@ pub(crate) fn search_locals(
     requires sound { AreLocals scripts.now marks.old.found.items }
     ensures sound { OnOk result (AreLocals scripts.now marks.new.found.items) }
     ensures complete { IfOk result (λ e. e.is_whole ≡ true → AllLocalsFound scripts.now marks.new.found.items) }
+    ensures met { IfOk result (λ e. HasCourses scripts.now e.states) }
     ensures within { IfOk result (λ e. e.states ≤ limit) }
     ensures full { IfOk result (λ e. e.is_whole ≡ false → e.states ≡ limit) }
 {

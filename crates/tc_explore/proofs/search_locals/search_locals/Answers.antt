@@ -1,7 +1,7 @@
 use Rattle.std.proofs.Common.{rules, ◌≡◌, ◌≤◌, ◌∙◌, true, false, length, ap, subst, arith}
 use Rattle.tc_explore.specs.declared.search.Met.{Met}
 use Rattle.tc_explore.specs.Inside.Twins.{IsGoing, IsTwinSeen}
-use Rattle.tc_explore.proofs.LocalsClosed.{all_locals_found, as_many_twin_keys, going_none, going_with, no_twin_keys, opening_rules, twin_seen_longer}
+use Rattle.tc_explore.proofs.LocalsClosed.{all_locals_found, as_many_twin_keys, courses_met, going_none, going_with, no_twin_keys, opening_rules, twin_seen_longer}
 use Rattle.tc_explore.proofs.Lemmas.Turning.{turn_rules}
 use Rattle.tc_explore.proofs.search_locals.search_locals.Goals as goal
 use Rattle.tc_explore.proofs.search_locals.search_locals.Goals.{then-is_placed, else-is_placed}
@@ -31,6 +31,9 @@ returns-clause-complete c h =
     ] in
     let seen = subst (IsTwinSeen c.place.new.met.states.items) c.in_ok-opening.ensures.opening (c.in_ok-is_placed.ensures.seen (placed h)) in
     all_locals_found c.args.scripts.now c.expand_all.new.met.states.items c.expand_all.new.marks.found.items c.requires.some (c.in_ok-is_closed.ensures.closed (closed h)) (twin_seen_longer c.place.new.met.states.items c.expand_all.new.met.states.items _ c.in_ok-is_closed.ensures.more_states seen)
+
+pub returns-clause-met : goal.returns-clause-met
+returns-clause-met c = rw c.len.ensures.len (courses_met c.args.scripts.now c.expand_all.new.met c.in_ok-is_closed.ensures.kept c.len.ensures.unique)
 
 pub returns-clause-within : goal.returns-clause-within
 returns-clause-within c =
