@@ -58,15 +58,23 @@ def cases() -> Iterator[Case]:
     for name, words in (("run", ("run",)), ("list", ("run", "--list")), ("explore", ("explore",)), ("check", ("check", "--script"))):
         yield Case(f"a_name_that_is_nearly_one_{name}", words + ("--explain", "--only", "t_one", "--only", "t_tow"), text(SCRIPT),
                    errors=ONLY + b"  no test case has the name t_tow\n  nearest: t_two\n", status=3)
+    many = SCRIPT + "".join(f";testcase v{it:03};behaviour main;end;end" for it in range(100)) + ";testcase the_last;behaviour main;end;end"
+    yield Case("a_name_that_is_nearly_the_last_of_many", ("run", "--explain", "--only", "the_lats"), text(many),
+               errors=ONLY + b"  no test case has the name the_lats\n  nearest: the_last\n", status=3)
+    yield Case("the_first_of_two_unknown_names", ("run", "--explain", "--only", "x*", "--only", "t_tow"), text(SCRIPT),
+               errors=ONLY + b"  no test case has the name x*\n", status=3)
     yield Case("a_pattern_of_no_name_explained", ("run", "--explain", "--only=v*"), text(SCRIPT),
                errors=ONLY + b"  no test case has the name v*\n", status=3)
     yield Case("a_name_of_no_test_case_not_explained", ("run", "--no-explain", "--only=t_tow"), text(SCRIPT), errors=ONLY, status=3)
-    many = "a" + "*a" * 31 + "b"
-    yield Case("a_pattern_of_many_stars", ("run", "--list", "--only", many), text(SLOW), errors=ONLY, status=3)
+    stars = "a" + "*a" * 31 + "b"
+    yield Case("a_pattern_of_many_stars", ("run", "--list", "--only", stars), text(SLOW), errors=ONLY, status=3)
     yield Case("a_pattern_of_stars_that_matches", ("run", "--list", "--only", "*a" * 32), text(SLOW), output=b"a" * 32 + b"\n")
     yield Case("explore_of_a_shard", ("explore", "--shard", "2/3"), text(SCRIPT), output=b"t_two none complete\n")
     yield Case("explore_of_an_empty_shard", ("explore", "--shard", "5/5"), text(SCRIPT))
     passed = "history 2 t_two 1;end fail;history 2 one 1;end pass"
+    for words in (("run", "--failed"), ("check", "--script"), ("report", "--csv", "--script"), ("explore", "--failed")):
+        yield Case(f"a_name_that_is_nearly_one_before_histories_{words[0]}", words + ("--explain", "--only", "t_tow"), text(f"{SCRIPT};{passed}"),
+                   errors=ONLY + b"  no test case has the name t_tow\n  nearest: t_two\n", status=3)
     yield Case("explore_what_failed", ("explore", "--failed"), text(f"{SCRIPT};{passed}"),
                output=b"t_one none complete\nt_two none complete\nu_one none complete\n")
     yield Case("explore_one_that_failed", ("explore", "--failed", "--only", "t_t*", "--only", "one"), text(f"{SCRIPT};{passed}"),

@@ -146,6 +146,9 @@ def devices() -> List[Case]:
     found.append(Case("progress_of_no_test_case", ("run", "--progress", "--only", "z"), given,
                       errors=b"ttrun: --only takes the name of a test case of the script\n", status=3))
     found.append(Case("progress_of_an_empty_shard", (*words, "--shard", "3/3"), given, output=report[:report.index(b"a,")]))
+    worse = lines_of(1, 2, b"a", b"fail", SETS % b"fail")
+    found.append(Case("progress_of_a_verdict_worse_than_the_rule", (*words, "--stop-on", "inconc"), of_verdicts("fail", "pass"),
+                      report[:report.index(b"a,")] + b"a,1,0,0,0,1,0,fail\n", Timed(b"".join(worse)), 1))
     passed = b"history 2 a 1\n0 setverdict pass -> ok\n0 finish -> ok\nend pass\n"
     failed = lines_of(1, 1, b"b", b"fail", SETS % b"fail")
     found.append(Case("progress_of_what_failed", (*words, "--failed"), given + passed, report.replace(b"a,1,0,1,0,0,0,pass\n", b""),

@@ -74,12 +74,30 @@ def explained(words: Tuple[str, ...]) -> Tuple[str, ...]:
     return words + ("--explain",) if takes and "--no-explain" not in words else words
 
 
-def seen(program: str, words: Tuple[str, ...], typed: bool, given: bytes) -> Tuple[bytes, int]:
-    """What a terminal without echo gets of a run, and its status. What is typed ends with the key for the end."""
+def terminal() -> Tuple[int, int]:
+    """A terminal without echo: the end of the person, and that of the program."""
     master, slave = pty.openpty()
     modes = termios.tcgetattr(slave)
     modes[3] &= ~termios.ECHO
     termios.tcsetattr(slave, termios.TCSANOW, modes)
+    return master, slave
+
+
+def read_all(master: int) -> bytes:
+    """What a terminal gets until the program has ended."""
+    parts: List[bytes] = []
+    try:
+        while not parts or parts[-1]:
+            parts.append(os.read(master, 65536))
+    except OSError:  # the program has ended
+        pass
+    os.close(master)
+    return b"".join(parts)
+
+
+def seen(program: str, words: Tuple[str, ...], typed: bool, given: bytes) -> Tuple[bytes, int]:
+    """What a terminal without echo gets of a run, and its status. What is typed ends with the key for the end."""
+    master, slave = terminal()
     started = subprocess.Popen([program, *words], stdin=slave if typed else subprocess.PIPE, stdout=slave, stderr=slave,
                                start_new_session=True)
     os.close(slave)
@@ -90,16 +108,10 @@ def seen(program: str, words: Tuple[str, ...], typed: bool, given: bytes) -> Tup
     else:
         started.stdin.write(given)
         started.stdin.close()
-    parts: List[bytes] = []
-    try:
-        while not parts or parts[-1]:
-            parts.append(os.read(master, 65536))
-    except OSError:  # the program has ended
-        pass
+    got = read_all(master)
     started.wait()
     guard.cancel()
-    os.close(master)
-    return b"".join(parts), started.returncode
+    return got, started.returncode
 
 
 def judgement(name: str, words: Tuple[str, ...], typed: bool, given: bytes) -> Judgement:
@@ -116,20 +128,37 @@ def judgement(name: str, words: Tuple[str, ...], typed: bool, given: bytes) -> J
     return Judgement(f"at_a_terminal_{name}", " ".join(["ttrun", *words]), judge)
 
 
-def only_output() -> Judgement:
-    """At a terminal that standard error is not at, nothing is explained."""
+def told(program: str, typed: bool, shown: bool, told_there: bool) -> bytes:
+    """What is on standard error of a run that refuses its script. Standard input, output and error are at a terminal, or not."""
+    master, slave = terminal()
+    ends = [slave if it else subprocess.PIPE for it in (typed, shown, told_there)]
+    with subprocess.Popen([program, "run"], stdin=ends[0], stdout=ends[1], stderr=ends[2], start_new_session=True) as started:
+        os.close(slave)
+        if typed:
+            os.write(master, b"testcase\n\x04")
+        errors = started.communicate(None if typed else b"testcase\n", timeout=SECONDS)[1]
+    if told_there:
+        return read_all(master).replace(b"\r\n", b"\n")
+    os.close(master)
+    return errors
+
+
+def of_standard_error(name: str, typed: bool, shown: bool, told_there: bool) -> Judgement:
+    """Whether a fault is explained depends on standard error only, and the line before the input on standard input only."""
 
     def judge(program: str) -> List[str]:
-        master, slave = pty.openpty()
-        ran = subprocess.run([program, "run"], input=b"testcase\n", stdout=slave, stderr=subprocess.PIPE, timeout=SECONDS, check=False)
-        os.close(slave)
-        os.close(master)
-        wanted = run(Case("", ("run",), b"testcase\n"), program)
-        return difference("standard error", wanted.errors, ran.stderr)
+        words = ("run", "--explain") if told_there else ("run",)
+        wanted = run(Case("", words, b"testcase\n"), program).errors
+        return difference("standard error", (SCRIPT if typed else b"") + wanted, told(program, typed, shown, told_there))
 
-    return Judgement("a_terminal_without_standard_error", "ttrun run", judge)
+    return Judgement(name, "ttrun run", judge)
 
 
 def cases() -> List[Judgement]:
     """All of them."""
-    return [judgement(*it) for it in CALLS] + [only_output()]
+    return [judgement(*it) for it in CALLS] + [
+        of_standard_error("a_terminal_without_standard_error", False, True, False),
+        of_standard_error("a_keyboard_without_standard_error", True, False, False),
+        of_standard_error("a_keyboard_and_output_without_standard_error", True, True, False),
+        of_standard_error("a_terminal_for_standard_error_only", False, False, True),
+    ]

@@ -417,6 +417,10 @@ STOPPED = (b"testcase t\nbehaviour main\ncreate p alive\nstart p w\nwait done p\
            b"behaviour w\nend\nend\n")
 STOPPED_TOLD = (b"t error complete\n  error: mtc error, 1 none\n"
                 b"  stuck: run 0 on mtc waits for killed of 1, stopped\n")
+# Component 3 has the name x or y, whichever is created first.
+NAMED_BY_ORDER = (b"testcase t\nbehaviour main\ncreate p\ncreate q\nstart p one\nstart q two\nwait done all\nend\n"
+                  b"behaviour one\ncreate c named x\nstart c three\nend\nbehaviour two\ncreate c named y\nend\n"
+                  b"behaviour three\nsetverdict fail\nend\nend\n")
 # Of this no step is dead.
 PLAIN = b"testcase t\nbehaviour main\ncreate p\nstart p w\nwait done p\nend\nbehaviour w\nsetverdict pass\nend\nend\n"
 
@@ -462,6 +466,8 @@ def of_explore() -> List[Case]:
     found.append(Case("local_verdicts_that_differ", ("explore", "--locals"), KILLED, KILLED_TOLD))
     found.append(Case("local_verdicts_before_details", ("explore", "--locals", "--details"), KILLED,
                       KILLED_TOLD + b"  fail: mtc fail, 1 worker pass\n"))
+    found.append(Case("a_component_of_two_names_has_none", ("explore", "--locals"), NAMED_BY_ORDER,
+                      b"t fail complete\n  local 3: none or fail\n  local 4: none or fail\n"))
     found.append(Case("no_local_verdict_differs", ("explore", "--locals"), PLAIN, b"t pass complete\n"))
     found.append(Case("local_verdicts_of_half_a_search", ("explore", "--locals", "--states", "3"), KILLED,
                       b"t undecided after 3 states\n  local verdicts undecided after 3 states\n", status=3))
