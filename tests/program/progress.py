@@ -121,6 +121,18 @@ def while_it_runs(program: str) -> List[str]:
     return [f"each test case of {TRIES} ended before the signal"]
 
 
+def three_hundred() -> Case:
+    """As many test cases, of which every hundredth fails."""
+    given, output, errors, again = b"", b"testcase,components,none,pass,inconc,fail,error,verdict\n", b"", b""
+    for at in range(300):
+        name, verdict = b"t%d" % at, b"pass" if at % 100 else b"fail"
+        given += b"testcase %s\nbehaviour main\nsetverdict %s\nend\nend\n" % (name, verdict)
+        output += b"%s,1,0,%s,%s\n" % (name, b"1,0,0,0" if at % 100 else b"0,0,1,0", verdict)
+        begun, ended, told_again = lines_of(at + 1, 300, name, verdict, b"" if at % 100 else SETS % verdict)
+        errors, again = errors + begun + ended, again + told_again
+    return Case("progress_of_three_hundred_test_cases", ("run", "--progress", "--csv"), given, output, Timed(errors + again), 1)
+
+
 def devices() -> List[Case]:
     """Standard errors that take nothing, and outputs that can't be written."""
     report = b"testcase,components,none,pass,inconc,fail,error,verdict\na,1,0,1,0,0,0,pass\nb,1,0,0,0,1,0,fail\n"
@@ -162,4 +174,4 @@ def cases() -> List[object]:
     found += [told("verdicts", 3, options) for options in CHOICES]
     found.append(Judgement("progress_as_test_cases_finish", "ttrun run --live --progress < (a long campaign), and then SIGKILL", as_they_finish))
     found.append(Judgement("progress_while_a_test_case_runs", "ttrun run --progress < (a long test case), and then SIGKILL", while_it_runs))
-    return found + list(devices())
+    return found + [three_hundred(), *devices()]

@@ -57,7 +57,7 @@ GROUPS = (
     ("states", sizes.racing, 1),
     ("terminal", terminal.cases, 34),
     ("live", live.cases, 40),
-    ("progress", progress.cases, 31),
+    ("progress", progress.cases, 32),
     ("examples", examples.cases, 42),
     ("reports", reports.cases, 30),
     ("not run", unrun.cases, 6),
