@@ -1,10 +1,11 @@
 //! The results of a campaign, as the program writes them.
-ghost use Rattle.std.specs.Prelude.{◌≡◌, IfOk, IfErr, OnOk};
+ghost use Rattle.std.specs.Prelude.{◌≡◌, [], IfOk, IfErr, OnOk};
 ghost use Rattle.std.specs.Io.KnownBytes.{Appends};
 ghost use Rattle.tc_report.specs.Status.{results_status};
 ghost use Rattle.tc_report.specs.Output.{LeavesPrefix};
-ghost use Rattle.tc_program.specs.Output.{live_form as spec_form, text_of};
+ghost use Rattle.tc_program.specs.Output.{LeavesUnwritten, live_form as spec_form, text_of};
 
+use crate::fault::RunFault;
 use std::alloc::Global;
 use std::io::Write;
 use tc_campaign::{
@@ -51,9 +52,8 @@ fn write_results<W: Write>(
     }
 }
 
-/// Writes the results of test cases with these names in this form, and returns the exit status for them. The text is made
-/// whole before anything is written.
-pub fn give<W: Write>(
+// Writes the results of test cases with these names in this form, and returns the exit status for them.
+pub(crate) fn give_named<W: Write>(
     alloc: Global,
     form: &Form,
     names: &[Name],
@@ -66,4 +66,19 @@ pub fn give<W: Write>(
 {
     write_results(alloc, form, names, results, writer)?;
     Ok(status_of(results))
+}
+
+/// Writes the results in this form, and returns the exit status for them. The text is made whole before anything is
+/// written. A JUnit report has the test cases of the results, and none that was not run.
+pub fn give<W: Write>(
+    alloc: Global,
+    results: &Results,
+    form: &Form,
+    writer: &mut W,
+) -> Result<u8, RunFault>
+    ensures status { IfOk result (λ status. status ≡ results_status results.now) }
+    ensures done { OnOk result (Appends (W.contents writer.old) (W.contents writer.new) (text_of form.now [] results.now)) }
+    ensures refused { IfErr result (LeavesUnwritten (W.contents writer.old) (W.contents writer.new) (text_of form.now [] results.now)) }
+{
+    Ok(give_named(alloc, form, &[], results, writer)?)
 }

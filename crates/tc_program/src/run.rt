@@ -18,7 +18,7 @@ ghost use Rattle.tc_program.specs.Run.{IsRun, IsUnwritten};
 ghost use Rattle.tc_program.specs.Streams.{held};
 
 use crate::outcome::Outcome;
-use crate::output::{give, live_form};
+use crate::output::{give_named, live_form};
 use crate::stderr::tell_end;
 use std::alloc::Global;
 use std::io::Write;
@@ -236,7 +236,7 @@ where
         return write_live(rt, alloc, cases, options, names, &mut live, errors);
     }
     let (results, told) = run_or_not(rt, alloc, cases, options, names, errors);
-    let status = give(alloc, &options.form, names, &results, writer)?;
+    let status = give_named(alloc, &options.form, names, &results, writer)?;
     let told = tell_end(errors, &results, told);
     Ok(Outcome { status, told })
 }

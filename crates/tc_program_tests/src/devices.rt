@@ -8,7 +8,7 @@ use std::test::Fail;
 use std::thread::Threads;
 use std::time::Clock;
 use tc_book::{Closed, RunLog};
-use tc_campaign::{CampaignEnd, Finished, OutFault, Results};
+use tc_campaign::{CampaignEnd, Finished, Results};
 use tc_command::{Form, Task};
 use tc_entry::{Comp, Entry, Name, Op, Reply, Run, Sequence, Verdict};
 use tc_exec::CaseError;
@@ -180,8 +180,8 @@ fn aborted(alloc: Global) -> Result<Results, Fail> {
 fn fails_to_give<R: Abort>(rt: &R, alloc: Global, results: &Results, form: &Form, part: &[u8]) {
     for failure in FAILURES {
         let mut writer = NarrowWriter::new(alloc, part.len(), failure);
-        let given = give(alloc, form, &[], results, &mut writer);
-        is(rt, "the answer", given, Err(OutFault::Write));
+        let given = give(alloc, results, form, &mut writer);
+        is(rt, "the answer", given, Err(RunFault::Write));
         is(rt, "what is given", writer.taken.as_slice(), part);
     }
 }
@@ -192,7 +192,7 @@ fn give_each<R: Abort>(rt: &R, alloc: Global, results: &Results, form: &Form, st
     is(
         rt,
         "the answer",
-        give(alloc, form, &[], results, &mut whole),
+        give(alloc, results, form, &mut whole),
         Ok(3),
     );
     let is_begun = whole.as_slice().starts_with(starts.as_bytes());
