@@ -27,15 +27,16 @@ LIES = (
         told: match text {
 """),
     )),
-    Lie("check_and_replay_are_exchanged", (
-        ("""\
-        Task::Replay { .. } => replay_text(alloc, text),
-        Task::Check { .. } => check_text(alloc, text),
-""", """\
-        Task::Replay { .. } => check_text(alloc, text),
-        Task::Check { .. } => replay_text(alloc, text),
+    Lie("check_replays_moves", (
+        ("""        Task::Check { choice, .. } => check_text(alloc, choice, text),
+""", """        Task::Check { .. } => replay_text(alloc, text),
 """),
     )),
+    Lie("names_of_histories_are_looked_for_in_a_script", (
+        ("""        Task::Check { .. } | Task::Report { .. } => names_of_blocks(alloc, text),
+""", """        Task::Check { .. } | Task::Report { .. } => names_of_script(alloc, text),
+"""),
+    ), shown="a_name_that_is_nearly_one_check_without_a_script"),
     Lie("csv_is_ignored", (
         ("""\
     ensures refused { IfErr result (LeavesPrefix (W.contents writer.old) (W.contents writer.new) (text_of form.now names.now results.now)) }

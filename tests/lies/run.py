@@ -27,6 +27,7 @@ sys.dont_write_bytecode = True
 TOP = os.path.dirname(os.path.dirname(os.path.dirname(os.path.abspath(__file__))))
 sys.path += [os.path.join(TOP, "tests", it) for it in ("program", "serve")]
 
+import chosen_blocks
 import documents_run
 import examples
 import explain
@@ -65,7 +66,7 @@ def plain_cases(shown: Set[str]) -> List[Case]:
     those with one of these in their names."""
     every: List[Case] = []
     groups = [(it.cases(), step) for it, step in ((examples, 1), (documents_run, 1), (sizes, 1), (rows, EVERY), (scripts, EVERY),
-                                                  (words, EVERY), (explain, EVERY))]
+                                                  (words, EVERY), (explain, EVERY), (chosen_blocks, EVERY))]
     for group, step in (*groups, (map(is_served, served_rows.rows()), EVERY)):
         plain = [it for it in group if is_plain(it)]
         every += [it for at, it in enumerate(plain)

@@ -18,6 +18,7 @@ from typing import List, Union
 sys.dont_write_bytecode = True
 
 import choosing
+import chosen_blocks
 import chosen_rows
 import compared
 import compared_reports
@@ -66,6 +67,7 @@ GROUPS = (
     ("compared reports", compared_reports.cases, 34),
     ("failed", failed.cases, 50),
     ("chosen", chosen_rows.cases, 61),
+    ("chosen blocks", chosen_blocks.cases, 31),
     ("explain", explain.cases, 430),
     ("documents", documents_run.cases, 2),
 )
@@ -83,7 +85,7 @@ def tests(seed: int) -> List[Test]:
     found += devices.judgements() + [words.help_in_78_columns()] + own_cases.judgements()
     found += reports.judgements(seed)
     found += evidence_rows.judgements(seed)
-    found += choosing.judgements(seed)
+    found += choosing.judgements(seed) + chosen_blocks.judgements(seed)
     found += details.judgements(seed)
     found += compared.judgements(seed) + compared_reports.judgements(seed) + failed.judgements(seed)
     names = [it.name for it in found]

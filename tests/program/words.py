@@ -60,26 +60,30 @@ REPORT = ("reads histories, and writes them in one of these forms\n",
           "  --html          writes a page for a browser\n",
           "  --summary       writes the counts, and why test cases failed\n",
           "  --script        reads their script first, and compares them with it\n",
-          "  --only <NAME>   awaits this test case; may be given again, for others\n",
-          "  --shard <K/N>   awaits the K-th of N shards of the test cases\n", "  --explain       " + EXPLAIN,
+          "  --only <NAME>   chooses this test case; may be given again, for others\n",
+          "  --shard <K/N>   awaits the K-th of N shards of the test cases\n",
+          "  --failed        leaves out what has the verdict none or pass\n", "  --explain       " + EXPLAIN,
           "  --no-explain    " + NO_EXPLAIN,
           "Standard input is histories or evidence: ttrun report --csv < FILE. Nothing is\n"
-          "written to standard output if one of them is not legal. With --script it is\n"
+          "written to standard output if one of them is not legal. --only and --failed\n"
+          "choose as those of check do, but not for --html. With --script the input is\n"
           "what check --script reads, and --only and --shard choose as there. Test cases\n"
           "that are missing come last, and the lines of check --script go to standard\nerror.\n",
           "Status: 0 for none and pass, 1 for inconc and fail, 2 for error and for a test\n"
           "case that is not over, 3 if a history is not legal, for such a line, or for a\nrefusal.\n")
 CHECK = ("replays histories and evidence, and says which are legal\n",
          "  --script       reads their script first, and compares them with it\n",
-         "  --only <NAME>  awaits this test case; may be given again, for others\n",
-         "  --shard <K/N>  awaits the K-th of N shards of the test cases\n", "  --explain      " + EXPLAIN,
+         "  --only <NAME>  chooses this test case; may be given again, for others\n",
+         "  --shard <K/N>  awaits the K-th of N shards of the test cases\n",
+         "  --failed       leaves out what has the verdict none or pass\n", "  --explain      " + EXPLAIN,
          "  --no-explain   " + NO_EXPLAIN,
          "Standard input is histories or evidence: ttrun check < FILE. Standard output\n"
-         "has a line for each, and none after the first that is not legal.\n"
+         "has a line for each, and none after the first that is not legal. --only, as\n"
+         "for run, and --failed leave out lines of legal ones.\n"
          "With --script the input is a script, and after it histories or evidence of its\n"
          "test cases: cat FILE EVIDENCE | ttrun check --script. With --only and --shard,\n"
-         "as for run, it is as if the script had only these test cases. After the lines\n"
-         "of check a line says\n",
+         "as for run, it is as if the script had only these test cases. --failed is not\n"
+         "taken with it. After the lines of check a line says\n",
          "  unknown NAME       the script has no test case NAME\n", "  twice NAME         NAME came before\n",
          "  out of order NAME  a later test case came before\n",
          "  no course NAME     this is no complete course of the scripts of NAME\n",
@@ -147,9 +151,12 @@ check --no-explain --no-explain => the argument '--no-explain' cannot be used mu
 check --script --script => the argument '--script' cannot be used multiple times
 check --script --shard => a value is required for '--shard <K/N>' but none was supplied
 check --script --shard 1/2 --shard 1/2 => the argument '--shard <K/N>' cannot be used multiple times
-check --only a => the arguments '--only' and '--shard' need '--script'
-check --shard 0/1 => the arguments '--only' and '--shard' need '--script'
-check --shard 1/2 --only a --explain => the arguments '--only' and '--shard' need '--script'
+check --shard 0/1 => the arguments '--shard', and '--only' with '--html', need '--script'
+check --shard 1/2 --only a --explain => the arguments '--shard', and '--only' with '--html', need '--script'
+check --only => a value is required for '--only <NAME>' but none was supplied
+check --failed --failed => the argument '--failed' cannot be used multiple times
+check --failed --script => the argument '--script' cannot be used with '--failed'
+check --failed --shard 0/1 => the arguments '--shard', and '--only' with '--html', need '--script'
 explore --details --details => the argument '--details' cannot be used multiple times
 explore --details --history => the argument '--history' cannot be used with '--details'
 explore --locals --history => the argument '--history' cannot be used with '--locals'
@@ -165,8 +172,15 @@ report --html --csv => the argument '--csv' cannot be used with '--html'
 report --html --html => the argument '--html' cannot be used multiple times
 report --html --junit => the argument '--junit' cannot be used with '--html'
 report --explain --junit --no-explain => the argument '--explain' cannot be used with '--no-explain'
-report --junit --only a => the arguments '--only' and '--shard' need '--script'
-report --shard 1/2 => the arguments '--only' and '--shard' need '--script'
+report --html --only a => the arguments '--shard', and '--only' with '--html', need '--script'
+report --only a --html --shard 1/2 => the arguments '--shard', and '--only' with '--html', need '--script'
+report --shard 1/2 => the arguments '--shard', and '--only' with '--html', need '--script'
+report --only a => one of the arguments '--csv', '--junit', '--html' and '--summary' is needed
+report --failed => one of the arguments '--csv', '--junit', '--html' and '--summary' is needed
+report --failed --html => the argument '--html' cannot be used with '--failed'
+report --html --failed --only a => the argument '--html' cannot be used with '--failed'
+report --csv --script --failed => the argument '--script' cannot be used with '--failed'
+report --failed --failed --csv => the argument '--failed' cannot be used multiple times
 report --script --only a => one of the arguments '--csv', '--junit', '--html' and '--summary' is needed
 report --junit --csv => the argument '--csv' cannot be used with '--junit'
 report --junit --junit => the argument '--junit' cannot be used multiple times
@@ -381,7 +395,7 @@ NOT_NEARLY = ("list", "version", "frobnicate", "RUN", "help list", "help more")
 
 # Options that ask for nothing, and the subcommand whose usage is shown.
 USAGES = (("run --csv --junit", "run"), ("run --no-explain --explain", "run"), ("explore --details --history", "explore"), ("report", "report"),
-          ("report --csv --html", "report"), ("report --csv --only a", "report"), ("check --shard 1/2", "check"),
+          ("report --csv --html", "report"), ("report --html --only a", "report"), ("check --shard 1/2", "check"), ("check --script --failed", "check"),
           ("report --csv --suite a", "report"), ("run --suite a", "run"),
           ("check --no-explain --explain", "check"))
 

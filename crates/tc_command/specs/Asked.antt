@@ -64,13 +64,13 @@ apart S.Run =
     ∷ (codes "list", codes "live")
     ∷ (codes "list", codes "progress") ∷ (codes "list", codes "stop-on") ∷ (codes "junit", codes "live")
     ∷ (codes "explain", codes "no-explain") ∷ []
-apart S.Check = (codes "explain", codes "no-explain") ∷ []
+apart S.Check = (codes "script", codes "failed") ∷ (codes "explain", codes "no-explain") ∷ []
 apart S.Replay = (codes "explain", codes "no-explain") ∷ []
 apart S.Explore = (codes "history", codes "details") ∷ (codes "history", codes "locals") ∷ (codes "explain", codes "no-explain") ∷ []
 apart S.Report =
     (codes "csv", codes "junit") ∷ (codes "csv", codes "html") ∷ (codes "csv", codes "summary")
     ∷ (codes "junit", codes "html") ∷ (codes "junit", codes "summary") ∷ (codes "html", codes "summary")
-    ∷ (codes "explain", codes "no-explain") ∷ []
+    ∷ (codes "html", codes "failed") ∷ (codes "script", codes "failed") ∷ (codes "explain", codes "no-explain") ∷ []
 apart subcommand = []
 
 -- both options of a pair are given
@@ -97,9 +97,10 @@ report_form_of rows =
     else (if is_given rows (codes "html") then Some report_form.Html
     else (if is_given rows (codes "summary") then Some report_form.Summary else None)))
 
--- test cases are chosen, and there is no script of them
+-- a shard is chosen, or what is on a page, and there is no script
 abbrev pub lacks_its_script : List Row → Bool
-lacks_its_script rows = (is_given rows (codes "only") || is_given rows (codes "shard")) && not (is_given rows (codes "script"))
+lacks_its_script rows =
+    (is_given rows (codes "shard") || (is_given rows (codes "only") && is_given rows (codes "html"))) && not (is_given rows (codes "script"))
 
 -- the same, where a script may come before histories
 abbrev pub lacks_script : Subcommand → List Row → Bool
@@ -161,11 +162,11 @@ pub record AsksExplore (at_terminal : Bool) (rows : List Row) (o : ExploreOption
 
 -- the subcommand with its options asks for this task
 abbrev pub Asks : Bool → Subcommand × List Row → Task → Type 0
-Asks at (S.Check, rows) (T.Check explains) = (is_given rows (codes "script") ≡ false) × (explains ≡ is_explained at rows)
+Asks at (S.Check, rows) (T.Check c explains) = (is_given rows (codes "script") ≡ false) × Chooses rows c × (explains ≡ is_explained at rows)
 Asks at (S.Check, rows) (T.Compare None c explains) = (is_given rows (codes "script") ≡ true) × Chooses rows c × (explains ≡ is_explained at rows)
 Asks at (S.Replay, rows) (T.Replay explains) = explains ≡ is_explained at rows
-Asks at (S.Report, rows) (T.Report f explains) =
-    (is_given rows (codes "script") ≡ false) × (report_form_of rows ≡ Some f) × (explains ≡ is_explained at rows)
+Asks at (S.Report, rows) (T.Report f c explains) =
+    (is_given rows (codes "script") ≡ false) × (report_form_of rows ≡ Some f) × Chooses rows c × (explains ≡ is_explained at rows)
 Asks at (S.Report, rows) (T.Compare (Some f) c explains) =
     (is_given rows (codes "script") ≡ true) × (report_form_of rows ≡ Some f) × Chooses rows c × (explains ≡ is_explained at rows)
 Asks at (S.Explore, rows) (T.Explore o) = AsksExplore at rows o

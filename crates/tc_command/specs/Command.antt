@@ -24,6 +24,10 @@ with_rules app (rule ∷ rules) = with_rules (with_rule app rule) rules
 abbrev pub explaining : List Rule
 explaining = flag_rule (codes "explain") ∷ flag_rule (codes "no-explain") ∷ []
 
+-- the options of each command that reads histories: their script, which of them, and whether a fault is explained
+abbrev pub choosing : List Rule
+choosing = flag_rule (codes "script") ∷ words_rule (codes "only") ∷ word_rule (codes "shard") ∷ flag_rule (codes "failed") ∷ explaining
+
 -- the options of a run of test cases: its forms, as it finishes, how it is stopped, and which test cases
 abbrev pub run_options : List Rule
 run_options =
@@ -45,11 +49,11 @@ explore = with_rules (new_app (codes "explore")) (
 abbrev pub report : App
 report = with_rules (new_app (codes "report")) (
     flag_rule (codes "csv") ∷ flag_rule (codes "junit") ∷ word_rule (codes "suite") ∷ flag_rule (codes "html") ∷ flag_rule (codes "summary")
-    ∷ flag_rule (codes "script") ∷ words_rule (codes "only") ∷ word_rule (codes "shard") ∷ explaining)
+    ∷ choosing)
 
 -- the options of `check`
 abbrev pub check : App
-check = with_rules (new_app (codes "check")) (flag_rule (codes "script") ∷ words_rule (codes "only") ∷ word_rule (codes "shard") ∷ explaining)
+check = with_rules (new_app (codes "check")) choosing
 
 -- the options of `replay`
 abbrev pub replay : App

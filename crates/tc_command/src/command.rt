@@ -52,7 +52,8 @@ search met its limit, or for a refusal.";
 // What the help of `report` says at its end.
 const REPORT_HELP: &str = "\
 Standard input is histories or evidence: ttrun report --csv < FILE. Nothing is
-written to standard output if one of them is not legal. With --script it is
+written to standard output if one of them is not legal. --only and --failed
+choose as those of check do, but not for --html. With --script the input is
 what check --script reads, and --only and --shard choose as there. Test cases
 that are missing come last, and the lines of check --script go to standard
 error.
@@ -70,11 +71,12 @@ refusal.";
 // What the help of `check` says at its end.
 const CHECK_HELP: &str = "\
 Standard input is histories or evidence: ttrun check < FILE. Standard output
-has a line for each, and none after the first that is not legal.
+has a line for each, and none after the first that is not legal. --only, as
+for run, and --failed leave out lines of legal ones.
 With --script the input is a script, and after it histories or evidence of its
 test cases: cat FILE EVIDENCE | ttrun check --script. With --only and --shard,
-as for run, it is as if the script had only these test cases. After the lines
-of check a line says
+as for run, it is as if the script had only these test cases. --failed is not
+taken with it. After the lines of check a line says
   unknown NAME       the script has no test case NAME
   twice NAME         NAME came before
   out of order NAME  a later test case came before
@@ -137,13 +139,19 @@ const SCRIPT: OptionRow = OptionRow(
 const SCRIPT_ONLY: OptionRow = OptionRow(
     "only",
     Takes::Words("NAME"),
-    "awaits this test case; may be given again, for others",
+    "chooses this test case; may be given again, for others",
 );
 
 const SCRIPT_SHARD: OptionRow = OptionRow(
     "shard",
     Takes::Word("K/N"),
     "awaits the K-th of N shards of the test cases",
+);
+
+const NOT_PASSED: OptionRow = OptionRow(
+    "failed",
+    Takes::Nothing,
+    "leaves out what has the verdict none or pass",
 );
 
 const SUITE: OptionRow = OptionRow(
@@ -242,9 +250,16 @@ const EXPLORE_OPTIONS: [OptionRow; 9] = [
     NO_EXPLAIN,
 ];
 
-const CHECK_OPTIONS: [OptionRow; 5] = [SCRIPT, SCRIPT_ONLY, SCRIPT_SHARD, EXPLAIN, NO_EXPLAIN];
+const CHECK_OPTIONS: [OptionRow; 6] = [
+    SCRIPT,
+    SCRIPT_ONLY,
+    SCRIPT_SHARD,
+    NOT_PASSED,
+    EXPLAIN,
+    NO_EXPLAIN,
+];
 
-const REPORT_OPTIONS: [OptionRow; 10] = [
+const REPORT_OPTIONS: [OptionRow; 11] = [
     OptionRow("csv", Takes::Nothing, "writes a table as CSV"),
     OptionRow("junit", Takes::Nothing, "writes a JUnit suite"),
     SUITE,
@@ -257,6 +272,7 @@ const REPORT_OPTIONS: [OptionRow; 10] = [
     SCRIPT,
     SCRIPT_ONLY,
     SCRIPT_SHARD,
+    NOT_PASSED,
     EXPLAIN,
     NO_EXPLAIN,
 ];

@@ -77,9 +77,12 @@ fn apart(subcommand: Subcommand) -> &'static [(&'static str, &'static str)]
             ("junit", "html"),
             ("junit", "summary"),
             ("html", "summary"),
+            ("html", "failed"),
+            ("script", "failed"),
             ("explain", "no-explain"),
         ],
-        Subcommand::Check | Subcommand::Replay => &[("explain", "no-explain")],
+        Subcommand::Check => &[("script", "failed"), ("explain", "no-explain")],
+        Subcommand::Replay => &[("explain", "no-explain")],
         Subcommand::Serve => &[],
     }
 }
@@ -255,7 +258,7 @@ fn explore_task(alloc: Global, options: &ArgMatches<'_>, at_terminal: bool) -> R
     }))
 }
 
-// What the options of `report` ask for, in this form, with the test cases that they choose.
+// What the options of `report` ask for, in this form, with what they choose.
 fn report_in(options: &ArgMatches<'_>, at_terminal: bool, form: ReportForm, choice: Choice) -> Task
     requires form { report_form_of (rows_of (found_of options.now)) ≡ Some form }
     requires choice { Chooses (rows_of (found_of options.now)) choice }
@@ -269,7 +272,11 @@ fn report_in(options: &ArgMatches<'_>, at_terminal: bool, form: ReportForm, choi
             explains,
         }
     } else {
-        Task::Report { form, explains }
+        Task::Report {
+            form,
+            choice,
+            explains,
+        }
     }
 }
 
@@ -292,26 +299,27 @@ fn check_task(alloc: Global, options: &ArgMatches<'_>, at_terminal: bool) -> Res
     ensures taken { IfOk result (Asks at_terminal (Check, rows_of (found_of options.now))) }
     ensures refused { IfErr result (IsWordRefused (rows_of (found_of options.now))) }
 {
+    let choice = choice(alloc, options)?;
+    let explains = explains(options, at_terminal);
     if has_option(options, "script") {
         Ok(Task::Compare {
             form: None,
-            choice: choice(alloc, options)?,
-            explains: explains(options, at_terminal),
+            choice,
+            explains,
         })
     } else {
-        Ok(Task::Check {
-            explains: explains(options, at_terminal),
-        })
+        Ok(Task::Check { choice, explains })
     }
 }
 
-// Whether test cases are chosen, and there is no script of them.
+// Whether a shard is chosen, or what is on a page, and there is no script.
 fn lacks_script(subcommand: Subcommand, options: &ArgMatches<'_>) -> bool
     ensures { result ≡ spec_lacks subcommand (rows_of (found_of options.now)) }
 {
     match subcommand {
         Subcommand::Check | Subcommand::Report => {
-            (has_option(options, "only") || has_option(options, "shard"))
+            (has_option(options, "shard")
+                || (has_option(options, "only") && has_option(options, "html")))
                 && !has_option(options, "script")
         }
         _ => false,

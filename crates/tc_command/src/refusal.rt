@@ -18,7 +18,7 @@ pub(crate) enum Refusal {
     Conflict(&'static str, &'static str),
     /// `report` without a form.
     NoForm,
-    /// Test cases are chosen without their script.
+    /// A shard is chosen without a script, or what is on a page.
     NoScript,
     /// A suite is named without a JUnit report.
     NoJunit,
@@ -99,7 +99,7 @@ pub(crate) fn told_by(
         )?)),
         Refusal::NoScript => Ok(Refused::Line(lack_error(
             command,
-            "the arguments '--only' and '--shard' need '--script'",
+            "the arguments '--shard', and '--only' with '--html', need '--script'",
         )?)),
         Refusal::NoJunit => Ok(Refused::Line(lack_error(
             command,

@@ -30,15 +30,15 @@ pub enum ReportForm {
     Summary,
 }
 
-/// Which test cases of a script are chosen.
+/// Which test cases of a script are chosen, or which histories without one.
 #[derive(Debug, Drop, PartialEq, Eq)]
 pub struct Choice {
-    /// The patterns of `--only` in their order; without one all test cases are chosen.
+    /// The patterns of `--only` in their order; without one all are chosen.
     pub only: Vec<Pattern>,
-    /// The shard of `--shard`.
+    /// The shard of `--shard`, of a script.
     pub shard: Option<Shard>,
     /// Whether the text has histories or evidence after the script, and of the test cases those are left out that it
-    /// shows to have passed.
+    /// shows to have passed. Of histories without a script, those with the verdict none or pass are left out.
     pub failed: bool,
 }
 
@@ -92,8 +92,9 @@ pub enum Task {
         choice: Choice,
         explains: bool,
     },
-    /// Check histories and evidence.
+    /// Check histories and evidence, and print of the legal ones the chosen.
     Check {
+        choice: Choice,
         explains: bool,
     },
     /// Compare histories and evidence with the chosen test cases of the script before them in one text: check them, or
@@ -103,9 +104,10 @@ pub enum Task {
         choice: Choice,
         explains: bool,
     },
-    /// Report histories in this form.
+    /// Report the chosen histories in this form.
     Report {
         form: ReportForm,
+        choice: Choice,
         explains: bool,
     },
     /// Explore the chosen test cases of a campaign.

@@ -35,10 +35,10 @@ not_run false choice text refused = refused
 -- no text is refused since a writer failed
 not_write : (task : Task) (text : List ℕ) → Refuses task text F.Write → ⊥
 not_write (T.Replay explains) text refused = refused
-not_write (T.Check explains) text refused = refused
+not_write (T.Check choice explains) text refused = refused
 not_write (T.Compare None choice explains) text refused = refused
 not_write (T.Compare (Some form) choice explains) text refused = refused
-not_write (T.Report form explains) text refused = refused
+not_write (T.Report form choice explains) text refused = refused
 not_write (T.Explore o) text refused = not_run o.choice.failed o.choice text refused
 not_write (T.List choice explains) text refused = not_run choice.failed choice text refused
 not_write (T.Run o) text refused = not_run o.choice.failed o.choice text refused

@@ -37,9 +37,9 @@ pub of_cases : (words : List (List ℕ)) (task : Task) → IsCasesReading words 
 of_cases words (T.Run o) reads = tt
 of_cases words (T.List choice explains) reads = tt
 of_cases words (T.Replay explains) reads = absurd reads.1
-of_cases words (T.Check explains) reads = absurd reads.1
+of_cases words (T.Check choice explains) reads = absurd reads.1
 of_cases words (T.Compare form choice explains) reads = absurd reads.1
-of_cases words (T.Report form explains) reads = absurd reads.1
+of_cases words (T.Report form choice explains) reads = absurd reads.1
 of_cases words (T.Explore o) reads = absurd reads.1
 of_cases words T.Serve reads = absurd reads.1
 

@@ -1,7 +1,7 @@
 -- The test cases of blocks, one block after the other.
-use Rattle.std.proofs.Common.{ℕ, ◌≡◌, ◌∙◌, All, true, false, if◌then◌else◌, Option, Some, None, List, [], ◌∷◌, ◌++◌, ◌==◌, length, map, reverse, refl, ap, ap₂, sym, subst, append_assoc}
+use Rattle.std.proofs.Common.{ℕ, ◌≡◌, ◌∙◌, All, Bool, true, false, if◌then◌else◌, Option, Some, None, List, [], ◌∷◌, ◌++◌, ◌==◌, filter, length, map, reverse, refl, ap, ap₂, sym, subst, append_assoc}
 use Rattle.std.specs.List.{flat_map}
-use Rattle.std.specs.Prelude.{is_some}
+use Rattle.std.specs.Prelude.{◌≢◌, Ok, is_some}
 use Rattle.std.proofs.lemmas.List.{append-nil, map-append}
 use Rattle.std.proofs.lemmas.List.Elements.{All-head, All-tail}
 use Rattle.tc_table.specs.Standing.{StandsFor}
@@ -21,16 +21,22 @@ use Rattle.tc_program.specs.declared.judge.Difference.{Difference}
 use Rattle.tc_program.specs.declared.judge.Judgement.{Judgement}
 use Rattle.tc_program.specs.declared.judge.Judgement.TheVariants as J
 use Rattle.tc_program.specs.declared.report.Recorded.{Recorded}
-use Rattle.tc_program.specs.Check.{IsChecked, RefusesHistory}
-use Rattle.tc_program.specs.Inside.{IsJudgement, IsPlayedTo, IsRecorded, Summarizes, WasRun, WereRun, judges_legal, judgement_line}
+use Rattle.tc_program.specs.declared.report.ReportedBlock.{ReportedBlock}
+use Rattle.tc_program.specs.Check.{Checks, IsChecked, NameBlocks, RefusesBlocks}
+use Rattle.tc_program.specs.Choosing.{block_name, each, is_chosen, is_picked}
+use Rattle.tc_program.specs.Made.{IsMadeOfBlocks}
+use Rattle.tc_command.specs.declared.task.Choice.{Choice}
+use Rattle.tc_program.specs.Inside.{IsJudgement, IsPlayedTo, IsRecorded, Reports, Summarizes, WasRun, WereRun, case_if_picked, judges_legal, judgement_line, picked_by, reported_block}
 use Rattle.tc_program.specs.declared.fault.RunFault.{RunFault}
 use Rattle.tc_program.specs.declared.fault.RunFault.TheVariants as F
 use Rattle.tc_command.specs.declared.task.ReportForm.{ReportForm}
-use Rattle.tc_program.specs.Report.{IsFirstIllegal, IsReport, form_of, reported, unreported}
+use Rattle.tc_program.specs.Report.{IsFirstIllegal, IsReport, IsReported, form_of, reported, unreported}
 use Rattle.tc_program.specs.declared.reply.Answer.{Answer}
 use Rattle.tc_program.specs.WrittenHistories.{AreFoundLegal, found_legal, legal_case}
 use Rattle.tc_program.proofs.Doing.{answer_of}
-use Rattle.tc_program.proofs.Checking.{illegal_said, printed_more, whole}
+use Rattle.tc_program.proofs.Checking.{AreJudgedAt, each_chosen, fed_more, illegal_said, legal_said, whole}
+use Rattle.tc_script.specs.Names.{Word}
+use Rattle.tc_verdict.specs.declared.verdict.Verdict.{Verdict}
 use Rattle.tc_program.proofs.Playing.{no_difference}
 use Rattle.tc_program.proofs.WrittenHistories.{IsRight, after, are_right, block_of, blocks_of, evidence_of, none_illegal, said_of_written, same_entries}
 
@@ -55,19 +61,24 @@ summary_of_right b r s played right says = go r.playing.difference played.0.1
         says stands ∙ (ap (summary_of r.playing.header.name) played.1 ∙ ap (λ h. summary_of h.name (entries_of b.lines)) played.0.0)
     go (Some d) is = absurd (no_difference b.header.behaviours b.lines is.before is.behind is.entry d.reply right.0 is.place is.answers is.other)
 
+-- a test case, with the verdict of its block
+abbrev pub kept : Summary → Verdict → ReportedBlock
+kept s v = record { summary = s; verdict = v }
+
 -- one more block that is legal
-pub legal_more : (blocks : List Block) (b : Block) (r : Recorded) (j : Judgement) (s : Summary) (ss ss' : List Summary)
-    → Summarizes blocks ss None → IsRecorded b.first_line b.header b.lines r → IsJudgement b j → judges_legal j ≡ true
-    → (StandsFor r.playing.state (reverse r.entries.items) → s ≡ summary_of r.playing.header.name r.entries.items) → ss' ≡ ss ++ s ∷ []
+pub legal_more : (blocks : List Block) (b : Block) (r : Recorded) (j : Judgement) (s : Summary) (v : Verdict) (ss ss' : List ReportedBlock)
+    → Summarizes blocks ss None → IsRecorded b.first_line b.header b.lines r → IsJudgement b j → judges_legal j ≡ true → v ≡ b.verdict
+    → (StandsFor r.playing.state (reverse r.entries.items) → s ≡ summary_of r.playing.header.name r.entries.items) → ss' ≡ ss ++ kept s v ∷ []
     → Summarizes (blocks ++ b ∷ []) ss' None
-legal_more blocks b r j s ss ss' before played is legal says added =
-    let same = summary_of_right b r s played (right_of_legal b j legal is) says in (
-      (before.0.0 ++ judgement_line j, printed_more blocks b j before.0.0 (before.0.0 ++ judgement_line j) true legal before.0.1 is refl),
-      added ∙ (ap (λ l. l ++ s ∷ []) before.1 ∙ (ap (λ x. map summary_at blocks ++ x ∷ []) same ∙ sym (map-append summary_at blocks (b ∷ [])))),
+legal_more blocks b r j s v ss ss' before played is legal verdict says added =
+    let same : kept s v ≡ reported_block b =
+    ap₂ kept (summary_of_right b r s played (right_of_legal b j legal is) says) verdict in (
+      (before.0.0 ++ judgement_line j, fed_more each blocks b (judgement_line j) before.0.0 before.0.1 (legal_said b j legal is)),
+      added ∙ (ap (λ l. l ++ kept s v ∷ []) before.1 ∙ (ap (λ x. map reported_block blocks ++ x ∷ []) same ∙ sym (map-append reported_block blocks (b ∷ [])))),
     )
 
 -- one more block that is not legal
-pub illegal_more : (blocks : List Block) (b : Block) (j : Judgement) (ss ss' : List Summary)
+pub illegal_more : (blocks : List Block) (b : Block) (j : Judgement) (ss ss' : List ReportedBlock)
     → Summarizes blocks ss None → IsJudgement b j → judges_legal j ≡ false → Summarizes (blocks ++ b ∷ []) ss' (Some j)
 illegal_more blocks b j ss ss' so is illegal = record {
   before = blocks;
@@ -81,20 +92,20 @@ illegal_more blocks b j ss ss' so is illegal = record {
 }
 
 -- if no block is illegal so far
-pub legal_next : (o : Option Judgement) (blocks : List Block) (b : Block) (r : Recorded) (j : Judgement) (s : Summary) (ss ss' : List Summary)
-    → is_some o ≡ false → Summarizes blocks ss o → IsRecorded b.first_line b.header b.lines r → IsJudgement b j → judges_legal j ≡ true
-    → (StandsFor r.playing.state (reverse r.entries.items) → s ≡ summary_of r.playing.header.name r.entries.items) → ss' ≡ ss ++ s ∷ []
+pub legal_next : (o : Option Judgement) (blocks : List Block) (b : Block) (r : Recorded) (j : Judgement) (s : Summary) (v : Verdict) (ss ss' : List ReportedBlock)
+    → is_some o ≡ false → Summarizes blocks ss o → IsRecorded b.first_line b.header b.lines r → IsJudgement b j → judges_legal j ≡ true → v ≡ b.verdict
+    → (StandsFor r.playing.state (reverse r.entries.items) → s ≡ summary_of r.playing.header.name r.entries.items) → ss' ≡ ss ++ kept s v ∷ []
     → Summarizes (blocks ++ b ∷ []) ss' o
-legal_next None blocks b r j s ss ss' none before played is legal says added = legal_more blocks b r j s ss ss' before played is legal says added
-legal_next (Some k) blocks b r j s ss ss' none before played is legal says added = absurd cc
+legal_next None blocks b r j s v ss ss' none before played is legal verdict says added = legal_more blocks b r j s v ss ss' before played is legal verdict says added
+legal_next (Some k) blocks b r j s v ss ss' none before played is legal verdict says added = absurd cc
 
-pub illegal_next : (o : Option Judgement) (blocks : List Block) (b : Block) (j : Judgement) (ss ss' : List Summary)
+pub illegal_next : (o : Option Judgement) (blocks : List Block) (b : Block) (j : Judgement) (ss ss' : List ReportedBlock)
     → is_some o ≡ false → Summarizes blocks ss o → IsJudgement b j → judges_legal j ≡ false → Summarizes (blocks ++ b ∷ []) ss' (Some j)
 illegal_next None blocks b j ss ss' none before is illegal = illegal_more blocks b j ss ss' before is illegal
 illegal_next (Some k) blocks b j ss ss' none before is illegal = absurd cc
 
 -- one more block after one that is not legal
-pub illegal_passed : (o : Option Judgement) (blocks : List Block) (b : Block) (ss : List Summary)
+pub illegal_passed : (o : Option Judgement) (blocks : List Block) (b : Block) (ss : List ReportedBlock)
     → is_some o ≡ true → Summarizes blocks ss o → Summarizes (blocks ++ b ∷ []) ss o
 illegal_passed None blocks b ss some so = absurd cc
 illegal_passed (Some k) blocks b ss some so = record {
@@ -110,30 +121,69 @@ illegal_passed (Some k) blocks b ss some so = record {
 
 -- ---- the steps of `report`
 
-made_none : (ss : List Summary) (o : Option Judgement) (blocks : List Block) → o ≡ None → Summarizes blocks ss o → Summarizes blocks ss None
-made_none ss o blocks none made = subst (Summarizes blocks ss) none made
+-- the test cases of the blocks that are picked
+cases_of : (picks : Word → Verdict → Bool) (blocks : List Block) → flat_map (case_if_picked picks) (map reported_block blocks) ≡ map summary_at (filter (picked_by picks) blocks)
+cases_of picks [] = refl
+cases_of picks (b ∷ bs) = by (picked_by picks b) (cases_of picks bs)
+  where
+    by : (t : Bool) → flat_map (case_if_picked picks) (map reported_block bs) ≡ map summary_at (filter (picked_by picks) bs)
+        → (if t then summary_at b ∷ [] else []) ++ flat_map (case_if_picked picks) (map reported_block bs)
+        ≡ map summary_at (if t then b ∷ filter (picked_by picks) bs else filter (picked_by picks) bs)
+    by true rest = ap (λ l. summary_at b ∷ l) rest
+    by false rest = rest
+
+pub picked_reports : (picks : Word → Verdict → Bool) (blocks : List Block) (rs : List ReportedBlock) (ss : List Summary) (o : Option Judgement)
+    → ss ≡ flat_map (case_if_picked picks) rs → Summarizes blocks rs o → Reports blocks (filter (picked_by picks) blocks) ss o
+picked_reports picks blocks rs ss None is so = (so.0, is ∙ (ap (flat_map (case_if_picked picks)) so.1 ∙ cases_of picks blocks))
+picked_reports picks blocks rs ss (Some j) is so = so
+
+-- all blocks are picked
+pub filter_each : (blocks : List Block) → filter each blocks ≡ blocks
+filter_each [] = refl
+filter_each (b ∷ bs) = ap (λ l. b ∷ l) (filter_each bs)
+
+made_none : (ss : List Summary) (o : Option Judgement) (blocks chosen : List Block) → o ≡ None → Reports blocks chosen ss o → Reports blocks chosen ss None
+made_none ss o blocks chosen none made = subst (Reports blocks chosen ss) none made
 
 -- what is made of a text, none of whose blocks is illegal
-pub legal_report : (form : ReportForm) (text : List ℕ) (ss : List Summary) (o : Option Judgement) (names : List (List ℕ)) (notes : List ℕ) (a : Answer) (blocks : List Block)
-    → o ≡ None → a ≡ reported form text notes (ss ++ map (bare_summary C.Missing) names) → Summarizes blocks ss o → IsReport form text blocks names notes a
-legal_report form text ss o names notes a blocks none is made =
-    let made = made_none ss o blocks none made in
-    IsReport.legal made.0.0 (whole blocks made.0.0 true made.0.1) (is ∙ ap (λ l. reported form text notes (l ++ map (bare_summary C.Missing) names)) made.1)
+pub legal_report : (form : ReportForm) (text : List ℕ) (ss : List Summary) (o : Option Judgement) (names : List (List ℕ)) (notes : List ℕ) (a : Answer) (blocks chosen : List Block)
+    → o ≡ None → a ≡ reported form text notes (ss ++ map (bare_summary C.Missing) names) → Reports blocks chosen ss o → IsReport form text blocks chosen names notes a
+legal_report form text ss o names notes a blocks chosen none is made =
+    let made = made_none ss o blocks chosen none made in
+    IsReport.legal made.0.0 (whole each blocks made.0.0 true made.0.1) (is ∙ ap (λ l. reported form text notes (l ++ map (bare_summary C.Missing) names)) made.1)
 
 -- what is made of a text, one of whose blocks is illegal
-pub illegal_report : (form : ReportForm) (text : List ℕ) (ss : List Summary) (o : Option Judgement) (j : Judgement) (names : List (List ℕ)) (notes : List ℕ) (a : Answer) (blocks : List Block)
-    → o ≡ Some j → a ≡ unreported (judgement_line j) → Summarizes blocks ss o → IsReport form text blocks names notes a
-illegal_report form text ss o j names notes a blocks some is made =
-    let made = subst (Summarizes blocks ss) some made in
+pub illegal_report : (form : ReportForm) (text : List ℕ) (ss : List Summary) (o : Option Judgement) (j : Judgement) (names : List (List ℕ)) (notes : List ℕ) (a : Answer)
+    (blocks chosen : List Block) → o ≡ Some j → a ≡ unreported (judgement_line j) → Reports blocks chosen ss o → IsReport form text blocks chosen names notes a
+illegal_report form text ss o j names notes a blocks chosen some is made =
+    let made = subst (Reports blocks chosen ss) some made in
     let first : IsFirstIllegal blocks made.block (judgement_line j) = record {
       before = made.before;
       behind = made.behind;
       place = made.place;
       lines = made.lines;
-      legal = whole made.before made.lines true made.legal;
+      legal = whole each made.before made.lines true made.legal;
       illegal = illegal_said made.block j made.illegal made.judged;
     } in
     IsReport.illegal made.block (judgement_line j) first is
+
+-- if the status says so, all blocks are legal
+reported_at : (form : ReportForm) (text : List ℕ) (blocks chosen : List Block) (names : List (List ℕ)) (notes : List ℕ) (a : Answer)
+    → IsReport form text blocks chosen names notes a → a.status ≢ 3 → (lines : List ℕ) × Checks each blocks lines true
+reported_at form text blocks chosen names notes a (IsReport.legal lines checks is) other = (lines, checks)
+reported_at form text blocks chosen names notes a (IsReport.illegal b line first is) other = absurd (other (ap (λ x. x.status) is))
+
+pub judged_at : (form : ReportForm) (test : Block → Bool) (text : List ℕ) (a : Answer) → IsReported form test text a → AreJudgedAt a.status text
+judged_at form test text a made other all are = reported_at form text all (filter test all) [] [] a (made.made all are) other
+
+-- what is reported, with each pattern the name of some block
+pub reported_names : (form : ReportForm) (choice : Choice) (only : List Word) (text : List ℕ) (a : Answer) → only ≡ choice.only.items
+    → IsReported form (picked_by (is_picked only choice.failed)) text a → NameBlocks only text a.status
+    → IsMadeOfBlocks choice text (IsReported form (is_chosen choice) text) (Ok a)
+reported_names form choice only text a same made named = (
+  subst (λ o. IsReported form (λ b. is_picked o choice.failed (block_name b) b.verdict) text a) same made,
+  subst (λ o. NameBlocks o text a.status) same named,
+)
 
 -- an answer of these parts
 pub answer_made : (form : ReportForm) (text notes lent : List ℕ) (ss : List Summary) (out told : List ℕ) (status : ℕ) → out ≡ form_of form text ss → told ≡ notes → lent ≡ notes
@@ -156,7 +206,7 @@ summaries_written kind line (f ∷ fs) all =
     ap (λ s. s ∷ map summary_at (blocks_of kind (after kind line f) fs)) first ∙ ap (λ l. case_summary f ∷ l) rest
 
 module _ (kind : Kind) (r : Results) (ran : WereRun kind r) where
-  checked_so : (a : Answer) → IsChecked (blocks_text kind r) a.out a.status → a.told ≡ [] → a ≡ found_legal r
+  checked_so : (a : Answer) → IsChecked each (blocks_text kind r) a.out a.status → a.told ≡ [] → a ≡ found_legal r
   checked_so a is told =
       let two = said_of_written kind r a.out is.legal ran (is.checks (blocks_of kind 1 r.finished) (evidence_of kind r ran)) in
       let status_is : a.status ≡ 0 = is.status_is ∙ ap (λ t. if t then 0 else 3) two.1 in
@@ -164,22 +214,27 @@ module _ (kind : Kind) (r : Results) (ran : WereRun kind r) where
       ap (λ x. answer_of x a.told a.status) two.0 ∙ ap (λ x. answer_of lines x a.status) told ∙ ap (λ x. answer_of lines [] x) status_is
 
   -- the report of what a run wrote: none of it is illegal
-  reported_so : (form : ReportForm) (a : Answer) → IsReport form (blocks_text kind r) (blocks_of kind 1 r.finished) [] [] a
+  reported_so : (form : ReportForm) (a : Answer) → IsReport form (blocks_text kind r) (blocks_of kind 1 r.finished) (filter each (blocks_of kind 1 r.finished)) [] [] a
       → a ≡ reported form (blocks_text kind r) [] (map case_summary r.finished)
   reported_so form a (IsReport.legal lines checks is) =
-      is ∙ ap (reported form (blocks_text kind r) []) (append-nil (map summary_at (blocks_of kind 1 r.finished)) ∙ summaries_written kind 1 r.finished ran.each)
+      let blocks = blocks_of kind 1 r.finished in
+      is ∙ ap (reported form (blocks_text kind r) [])
+      (append-nil (map summary_at (filter each blocks)) ∙ (ap (map summary_at) (filter_each blocks) ∙ summaries_written kind 1 r.finished ran.each))
   reported_so form a (IsReport.illegal b line first is) =
       absurd (none_illegal (blocks_of kind 1 r.finished) b line (are_right kind 1 r.finished ran.each) first)
 
-  refused_so : (fault : RunFault) → RefusesHistory (blocks_text kind r) fault → fault ≡ F.NoMemory
+  refused_so : (fault : RunFault) → RefusesBlocks [] (blocks_text kind r) fault → fault ≡ F.NoMemory
   refused_so (F.Text fault) refused = absurd (refused.1 (blocks_of kind 1 r.finished) (evidence_of kind r ran))
   refused_so F.NoMemory refused = refl
+  refused_so F.Only refused = let no = refused.3 in absurd cc
   refused_so fault refused = absurd refused
 
   -- what `check` and `report` make of it
   pub found_so : AreFoundLegal (blocks_text kind r) r
   found_so = record {
-    checked_so = λ explains a is. checked_so a is.0 is.1;
-    reported_so = λ form explains a is. reported_so form a (is.made (blocks_of kind 1 r.finished) (evidence_of kind r ran));
+    checked_so = λ choice explains a all is. checked_so a (each_chosen (λ t. IsChecked t (blocks_text kind r) a.out a.status) choice all is.0.0) is.0.1;
+    reported_so = λ form choice explains a all is.
+        let blocks = blocks_of kind 1 r.finished in
+        reported_so form a (each_chosen (λ t. IsReport form (blocks_text kind r) blocks (filter t blocks) [] [] a) choice all (is.0.made blocks (evidence_of kind r ran)));
     refused_so = λ fault refused. refused_so fault refused;
   }

@@ -28,6 +28,7 @@ use Rattle.tc_report.specs.Blocks.{blocks_text, case_block, case_lines, header_o
 use Rattle.tc_campaign.specs.Outline.{Outline}
 use Rattle.tc_campaign.specs.Campaign.{IsReported}
 use Rattle.tc_program.specs.Check.{Checks, IsIllegalLine, legal_line}
+use Rattle.tc_program.specs.Choosing.{each}
 use Rattle.tc_program.specs.Report.{IsFirstIllegal}
 use Rattle.tc_program.specs.WrittenHistories.{legal_case, AreReported}
 use Rattle.tc_program.specs.Inside.{FitsItsTypes, WasRun, WereRun}
@@ -98,7 +99,7 @@ abbrev pub AreRight : List Block → Type 0
 AreRight [] = Unit {0}
 AreRight (b ∷ bs) = IsRight b × AreRight bs
 
-pub only_legal : (bs : List Block) (out : List ℕ) (legal : Bool) → AreRight bs → Checks bs out legal → (out ≡ flat_map block_line bs) × (legal ≡ true)
+pub only_legal : (bs : List Block) (out : List ℕ) (legal : Bool) → AreRight bs → Checks each bs out legal → (out ≡ flat_map block_line bs) × (legal ≡ true)
 only_legal _ _ _ all Checks.none = (refl, refl)
 only_legal _ _ _ all (Checks.goes_on b rest line out legal says more) =
     let two = only_legal rest out legal all.1 more in
@@ -133,7 +134,7 @@ same_lines kind line (f ∷ fs) =
     ∙ ap (λ l. legal_case f ++ l) (same_lines kind (after kind line f) fs)
 
 -- what is said of these blocks
-pub said_of_written : (kind : Kind) (r : Results) (out : List ℕ) (legal : Bool) → WereRun kind r → Checks (blocks_of kind 1 r.finished) out legal
+pub said_of_written : (kind : Kind) (r : Results) (out : List ℕ) (legal : Bool) → WereRun kind r → Checks each (blocks_of kind 1 r.finished) out legal
     → (out ≡ flat_map legal_case r.finished) × (legal ≡ true)
 said_of_written kind r out legal ran checks =
     let two = only_legal (blocks_of kind 1 r.finished) out legal (are_right kind 1 r.finished ran.each) checks in

@@ -1,4 +1,4 @@
--- What `check` prints for histories and evidence.
+-- What `check` prints for histories and evidence, and of them the chosen.
 use Rattle.std.specs.Prelude.{ℕ, ◌≡◌, ◌≢◌, ◌+◌, Bool, true, false, if◌then◌else◌, List, [], ◌∷◌, ◌++◌, length, reverse, codes}
 use Rattle.std.specs.Fmt.{decimal}
 use Rattle.tc_verdict.specs.declared.verdict.Verdict.{Verdict}
@@ -13,6 +13,8 @@ use Rattle.tc_evidence.specs.declared.line.Line.TheVariants as L
 use Rattle.tc_evidence.specs.Line.{entries_of}
 use Rattle.tc_evidence.specs.Laws.{AreLegal, overall_of}
 use Rattle.tc_evidence.specs.Text.{AreEvidence, IsEvidenceFault}
+use Rattle.tc_campaign.specs.Choosing.{have_names}
+use Rattle.tc_program.specs.Choosing.{block_name, each}
 use Rattle.tc_program.specs.declared.fault.RunFault.{RunFault}
 use Rattle.tc_program.specs.declared.fault.RunFault.TheVariants as F
 use Rattle.tc_program.specs.Fault.{place_text}
@@ -43,20 +45,21 @@ pub data IsIllegalLine (b : Block) (line : List ℕ) : Type 0 where
   other_verdict : AreLegal b.header.behaviours b.lines → b.verdict ≢ overall_of b.lines
       → line ≡ other_line (b.first_line + length b.lines + 1) (name_of b.verdict) (name_of (overall_of b.lines)) → IsIllegalLine b line
 
--- what is printed for blocks, one after the other up to the first that is not legal, and whether all are legal
-pub data Checks : List Block → List ℕ → Bool → Type 0 where
-  none : Checks [] [] true
+-- what is printed for blocks, one after the other up to the first that is not legal, and whether all are legal; of the
+-- legal ones only the chosen have a line
+pub data Checks (is_chosen : Block → Bool) : List Block → List ℕ → Bool → Type 0 where
+  none : Checks is_chosen [] [] true
   goes_on : (b : Block) (rest : List Block) (line out : List ℕ) (legal : Bool) → IsLegalLine b line
-      → Checks rest out legal → Checks (b ∷ rest) (line ++ out) legal
-  stops : (b : Block) (rest : List Block) (line : List ℕ) → IsIllegalLine b line → Checks (b ∷ rest) line false
+      → Checks is_chosen rest out legal → Checks is_chosen (b ∷ rest) ((if is_chosen b then line else []) ++ out) legal
+  stops : (b : Block) (rest : List Block) (line : List ℕ) → IsIllegalLine b line → Checks is_chosen (b ∷ rest) line false
 
--- The text is that of histories and evidence; whatever blocks it is of, this output says which are legal. The status is 0
--- if all are, otherwise 3.
-pub record IsChecked (text out : List ℕ) (status : ℕ) : Type 0 where
+-- The text is that of histories and evidence; whatever blocks it is of, this output says which of the chosen are legal, and
+-- which is the first of all that is not. The status is 0 if all are, otherwise 3.
+pub record IsChecked (is_chosen : Block → Bool) (text out : List ℕ) (status : ℕ) : Type 0 where
   pub blocks : List Block
   pub evidence : AreEvidence text blocks
   pub legal : Bool
-  pub checks : (all : List Block) → AreEvidence text all → Checks all out legal
+  pub checks : (all : List Block) → AreEvidence text all → Checks is_chosen all out legal
   pub status_is : status ≡ (if legal then 0 else 3)
 
 -- a text is refused as one of histories and evidence, and is none of any; if memory runs out, nothing is said about it
@@ -64,3 +67,13 @@ abbrev pub RefusesHistory : List ℕ → RunFault → Type 0
 RefusesHistory text (F.Text fault) = IsEvidenceFault text fault × ((blocks : List Block) → AreEvidence text blocks → ⊥)
 RefusesHistory text F.NoMemory = Unit {0}
 RefusesHistory text fault = ⊥
+
+-- each of these patterns matches the name of a block of the text, if this is the status: a block is not legal if it is 3
+abbrev pub NameBlocks : List (List ℕ) → List ℕ → ℕ → Type 0
+NameBlocks only text status = status ≢ 3 → (all : List Block) → AreEvidence text all → have_names block_name only all ≡ true
+
+-- the text is refused as one of histories and evidence; or all its blocks are legal, and some pattern matches the name of none
+abbrev pub RefusesBlocks : List (List ℕ) → List ℕ → RunFault → Type 0
+RefusesBlocks only text F.Only =
+    (all : List Block) × AreEvidence text all × ((lines : List ℕ) × Checks each all lines true) × (have_names block_name only all ≡ false)
+RefusesBlocks only text fault = RefusesHistory text fault

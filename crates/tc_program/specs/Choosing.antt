@@ -1,10 +1,13 @@
--- The test cases of a script that are chosen.
-use Rattle.std.specs.Prelude.{ℕ, ◌≡◌, List, [], ◌∷◌, ◌++◌, Ok, Err, false, true}
+-- The test cases of a script that are chosen, and the blocks without one.
+use Rattle.std.specs.Prelude.{ℕ, ◌≡◌, ◌==◌, ◌&&◌, Bool, List, [], ◌∷◌, ◌++◌, Ok, Err, false, not, true}
 use Rattle.std.specs.List.{flat_map}
-use Rattle.tc_campaign.specs.Choosing.{chosen, have_names}
+use Rattle.tc_campaign.specs.Choosing.{chosen, have_names, is_asked}
 use Rattle.tc_command.specs.declared.task.Choice.{Choice}
+use Rattle.tc_evidence.specs.declared.block.Block.{Block}
+use Rattle.tc_report.specs.Status.{verdict_status}
 use Rattle.tc_script.specs.Campaign.{CampaignView, campaign}
 use Rattle.tc_script.specs.Names.{Word}
+use Rattle.tc_verdict.specs.declared.verdict.Verdict.{Verdict}
 use Rattle.tc_program.specs.Scripted.{CaseView}
 use Rattle.tc_program.specs.declared.fault.RunFault.{RunFault}
 use Rattle.tc_program.specs.declared.fault.RunFault.TheVariants as F
@@ -47,3 +50,30 @@ RefusesChoice choice text fault = RefusesScript text fault
 -- the list of test cases: a line with the name of each
 abbrev pub list_text : {C : Type 0} → (C → List ℕ) → List C → List ℕ
 list_text name_of cases = flat_map (λ c. name_of c ++ (10 ∷ [])) cases
+
+-- ---- blocks
+
+-- the name of a block
+abbrev pub block_name : Block → Word
+block_name b = b.header.name
+
+-- a verdict is none or pass
+abbrev pub is_passing : Verdict → Bool
+is_passing v = verdict_status v == 0
+
+-- What has this name and this verdict is picked: a pattern matches the name, if there is one; and if only what failed is
+-- asked for, the verdict is neither none nor pass.
+abbrev pub is_picked : List Word → Bool → Word → Verdict → Bool
+is_picked only failed name v = is_asked only name && not (failed && is_passing v)
+
+-- the block is chosen; a shard is of a script, and leaves out no block
+abbrev pub is_chosen : Choice → Block → Bool
+is_chosen choice b = is_picked choice.only.items choice.failed (block_name b) b.verdict
+
+-- each block is
+abbrev pub each : Block → Bool
+each b = true
+
+-- the choice leaves out nothing that has a block
+abbrev pub ChoosesEach : Choice → Type 0
+ChoosesEach choice = (choice.only.items ≡ []) × (choice.failed ≡ false)

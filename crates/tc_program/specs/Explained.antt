@@ -19,9 +19,9 @@ use Rattle.tc_program.specs.Stderr.{IsRefusal}
 -- the task is asked to explain a fault of its text
 abbrev pub explains : Task → Bool
 explains (T.Replay asked) = asked
-explains (T.Check asked) = asked
+explains (T.Check choice asked) = asked
 explains (T.Compare form choice asked) = asked
-explains (T.Report form asked) = asked
+explains (T.Report form choice asked) = asked
 explains (T.List choice asked) = asked
 explains (T.Run o) = o.explains
 explains (T.Explore o) = o.explains

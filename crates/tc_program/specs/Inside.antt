@@ -60,9 +60,10 @@ use Rattle.tc_program.specs.declared.judge.Difference.{Difference}
 use Rattle.tc_program.specs.declared.judge.Judgement.{Judgement}
 use Rattle.tc_program.specs.declared.judge.Playing.{Playing}
 use Rattle.tc_program.specs.declared.report.Recorded.{Recorded}
+use Rattle.tc_program.specs.declared.report.ReportedBlock.{ReportedBlock}
 use Rattle.tc_program.specs.declared.outcome.Outcome.{Outcome}
 use Rattle.tc_program.specs.declared.replay.Replaying.{Replaying}
-use Rattle.tc_program.specs.Check.{Checks, legal_line, other_line}
+use Rattle.tc_program.specs.Check.{Checks, RefusesHistory, legal_line, other_line}
 use Rattle.tc_program.specs.declared.judge.Judgement.TheVariants as J
 use Rattle.tc_text.specs.Spelling.{reply_text}
 use Rattle.tc_verdict.specs.Verdict.{name_of}
@@ -81,7 +82,8 @@ use Rattle.tc_command.specs.declared.task.Task.TheVariants as Tasks
 use Rattle.tc_script.specs.Campaign.{CampaignView}
 use Rattle.tc_script.specs.Law.{IsCase}
 use Rattle.tc_program.specs.Answer.{IsRefused}
-use Rattle.tc_program.specs.Choosing.{AreChosen}
+use Rattle.tc_campaign.specs.Choosing.{have_names}
+use Rattle.tc_program.specs.Choosing.{AreChosen, block_name, each}
 use Rattle.tc_program.specs.Explore.{IsExplored}
 use Rattle.tc_program.specs.declared.explore.ExploredCase.{ExploredCase}
 use Rattle.tc_program.specs.Made.{IsMade}
@@ -89,8 +91,8 @@ use Rattle.tc_program.specs.Program.{IsDone}
 use Rattle.tc_program.specs.Fault.{line_of}
 use Rattle.tc_program.specs.Stderr.{IsRefusal, IsTold}
 use Rattle.tc_program.specs.declared.reply.Answer.{Answer}
-use Rattle.tc_report.specs.declared.summary.Summary.{Summary}
 use Rattle.tc_report.specs.Summary.{block_summary}
+use Rattle.tc_report.specs.declared.summary.Summary.{Summary}
 use Rattle.tc_program.specs.Output.{LeavesUnwritten}
 
 -- the number of the line of the input that has a fault, if it is one of a line
@@ -219,10 +221,29 @@ abbrev pub JudgesPlayed : Playing → ℕ → Verdict → Judgement → Type 0
 JudgesPlayed p line given j =
     (b : Block) → IsPlayed b.first_line b.header b.lines p → line ≡ b.first_line + length b.lines + 1 → given ≡ b.verdict → IsJudgement b j
 
+-- the blocks that are picked by name and verdict
+abbrev pub picked_by : (Word → Verdict → Bool) → Block → Bool
+picked_by picks b = picks (block_name b) b.verdict
+
+-- what is printed for a block, if it is picked or not legal
+abbrev pub line_by : (Word → Verdict → Bool) → Judgement → List ℕ
+line_by picks (J.Legal name entries verdict) = if picks name verdict then legal_line name entries verdict else []
+line_by picks judgement = judgement_line judgement
+
 -- what is printed for these blocks: while all are legal, what is printed for those after comes after it
-abbrev pub Feeds : List Block → List ℕ → Bool → Type 0
-Feeds blocks out true = (more : List Block) (tail : List ℕ) (legal : Bool) → Checks more tail legal → Checks (blocks ++ more) (out ++ tail) legal
-Feeds blocks out false = (more : List Block) → Checks (blocks ++ more) out false
+abbrev pub Feeds : (Block → Bool) → List Block → List ℕ → Bool → Type 0
+Feeds test blocks out true = (more : List Block) (tail : List ℕ) (legal : Bool) → Checks test more tail legal → Checks test (blocks ++ more) (out ++ tail) legal
+Feeds test blocks out false = (more : List Block) → Checks test (blocks ++ more) out false
+
+-- these are the judgements of the blocks up to the first that is not legal, whichever are picked, and whether all are legal
+abbrev pub AreJudgedSo : List Block → List Judgement → Bool → Type 0
+AreJudgedSo blocks js legal = (picks : Word → Verdict → Bool) → Feeds (picked_by picks) blocks (flat_map (line_by picks) js) legal
+
+-- this is not the status of a block that is not legal, and some pattern matches the name of no block of the text; or the
+-- text is refused
+abbrev pub RefusesNamesAt : ℕ → List Word → List ℕ → RunFault → Type 0
+RefusesNamesAt status only text F.Only = (status ≢ 3) × ((blocks : List Block) × AreEvidence text blocks × (have_names block_name only blocks ≡ false))
+RefusesNamesAt status only text fault = RefusesHistory text fault
 
 -- the line on standard error for a block that is not legal: that of `check`
 abbrev pub illegal_line : Judgement → List ℕ
@@ -235,14 +256,27 @@ pub record IsFirstJudged (blocks : List Block) (j : Judgement) : Type 0 where
   pub behind : List Block
   pub place : blocks ≡ before ++ block ∷ behind
   pub lines : List ℕ
-  pub legal : Feeds before lines true
+  pub legal : Feeds each before lines true
   pub judged : IsJudgement block j
   pub illegal : judges_legal j ≡ false
 
+-- the test case of a block, with the verdict of the block
+abbrev pub reported_block : Block → ReportedBlock
+reported_block b = record { summary = block_summary (history_of b); verdict = b.verdict }
+
 -- these are the test cases of the blocks, each of which is found legal; or this is the judgement of the first that is not
-abbrev pub Summarizes : List Block → List Summary → Option Judgement → Type 0
-Summarizes blocks ss None = ((lines : List ℕ) × Feeds blocks lines true) × (ss ≡ map (λ b. block_summary (history_of b)) blocks)
+abbrev pub Summarizes : List Block → List ReportedBlock → Option Judgement → Type 0
+Summarizes blocks ss None = ((lines : List ℕ) × Feeds each blocks lines true) × (ss ≡ map reported_block blocks)
 Summarizes blocks ss (Some j) = IsFirstJudged blocks j
+
+-- the test case of a block, if the block is picked
+abbrev pub case_if_picked : (Word → Verdict → Bool) → ReportedBlock → List Summary
+case_if_picked picks r = if picks r.summary.name r.verdict then r.summary ∷ [] else []
+
+-- the same of the chosen ones of the blocks
+abbrev pub Reports : List Block → List Block → List Summary → Option Judgement → Type 0
+Reports blocks chosen ss None = ((lines : List ℕ) × Feeds each blocks lines true) × (ss ≡ map (λ b. block_summary (history_of b)) chosen)
+Reports blocks chosen ss (Some j) = IsFirstJudged blocks j
 
 -- a test case with these jobs was explored so, whatever test case of a script it is
 abbrev pub IsExploredOf : ExploreOptions → Case ScriptView → ExploredCase → Type 0

@@ -14,8 +14,8 @@ has_blocks task = false
 
 -- the bytes of the input of a task: a text with histories, otherwise a script or a list of moves
 abbrev pub limit_of : Task → ℕ
-limit_of (T.Check explains) = HISTORY_LIMIT
-limit_of (T.Report form explains) = HISTORY_LIMIT
+limit_of (T.Check choice explains) = HISTORY_LIMIT
+limit_of (T.Report form choice explains) = HISTORY_LIMIT
 limit_of task = if has_blocks task then HISTORY_LIMIT else SCRIPT_LIMIT
 
 -- the workers of a test case

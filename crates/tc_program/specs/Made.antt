@@ -2,14 +2,15 @@
 use Rattle.std.specs.Prelude.{ℕ, ◌≡◌, ◌⊎◌, List, [], MatchResult, Option, Some, None, Result, Ok, Err}
 use Rattle.std.specs.Io.KnownBytes.{Appends, Keeps}
 use Rattle.tc_stream.specs.Output.{AppendsPrefix}
+use Rattle.tc_command.specs.declared.task.Choice.{Choice}
 use Rattle.tc_command.specs.declared.task.Task.{Task}
 use Rattle.tc_command.specs.declared.task.Task.TheVariants as T
 use Rattle.tc_program.specs.declared.fault.RunFault.{RunFault}
 use Rattle.tc_program.specs.declared.fault.RunFault.TheVariants as F
 use Rattle.tc_program.specs.declared.reply.Answer.{Answer}
-use Rattle.tc_program.specs.Check.{IsChecked, RefusesHistory}
+use Rattle.tc_program.specs.Check.{IsChecked, NameBlocks, RefusesBlocks}
 use Rattle.tc_program.specs.Compared.{IsCheckedAgainst, IsReportedAgainst, RefusesAgainst}
-use Rattle.tc_program.specs.Choosing.{list_text, script_name}
+use Rattle.tc_program.specs.Choosing.{is_chosen, list_text, script_name}
 use Rattle.tc_program.specs.Explore.{Explores}
 use Rattle.tc_program.specs.Input.{IsRead, IsUnread}
 use Rattle.tc_program.specs.Limits.{limit_of}
@@ -25,14 +26,19 @@ IsListed {C} name_of AreToBeRun a = (cases : List C) × AreToBeRun cases × (a �
 abbrev pub IsSilent : (List ℕ → ℕ → Type 0) → Answer → Type 0
 IsSilent Is a = Is a.out a.status × (a.told ≡ [])
 
+-- The answer is so, and if all blocks are legal, each pattern of the choice matches the name of one. Otherwise the text is
+-- refused, and after its blocks are judged a pattern.
+abbrev pub IsMadeOfBlocks : Choice → List ℕ → (Answer → Type 0) → Result Answer RunFault → Type 0
+IsMadeOfBlocks choice text Is made = MatchResult made (λ a. Is a × NameBlocks choice.only.items text a.status) (RefusesBlocks choice.only.items text)
+
 -- the answer is what a task, other than a run, makes of the text; or the task refuses the text for this fault, and any
 -- text if memory runs out
 abbrev pub IsMade : Task → List ℕ → Result Answer RunFault → Type 0
 IsMade (T.Replay e) text made = MatchResult made (IsSilent (Replays text)) (RefusesMoves text)
-IsMade (T.Check e) text made = MatchResult made (IsSilent (IsChecked text)) (RefusesHistory text)
+IsMade (T.Check choice e) text made = IsMadeOfBlocks choice text (IsSilent (IsChecked (is_chosen choice) text)) made
 IsMade (T.Compare None choice e) text made = MatchResult made (IsSilent (IsCheckedAgainst choice text)) (RefusesAgainst choice text)
 IsMade (T.Compare (Some form) choice e) text made = MatchResult made (IsReportedAgainst form choice text) (RefusesAgainst choice text)
-IsMade (T.Report form e) text made = MatchResult made (IsReported form text) (RefusesHistory text)
+IsMade (T.Report form choice e) text made = IsMadeOfBlocks choice text (IsReported form (is_chosen choice) text) made
 IsMade (T.Explore o) text made = MatchResult made (IsSilent (Explores o text)) (RefusesRun o.choice text)
 IsMade (T.List choice e) text made = MatchResult made (IsListed script_name (AreToRun choice text)) (RefusesRun choice text)
 IsMade (T.Run o) text made = MatchResult made (λ a. ⊥) (RefusesRun o.choice text)

@@ -1,18 +1,17 @@
 -- The test cases that evidence shows to have passed, and those that a run is asked to run.
-use Rattle.std.specs.Prelude.{ℕ, ◌≡◌, ◌==◌, ◌&&◌, Bool, true, false, not, List, filter, reverse}
+use Rattle.std.specs.Prelude.{ℕ, ◌≡◌, ◌&&◌, Bool, true, false, not, List, filter, reverse}
 use Rattle.tc_command.specs.declared.task.Choice.{Choice}
 use Rattle.tc_evidence.specs.declared.block.Block.{Block}
 use Rattle.tc_evidence.specs.Text.{AreEvidence}
-use Rattle.tc_report.specs.Status.{verdict_status}
 use Rattle.tc_script.specs.Campaign.{CampaignView}
 use Rattle.tc_script.specs.Names.{Word}
-use Rattle.tc_program.specs.Choosing.{AreChosen, RefusesChoice, script_name}
+use Rattle.tc_program.specs.Choosing.{AreChosen, RefusesChoice, is_passing, script_name}
 use Rattle.tc_program.specs.Compared.{RefusesAgainst, blocks_part, is_met, script_part}
 use Rattle.tc_program.specs.declared.fault.RunFault.{RunFault}
 
 -- the verdict of the block is none or pass
 abbrev pub is_passed : Block → Bool
-is_passed b = verdict_status b.verdict == 0
+is_passed b = is_passing b.verdict
 
 -- one of the blocks of this name has such a verdict, and none has another
 abbrev pub has_passed : List Block → Word → Bool

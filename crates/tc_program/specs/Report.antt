@@ -1,5 +1,5 @@
--- What `report` writes of histories and evidence.
-use Rattle.std.specs.Prelude.{ℕ, ◌≡◌, ◌==◌, true, if◌then◌else◌, List, [], ◌∷◌, ◌++◌, codes, length, map}
+-- What `report` writes of histories and evidence, and of them the chosen.
+use Rattle.std.specs.Prelude.{ℕ, Bool, ◌≡◌, ◌==◌, true, if◌then◌else◌, List, [], ◌∷◌, ◌++◌, codes, filter, length, map}
 use Rattle.tc_command.specs.declared.command.TheConstants.{VERSION}
 use Rattle.tc_command.specs.declared.task.ReportForm.{ReportForm}
 use Rattle.tc_command.specs.declared.task.ReportForm.TheVariants as Forms
@@ -16,6 +16,7 @@ use Rattle.tc_report.specs.SummaryText.{summary_text}
 use Rattle.tc_report.specs.declared.results.CaseEnd.TheVariants as C
 use Rattle.tc_program.specs.declared.reply.Answer.{Answer}
 use Rattle.tc_program.specs.Check.{Checks, IsIllegalLine}
+use Rattle.tc_program.specs.Choosing.{each}
 
 -- the form of blocks by their text and the summaries of their test cases
 abbrev pub form_of : ReportForm → List ℕ → List Summary → List ℕ
@@ -39,22 +40,22 @@ pub record IsFirstIllegal (blocks : List Block) (b : Block) (line : List ℕ) : 
   pub behind : List Block
   pub place : blocks ≡ before ++ b ∷ behind
   pub lines : List ℕ
-  pub legal : Checks before lines true
+  pub legal : Checks each before lines true
   pub illegal : IsIllegalLine b line
 
 -- the test cases of blocks, and after them those of these names, of which there is none
 abbrev pub summaries_of : List Block → List (List ℕ) → List Summary
 summaries_of blocks missing = map (λ b. block_summary (history_of b)) blocks ++ map (bare_summary C.Missing) missing
 
--- what is answered for the blocks of a text and missing test cases, with these lines for standard error: `check` finds each
--- block legal, or this is the first that it does not
-pub data IsReport (form : ReportForm) (text : List ℕ) (blocks : List Block) (missing : List (List ℕ)) (notes : List ℕ) (a : Answer) : Type 0 where
-  legal : (lines : List ℕ) → Checks blocks lines true
-      → a ≡ reported form text notes (summaries_of blocks missing) → IsReport form text blocks missing notes a
-  illegal : (b : Block) (line : List ℕ) → IsFirstIllegal blocks b line → a ≡ unreported line → IsReport form text blocks missing notes a
+-- What is answered for blocks of a text, some of them chosen, and missing test cases, with lines for standard error: `check`
+-- finds each block legal, or this is the first that it does not.
+pub data IsReport (form : ReportForm) (text : List ℕ) (blocks chosen : List Block) (missing : List (List ℕ)) (notes : List ℕ) (a : Answer) : Type 0 where
+  legal : (lines : List ℕ) → Checks each blocks lines true
+      → a ≡ reported form text notes (summaries_of chosen missing) → IsReport form text blocks chosen missing notes a
+  illegal : (b : Block) (line : List ℕ) → IsFirstIllegal blocks b line → a ≡ unreported line → IsReport form text blocks chosen missing notes a
 
--- the text is that of histories and evidence, and whatever blocks it is of, this is answered for them
-pub record IsReported (form : ReportForm) (text : List ℕ) (a : Answer) : Type 0 where
+-- the text is that of histories and evidence, and whatever blocks it is of, this is answered for the chosen ones
+pub record IsReported (form : ReportForm) (is_chosen : Block → Bool) (text : List ℕ) (a : Answer) : Type 0 where
   pub blocks : List Block
   pub evidence : AreEvidence text blocks
-  pub made : (all : List Block) → AreEvidence text all → IsReport form text all [] [] a
+  pub made : (all : List Block) → AreEvidence text all → IsReport form text all (filter is_chosen all) [] [] a

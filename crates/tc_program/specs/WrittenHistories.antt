@@ -5,11 +5,13 @@ use Rattle.tc_report.specs.declared.results.Finished.{Finished}
 use Rattle.tc_report.specs.declared.results.Results.{Results}
 use Rattle.tc_campaign.specs.Outline.{Outline}
 use Rattle.tc_campaign.specs.Campaign.{HasBehaviours, IsReported}
+use Rattle.tc_command.specs.declared.task.Choice.{Choice}
 use Rattle.tc_command.specs.declared.task.ReportForm.{ReportForm}
 use Rattle.tc_command.specs.declared.task.Task.TheVariants as T
 use Rattle.tc_report.specs.Summary.{case_summary}
 use Rattle.tc_program.specs.declared.reply.Answer.{Answer}
-use Rattle.tc_program.specs.Check.{RefusesHistory, legal_line}
+use Rattle.tc_program.specs.Check.{RefusesBlocks, legal_line}
+use Rattle.tc_program.specs.Choosing.{ChoosesEach}
 use Rattle.tc_program.specs.Made.{IsMade}
 use Rattle.tc_program.specs.Report.{reported}
 use Rattle.tc_program.specs.declared.fault.RunFault.{RunFault}
@@ -32,7 +34,8 @@ found_legal r = record { out = flat_map legal_case r.finished; told = []; status
 
 -- this text of the results is checked and reported so, whatever else is asked for, and refused only if memory runs out
 pub record AreFoundLegal (text : List ℕ) (r : Results) : Type 0 where
-  pub checked_so : (explains : Bool) (a : Answer) → IsMade (T.Check explains) text (Ok a) → a ≡ found_legal r
-  pub reported_so : (form : ReportForm) (explains : Bool) (a : Answer) → IsMade (T.Report form explains) text (Ok a)
-      → a ≡ reported form text [] (map case_summary r.finished)
-  pub refused_so : (fault : RunFault) → RefusesHistory text fault → fault ≡ F.NoMemory
+  pub checked_so : (choice : Choice) (explains : Bool) (a : Answer) → ChoosesEach choice → IsMade (T.Check choice explains) text (Ok a)
+      → a ≡ found_legal r
+  pub reported_so : (form : ReportForm) (choice : Choice) (explains : Bool) (a : Answer) → ChoosesEach choice
+      → IsMade (T.Report form choice explains) text (Ok a) → a ≡ reported form text [] (map case_summary r.finished)
+  pub refused_so : (fault : RunFault) → RefusesBlocks [] text fault → fault ≡ F.NoMemory

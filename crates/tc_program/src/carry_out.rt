@@ -63,7 +63,7 @@ pub(crate) fn made_text(alloc: Global, task: &Task, text: &[u8]) -> Result<Answe
 {
     match task {
         Task::Replay { .. } => replay_text(alloc, text),
-        Task::Check { .. } => check_text(alloc, text),
+        Task::Check { choice, .. } => check_text(alloc, choice, text),
         Task::Compare {
             form: None,
             choice,
@@ -74,7 +74,7 @@ pub(crate) fn made_text(alloc: Global, task: &Task, text: &[u8]) -> Result<Answe
             choice,
             ..
         } => report_compared(alloc, form, choice, text),
-        Task::Report { form, .. } => report_text(alloc, form, text),
+        Task::Report { form, choice, .. } => report_text(alloc, form, choice, text),
         Task::Explore(options) => explore_text(alloc, options, text),
         Task::List { choice, .. } => list_text(alloc, choice, text),
         Task::Run(_) | Task::Serve => unreachable!(),

@@ -1,28 +1,32 @@
 //! The subcommand `check`.
-ghost use Rattle.std.specs.Prelude.{◌≡◌, [], Bool, IfOk, IfErr, if◌then◌else◌};
+ghost use Rattle.std.specs.Prelude.{◌≡◌, Bool, IfOk, IfErr, if◌then◌else◌};
+ghost use Rattle.tc_command.specs.declared.task.Choice.{Choice as AnyChoice};
 ghost use Rattle.tc_command.specs.declared.task.Task.TheVariants.{Check};
 ghost use Rattle.tc_program.specs.Check.{IsChecked, RefusesHistory};
-ghost use Rattle.tc_program.specs.Inside.{Feeds, IsPlayed};
-ghost use Rattle.tc_program.specs.Made.{Does};
+ghost use Rattle.tc_program.specs.Choosing.{ChoosesEach, is_chosen, is_picked};
+ghost use Rattle.tc_program.specs.Inside.{AreJudgedSo, IsPlayed, picked_by};
+ghost use Rattle.tc_program.specs.Made.{Does, IsMadeOfBlocks, IsSilent};
 
-use crate::check_lines::append_judgement;
+use crate::check_lines::picked_lines;
 use crate::fault::RunFault;
 use crate::input::read_text;
-use crate::judge::{Playing, is_legal};
+use crate::judge::{Judgement, Playing, is_legal};
 use crate::limits::HISTORY_LIMIT;
 use crate::made::write_answer;
 use crate::outcome::REFUSED;
+use crate::picked::refuse_names;
 use crate::reply::Answer;
 use std::alloc::Global;
 use std::io::{Read, Write};
-use tc_entry::Sequence;
+use tc_command::Choice;
+use tc_entry::{Pattern, Sequence};
 use tc_evidence::{Header, Line, TakesEvidence, read_evidence_into};
 use tc_table::{Entry, NoMemory, Verdict};
 
-/// What is printed for blocks, up to the first that is not legal.
+/// The judgements of blocks, up to the first that is not legal.
 #[derive(Drop)]
 pub(crate) struct Checking {
-    out: Vec<u8>,
+    judgements: Vec<Judgement>,
     legal: bool,
 }
 
@@ -31,11 +35,11 @@ impl TakesEvidence for Checking {
 
     ghost opens = { IsPlayed };
 
-    ghost stands = { λ blocks c. Feeds blocks c.out.items c.legal };
+    ghost stands = { λ blocks c. AreJudgedSo blocks c.judgements.items c.legal };
 
     fn begin(alloc: Global) -> Checking {
         Checking {
-            out: Vec::new(alloc),
+            judgements: Vec::new(alloc),
             legal: true,
         }
     }
@@ -55,8 +59,8 @@ impl TakesEvidence for Checking {
     fn close(&mut self, begun: Playing, line: usize, verdict: Verdict) -> Result<(), NoMemory> {
         if self.legal {
             let judgement = begun.judge(line, verdict);
-            append_judgement(&mut self.out, &judgement)?;
             self.legal = is_legal(&judgement);
+            self.judgements.push(judgement)?;
         }
         Ok(())
     }
@@ -69,24 +73,32 @@ fn status_of(legal: bool) -> u8
     if legal { 0 } else { REFUSED }
 }
 
-/// What is printed for the blocks that the text spells, up to the first that is not legal, and the status; otherwise the
-/// text's first fault, or NoMemory. The text is read to its end also after a block that is not legal.
-pub(crate) fn check_lines(alloc: Global, text: &[u8]) -> Result<(Vec<u8>, u8), RunFault>
-    ensures done { IfOk result (λ r. IsChecked text.now r.0.items r.1) }
+/// What is printed for the blocks that the text spells, up to the first that is not legal: a line for each that is picked,
+/// and for that one. And the status; otherwise the text's first fault, or NoMemory. The text is read to its end also after a
+/// block that is not legal.
+pub(crate) fn check_lines(
+    alloc: Global,
+    text: &[u8],
+    only: &[Pattern],
+    failed: bool,
+) -> Result<(Vec<u8>, u8), RunFault>
+    ensures done { IfOk result (λ r. IsChecked (picked_by (is_picked only.now failed)) text.now r.0.items r.1) }
     ensures refused { IfErr result (RefusesHistory text.now) }
 {
     let checking: Checking = read_evidence_into(alloc, text)?;
+    let out = picked_lines(alloc, checking.judgements.as_slice(), only, failed)?;
     let status = status_of(checking.legal);
-    Ok((checking.out, status))
+    Ok((out, status))
 }
 
-/// What `check` makes of a text of histories and evidence: which blocks are legal, up to the first that is not, and the
-/// status 0 if all are, otherwise 3.
-pub(crate) fn check_text(alloc: Global, text: &[u8]) -> Result<Answer, RunFault>
-    ensures done { IfOk result (λ a. IsChecked text.now a.out a.status × (a.told ≡ [])) }
-    ensures refused { IfErr result (RefusesHistory text.now) }
+/// What `check` makes of a text of histories and evidence: which of the chosen blocks are legal, up to the first of all that
+/// is not, and the status 0 if all are, otherwise 3. If all are, each pattern has to match the name of one.
+pub(crate) fn check_text(alloc: Global, choice: &Choice, text: &[u8]) -> Result<Answer, RunFault>
+    ensures { IsMadeOfBlocks choice.now text.now (IsSilent (IsChecked (is_chosen choice.now) text.now)) result }
 {
-    let (out, status) = check_lines(alloc, text)?;
+    let only = choice.only.as_slice();
+    let (out, status) = check_lines(alloc, text, only, choice.failed)?;
+    refuse_names(alloc, status, only, text)?;
     Ok(Answer {
         out: Sequence::new(out),
         told: Sequence::new(Vec::new(alloc)),
@@ -103,8 +115,14 @@ pub fn check<R: Read, W: Write>(
     reader: &mut R,
     writer: &mut W,
 ) -> Result<u8, RunFault>
-    ensures { (explains : Bool) → Does (Check explains) (R.remaining reader.old) (W.contents writer.old) (W.contents writer.new) result }
+    ensures { (choice : AnyChoice) (explains : Bool) → ChoosesEach choice
+        → Does (Check choice explains) (R.remaining reader.old) (W.contents writer.old) (W.contents writer.new) result }
 {
+    let all = Choice {
+        only: Vec::new(alloc),
+        shard: None,
+        failed: false,
+    };
     let text = read_text(alloc, reader, HISTORY_LIMIT)?;
-    write_answer(check_text(alloc, text.as_slice()), writer)
+    write_answer(check_text(alloc, &all, text.as_slice()), writer)
 }

@@ -1,13 +1,17 @@
 //! The lines that `check` prints.
-ghost use Rattle.std.specs.Prelude.{◌≡◌, ◌++◌, OnOk};
+ghost use Rattle.std.specs.Prelude.{◌≡◌, ◌++◌, IfOk, OnOk};
+ghost use Rattle.std.specs.List.{flat_map};
 ghost use Rattle.tc_text.specs.Spelling.{reply_text};
 ghost use Rattle.tc_verdict.specs.Verdict.{name_of};
 ghost use Rattle.tc_program.specs.Check.{gives_text, legal_line, other_line};
-ghost use Rattle.tc_program.specs.Inside.{judgement_line};
+ghost use Rattle.tc_program.specs.Choosing.{is_picked as spec_picked};
+ghost use Rattle.tc_program.specs.Inside.{judgement_line, line_by};
 
 use crate::fault::append_place;
 use crate::judge::Judgement;
-use tc_entry::Name;
+use crate::picked::is_picked;
+use std::alloc::Global;
+use tc_entry::{Name, Pattern};
 use tc_table::{NoMemory, Reply, Verdict};
 use tc_text::{append_number, append_text, write_reply};
 use tc_verdict::name as name_of_verdict;
@@ -92,4 +96,47 @@ pub(crate) fn append_judgement(out: &mut Vec<u8>, judgement: &Judgement) -> Resu
             verdict,
         } => append_other_verdict(out, *line, *given, *verdict),
     }
+}
+
+// Appends what is printed for a block, if it is picked or not legal; if memory runs out, a part of it.
+fn append_picked(
+    out: &mut Vec<u8>,
+    judgement: &Judgement,
+    only: &[Pattern],
+    failed: bool,
+) -> Result<(), NoMemory>
+    ensures { OnOk result (out.new.items ≡ out.old.items ++ line_by (spec_picked only.now failed) judgement.now) }
+{
+    match judgement {
+        Judgement::Legal {
+            name,
+            entries,
+            verdict,
+        } => {
+            if is_picked(only, failed, name, *verdict) {
+                append_legal(out, name, *entries, *verdict)
+            } else {
+                Ok(())
+            }
+        }
+        Judgement::OtherReply { .. } | Judgement::OtherVerdict { .. } => {
+            append_judgement(out, judgement)
+        }
+    }
+}
+
+/// What is printed for judged blocks: a line for each that is picked or not legal.
+pub(crate) fn picked_lines(
+    alloc: Global,
+    judgements: &[Judgement],
+    only: &[Pattern],
+    failed: bool,
+) -> Result<Vec<u8>, NoMemory>
+    ensures { IfOk result (λ v. v.items ≡ flat_map (line_by (spec_picked only.now failed)) judgements.now) }
+{
+    let mut out = Vec::new(alloc);
+    for judgement in judgements {
+        append_picked(&mut out, judgement, only, failed)?;
+    }
+    Ok(out)
 }

@@ -298,7 +298,7 @@ pub(crate) fn compare_text(alloc: Global, choice: &Choice, text: &[u8]) -> Resul
 {
     let ready = chosen_before(alloc, choice, text)?;
     let (_, rest) = split(text);
-    let (mut out, checked) = check_lines(alloc, rest)?;
+    let (mut out, checked) = check_lines(alloc, rest, &[], false)?;
     let Comparison { notes, missing } = compare_blocks(alloc, ready, rest)?;
     drop(missing);
     out.extend_from_slice(notes.as_slice())?;
@@ -323,8 +323,8 @@ pub(crate) fn report_compared(
 {
     let ready = chosen_before(alloc, choice, text)?;
     let (_, rest) = split(text);
-    let reporting = read_reported(alloc, rest)?;
+    let (cases, illegal) = read_reported(alloc, rest, &[], false)?;
     let Comparison { notes, missing } = compare_blocks(alloc, ready, rest)?;
-    let answer = report_blocks(alloc, form, rest, reporting, missing.as_slice(), notes)?;
+    let answer = report_blocks(alloc, form, rest, cases, illegal, missing.as_slice(), notes)?;
     Ok(answer)
 }

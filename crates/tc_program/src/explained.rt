@@ -9,11 +9,11 @@ use crate::limits::has_blocks;
 use crate::outcome::Outcome;
 use crate::split::split;
 use crate::stderr::refuse_with;
-use crate::unknown::append_unknown;
+use crate::unknown::{append_unknown, names_of_blocks, names_of_script};
 use std::alloc::Global;
 use std::io::Write;
 use tc_command::{Choice, Task};
-use tc_entry::NoMemory;
+use tc_entry::{Name, NoMemory, Pattern};
 use tc_explain::{Refusal, explain};
 use tc_text::{TextFault, TextKind};
 
@@ -23,7 +23,7 @@ fn explains(task: &Task) -> bool
 {
     match task {
         Task::Replay { explains }
-        | Task::Check { explains }
+        | Task::Check { explains, .. }
         | Task::Compare { explains, .. }
         | Task::Report { explains, .. }
         | Task::List { explains, .. } => *explains,
@@ -113,17 +113,45 @@ fn append_explained(
     }
 }
 
-// Which test cases the task is asked for, if it is one of a script.
+// What the task is asked to choose, if it may be asked.
 fn choice_of(task: &Task) -> Option<&Choice> {
     match task {
-        Task::Compare { choice, .. } | Task::List { choice, .. } => Some(choice),
+        Task::Check { choice, .. }
+        | Task::Report { choice, .. }
+        | Task::Compare { choice, .. }
+        | Task::List { choice, .. } => Some(choice),
         Task::Run(options) => Some(&options.choice),
         Task::Explore(options) => Some(&options.choice),
-        Task::Replay { .. } | Task::Check { .. } | Task::Report { .. } | Task::Serve => None,
+        Task::Replay { .. } | Task::Serve => None,
     }
 }
 
-// Appends which value of `--only` matches no test case, if that is the fault, and is explained.
+// The names that the task chooses among: those of the blocks, or of the test cases of the script.
+fn names_in(alloc: Global, task: &Task, text: &[u8]) -> Result<Vec<Name>, RunFault> {
+    match task {
+        Task::Check { .. } | Task::Report { .. } => names_of_blocks(alloc, text),
+        _ if has_blocks(task) => names_of_script(alloc, split(text).0),
+        _ => names_of_script(alloc, text),
+    }
+}
+
+// Appends which of the patterns matches no name that the task chooses among.
+fn append_unknown_of(
+    alloc: Global,
+    out: &mut Vec<u8>,
+    task: &Task,
+    text: &[u8],
+    only: &[Pattern],
+) -> Result<(), NoMemory>
+    ensures { OnOk result (TellsAmong [] out.old.items out.new.items) }
+{
+    let Ok(names) = names_in(alloc, task, text) else {
+        return Err(NoMemory);
+    };
+    append_unknown(alloc, out, only, names.as_slice())
+}
+
+// Appends which value of `--only` matches no name, if that is the fault, and is explained.
 #[tactic(auto, using(tc_text::proofs::Lemmas::Among::among_none))]
 fn append_only(
     alloc: Global,
@@ -134,14 +162,9 @@ fn append_only(
 ) -> Result<(), NoMemory>
     ensures { OnOk result (TellsAmong [] out.old.items out.new.items) }
 {
-    let script = if has_blocks(task) {
-        split(text).0
-    } else {
-        text
-    };
     match (fault, choice_of(task)) {
         (RunFault::Only, Some(choice)) => {
-            append_unknown(alloc, out, choice.only.as_slice(), script)
+            append_unknown_of(alloc, out, task, text, choice.only.as_slice())
         }
         _ => Ok(()),
     }

@@ -22,6 +22,7 @@ mod made;
 pub mod outcome;
 pub mod output;
 mod passed;
+mod picked;
 pub mod replay;
 pub mod reply;
 mod report;

@@ -1,10 +1,13 @@
 //! The subcommand `report`.
-ghost use Rattle.std.specs.Prelude.{◌≡◌, ◌==◌, ◌++◌, List, IfOk, IfErr, OnOk, if◌then◌else◌, length, map};
+ghost use Rattle.std.specs.Prelude.{◌≡◌, ◌==◌, ◌++◌, List, filter, IfOk, IfErr, OnOk, if◌then◌else◌, length, map};
+ghost use Rattle.std.specs.List.{flat_map};
 ghost use Rattle.tc_evidence.specs.Line.{entry_of};
 ghost use Rattle.tc_evidence.specs.Text.{AreEvidence};
 ghost use Rattle.tc_evidence.specs.declared.block.Block.{Block as AnyBlock};
 ghost use Rattle.tc_program.specs.Check.{RefusesHistory};
-ghost use Rattle.tc_program.specs.Inside.{IsRecorded, Summarizes, illegal_line, judgement_line};
+ghost use Rattle.tc_program.specs.Choosing.{is_chosen, is_picked as spec_picked};
+ghost use Rattle.tc_program.specs.Inside.{IsRecorded, Reports, Summarizes, case_if_picked, illegal_line, judgement_line, picked_by};
+ghost use Rattle.tc_program.specs.Made.{IsMadeOfBlocks};
 ghost use Rattle.tc_program.specs.Report.{IsReport, IsReported, form_of, reported, unreported};
 ghost use Rattle.tc_report.specs.Status.{status_of_summaries};
 ghost use Rattle.tc_report.specs.Summary.{bare_summary as bare};
@@ -14,10 +17,11 @@ use crate::check_lines::append_judgement;
 use crate::fault::RunFault;
 use crate::judge::{Judgement, Playing, is_legal};
 use crate::outcome::REFUSED;
+use crate::picked::{is_picked, refuse_names};
 use crate::reply::Answer;
 use std::alloc::Global;
-use tc_command::{ReportForm, VERSION};
-use tc_entry::{Name, Sequence};
+use tc_command::{Choice, ReportForm, VERSION};
+use tc_entry::{Name, Pattern, Sequence};
 use tc_evidence::{Header, Line, TakesEvidence, read_evidence_into};
 use tc_page::html_page;
 use tc_report::{
@@ -33,11 +37,18 @@ pub(crate) struct Recorded {
     entries: Vec<Entry>,
 }
 
+/// The test case of a block, and the verdict of the block.
+#[derive(Drop)]
+pub(crate) struct ReportedBlock {
+    summary: Summary,
+    verdict: Verdict,
+}
+
 /// The test cases of blocks, and the judgement of the first block that is not legal, if there is one.
 #[derive(Drop)]
 pub(crate) struct Reporting {
     alloc: Global,
-    summaries: Vec<Summary>,
+    blocks: Vec<ReportedBlock>,
     illegal: Option<Judgement>,
 }
 
@@ -65,12 +76,12 @@ impl TakesEvidence for Reporting {
 
     ghost opens = { IsRecorded };
 
-    ghost stands = { λ blocks r. Summarizes blocks r.summaries.items r.illegal };
+    ghost stands = { λ blocks r. Summarizes blocks r.blocks.items r.illegal };
 
     fn begin(alloc: Global) -> Reporting {
         Reporting {
             alloc,
-            summaries: Vec::new(alloc),
+            blocks: Vec::new(alloc),
             illegal: None,
         }
     }
@@ -101,7 +112,7 @@ impl TakesEvidence for Reporting {
         let summary = begun.playing.summary(self.alloc, begun.entries.as_slice())?;
         let judgement = played_of(begun).judge(line, verdict);
         if is_legal(&judgement) {
-            self.summaries.push(summary)?;
+            self.blocks.push(ReportedBlock { summary, verdict })?;
         } else {
             self.illegal = Some(judgement);
         }
@@ -109,15 +120,59 @@ impl TakesEvidence for Reporting {
     }
 }
 
-/// The test cases of the blocks that the text spells, and the first block that is not legal; otherwise the text's first
-/// fault, or NoMemory.
-pub(crate) fn read_reported(alloc: Global, text: &[u8]) -> Result<Reporting, RunFault>
+// Adds the test case of the block, if the block is picked.
+fn add_picked(
+    cases: &mut Vec<Summary>,
+    block: ReportedBlock,
+    only: &[Pattern],
+    failed: bool,
+) -> Result<(), NoMemory>
+    ensures { OnOk result (cases.new.items ≡ cases.old.items ++ case_if_picked (spec_picked only.now failed) block) }
+{
+    let ReportedBlock { summary, verdict } = block;
+    if is_picked(only, failed, &summary.name, verdict) {
+        cases.push(summary)?;
+    }
+    Ok(())
+}
+
+// The test cases of the blocks that are picked, in their order.
+fn picked_cases(
+    alloc: Global,
+    blocks: Vec<ReportedBlock>,
+    only: &[Pattern],
+    failed: bool,
+) -> Result<Vec<Summary>, NoMemory>
+    ensures { IfOk result (λ v. v.items ≡ flat_map (case_if_picked (spec_picked only.now failed)) blocks.items) }
+{
+    let mut cases = Vec::new(alloc);
+    for block in blocks {
+        add_picked(&mut cases, block, only, failed)?;
+    }
+    Ok(cases)
+}
+
+/// The test cases of the picked blocks that the text spells, and the first of all blocks that is not legal; otherwise the
+/// text's first fault, or NoMemory.
+pub(crate) fn read_reported(
+    alloc: Global,
+    text: &[u8],
+    only: &[Pattern],
+    failed: bool,
+) -> Result<(Vec<Summary>, Option<Judgement>), RunFault>
     ensures done { OnOk result ((blocks : List AnyBlock) × AreEvidence text.now blocks) }
     ensures refused { IfErr result (RefusesHistory text.now) }
-    ensures only { OnOk result ((blocks : List AnyBlock) → AreEvidence text.now blocks → IfOk result (λ r. Summarizes blocks r.summaries.items r.illegal)) }
+    ensures only { OnOk result ((blocks : List AnyBlock) → AreEvidence text.now blocks
+        → IfOk result (λ r. Reports blocks (filter (picked_by (spec_picked only.now failed)) blocks) r.0.items r.1)) }
 {
     let reporting: Reporting = read_evidence_into(alloc, text)?;
-    Ok(reporting)
+    let Reporting {
+        blocks,
+        illegal,
+        ..
+    } = reporting;
+    let cases = picked_cases(alloc, blocks, only, failed)?;
+    Ok((cases, illegal))
 }
 
 // The form of the blocks that the text spells, whose test cases these are.
@@ -214,36 +269,56 @@ fn answer_with_missing(
     legal_answer(alloc, form, text, cases.as_slice(), notes)
 }
 
-/// The answer for the blocks of a text and missing test cases, with lines for standard error. If all blocks are legal, their
-/// form is written; otherwise the line of `check` for the first that is not is printed.
+/// The answer for the blocks of a text, of which these are the test cases of the chosen ones, and missing test cases, with
+/// lines for standard error. If all blocks are legal, the form is written; otherwise the line of `check` for the first that
+/// is not is printed.
 pub(crate) fn report_blocks(
     alloc: Global,
     form: &ReportForm,
     text: &[u8],
-    reporting: Reporting,
+    cases: Vec<Summary>,
+    illegal: Option<Judgement>,
     missing: &[Name],
     notes: Vec<u8>,
 ) -> Result<Answer, NoMemory>
-    ensures { IfOk result (λ a. (blocks : List AnyBlock) → Summarizes blocks reporting.summaries.items reporting.illegal
-        → IsReport form.now text.now blocks missing.now notes.items a) }
+    ensures { IfOk result (λ a. (blocks chosen : List AnyBlock) → Reports blocks chosen cases.items illegal
+        → IsReport form.now text.now blocks chosen missing.now notes.items a) }
 {
-    let Reporting {
-        mut summaries,
-        illegal,
-        ..
-    } = reporting;
+    let mut cases = cases;
     match illegal {
-        None => answer_with_missing(alloc, form, text, &mut summaries, missing, notes),
+        None => answer_with_missing(alloc, form, text, &mut cases, missing, notes),
         Some(judgement) => illegal_answer(alloc, &judgement),
     }
 }
 
-/// What `report` makes of a text of histories and evidence, each block of which is replayed on a table of its own.
-pub(crate) fn report_text(alloc: Global, form: &ReportForm, text: &[u8]) -> Result<Answer, RunFault>
-    ensures done { IfOk result (IsReported form.now text.now) }
+// What `report` makes of the text for these patterns, before it is known that each picks a block.
+fn report_picked(
+    alloc: Global,
+    form: &ReportForm,
+    text: &[u8],
+    only: &[Pattern],
+    failed: bool,
+) -> Result<Answer, RunFault>
+    ensures done { IfOk result (IsReported form.now (picked_by (spec_picked only.now failed)) text.now) }
     ensures refused { IfErr result (RefusesHistory text.now) }
 {
-    let reporting = read_reported(alloc, text)?;
-    let answer = report_blocks(alloc, form, text, reporting, &[], Vec::new(alloc))?;
+    let (cases, illegal) = read_reported(alloc, text, only, failed)?;
+    let answer = report_blocks(alloc, form, text, cases, illegal, &[], Vec::new(alloc))?;
+    Ok(answer)
+}
+
+/// What `report` makes of a text of histories and evidence, each block of which is replayed on a table of its own. If all
+/// are legal, each pattern has to match the name of one.
+pub(crate) fn report_text(
+    alloc: Global,
+    form: &ReportForm,
+    choice: &Choice,
+    text: &[u8],
+) -> Result<Answer, RunFault>
+    ensures { IsMadeOfBlocks choice.now text.now (IsReported form.now (is_chosen choice.now) text.now) result }
+{
+    let only = choice.only.as_slice();
+    let answer = report_picked(alloc, form, text, only, choice.failed)?;
+    refuse_names(alloc, answer.status, only, text)?;
     Ok(answer)
 }

@@ -1,7 +1,8 @@
-//! Which pattern of `--only` no test case has.
+//! Which pattern of `--only` matches no name.
 ghost use Rattle.std.specs.Prelude.{[], OnOk};
 ghost use Rattle.tc_text.specs.Said.{TellsAmong};
 
+use crate::compare::read_blocks;
 use crate::fault::RunFault;
 use crate::script::read_script;
 use std::alloc::Global;
@@ -9,8 +10,18 @@ use tc_entry::{Name, NoMemory, Pattern};
 use tc_explain::near_word;
 use tc_text::{Part, append_parts};
 
-// The names of the test cases of the script.
-fn names_of(alloc: Global, script: &[u8]) -> Result<Vec<Name>, RunFault> {
+/// The names of the blocks of a text.
+pub(crate) fn names_of_blocks(alloc: Global, text: &[u8]) -> Result<Vec<Name>, RunFault> {
+    let blocks = read_blocks(alloc, text)?;
+    let mut names = Vec::new(alloc);
+    for block in blocks.as_slice() {
+        names.push(block.header.name.copy())?;
+    }
+    Ok(names)
+}
+
+/// The names of the test cases of the script.
+pub(crate) fn names_of_script(alloc: Global, script: &[u8]) -> Result<Vec<Name>, RunFault> {
     let mut campaign = read_script(alloc, script)?;
     let mut names = Vec::new(alloc);
     while let Some((name, case)) = campaign.take_first() {
@@ -56,20 +67,16 @@ fn append_word(
     }
 }
 
-/// Appends which pattern matches no name of the script, and the name that is the nearest to it.
+/// Appends which pattern matches none of the names, and the name that is the nearest to it.
 #[tactic(auto, using(tc_text::proofs::Lemmas::Among::among_rules))]
 pub(crate) fn append_unknown(
     alloc: Global,
     out: &mut Vec<u8>,
     only: &[Pattern],
-    script: &[u8],
+    names: &[Name],
 ) -> Result<(), NoMemory>
     ensures { OnOk result (TellsAmong [] out.old.items out.new.items) }
 {
-    let Ok(names) = names_of(alloc, script) else {
-        return Err(NoMemory);
-    };
-    let names = names.as_slice();
     match only.iter().find(|pattern| is_unknown(pattern, names)) {
         Some(pattern) => append_word(alloc, out, pattern.bytes(), names),
         None => Ok(()),

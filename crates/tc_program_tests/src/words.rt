@@ -58,6 +58,9 @@ ttrun run --failed --explain => run --failed --explain
 ttrun run --no-explain => run
 ttrun check --explain => check --explain
 ttrun check --no-explain => check
+ttrun check --only a --only=b* => check --only=a --only=b*
+ttrun check --failed --explain => check --failed --explain
+ttrun check --failed --only a => check --only=a --failed
 ttrun check --script --explain => check --script --explain
 ttrun check --script => check --script
 ttrun check --shard 2/3 --script --only b --only a => check --script --only=b --only=a --shard=2/3
@@ -68,6 +71,9 @@ ttrun report --csv => report --csv
 ttrun report --junit => report --junit
 ttrun report --junit --suite=A_1 => report --junit --suite=A_1
 ttrun report --summary => report --summary
+ttrun report --failed --summary => report --summary --failed
+ttrun report --only a --csv --failed --only b => report --csv --only=a --only=b --failed
+ttrun report --html --script --only a => report --html --script --only=a
 ttrun report --summary --script --only a => report --summary --script --only=a
 ttrun report --html => report --html
 ttrun report --script --csv => report --csv --script
@@ -203,12 +209,8 @@ fn append_explaining(out: &mut String, word: &str, explains: bool) -> Result<(),
     append_explains(out, explains)
 }
 
-fn append_explaining_report(
-    out: &mut String,
-    form: &ReportForm,
-    explains: bool,
-) -> Result<(), Fail> {
-    append_report(out, form)?;
+fn append_chosen(out: &mut String, choice: &Choice, explains: bool) -> Result<(), Fail> {
+    append_choice(out, choice)?;
     append_explains(out, explains)
 }
 
@@ -226,7 +228,10 @@ fn append_explore(out: &mut String, options: &ExploreOptions) -> Result<(), Fail
 fn append_task(out: &mut String, task: &Task) -> Result<(), Fail> {
     match task {
         Task::Replay { explains } => append_explaining(out, "replay", *explains),
-        Task::Check { explains } => append_explaining(out, "check", *explains),
+        Task::Check { choice, explains } => {
+            out.push_str("check")?;
+            append_chosen(out, choice, *explains)
+        }
         Task::Compare {
             form,
             choice,
@@ -241,7 +246,14 @@ fn append_task(out: &mut String, task: &Task) -> Result<(), Fail> {
             append_list(out, choice)?;
             append_explains(out, *explains)
         }
-        Task::Report { form, explains } => append_explaining_report(out, form, *explains),
+        Task::Report {
+            form,
+            choice,
+            explains,
+        } => {
+            append_report(out, form)?;
+            append_chosen(out, choice, *explains)
+        }
         Task::Explore(options) => append_explore(out, options),
     }
 }

@@ -2,13 +2,15 @@ use Rattle.std.proofs.Common.{rules, ◌≡◌, ◌∙◌, List, reverse, subst,
 use Rattle.tc_evidence.specs.Text.{AreEvidence}
 use Rattle.tc_evidence.specs.declared.block.Block.{Block}
 use Rattle.tc_program.specs.Compared.{blocks_part, missing}
+use Rattle.tc_program.specs.Inside.{Reports}
 use Rattle.tc_program.specs.Report.{IsReport}
+use Rattle.tc_program.proofs.Reporting.{filter_each}
 use Rattle.tc_program.proofs.compare.report_compared.Goals as goal
 
 pub returns-clause-done : goal.returns-clause-done
 returns-clause-done c =
     let ready = c.in_ok-ready.ensures.ready in
-    let done = c.in_ok-reporting.ensures.done in
+    let done = c.in_ok-cases.ensures.done in
     let part : c.split.result.1.now ≡ blocks_part c.args.text.now = search rules in
     let found = c.in_ok-notes.field-0 in
     let missing_is = c.in_ok-notes.missing-is in
@@ -24,8 +26,9 @@ returns-clause-done c =
       notes = found.notes.items;
       compared = λ all are. (c.in_ok-notes.ensures.done ready.cases all ready.each (here all are)).0;
       made = λ all are.
-          subst (λ t. IsReport c.args.form.now t all (missing (reverse all) ready.cases) found.notes.items c.in_ok-answer.answer) part
-          (subst (λ l. IsReport c.args.form.now c.split.result.1.now all l found.notes.items c.in_ok-answer.answer)
+          subst (λ t. IsReport c.args.form.now t all all (missing (reverse all) ready.cases) found.notes.items c.in_ok-answer.answer) part
+          (subst (λ l. IsReport c.args.form.now c.split.result.1.now all all l found.notes.items c.in_ok-answer.answer)
           (names ∙ (c.in_ok-notes.ensures.done ready.cases all ready.each (here all are)).1)
-          (c.in_ok-answer.ensures all (c.in_ok-reporting.ensures.only all (here all are))));
+          (c.in_ok-answer.ensures all all
+          (subst (λ l. Reports all l c.in_ok-cases.cases.items c.in_ok-cases.illegal) (filter_each all) (c.in_ok-cases.ensures.only all (here all are)))));
     }

@@ -14,8 +14,8 @@ returns-in_ok-push c blocks b line verdict played stood =
     let legal : judges_legal c.judge-judgement.result ≡ true = cc in
     let judged = subst (λ p. JudgesPlayed p c.args.line c.args.verdict c.judge-judgement.result) c.played_of.ensures c.judge-judgement.ensures in
     let lent : c.as_slice.result.now ≡ c.args.begun.entries.items = c.as_slice.ensures.value in
-    legal_next c.args.self.now.illegal blocks b c.args.begun c.judge-judgement.result c.in_ok-summary.summary
-    c.args.self.now.summaries.items c.push.new.self.items none stood played (judged b played.0 line verdict) legal
+    legal_next c.args.self.now.illegal blocks b c.args.begun c.judge-judgement.result c.in_ok-summary.summary c.args.verdict
+    c.args.self.now.blocks.items c.push.new.self.items none stood played (judged b played.0 line verdict) legal verdict
     (rw lent at c.in_ok-summary.ensures) c.in_ok-push.ensures.items
 
 pub returns-else-is_legal : goal.returns-else-is_legal
@@ -27,7 +27,7 @@ returns-else-is_legal c blocks b line verdict played stood =
     let is = c.if-is_legal.false in
     let illegal : judges_legal c.judge-judgement.result ≡ false = cc in
     let judged = subst (λ p. JudgesPlayed p c.args.line c.args.verdict c.judge-judgement.result) c.played_of.ensures c.judge-judgement.ensures in
-    illegal_next c.args.self.now.illegal blocks b c.judge-judgement.result c.args.self.now.summaries.items c.args.self.now.summaries.items
+    illegal_next c.args.self.now.illegal blocks b c.judge-judgement.result c.args.self.now.blocks.items c.args.self.now.blocks.items
     none stood (judged b played.0 line verdict) illegal
 
 pub returns-then-is_some : goal.returns-then-is_some
@@ -35,4 +35,4 @@ returns-then-is_some c blocks b line verdict played stood =
     let said = c.is_some.ensures in
     let tested = c.if-is_some.true in
     let some : is_some c.args.self.now.illegal ≡ true = cc in
-    illegal_passed c.args.self.now.illegal blocks b c.args.self.now.summaries.items some stood
+    illegal_passed c.args.self.now.illegal blocks b c.args.self.now.blocks.items some stood
