@@ -70,6 +70,8 @@ def tasks() -> List[Task]:
         found += [Task(f"{kept}_after_{name}", words, given)
                   for words in (("check", "--script"), ("report", "--script", "--csv"), ("report", "--script", "--junit"), ("run", "--list", "--failed"))]
     found += [Task(name, ("report", "--junit", "--suite", "nightly"), bytes_of(f"{name}.history")) for name in ("restart",)]
+    found += [Task("verdicts", (*words, "--failed", "--only", "t_*"), bytes_of("verdicts.history")) for words in (("check",), ("report", "--junit"))]
+    found.append(Task("verdicts", ("check", "--explain", "--only", "t_fial"), bytes_of("verdicts.history")))
     found.append(Task("a_session", ("serve",), SESSION))
     words = (("--help",), ("run", "--help"), ("frobnicate",), ("run", "--stop-on", "maybe"))
     return found + [Task("words_alone", it) for it in words]
