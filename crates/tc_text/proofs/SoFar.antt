@@ -4,6 +4,7 @@ use Rattle.std.proofs.lemmas.List.{append-nil, length-append}
 use Rattle.tc_text.specs.Lines.{lines_of}
 use Rattle.tc_entry.specs.Limits.{IsBehaviours}
 use Rattle.tc_text.specs.MoveList.{Move, behaviours_line, move_line, list_lines, IsMove, AreMoves, IsMoveList, IsMadeOf, IsBadFirstLine, IsBadMove}
+use Rattle.tc_text.specs.Inside.{IsNoMove}
 use Rattle.tc_text.proofs.Lemmas.LinesOf.{some_line}
 
 -- the moves are the ones read, and those that the rest spells
@@ -27,10 +28,6 @@ IsThatNumberOfBehaviours text number rest = (n : ℕ) (others : List (List ℕ))
 -- what reading a line as a move shows
 abbrev pub IsThatMove : List ℕ → Move → List ℕ → Type 0
 IsThatMove text one rest = (m : Move) (others : List (List ℕ)) → IsMove m → lines_of text ≡ move_line m ∷ others → (one ≡ m) × (lines_of rest ≡ others)
-
--- what it shows that there is no move
-abbrev pub IsNoMove : List ℕ → Type 0
-IsNoMove text = (m : Move) (others : List (List ℕ)) → IsMove m → lines_of text ≡ move_line m ∷ others → ⊥
 
 map-append : (xs ys : List Move) → map move_line (xs ++ ys) ≡ map move_line xs ++ map move_line ys
 map-append [] ys = refl

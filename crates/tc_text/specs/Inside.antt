@@ -1,9 +1,10 @@
 -- What only the way the texts are read needs: no public clause names a word of this file.
-use Rattle.std.specs.Prelude.{ℕ, ◌≡◌, ◌≢◌, ◌≤◌, ◌++◌, codes, true, if◌then◌else◌, List, [], ◌∷◌, Option, Some, MatchOption, slice_get}
+use Rattle.std.specs.Prelude.{ℕ, ◌≡◌, ◌≢◌, ◌<◌, ◌≤◌, ◌++◌, codes, length, true, if◌then◌else◌, List, [], ◌∷◌, Option, Some, MatchOption, slice_get}
 use Rattle.std.specs.Borrow.{Bor}
 use Rattle.std.specs.Char.{is_ascii_digit}
 use Rattle.std.specs.Fmt.{decimal}
 use Rattle.tc_text.specs.Lines.{lines_of}
+use Rattle.tc_text.specs.MoveList.{Move, IsMove, move_line}
 use Rattle.tc_text.specs.declared.verb.Status.{Status}
 use Rattle.tc_text.specs.declared.verb.Status.TheVariants as S
 use Rattle.tc_text.specs.declared.said.Part.{Part}
@@ -48,3 +49,16 @@ abbrev pub part_text : Part → List ℕ
 part_text (P.Text t) = prose_text t.now
 part_text (P.Number n) = 32 ∷ decimal n
 part_text (P.Word w) = 32 ∷ w.now
+
+-- the first line is no move
+abbrev pub IsNoMove : List ℕ → Type 0
+IsNoMove text = (m : Move) (others : List (List ℕ)) → IsMove m → lines_of text ≡ move_line m ∷ others → ⊥
+
+-- the first line spells a move and no other, the rest follows that line, and with the move the value before becomes the one after
+pub record IsMoveTakenBy {T : Type 0} (stands : ℕ → List Move → T → Type 0) (text : List ℕ) (value value' : T) (rest : List ℕ) : Type 0 where
+  pub move : Move
+  pub spelled : lines_of text ≡ move_line move ∷ lines_of rest
+  pub fits : IsMove move
+  pub less : length rest < length text
+  pub only : (m : Move) (others : List (List ℕ)) → IsMove m → lines_of text ≡ move_line m ∷ others → (move ≡ m) × (lines_of rest ≡ others)
+  pub taken : (n : ℕ) (moves : List Move) → stands n moves value → stands n (moves ++ move ∷ []) value'

@@ -1,17 +1,19 @@
 //! Lists of moves as texts.
-ghost use Rattle.std.specs.Prelude.{◌≡◌, ◌<◌, ◌≤◌, ◌++◌, ◌^◌, ℕ, List, [], ◌∷◌, codes, length, Some, IfSome, IfNone, IfOk, IfErr, OnOk, MatchResult};
+ghost use Rattle.std.specs.Prelude.{◌≡◌, ◌<◌, ◌≤◌, ◌++◌, ◌^◌, ℕ, List, [], ◌∷◌, codes, length, Some, IfSome, IfNone, IfOk, IfErr, OnOk, MatchOption, MatchResult};
 ghost use Rattle.std.specs.Fmt.{decimal};
 ghost use Rattle.tc_text.specs.Lines.{lines_of};
-ghost use Rattle.tc_text.specs.Spelling.{move_text, IsOp};
+ghost use Rattle.tc_text.specs.Spelling.{move_text, IsLong, IsOp};
+ghost use Rattle.tc_text.specs.Reading.{op_of};
 ghost use Rattle.tc_entry.specs.Limits.{IsBehaviours};
 ghost use Rattle.tc_text.specs.MoveList.{Move as AnyMove, behaviours_line, move_line, list_lines, IsMadeOf, IsMove, AreMoves, IsMoveList, IsListFault};
 ghost use Rattle.tc_entry.specs.declared.op.Op.{Op as AnyOp};
-ghost use Rattle.tc_text.specs.Inside.{TakesLine};
+ghost use Rattle.tc_text.specs.Inside.{IsMoveTakenBy, IsNoMove, TakesLine};
 
 use crate::cursor::{after, take_line_end};
 use crate::fault::{TextFault, TextKind};
 use crate::moves::take_move;
 use crate::number::take_number;
+use crate::short::{ShortOp, take_short_move};
 use std::alloc::Global;
 use tc_entry::{NoMemory, Op, Run, Sequence, is_behaviours};
 
@@ -59,6 +61,23 @@ fn take_move_line(text: &[u8]) -> Option<((Run, Op), &[u8])>
     Some((one, rest))
 }
 
+// The caller and the operation of the move that the first line spells, if the operation is a short one, and what follows
+// that line; None also if it is a long one.
+#[inline(always)]
+fn take_short_line(text: &[u8]) -> Option<((Run, ShortOp), &[u8])>
+    ensures spelled { IfSome result (λ r. lines_of text.now ≡ move_line (r.0.0, op_of r.0.1) ∷ lines_of r.1.now) }
+    ensures fits { IfSome result (λ r. IsMove (r.0.0, op_of r.0.1)) }
+    ensures less { IfSome result (λ r. length r.1.now < length text.now) }
+    ensures only { (m : AnyMove) (others : List (List ℕ)) → IsMove m → lines_of text.now ≡ move_line m ∷ others
+        → MatchOption result (IsLong m.1) (λ r. ((r.0.0, op_of r.0.1) ≡ m) × (lines_of r.1.now ≡ others)) }
+{
+    let Some((one, rest)) = take_short_move(text) else {
+        return None;
+    };
+    let rest = take_line_end(rest)?;
+    Some((one, rest))
+}
+
 /// What is made of a list of moves, one move after the other.
 pub trait TakesMoves: Sized {
     /// The value is what these moves of a case of that many behaviours make.
@@ -89,6 +108,24 @@ impl TakesMoves for MoveList {
     }
 }
 
+// Takes the move that the first line spells, and gives what follows that line. Most moves have a short operation: they are
+// made where they are passed on.
+#[inline(always)]
+fn take_next<'a, T: TakesMoves>(made: &mut T, text: &'a [u8]) -> Result<Option<&'a [u8]>, NoMemory>
+    ensures { IfOk result (λ found. MatchOption found (IsNoMove text.now)
+        (λ rest. IsMoveTakenBy T.stands text.now made.old made.new rest.now)) }
+{
+    if let Some(((caller, short), rest)) = take_short_line(text) {
+        made.take((caller, short.op()))?;
+        return Ok(Some(rest));
+    }
+    let Some((one, rest)) = take_move_line(text) else {
+        return Ok(None);
+    };
+    made.take(one)?;
+    Ok(Some(rest))
+}
+
 /// What the moves that the text spells make, otherwise the text's first fault; NoMemory may come instead.
 pub fn read_moves_into<T: TakesMoves + Drop>(alloc: Global, text: &[u8]) -> Result<T, TextFault>
     ensures ok { IfOk result (IsMadeOf T.stands text.now) }
@@ -105,10 +142,9 @@ pub fn read_moves_into<T: TakesMoves + Drop>(alloc: Global, text: &[u8]) -> Resu
     let mut made = T::begin(alloc, behaviours)?;
     let mut line = 2;
     while !rest.is_empty() {
-        let Some((one, behind)) = take_move_line(rest) else {
+        let Some(behind) = take_next(&mut made, rest)? else {
             return Err(TextFault::at(line, TextKind::Move));
         };
-        made.take(one)?;
         line += 1;
         rest = behind;
     }

@@ -1,6 +1,7 @@
 -- The first line of a text, read as a move.
 use Rattle.std.proofs.Common.{◌≡◌, ◌≢◌, ◌∙◌, ◌<◌, ◌^◌, inl, inr, ℕ, List, ◌∷◌, ◌++◌, codes, sym, ap, refl, arith}
 use Rattle.std.specs.Fmt.{decimal}
+use Rattle.tc_verdict.specs.declared.run.Run.{Run}
 use Rattle.tc_entry.specs.declared.op.Op.{Op}
 use Rattle.tc_text.specs.Spelling.{move_text, IsOp}
 use Rattle.tc_text.specs.Lines.{lines_of}
@@ -53,6 +54,17 @@ that_line text rest one only m others fits lines =
     let begins = first_line text (move_line m) others lines in
     let two = only m.0.0 m.1 begins.rest fits.0 fits.1 (ends_line begins.rest begins.behind begins.ends) begins.parts in
     record { same = two.0; behind = begins.behind; ends = ends_at rest begins.rest begins.behind two.1 begins.ends; lines = begins.lines }
+
+-- the same of a move whose caller and operation are read
+pub that_short_line : (text rest : List ℕ) (caller : Run) (op : Op) → ((run : ℕ) (o : Op) (after : List ℕ) → run < 2 ^ 16 → IsOp o → EndsMove after → text ≡ move_text run o ++ after → (caller.0 ≡ run) × (op ≡ o) × (rest ≡ after))
+    → (m : Move) (others : List (List ℕ)) → IsMove m → lines_of text ≡ move_line m ∷ others → IsThat {A = Move} (caller, op) m rest others
+that_short_line text rest caller op only = that_line text rest (caller, op) (λ run o after few is ends parts. let three = only run o after few is ends parts in (same_move caller run op o three.0 three.1, three.2))
+  where
+    move : ℕ → Op → Move
+    move k o = (record { 0 = k }, o)
+
+    same_move : (r : Run) (n : ℕ) (x y : Op) → r.0 ≡ n → x ≡ y → ◌≡◌ {A = Move} (r, x) (record { 0 = n }, y)
+    same_move r n x y number same = ap (λ (k : ℕ). move k x) number ∙ ap (λ (o : Op). move n o) same
 
 -- ---- the first line of a list
 

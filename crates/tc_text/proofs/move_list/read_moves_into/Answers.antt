@@ -18,23 +18,24 @@ loop-rest-init g c =
     let first = c.in-Some.ensures in
     (made_none g.T.TakesMoves.stands c.args.text.now c.in-Some.behaviours c.in-Some.rest.now c.in_ok-made.made first.few first.spelled first.only c.in_ok-made.ensures, grind (arith, common_steps))
 
-pub returns-in_default-take_move_line-clause-fault : goal.returns-in_default-take_move_line-clause-fault
-returns-in_default-take_move_line-clause-fault g c =
+pub returns-in_default-2-clause-fault : goal.returns-in_default-2-clause-fault
+returns-in_default-2-clause-fault g c =
     let some : 0 < length c.loop-rest.rest.now = grind (arith, common_steps) in
-    rw c.at-in_default-take_move_line.ensures
-    (made_bad g.T.TakesMoves.stands c.args.text.now c.in-Some.behaviours c.loop-rest.line c.loop-rest.rest.now c.loop-rest.made c.loop-rest.invariant.0 (not_empty c.loop-rest.rest.now some) c.in_default-take_move_line.ensures.only)
+    rw c.at-in_default-2.ensures
+    (made_bad g.T.TakesMoves.stands c.args.text.now c.in-Some.behaviours c.loop-rest.line c.loop-rest.rest.now c.loop-rest.made c.loop-rest.invariant.0 (not_empty c.loop-rest.rest.now some) (rw c.in_default-2.is at c.in_ok-behind.ensures))
 
-pub returns-in_default-take_move_line-clause-only : goal.returns-in_default-take_move_line-clause-only
-returns-in_default-take_move_line-clause-only g c n ms list =
+pub returns-in_default-2-clause-only : goal.returns-in_default-2-clause-only
+returns-in_default-2-clause-only g c n ms list =
     let some : 0 < length c.loop-rest.rest.now = grind (arith, common_steps) in
-    absurd (no_list c.args.text.now c.in-Some.behaviours c.loop-rest.invariant.0.moves c.loop-rest.rest.now (not_empty c.loop-rest.rest.now some) c.loop-rest.invariant.0.read c.in_default-take_move_line.ensures.only n ms list)
+    let none = rw c.in_default-2.is at c.in_ok-behind.ensures in
+    absurd (no_list c.args.text.now c.in-Some.behaviours c.loop-rest.invariant.0.moves c.loop-rest.rest.now (not_empty c.loop-rest.rest.now some) c.loop-rest.invariant.0.read none n ms list)
 
 pub loop-rest-preserved : goal.loop-rest-preserved
 loop-rest-preserved g c =
-    let line = c.in-Some-take_move_line in (
-      made_more g.T.TakesMoves.stands c.args.text.now c.in-Some.behaviours c.loop-rest.line c.loop-rest.rest.now line.behind.now c.loop-rest.made c.take.new.self line.one c.loop-rest.invariant.0
-          line.ensures.spelled line.ensures.fits line.ensures.only c.in_ok-take.ensures,
-      grind (arith, common_steps),
+    let next = rw c.in-Some-2.is at c.in_ok-behind.ensures in
+    let less = next.less in (
+      made_more g.T.TakesMoves.stands c.args.text.now c.in-Some.behaviours c.loop-rest.line c.loop-rest.rest.now c.in-Some-2.behind.now c.loop-rest.made c.take_next.new.made next.move c.loop-rest.invariant.0 next.spelled next.fits next.only next.taken,
+      grind (arith, common_steps, less),
     )
 
 pub returns-clause-ok : goal.returns-clause-ok
