@@ -185,4 +185,5 @@ def main():
         (folder / f'{subcommand}.{name}').write_text(text)
 
 
-main()
+if __name__ == '__main__':
+    main()

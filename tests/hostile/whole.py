@@ -40,7 +40,8 @@ WITHOUT_ALLOCATOR = (
     "SlowReader::new", "InputFault::text", "WriteFault::text", "Shard::new", "Shard::place", "Shard::shards", "Shard::has",
     "WordFault::text", "Step::operation", "Step::is_bound", "Place::is_bound", "Place::map", "GroupPlace::map", "TargetPlace::map",
     "Places::new", "Places::push", "Places::as_slice", "Script::is_script", "ScriptKind::text", "read_reference", "is_comment", "is_word",
-    "Keyword::text", "read_keyword", "read_verdict", "tc_line::read_name", "Lines::new", "Lines::next", "awaited_line",
+    "Keyword::text", "read_keyword", "read_verdict", "tc_line::read_name", "Lines::new", "Lines::next", "Lines::next_part",
+    "awaited_line",
     "deciding_entry", "component_of", "name_of", "Refusal::text", "Pattern::read", "Pattern::bytes", "Pattern::matches",
 )
 # These take no memory, and are not made with every growth refused by themselves.

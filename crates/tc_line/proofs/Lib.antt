@@ -1,5 +1,6 @@
 -- The lemmas of this crate.
 pub mod Each
 pub mod Naming
+pub mod Skipping
 pub mod Taking
 pub mod WholeLines

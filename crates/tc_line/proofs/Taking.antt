@@ -4,12 +4,13 @@ use Rattle.std.specs.Prelude.{◌==◌, if◌then◌else◌, slice_index, All, S
 use Rattle.std.proofs.lemmas.Bool.Decides.{nat_tests}
 use Rattle.std.proofs.lemmas.List.{append-nil, take-append-drop, get_or-take, length-take-le, length-drop, take_all}
 use Rattle.std.proofs.lemmas.Grind.{get_or_default_zero}
-use Rattle.std.proofs.lemmas.List.Splits.{slice_split_at, slice_split_none}
+use Rattle.std.proofs.lemmas.List.Splits.{slice_split_at, slice_split_none, length-slice_split}
+use Rattle.std.proofs.lemmas.List.Sums.{count_by-le-length}
 use Rattle.memchr.specs.Find.{IsFirstByte, is_byte}
 use Rattle.tc_line.specs.Text.{lines, parts, is_newline, without_end}
 
 -- no byte of the text is a line feed
-abbrev HasNoEnd : List ℕ → Type 0
+abbrev pub HasNoEnd : List ℕ → Type 0
 HasNoEnd text = All (λ b. is_newline b ≡ false) text
 
 at_last : (text : List ℕ) (n : ℕ) → length text ≡ n + 1 → without_end text ≡ (if slice_index text n == 10 then take n text else text)
@@ -36,6 +37,23 @@ some_lines text some = by (length text == 0) (grind (arith, nat_tests, some))
     by false e = refl
     by true e = absurd cc
 
+shorter : (text : List ℕ) → length (without_end text) ≤ length text
+unfolding without_end
+shorter text = by (slice_index text (length text - 1) == 10)
+  where
+    by : (b : Bool) → length (if b then take (length text - 1) text else text) ≤ length text
+    by true = omega (arith, length-take-le (length text - 1) text (omega arith))
+    by false = omega arith
+
+-- a text has no more lines than bytes, and one
+pub few_lines : (text : List ℕ) → length (lines text) ≤ length text + 1
+unfolding lines
+few_lines text = by (length text == 0)
+  where
+    by : (b : Bool) → length (if b then [] else parts is_newline (without_end text)) ≤ length text + 1
+    by true = omega arith
+    by false = omega (arith, length-slice_split is_newline (without_end text), count_by-le-length is_newline (without_end text), shorter text)
+
 longer : (front : List ℕ) (c : ℕ) (rest : List ℕ) → 1 ≤ length (front ++ c ∷ rest)
 longer [] c rest = omega arith
 longer (b ∷ front) c rest = omega arith
@@ -43,7 +61,7 @@ longer (b ∷ front) c rest = omega arith
 lone_end : without_end (10 ∷ []) ≡ []
 lone_end = at_last (10 ∷ []) 0 refl
 
-lines_next : (front rest : List ℕ) → HasNoEnd front → lines (front ++ 10 ∷ rest) ≡ front ∷ lines rest
+pub lines_next : (front rest : List ℕ) → HasNoEnd front → lines (front ++ 10 ∷ rest) ≡ front ∷ lines rest
 unfolding lines
 lines_next front [] none =
     some_lines (front ++ 10 ∷ []) (longer front 10 []) ∙ ap (parts is_newline) (cut_after front 10 [] ∙ ap (λ xs. front ++ xs) lone_end ∙ append-nil front) ∙ slice_split_none is_newline front none
@@ -64,20 +82,28 @@ all_before text k f le i d lt =
 is_ten : (b : ℕ) → is_newline b ≡ true → b ≡ 10
 is_ten b e = grind (arith, nat_tests, e)
 
-first_taken : (text : List ℕ) (k : ℕ) → IsFirstByte (is_byte 10) text (Some k) → lines text ≡ take k text ∷ lines (drop (k + 1) text)
-first_taken text k is =
-    let none : HasNoEnd (take k text) = all_before text k (λ i lt. not_true _ (is.0.before i (omega arith) lt)) (omega (arith, is.0.high)) in
+-- the text up to its first line feed has none, and the rest follows
+pub cut_at : (text : List ℕ) (k : ℕ) → IsFirstByte (is_byte 10) text (Some k) → HasNoEnd (take k text) × (text ≡ take k text ++ 10 ∷ drop (k + 1) text)
+cut_at text k is =
     let next : suc k ≡ k + 1 = omega arith in
     let end : drop k text ≡ 10 ∷ drop (k + 1) text =
-    drop-cons text k 0 is.0.high ∙ ap (λ n. slice_index text k ∷ drop n text) next ∙ ap (λ b. b ∷ drop (k + 1) text) (is_ten (slice_index text k) is.1) in
-    let whole : text ≡ take k text ++ 10 ∷ drop (k + 1) text = sym (take-append-drop k text) ∙ ap (λ xs. take k text ++ xs) end in
-    ap lines whole ∙ lines_next (take k text) (drop (k + 1) text) none
+    drop-cons text k 0 is.0.high ∙ ap (λ n. slice_index text k ∷ drop n text) next ∙ ap (λ b. b ∷ drop (k + 1) text) (is_ten (slice_index text k) is.1) in (
+      all_before text k (λ i lt. not_true _ (is.0.before i (omega arith) lt)) (omega (arith, is.0.high)),
+      sym (take-append-drop k text) ∙ ap (λ xs. take k text ++ xs) end,
+    )
+
+-- what is left after it, as a part of the text
+pub left_whole : (text : List ℕ) (k : ℕ) → take (length text - (k + 1)) (drop (k + 1) text) ≡ drop (k + 1) text
+left_whole text k = take_all (length text - (k + 1)) (drop (k + 1) text) (omega (arith, length-drop (k + 1) text))
+
+first_taken : (text : List ℕ) (k : ℕ) → IsFirstByte (is_byte 10) text (Some k) → lines text ≡ take k text ∷ lines (drop (k + 1) text)
+first_taken text k is =
+    let two = cut_at text k is in
+    ap lines two.1 ∙ lines_next (take k text) (drop (k + 1) text) two.0
 
 -- the same, with what is left as a part of the text
 pub first_cut : (text : List ℕ) (k : ℕ) → IsFirstByte (is_byte 10) text (Some k) → lines text ≡ take k text ∷ lines (take (length text - (k + 1)) (drop (k + 1) text))
-first_cut text k is =
-    let all : take (length text - (k + 1)) (drop (k + 1) text) ≡ drop (k + 1) text = take_all (length text - (k + 1)) (drop (k + 1) text) (omega (arith, length-drop (k + 1) text)) in
-    first_taken text k is ∙ ap (λ rest. take k text ∷ lines rest) (sym all)
+first_cut text k is = first_taken text k is ∙ ap (λ rest. take k text ∷ lines rest) (sym (left_whole text k))
 
 pub last_taken : (text : List ℕ) → 1 ≤ length text → IsFirstByte (is_byte 10) text None → lines text ≡ text ∷ []
 last_taken [] some is = absurd (omega (arith, some))

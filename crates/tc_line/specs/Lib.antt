@@ -3,3 +3,5 @@ pub mod Text
 pub mod Words
 pub mod ScriptKind
 pub mod Line
+pub mod Inside
+pub mod Skipping

@@ -15,5 +15,5 @@ pub use reading::{is_comment, read_line, read_reference};
 pub use spelling::{KEYWORDS, is_word, read_keyword, read_verdict};
 pub use tc_entry::{Name, Sequence, UserVerdict};
 pub use tc_step::{GroupPlace, Place, Status, TargetPlace};
-pub use text::{Lines, read_words};
+pub use text::{Lines, Part, read_words};
 pub use word::read_name;

@@ -22,7 +22,7 @@ Agrees past l (Err kind) = placed past l ≡ Err kind
 abbrev made : Open → ℕ → ℕ → ℕ → Counts
 made o c b s = record { state = o; cases = c; behaviours = b; steps = s }
 
-skipped_agrees : (past : List Line) → Agrees past L.Skipped (Ok (counts_of past))
+pub skipped_agrees : (past : List Line) → Agrees past L.Skipped (Ok (counts_of past))
 unfolding opened cases_in behaviours_in steps_in
 skipped_agrees past = (refl, refl)
 

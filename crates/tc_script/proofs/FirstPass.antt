@@ -1,7 +1,7 @@
 -- The first pass, line by line.
-use Rattle.std.proofs.Common.{ℕ, ◌≡◌, ◌∙◌, ◌+◌, true, false, Result, Ok, Err, List, [], ◌∷◌, ◌++◌, length, refl, sym, ap, arith}
+use Rattle.std.proofs.Common.{ℕ, zero, suc, ◌≡◌, ◌≤◌, ◌∙◌, ◌+◌, ◌^◌, true, false, Result, Ok, Err, List, [], ◌∷◌, ◌++◌, length, refl, sym, ap, arith}
 use Rattle.std.specs.Prelude.{reverse}
-use Rattle.std.proofs.lemmas.List.{reverse-append, reverse-reverse, length-reverse}
+use Rattle.std.proofs.lemmas.List.{append_assoc, append-nil, length-append, reverse-append, reverse-reverse, length-reverse}
 use Rattle.tc_line.specs.declared.kind.ScriptKind.{ScriptKind}
 use Rattle.tc_line.specs.declared.kind.ScriptKind.TheVariants as F
 use Rattle.tc_script.specs.declared.fault.ScriptFault.{ScriptFault}
@@ -9,11 +9,17 @@ use Rattle.tc_script.specs.declared.fault.ReadFault.{ReadFault}
 use Rattle.tc_script.specs.declared.fault.ReadFault.TheVariants as E
 use Rattle.tc_script.specs.declared.counts.Counts.{Counts}
 use Rattle.tc_line.specs.declared.line.Line.{Line}
+use Rattle.tc_line.specs.declared.line.Line.TheVariants as L
 use Rattle.tc_line.specs.Line.{line_of}
+use Rattle.tc_line.specs.Text.{lines as lines_of}
+use Rattle.tc_line.specs.Skipping.{Skips}
+use Rattle.tc_line.proofs.Taking.{few_lines}
 use Rattle.tc_script.specs.FirstPass.{parsed, judged, ends_well}
 use Rattle.tc_script.specs.Inside.Counts.{counts_of, counted, Takes, may_end}
+use Rattle.tc_script.specs.Inside.Kept.{skipped}
 use Rattle.tc_script.specs.Reading.{Reads}
-use Rattle.tc_script.proofs.Counting.{Agrees, counted_agrees}
+use Rattle.tc_script.proofs.Behind.{many_skipped}
+use Rattle.tc_script.proofs.Counting.{Agrees, counted_agrees, skipped_agrees}
 
 abbrev pub fault_at : ℕ → ScriptKind → ScriptFault
 fault_at n kind = record { line = n; kind = kind }
@@ -47,51 +53,99 @@ misplaced_is past bytes l s n kind now number is next = by (counted (counts_of p
 
 -- ---- the loop
 
--- what was read of the text, and what is left of it
-pub record IsParsed (lines : List Line) (counts : Counts) (rest : List (List ℕ)) (total : Result (List Line) ScriptFault) : Type 0 where
+-- what was read of the text, what is left of it, and the number of the next line
+pub record IsParsed (lines : List Line) (counts : Counts) (number : ℕ) (rest : List (List ℕ)) (total : Result (List Line) ScriptFault) : Type 0 where
   pub counted : counts ≡ counts_of (reverse lines)
+  pub numbered : number ≡ length lines + 1
+  pub few : length lines + length rest ≤ 2 ^ 63
   pub so_far : parsed (reverse lines) rest ≡ total
 
-pub parsed_starts : (texts : List (List ℕ)) (counts : Counts) → counts ≡ counts_of [] → IsParsed [] counts texts (parsed [] texts)
-parsed_starts texts counts now = record { counted = now; so_far = refl }
+pub parsed_starts : (text : List ℕ) (found : List Line) (counts : Counts) (rest : List (List ℕ)) → length text + 1 ≤ 2 ^ 63 → found ≡ [] → counts ≡ counts_of [] → rest ≡ lines_of text
+    → IsParsed found counts 1 rest (parsed [] (lines_of text))
+parsed_starts text found counts rest short none now all =
+    let empty : length found ≡ 0 = ap length none in
+    let few : length rest ≡ length (lines_of text) = ap length all in
+    record {
+      counted = now ∙ ap (λ ls. counts_of (reverse ls)) (sym none);
+      numbered = omega (arith, empty);
+      few = omega (arith, empty, few, short, few_lines text);
+      so_far = ap (λ ls. parsed (reverse ls) rest) none ∙ ap (parsed []) all;
+    }
 
-pub parsed_more : (lines more : List Line) (counts : Counts) (texts rest : List (List ℕ)) (total : Result (List Line) ScriptFault) (bytes : List ℕ) (after : Counts)
-    → IsParsed lines counts texts total → texts ≡ bytes ∷ rest → Takes (reverse lines) lines more (Ok after) (judged (reverse lines) bytes)
-    → IsParsed more after rest total
-parsed_more lines more counts texts rest total bytes after is at takes =
+pub parsed_more : (lines more : List Line) (counts : Counts) (number : ℕ) (texts rest : List (List ℕ)) (total : Result (List Line) ScriptFault) (bytes : List ℕ) (after : Counts)
+    → IsParsed lines counts number texts total → texts ≡ bytes ∷ rest → Takes (reverse lines) lines more (Ok after) (judged (reverse lines) bytes)
+    → IsParsed more after (number + 1) rest total
+parsed_more lines more counts number texts rest total bytes after is at takes =
     let longer : reverse more ≡ takes.0 ∷ reverse lines = ap reverse takes.2 ∙ reverse-append lines (takes.0 ∷ []) in
     let one : parsed (reverse lines) texts ≡ parsed (takes.0 ∷ reverse lines) rest = rw (at, takes.1) refl in
+    let long : length more ≡ length lines + 1 = ap length takes.2 ∙ length-append lines (takes.0 ∷ []) in
+    let left : length texts ≡ length rest + 1 = ap length at ∙ omega arith in
     record {
       counted = takes.3 ∙ ap counts_of (sym longer);
+      numbered = omega (arith, long, is.numbered);
+      few = omega (arith, long, left, is.few);
       so_far = ap (λ past. parsed past rest) longer ∙ sym one ∙ is.so_far;
     }
 
-parsed_stops : (lines : List Line) (counts : Counts) (texts rest : List (List ℕ)) (total : Result (List Line) ScriptFault) (bytes : List ℕ) (fault : ScriptFault)
-    → IsParsed lines counts texts total → texts ≡ bytes ∷ rest → judged (reverse lines) bytes ≡ Err fault
+-- lines that say nothing
+parsed_silent : (n : ℕ) (lines : List Line) (texts rest : List (List ℕ)) → Skips n texts rest → parsed (reverse lines) texts ≡ parsed (reverse (lines ++ skipped n [])) rest
+parsed_silent zero lines texts rest skips = rw (append-nil lines) (ap (parsed (reverse lines)) skips)
+parsed_silent (suc n) lines texts rest skips =
+    let one : parsed (reverse lines) texts ≡ parsed (L.Skipped ∷ reverse lines) skips.0 = rw (skips.1.is, skips.1.silent) refl in
+    let longer : reverse (lines ++ L.Skipped ∷ []) ≡ L.Skipped ∷ reverse lines = reverse-append lines (L.Skipped ∷ []) in
+    let same : (lines ++ L.Skipped ∷ []) ++ skipped n [] ≡ lines ++ skipped (suc n) [] = append_assoc lines (L.Skipped ∷ []) (skipped n []) in
+    one ∙ ap (λ past. parsed past skips.0) (sym longer) ∙ parsed_silent n (lines ++ L.Skipped ∷ []) skips.0 rest skips.2 ∙ ap (λ ls. parsed (reverse ls) rest) same
+
+counted_silent : (n : ℕ) (lines : List Line) → counts_of (reverse lines) ≡ counts_of (reverse (lines ++ skipped n []))
+counted_silent zero lines = ap (λ ls. counts_of (reverse ls)) (sym (append-nil lines))
+counted_silent (suc n) lines =
+    let longer : reverse (lines ++ L.Skipped ∷ []) ≡ L.Skipped ∷ reverse lines = reverse-append lines (L.Skipped ∷ []) in
+    let same : (lines ++ L.Skipped ∷ []) ++ skipped n [] ≡ lines ++ skipped (suc n) [] = append_assoc lines (L.Skipped ∷ []) (skipped n []) in
+    (skipped_agrees (reverse lines)).1 ∙ ap counts_of (sym longer) ∙ counted_silent n (lines ++ L.Skipped ∷ []) ∙ ap (λ ls. counts_of (reverse ls)) same
+
+pub fewer_left : (n : ℕ) (texts rest : List (List ℕ)) → Skips n texts rest → length texts ≡ n + length rest
+fewer_left zero texts rest skips = omega (arith, ap length skips)
+fewer_left (suc n) texts rest skips = let next = fewer_left n skips.0 rest skips.2 in let here : length texts ≡ suc (length skips.0) = ap length skips.1.is in omega (arith, here, next)
+
+pub parsed_skips : (lines more : List Line) (counts : Counts) (number n after : ℕ) (texts rest : List (List ℕ)) (total : Result (List Line) ScriptFault)
+    → IsParsed lines counts number texts total → Skips n texts rest → more ≡ lines ++ skipped n [] → after ≡ number + n → IsParsed more counts after rest total
+parsed_skips lines more counts number n after texts rest total is skips added next =
+    let long : length more ≡ length lines + length (skipped n []) = ap length added ∙ length-append lines (skipped n []) in
+    let many = many_skipped n [] in
+    let left = fewer_left n texts rest skips in
+    record {
+      counted = is.counted ∙ counted_silent n lines ∙ ap (λ ls. counts_of (reverse ls)) (sym added);
+      numbered = omega (arith, long, many, next, is.numbered);
+      few = omega (arith, long, many, left, is.few);
+      so_far = ap (λ ls. parsed (reverse ls) rest) added ∙ sym (parsed_silent n lines texts rest skips) ∙ is.so_far;
+    }
+
+parsed_stops : (lines : List Line) (counts : Counts) (number : ℕ) (texts rest : List (List ℕ)) (total : Result (List Line) ScriptFault) (bytes : List ℕ) (fault : ScriptFault)
+    → IsParsed lines counts number texts total → texts ≡ bytes ∷ rest → judged (reverse lines) bytes ≡ Err fault
     → total ≡ Err fault
-parsed_stops lines counts texts rest total bytes fault is at stops =
+parsed_stops lines counts number texts rest total bytes fault is at stops =
     let one : parsed (reverse lines) texts ≡ Err fault = rw (at, stops) refl in
     sym is.so_far ∙ one
 
-pub parsed_ends : (lines : List Line) (counts : Counts) (texts : List (List ℕ)) (total : Result (List Line) ScriptFault)
-    → IsParsed lines counts texts total → texts ≡ [] → may_end counts ≡ true → total ≡ Ok lines
-parsed_ends lines counts texts total is at ends =
+pub parsed_ends : (lines : List Line) (counts : Counts) (number : ℕ) (texts : List (List ℕ)) (total : Result (List Line) ScriptFault)
+    → IsParsed lines counts number texts total → texts ≡ [] → may_end counts ≡ true → total ≡ Ok lines
+parsed_ends lines counts number texts total is at ends =
     let well : ends_well (reverse lines) ≡ true = ap may_end (sym is.counted) ∙ ends in
     let one : parsed (reverse lines) texts ≡ Ok lines = rw (at, well) (ap Ok (reverse-reverse lines)) in
     sym is.so_far ∙ one
 
-pub parsed_cut : (lines : List Line) (counts : Counts) (texts : List (List ℕ)) (total : Result (List Line) ScriptFault)
-    → IsParsed lines counts texts total → texts ≡ [] → may_end counts ≡ false → total ≡ Err (fault_at (length lines + 1) F.Cut)
-parsed_cut lines counts texts total is at ends =
+pub parsed_cut : (lines : List Line) (counts : Counts) (number : ℕ) (texts : List (List ℕ)) (total : Result (List Line) ScriptFault)
+    → IsParsed lines counts number texts total → texts ≡ [] → may_end counts ≡ false → total ≡ Err (fault_at number F.Cut)
+parsed_cut lines counts number texts total is at ends =
     let well : ends_well (reverse lines) ≡ false = ap may_end (sym is.counted) ∙ ends in
     let one : parsed (reverse lines) texts ≡ Err (fault_at (length (reverse lines) + 1) F.Cut) = rw (at, well) refl in
-    sym is.so_far ∙ one ∙ ap (λ n. Err (fault_at (n + 1) F.Cut)) (length-reverse lines)
+    sym is.so_far ∙ one ∙ ap (λ n. Err (fault_at (n + 1) F.Cut)) (length-reverse lines) ∙ ap (λ n. Err (fault_at n F.Cut)) (sym is.numbered)
 
 -- a fault of a line is the fault of the text
-pub parsed_fails : {V : Type 0} (view : V → List Line) (e : ReadFault) (lines more : List Line) (counts : Counts) (texts rest : List (List ℕ)) (total : Result (List Line) ScriptFault) (bytes : List ℕ)
-    → IsParsed lines counts texts total → texts ≡ bytes ∷ rest → Takes (reverse lines) lines more (Err e) (judged (reverse lines) bytes)
+pub parsed_fails : {V : Type 0} (view : V → List Line) (e : ReadFault) (lines more : List Line) (counts : Counts) (number : ℕ) (texts rest : List (List ℕ)) (total : Result (List Line) ScriptFault) (bytes : List ℕ)
+    → IsParsed lines counts number texts total → texts ≡ bytes ∷ rest → Takes (reverse lines) lines more (Err e) (judged (reverse lines) bytes)
     → Reads view (Err e) total
-parsed_fails view E.NoMemory lines more counts texts rest total bytes is at takes = tt
-parsed_fails view (E.Script fault) lines more counts texts rest total bytes is at takes = parsed_stops lines counts texts rest total bytes fault is at takes
+parsed_fails view E.NoMemory lines more counts number texts rest total bytes is at takes = tt
+parsed_fails view (E.Script fault) lines more counts number texts rest total bytes is at takes = parsed_stops lines counts number texts rest total bytes fault is at takes
 
-pub ruleset parsing_rules = (parsed_starts, parsed_ends, parsed_cut)
+pub ruleset parsing_rules = (parsed_ends, parsed_cut, fewer_left)

@@ -1,5 +1,5 @@
 -- The lines that are kept, as one more is added and as the first is passed.
-use Rattle.std.proofs.Common.{suc, ◌≡◌, ◌≢◌, ◌∙◌, List, [], ◌∷◌, ◌++◌, length, refl, sym, ap}
+use Rattle.std.proofs.Common.{zero, suc, ℕ, ◌≡◌, ◌∙◌, List, [], ◌∷◌, ◌++◌, refl, sym, ap}
 use Rattle.std.proofs.lemmas.List.{append-nil}
 use Rattle.tc_verdict.specs.declared.user_verdict.UserVerdict.{UserVerdict}
 use Rattle.tc_line.specs.declared.line.Call.TheVariants as C
@@ -7,11 +7,16 @@ use Rattle.tc_line.specs.declared.line.Line.{Line}
 use Rattle.tc_line.specs.declared.line.Line.TheVariants as L
 use Rattle.tc_script.specs.declared.kept_lines.Mark.{Mark}
 use Rattle.tc_script.specs.declared.kept_lines.Mark.TheVariants as M
-use Rattle.tc_script.specs.Inside.Kept.{mark_of, unpacked, Fits}
+use Rattle.tc_script.specs.Inside.Kept.{mark_of, unpacked, skipped, Fits, IsStep}
+
+skipped_before : (n : ℕ) (ls ks : List Line) → skipped n (ls ++ ks) ≡ skipped n ls ++ ks
+skipped_before zero ls ks = refl
+skipped_before (suc n) ls ks = ap (λ xs. L.Skipped ∷ xs) (skipped_before n ls ks)
 
 joined : (ms ns : List Mark) (ls ks : List Line) → Fits ms ls → unpacked (ms ++ ns) (ls ++ ks) ≡ unpacked ms ls ++ unpacked ns ks
 joined [] ns [] ks fits = refl
 joined [] ns (l ∷ ls) ks fits = absurd fits
+joined (M.Skipped more ∷ ms) ns ls ks fits = ap (skipped (suc more)) (joined ms ns ls ks fits) ∙ skipped_before (suc more) (unpacked ms ls) (unpacked ns ks)
 joined (M.Set v ∷ ms) ns ls ks fits = ap (λ xs. L.Step (C.SetVerdict v) ∷ xs) (joined ms ns ls ks fits)
 joined (M.Get ∷ ms) ns ls ks fits = ap (λ xs. L.Step C.GetVerdict ∷ xs) (joined ms ns ls ks fits)
 joined (M.Apart ∷ ms) ns [] ks fits = absurd fits
@@ -20,17 +25,11 @@ joined (M.Apart ∷ ms) ns (l ∷ ls) ks fits = ap (λ xs. l ∷ xs) (joined ms 
 both_fit : (ms ns : List Mark) (ls ks : List Line) → Fits ms ls → Fits ns ks → Fits (ms ++ ns) (ls ++ ks)
 both_fit [] ns [] ks fits more = more
 both_fit [] ns (l ∷ ls) ks fits more = absurd fits
+both_fit (M.Skipped k ∷ ms) ns ls ks fits more = both_fit ms ns ls ks fits more
 both_fit (M.Set v ∷ ms) ns ls ks fits more = both_fit ms ns ls ks fits more
 both_fit (M.Get ∷ ms) ns ls ks fits more = both_fit ms ns ls ks fits more
 both_fit (M.Apart ∷ ms) ns [] ks fits more = absurd fits
 both_fit (M.Apart ∷ ms) ns (l ∷ ls) ks fits more = both_fit ms ns ls ks fits more
-
-pub as_many : (ms : List Mark) (ls : List Line) → Fits ms ls → length ms ≡ length (unpacked ms ls)
-as_many [] ls fits = refl
-as_many (M.Set v ∷ ms) ls fits = ap suc (as_many ms ls fits)
-as_many (M.Get ∷ ms) ls fits = ap suc (as_many ms ls fits)
-as_many (M.Apart ∷ ms) [] fits = absurd fits
-as_many (M.Apart ∷ ms) (l ∷ ls) fits = ap suc (as_many ms ls fits)
 
 -- ---- one line more
 
@@ -87,15 +86,24 @@ get_fits ms ls fits = rw (← append-nil ls) (both_fit ms (M.Get ∷ []) ls [] f
 pub apart_fits : (ms : List Mark) (ls : List Line) (l : Line) → Fits ms ls → Fits (ms ++ M.Apart ∷ []) (ls ++ l ∷ [])
 apart_fits ms ls l fits = both_fit ms (M.Apart ∷ []) ls (l ∷ []) fits tt
 
--- the mark of a line that is not kept apart
-pub marked_added : (ms : List Mark) (ls : List Line) (m : Mark) (l : Line) → Fits ms ls → m ≢ M.Apart → mark_of l ≡ m → unpacked (ms ++ m ∷ []) ls ≡ unpacked ms ls ++ l ∷ []
-marked_added ms ls (M.Set v) l fits whole is = set_added ms ls v l fits is
-marked_added ms ls M.Get l fits whole is = get_added ms ls l fits is
-marked_added ms ls M.Apart l fits whole is = absurd (whole refl)
+-- the mark that says all of a step
+pub marked_added : (ms : List Mark) (ls : List Line) (m : Mark) (l : Line) → Fits ms ls → IsStep m → mark_of l ≡ m → unpacked (ms ++ m ∷ []) ls ≡ unpacked ms ls ++ l ∷ []
+marked_added ms ls (M.Set v) l fits step is = set_added ms ls v l fits is
+marked_added ms ls M.Get l fits step is = get_added ms ls l fits is
+marked_added ms ls (M.Skipped more) l fits step is = absurd step
+marked_added ms ls M.Apart l fits step is = absurd step
 
-pub marked_fits : (ms : List Mark) (ls : List Line) (m : Mark) → Fits ms ls → m ≢ M.Apart → Fits (ms ++ m ∷ []) ls
-marked_fits ms ls (M.Set v) fits whole = set_fits ms ls v fits
-marked_fits ms ls M.Get fits whole = get_fits ms ls fits
-marked_fits ms ls M.Apart fits whole = absurd (whole refl)
+pub marked_fits : (ms : List Mark) (ls : List Line) (m : Mark) → Fits ms ls → IsStep m → Fits (ms ++ m ∷ []) ls
+marked_fits ms ls (M.Set v) fits step = set_fits ms ls v fits
+marked_fits ms ls M.Get fits step = get_fits ms ls fits
+marked_fits ms ls (M.Skipped more) fits step = absurd step
+marked_fits ms ls M.Apart fits step = absurd step
 
-pub ruleset kept_rules = (as_many, apart_added, apart_fits, marked_added, marked_fits)
+-- the mark of lines that say nothing
+pub skipped_added : (ms : List Mark) (ls : List Line) (n : ℕ) → Fits ms ls → unpacked (ms ++ M.Skipped n ∷ []) ls ≡ unpacked ms ls ++ skipped (suc n) []
+skipped_added ms ls n fits = ap (unpacked (ms ++ M.Skipped n ∷ [])) (sym (append-nil ls)) ∙ joined ms (M.Skipped n ∷ []) ls [] fits
+
+pub skipped_fits : (ms : List Mark) (ls : List Line) (n : ℕ) → Fits ms ls → Fits (ms ++ M.Skipped n ∷ []) ls
+skipped_fits ms ls n fits = rw (← append-nil ls) (both_fit ms (M.Skipped n ∷ []) ls [] fits tt)
+
+pub ruleset kept_rules = (apart_added, apart_fits, marked_added, marked_fits, skipped_added, skipped_fits)

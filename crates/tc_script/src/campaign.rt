@@ -111,6 +111,7 @@ fn case_of<'l>(
     let mut rest = lines.copy();
     while let Some((first, others)) = rest.split_first() {
         match first {
+            First::Skipped(_) => rest = others,
             First::Other(Line::TestCase(_)) => return Ok((found, rest)),
             First::Other(Line::Behaviour(name, parameters)) => {
                 let parameters = parameters.as_slice();
@@ -155,12 +156,14 @@ fn cases_of(alloc: Global, lines: &Rest) -> Result<IndexMap<Name, CaseScript>, A
     let mut found = IndexMap::new(alloc);
     let mut rest = lines.copy();
     while let Some((first, others)) = rest.split_first() {
-        if let First::Other(Line::TestCase(name)) = first {
-            let (case, behind) = case_from(alloc, &others)?;
-            add(&mut found, name.copy(), case)?;
-            rest = behind;
-        } else {
-            rest = others;
+        match first {
+            First::Skipped(_) => rest = others,
+            First::Other(Line::TestCase(name)) => {
+                let (case, behind) = case_from(alloc, &others)?;
+                add(&mut found, name.copy(), case)?;
+                rest = behind;
+            }
+            _ => rest = others,
         }
     }
     Ok(found)

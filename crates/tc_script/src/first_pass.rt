@@ -1,5 +1,5 @@
 //! The first pass over a script: its lines, or the first fault of one.
-ghost use Rattle.std.specs.Prelude.{◌≡◌, [], OnErr, reverse};
+ghost use Rattle.std.specs.Prelude.{◌≡◌, ◌≤◌, ◌+◌, ◌^◌, [], IfOk, OnErr, length, reverse};
 ghost use Rattle.tc_script.specs.Inside.Counts.{Takes, counts_of};
 ghost use Rattle.tc_script.specs.Reading.{Reads};
 ghost use Rattle.tc_script.specs.FirstPass.{parsed, judged};
@@ -10,22 +10,23 @@ use crate::fault::{ReadFault, ScriptFault};
 use crate::kept_lines::KeptLines;
 use crate::open::Open;
 use std::alloc::Global;
-use tc_line::{LineFault, Lines, ScriptKind, read_line};
+use tc_line::{LineFault, Lines, Part, ScriptKind, read_line};
 
-/// Adds the next line to those that were found. It answers what is remembered after it.
+/// Adds the next line, of this number, to those that were found. It answers what is remembered after it.
 #[tactic(auto, using(crate::proofs::FirstPass::unread_at))]
 fn take_line<'t>(
     alloc: Global,
     found: &mut KeptLines,
     counts: Counts,
+    number: usize,
     text: &'t [u8],
     words: &mut Vec<&'t [u8]>,
 ) -> Result<Counts, ReadFault>
-    requires { counts ≡ counts_of (reverse found.old) }
+    requires counts { counts ≡ counts_of (reverse found.old) }
+    requires number { number ≡ length found.old + 1 }
     ensures taken { Takes (reverse found.old) found.old found.new result (judged (reverse found.old) text.now) }
     ensures same { OnErr result (found.new ≡ found.old) }
 {
-    let number = found.len() + 1;
     let line = match read_line(alloc, text, words) {
         Ok(line) => line,
         Err(LineFault::Kind(kind)) => {
@@ -56,20 +57,30 @@ fn opening() -> Counts
 /// The lines of a text, or its first fault from BadByte to Cut.
 #[tactic(auto, using(crate::proofs::FirstPass::parsing_rules))]
 pub fn parse(alloc: Global, text: &[u8]) -> Result<KeptLines, ReadFault>
-    ensures { Reads (λ v. v) result (parsed [] (lines text.now)) }
+    ensures lines { Reads (λ v. v) result (parsed [] (lines text.now)) }
+    ensures few { IfOk result (λ v. length v ≤ 2 ^ 63) }
 {
     let mut found = KeptLines::new(alloc);
     let mut counts = opening();
     let mut words = Vec::new(alloc);
     let mut rest = Lines::new(text);
-    while let Some(line) = rest.next() {
-        counts = match take_line(alloc, &mut found, counts, line, &mut words) {
-            Ok(counts) => counts,
-            Err(fault) => return Err(fault),
-        };
+    let mut line = 1;
+    while let Some(part) = rest.next_part() {
+        match part {
+            Part::Skipped(more) => {
+                found.push_skipped(more)?;
+                line += usize::from(more) + 1;
+            }
+            Part::Line(bytes) => {
+                counts = match take_line(alloc, &mut found, counts, line, bytes, &mut words) {
+                    Ok(counts) => counts,
+                    Err(fault) => return Err(fault),
+                };
+                line += 1;
+            }
+        }
     }
     if !counts.has_ended() {
-        let line = found.len() + 1;
         let kind = ScriptKind::Cut;
         return Err(ReadFault::Script(ScriptFault { line, kind }));
     }

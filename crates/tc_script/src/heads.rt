@@ -66,7 +66,7 @@ impl Heads {
 }
 
 /// The behaviours of the test case whose lines these begin with.
-#[tactic(auto, unfolding(crate::specs::Scope::heads))]
+#[tactic(auto, unfolding(crate::specs::Scope::heads), using(crate::proofs::Behind::heading_rules))]
 pub fn heads_of(alloc: Global, lines: &Rest) -> Result<Heads, AllocError>
     ensures { IfOk result (λ h. h ≡ heads lines.now) }
 {
@@ -74,6 +74,7 @@ pub fn heads_of(alloc: Global, lines: &Rest) -> Result<Heads, AllocError>
     let mut rest = lines.copy();
     while let Some((first, others)) = rest.split_first() {
         match first {
+            First::Skipped(_) => {}
             First::Other(Line::TestCase(_)) => return Ok(found),
             First::Other(Line::Behaviour(name, parameters)) => {
                 found.add(name, parameters.as_slice().len())?;

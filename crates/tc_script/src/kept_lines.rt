@@ -1,22 +1,25 @@
 //! The lines of a script, as they are kept between the passes.
-ghost use Rattle.std.specs.Prelude.{◌≡◌, ◌≢◌, ◌<◌, ◌^◌, [], ◌∷◌, ◌++◌, length, OnOk, OnErr, MatchOption};
+ghost use Rattle.std.specs.Prelude.{suc, ◌≡◌, ◌≤◌, [], ◌∷◌, ◌++◌, OnOk, OnErr, MatchOption};
 ghost use Rattle.tc_line.specs.declared.line.Line.{Line};
-ghost use Rattle.tc_script.specs.declared.kept_lines.Mark.TheVariants as marks;
-ghost use Rattle.tc_script.specs.Inside.Kept.{mark_of as the_mark, said};
+ghost use Rattle.tc_script.specs.Inside.Kept.{IsStep, begun, lines_in, mark_of as the_mark, skipped};
 
 use std::alloc::{AllocError, Global};
 use std::marker::Model;
 use tc_line::{Call, Line, UserVerdict};
 
 /// What is kept for a line: a verdict call whole, since most lines are verdict calls; or that the line is kept apart.
+/// Lines in a row that say nothing have one mark.
 #[derive(Clone, Copy, Debug, PartialEq, Eq)]
 pub enum Mark {
+    /// Lines that say nothing, one more than this number.
+    Skipped(u8),
     Set(UserVerdict),
     Get,
     Apart,
 }
 
-/// Lines in their order. A verdict call takes two bytes, and any other line has its own room.
+/// Lines in their order. A verdict call takes two bytes, as up to 256 lines that say nothing do; any other line has its own
+/// room.
 #[derive(Drop)]
 pub struct KeptLines {
     marks: Vec<Mark>,
@@ -54,12 +57,27 @@ impl<'l> Model for Rest<'l> {
     ghost invariant = { λ r. Fits r.marks.now r.apart.now };
 }
 
-/// The first of kept lines.
+/// The first of kept lines, or those at the head that have one mark.
 #[derive(Clone, Copy)]
 pub enum First<'l> {
+    /// Lines that say nothing, one more than this number.
+    Skipped(u8),
     Set(UserVerdict),
     Get,
     Other(&'l Line),
+}
+
+impl<'l> First<'l> {
+    /// How many lines it is.
+    pub fn lines(self) -> usize
+        ensures count { result ≡ lines_in self.entry }
+        ensures few { result ≤ 256 }
+    {
+        match self {
+            First::Skipped(more) => usize::from(more) + 1,
+            First::Set(_) | First::Get | First::Other(_) => 1,
+        }
+    }
 }
 
 fn mark_of(line: &Line) -> Mark
@@ -84,17 +102,9 @@ impl KeptLines {
         }
     }
 
-    /// How many there are.
-    pub fn len(&self) -> usize
-        ensures count { result ≡ length self.now }
-        ensures few { result < 2 ^ 63 }
-    {
-        self.marks.len()
-    }
-
     /// Adds a line of which the mark says all.
     fn push_marked(&mut self, mark: Mark) -> Result<(), AllocError>
-        requires marked { mark ≢ marks.Apart }
+        requires step { IsStep mark }
         ensures pushed { OnOk result ((l : Line) → the_mark l ≡ mark → self.new ≡ self.old ++ l ∷ []) }
         ensures same { OnErr result (self.new ≡ self.old) }
     {
@@ -121,13 +131,21 @@ impl KeptLines {
     {
         let mark = mark_of(&line);
         match mark {
-            Mark::Apart => self.push_apart(line),
+            Mark::Skipped(_) | Mark::Apart => self.push_apart(line),
             Mark::Set(_) | Mark::Get => {
                 let pushed = self.push_marked(mark);
                 drop(line);
                 pushed
             }
         }
+    }
+
+    /// Adds lines that say nothing, one more than this number.
+    pub fn push_skipped(&mut self, more: u8) -> Result<(), AllocError>
+        ensures { OnOk result (self.new ≡ self.old ++ skipped (suc more) []) }
+    {
+        self.marks.push(Mark::Skipped(more))?;
+        Ok(())
     }
 
     /// All of them.
@@ -143,13 +161,6 @@ impl KeptLines {
 
 #[tactic(auto, using(crate::proofs::Kept::kept_rules))]
 impl<'l> Rest<'l> {
-    /// How many there are.
-    pub fn len(&self) -> usize
-        ensures { result ≡ length self.now }
-    {
-        self.marks.len()
-    }
-
     /// The same lines.
     pub fn copy(&self) -> Rest<'l>
         ensures { result ≡ self.now }
@@ -160,14 +171,15 @@ impl<'l> Rest<'l> {
         }
     }
 
-    /// The first line, and those after it.
+    /// The lines of the first mark, and those after them.
     #[inline(always)]
     pub fn split_first(&self) -> Option<(First<'l>, Rest<'l>)>
-        ensures { MatchOption result (self.now ≡ []) (λ r. self.now ≡ said r.0 ∷ r.1) }
+        ensures { MatchOption result (self.now ≡ []) (λ r. self.now ≡ begun r.0 r.1) }
     {
         let (mark, marks) = self.marks.split_first()?;
         let apart = self.apart;
         match mark {
+            Mark::Skipped(more) => Some((First::Skipped(*more), Rest { marks, apart })),
             Mark::Set(setting) => Some((First::Set(*setting), Rest { marks, apart })),
             Mark::Get => Some((First::Get, Rest { marks, apart })),
             Mark::Apart => {

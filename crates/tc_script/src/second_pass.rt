@@ -1,5 +1,5 @@
 //! The second pass over a script: the first fault of names.
-ghost use Rattle.std.specs.Prelude.{◌≡◌, [], None, IfOk, OnOk};
+ghost use Rattle.std.specs.Prelude.{◌≡◌, ◌≤◌, ◌^◌, [], None, IfOk, OnOk, length};
 ghost use Rattle.tc_script.specs.SecondPass.{misnamed};
 ghost use Rattle.tc_script.specs.Inside.Kept.{said};
 ghost use Rattle.tc_script.specs.Inside.Passing.{line_fault, scope_after};
@@ -10,7 +10,7 @@ use crate::scope::Scope;
 use std::alloc::{AllocError, Global};
 use tc_line::ScriptKind;
 
-/// The fault of the line among these names; if it has none, the names continue after it.
+/// The fault of the first line among these names; if it has none, the names continue after it.
 fn passed(
     alloc: Global,
     scope: &mut Scope,
@@ -21,7 +21,7 @@ fn passed(
     ensures next { OnOk result (None ≡ line_fault scope.old (said first.entry) → scope.new ≡ scope_after scope.old (said first.entry) others.now) }
 {
     match first {
-        First::Set(_) | First::Get => Ok(None),
+        First::Skipped(_) | First::Set(_) | First::Get => Ok(None),
         First::Other(line) => {
             let fault = scope.fault_of(line);
             if fault.is_none() {
@@ -39,15 +39,17 @@ fn first_misnamed_in(
     scope: &mut Scope,
     lines: &Rest,
 ) -> Result<Option<ScriptFault>, AllocError>
-    requires { scope.old ≡ record { cases = []; behaviours = []; bound = []; heads = [] } }
+    requires none { scope.old ≡ record { cases = []; behaviours = []; bound = []; heads = [] } }
+    requires few { length lines.now ≤ 2 ^ 63 }
     ensures { IfOk result (λ fault. fault ≡ misnamed [] lines.now) }
 {
     let mut rest = lines.copy();
+    let mut line = 1;
     while let Some((first, others)) = rest.split_first() {
         if let Some(kind) = passed(alloc, scope, first, &others)? {
-            let line = lines.len() - others.len();
             return Ok(Some(ScriptFault { line, kind }));
         }
+        line += first.lines();
         rest = others;
     }
     Ok(None)
@@ -55,6 +57,7 @@ fn first_misnamed_in(
 
 /// The first line with a fault of names.
 pub fn first_misnamed(alloc: Global, lines: &Rest) -> Result<Option<ScriptFault>, AllocError>
+    requires few { length lines.now ≤ 2 ^ 63 }
     ensures { IfOk result (λ fault. fault ≡ misnamed [] lines.now) }
 {
     let mut scope = Scope::new(alloc);

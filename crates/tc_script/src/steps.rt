@@ -96,6 +96,7 @@ fn steps_into<'l>(
         match first {
             First::Set(setting) => found.push(Step::SetVerdict(setting))?,
             First::Get => found.push(Step::GetVerdict)?,
+            First::Skipped(_) => {}
             First::Other(Line::Skipped) => {}
             First::Other(Line::Step(call)) => {
                 found.push(step_at(heads, bound, call))?;

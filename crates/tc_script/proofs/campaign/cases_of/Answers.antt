@@ -31,7 +31,7 @@ add-requires c =
 pub loop-first-preserved-in-TestCase-1 : goal.loop-first-preserved-in-TestCase-1
 loop-first-preserved-in-TestCase-1 c =
     let others = c.in-Some.others in
-    let is = c.in_ok-case.ensures.behind in (
+    let is = c.in_ok-case-in-Other-TestCase.ensures.behind in (
       rw is (rw (cases_from_next others) (grind (arith, common_steps))),
       rw is (arguments_from_next others (search rules)),
       rw is (are_cases_from_next others (search rules)),

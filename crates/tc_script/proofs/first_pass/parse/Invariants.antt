@@ -4,8 +4,8 @@ use Rattle.tc_script.specs.FirstPass.{parsed}
 use Rattle.tc_script.proofs.FirstPass.{IsParsed}
 use Rattle.tc_script.proofs.first_pass.parse.Given as goal
 
-abbrev pub invariant-loop-line : goal.invariant-loop-line
-invariant-loop-line l = IsParsed l.found l.counts l.rest (parsed [] (lines l.text))
+abbrev pub invariant-loop-part : goal.invariant-loop-part
+invariant-loop-part l = IsParsed l.found l.counts l.line l.rest (parsed [] (lines l.text))
 
-abbrev pub decreases-loop-line : goal.decreases-loop-line
-decreases-loop-line l = length l.rest
+abbrev pub decreases-loop-part : goal.decreases-loop-part
+decreases-loop-part l = length l.rest

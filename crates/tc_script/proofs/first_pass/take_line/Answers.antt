@@ -6,9 +6,9 @@ use Rattle.tc_script.proofs.first_pass.take_line.Goals as goal
 
 pub returns-in_ok-push-in-Ok-with_line-clause-taken : goal.returns-in_ok-push-in-Ok-with_line-clause-taken
 returns-in_ok-push-in-Ok-with_line-clause-taken c =
-    read_is _ c.args.text.now c.in-Ok.line c.args.counts c.in-Ok-with_line.counts _ _ c.requires c.in-Ok.ensures (sym c.in-Ok-with_line.ensures) c.in_ok-push-in-Ok-with_line.ensures.pushed
+    read_is _ c.args.text.now c.in-Ok.line c.args.counts c.in-Ok-with_line.counts _ _ c.requires.counts c.in-Ok.ensures (sym c.in-Ok-with_line.ensures) c.in_ok-push-in-Ok-with_line.ensures.pushed
 
 pub returns-in-Err-clause-taken : goal.returns-in-Err-clause-taken
 returns-in-Err-clause-taken c =
-    let number : c.len-number.result + 1 ≡ length (reverse c.args.found.now) + 1 = grind (arith, length-reverse, c.len-number.ensures.count) in
-    misplaced_is _ c.args.text.now c.in-Ok.line c.args.counts _ c.in-Err.kind c.requires number c.in-Ok.ensures (sym c.in-Err.ensures)
+    let number : c.args.number ≡ length (reverse c.args.found.now) + 1 = grind (arith, length-reverse, c.requires.number) in
+    misplaced_is _ c.args.text.now c.in-Ok.line c.args.counts _ c.in-Err.kind c.requires.counts number c.in-Ok.ensures (sym c.in-Err.ensures)

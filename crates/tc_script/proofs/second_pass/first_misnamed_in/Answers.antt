@@ -1,14 +1,17 @@
 use Rattle.std.proofs.Common.{rules}
-use Rattle.tc_script.specs.Inside.Kept.{said}
-use Rattle.tc_script.proofs.SecondPass.{judged_faulty_at, judged_first, judged_more}
+use Rattle.tc_script.proofs.Behind.{begun_smaller}
+use Rattle.tc_script.proofs.SecondPass.{judged_first, judged_begun, faulty_begun}
 use Rattle.tc_script.proofs.second_pass.first_misnamed_in.Goals as goal
 
 pub loop-first-init : goal.loop-first-init
 loop-first-init c = search (rules, judged_first)
 
+pub loop-first-smaller : goal.loop-first-smaller
+loop-first-smaller c = begun_smaller c.in-Some.first c.loop-first.rest c.in-Some.others (search rules)
+
 pub returns-in-Some-2 : goal.returns-in-Some-2
-returns-in-Some-2 c = judged_faulty_at c.loop-first.scope (said c.in-Some.first) c.loop-first.rest c.in-Some.others c.args.lines.now c.in-Some-2.kind _ _ (search rules) (search rules) (search rules) c.loop-first.invariant (search rules)
+returns-in-Some-2 c = faulty_begun c.in-Some.first c.loop-first.scope c.loop-first.line c.loop-first.rest c.in-Some.others c.args.lines.now c.in-Some-2.kind (search rules) c.loop-first.invariant (search rules)
 
 pub loop-first-preserved : goal.loop-first-preserved
 loop-first-preserved c =
-    judged_more c.loop-first.scope c.passed.new.scope (said c.in-Some.first) c.loop-first.rest c.in-Some.others c.args.lines.now (search rules) c.loop-first.invariant (search rules) (search rules)
+    judged_begun c.in-Some.first c.loop-first.scope c.passed.new.scope c.loop-first.line _ c.loop-first.rest c.in-Some.others c.args.lines.now (search rules) c.loop-first.invariant (search rules) (search rules) (search rules)

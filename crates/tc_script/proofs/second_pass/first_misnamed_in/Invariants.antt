@@ -3,7 +3,7 @@ use Rattle.tc_script.proofs.SecondPass.{IsJudged}
 use Rattle.tc_script.proofs.second_pass.first_misnamed_in.Given as goal
 
 abbrev pub invariant-loop-first : goal.invariant-loop-first
-invariant-loop-first l = IsJudged l.scope l.rest l.lines
+invariant-loop-first l = IsJudged l.scope l.line l.rest l.lines
 
 abbrev pub decreases-loop-first : goal.decreases-loop-first
 decreases-loop-first l = length l.rest

@@ -1,7 +1,8 @@
-use Rattle.std.proofs.Common.{rules, arith}
+use Rattle.std.proofs.Common.{rules, arith, suc}
 use Rattle.std.proofs.lemmas.Grind.{common_steps}
 use Rattle.tc_entry.specs.declared.limits.TheConstants.{ARGUMENTS}
 use Rattle.tc_script.specs.Campaign.{step_of}
+use Rattle.tc_script.proofs.Behind.{begun_smaller, steps_left, arguments_left, behind_left}
 use Rattle.tc_script.proofs.Few.{few_next, few_same}
 use Rattle.tc_script.proofs.steps.steps_into.Goals as goal
 
@@ -12,6 +13,18 @@ loop-first-init c = (
   search rules,
   search rules,
 )
+
+pub loop-first-smaller-in-Skipped : goal.loop-first-smaller-in-Skipped
+loop-first-smaller-in-Skipped c = begun_smaller c.in-Some.first c.loop-first.rest c.in-Some.others (search rules)
+
+pub loop-first-preserved-in-Skipped : goal.loop-first-preserved-in-Skipped
+loop-first-preserved-in-Skipped c =
+    let n = suc c.in-Skipped.field-0 in (
+      steps_left n c.args.heads.now c.loop-first.bound c.loop-first.rest c.in-Some.others c.loop-first.found.items _ (search rules) c.loop-first.invariant.0,
+      arguments_left n c.loop-first.rest c.in-Some.others (search rules) c.loop-first.invariant.1,
+      behind_left n c.loop-first.rest c.in-Some.others _ (search rules) c.loop-first.invariant.2,
+      c.loop-first.invariant.3,
+    )
 
 pub loop-first-preserved : goal.loop-first-preserved
 loop-first-preserved c = (
