@@ -26,6 +26,8 @@ REFUSALS = {"NoMemory", "AllocError", "AllocFailed", "Error"}
 # What reports a refusal though it is no Result: a campaign that was aborted, a behaviour that was starved, a task that ended so. Only a
 # call that is passed an allocator or a handle makes one of it.
 TELLING = {"Results", "CampaignEnd", "Back", "Outcome", "Ending"}
+# What holds an allocator, of the toolchain's library.
+HOLDERS = {"Global", "Vec", "Box", "Arc", "String", "Mutex", "IndexMap"}
 HEAD = re.compile(r"^( *)(pub )?(?:const |unsafe )*fn (\w+)\s*(?=[<(])")
 TYPE = re.compile(r"(?ms)^(pub )?(struct|enum|trait) (\w+)(.*?)^[};]")
 IMPL = re.compile(r"^(?:unsafe )?(?:impl|pub trait|trait)\b")
@@ -196,13 +198,30 @@ def misnamed(names: Iterable[str], calls: List[Call], exempt: bool) -> Iterator[
             yield f"{name} is the name of {count} public calls"
 
 
-def holds_allocator(call: Call) -> bool:
-    """Whether what a call is handed may hold an allocator, by its head and by the fields of its type."""
-    texts = [text_of(os.path.relpath(it, TOP)) for it in files_below(os.path.join(TOP, "crates", call.crate, "src"), ".rt")]
-    fields = "".join(body for text in texts for _, _, name, body in TYPE.findall(text) if name == call.owner)
+def held(body: str) -> Set[str]:
+    """The types of the fields of a type, by its body: the words of that without the names of its fields and variants."""
+    text = re.sub(r"//.*|#\[.*", "", body)
+    return set(re.findall(r"\w+", re.sub(r"(?m)^\s*(?:pub(?:\(crate\))? )?\w+\b(?!<)", "", text)))
+
+
+def holders() -> Set[str]:
+    """The types that may hold an allocator: that, what the toolchain's library makes of it, and each that has one of them in it."""
+    found, bodies = set(HOLDERS), []
+    for crate in libraries():
+        for path in files_below(os.path.join(TOP, "crates", crate, "src"), ".rt"):
+            bodies += [(it[2], held(it[3])) for it in TYPE.findall(text_of(os.path.relpath(path, TOP))) if it[1] != "trait"]
+    while True:
+        more = {name for name, types in bodies if types & found} - found
+        if not more:
+            return found
+        found |= more
+
+
+def holds_allocator(call: Call, holding: Set[str]) -> bool:
+    """Whether what a call is handed may hold an allocator, by the types in its head and its own type."""
     taken = call.head.partition(" -> ")[0]
-    taken += fields if re.search(r"\bself\b", taken) else ""
-    return bool(re.search(r"\b(?:alloc|rt):|\b(?:Vec|Box|Arc|Sequence|String)\b|: (?:Read|Write)\b", taken))
+    types = set(re.findall(r"\w+", taken)) | ({call.owner} if re.search(r"\bself\b", taken) else set())
+    return bool(types & holding or re.search(r"\b(?:alloc|rt):|: (?:Read|Write)\b", taken))
 
 
 def unlisted() -> Iterator[str]:
@@ -213,8 +232,9 @@ def unlisted() -> Iterator[str]:
 def unlisted_in(calls: List[Call], causes: Set[str], lists: Lists) -> Iterator[str]:
     """The same of these calls and these lists; the causes are the types that report a refusal."""
     yield from lists.faults
+    holding = holders()
     for name in WITHOUT_ALLOCATOR:
-        yield from (f"{it.crate}: {it.path} is handed an allocator" for it in meant(name, calls) if holds_allocator(it))
+        yield from (f"{it.crate}: {it.path} is handed an allocator" for it in meant(name, calls) if holds_allocator(it, holding))
     for title, made, exemptions, wanted in (("memory is refused in turn to", [*lists.refused, *REFUSED_BY_THE_PROGRAM], UNREFUSED, True),
                                             ("no memory is given to", list(lists.quiet), UNTRIED, False)):
         exempt = [it for names, _ in exemptions for it in names]
