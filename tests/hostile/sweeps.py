@@ -180,8 +180,8 @@ def large_tasks() -> List[Task]:
     return found + [Task("supervisor", ("explore",), bytes_of("supervisor.script"))]
 
 
-# A sweep of which each growth is refused in the gate too: its first abort is judged.
-WHOLE = ("verdicts", ("run",), "growth", "")
+# Tasks of which each growth is refused in the gate too: the first abort of a run is judged, and the witnesses of a search are written.
+WHOLE = (("verdicts", ("run",)), ("supervisor", ("explore", "--history")))
 
 
 def jobs(refusing: Refusing, program: str, is_whole: bool) -> List[Callable[[], Sweep]]:
@@ -189,7 +189,7 @@ def jobs(refusing: Refusing, program: str, is_whole: bool) -> List[Callable[[], 
     found: List[Callable[[], Sweep]] = []
     for at, task in enumerate(tasks()):
         for what, behind, stride in (("growth", "", 5), ("growth", "..", 29), ("thread", "", 1), ("thread", "..", 7)):
-            is_each = (task.name, task.words, what, behind) == WHOLE or (not behind and any(map(task.has, EACH)))
+            is_each = not behind and ((task.name, task.words) in WHOLE or any(map(task.has, EACH)))
             step = 1 if is_whole or is_each else stride
             found.append(lambda task=task, what=what, behind=behind, step=step: sweep(refusing, program, task, what, behind, step))
     return found + [lambda task=task: falling(program, task, is_whole) for task in large_tasks()]

@@ -12,9 +12,10 @@ Exempt = Tuple[Tuple[str, ...], str]
 REFUSED_BY_THE_PROGRAM = ("explain", "html_page", "read_task", "read_cases_task", "answer", "answer_cases", "carry_out", "tc_program::replay",
                           "check", "take_script", "run_cases", "give", "fault_line", "abort_line", "Progress::end", "serve",
                           "run_case_with", "run_campaign_with", "choose", "read_evidence", "Block::history",
-                          "explore_locals", "Locals::append_lines", "near_word")
+                          "explore_locals", "Locals::append_lines", "near_word", "explore", "Explored::append_line", "Explored::append_witnesses",
+                          "Explored::append_details", "is_course", "read_campaign")
 # The tasks by which nothing else refuses these calls each growth: in the gate too each one is refused.
-EACH = ("--explain", "--html", "serve", "--live", "--progress", "--shard", "--script", "--failed", "--summary", "--suite", "--locals")
+EACH = ("--explain", "--html", "serve", "--live", "--progress", "--shard", "--script", "--failed", "--summary", "--suite", "--locals", "--details")
 # These can answer that memory ran out, and are refused none by themselves.
 UNREFUSED: Tuple[Exempt, ...] = (
     (("read_counted",), "read_input is this call over a reader that is counted"),
@@ -39,10 +40,19 @@ UNREFUSED: Tuple[Exempt, ...] = (
 WITHOUT_ALLOCATOR = (
     "SlowReader::new", "InputFault::text", "WriteFault::text", "Shard::new", "Shard::place", "Shard::shards", "Shard::has",
     "WordFault::text", "Step::operation", "Step::is_bound", "Place::is_bound", "Place::map", "GroupPlace::map", "TargetPlace::map",
-    "Places::new", "Places::push", "Places::as_slice", "Script::is_script", "ScriptKind::text", "read_reference", "is_comment", "is_word",
-    "Keyword::text", "read_keyword", "read_verdict", "tc_line::read_name", "Lines::new", "Lines::next", "Lines::next_part",
+    "Places::new", "Places::push", "Places::as_slice", "Script::is_script", "ScriptKind::text", "read_reference", "is_comment",
+    "is_word", "Keyword::text", "read_keyword", "read_verdict", "tc_line::read_name", "Lines::new", "Lines::next", "Lines::next_part",
     "awaited_line",
-    "deciding_entry", "component_of", "name_of", "Refusal::text", "Pattern::read", "Pattern::bytes", "Pattern::matches",
+    "deciding_entry", "component_of", "name_of", "Refusal::text", "Pattern::read", "Pattern::bytes", "Pattern::matches", "overwrite",
+    "worse_of", "worst", "name", "tc_verdict::read_name", "to_user", "from_user", "rank", "of_rank", "NoMemory::text", "Run::copy",
+    "Comp::copy", "Group::is_of", "is_comp", "is_behaviours", "may_create", "name_of_fault", "as_behaviours", "TextKind::text",
+    "TextFault::at", "Args::push", "Args::as_slice", "Args::copy", "Args::same", "Args::new", "Name::bytes", "Name::copy",
+    "Name::same", "Name::of_bytes", "Name::read", "after", "take_line_end", "is_plain", "read_number", "take_number", "take_verdict",
+    "take_name", "Op::copy", "Op::same", "ShortOp::op", "take_long_move", "take_short_move", "take_move", "read_move", "take_reply",
+    "read_reply", "Reply::copy", "Reply::same", "Reply::is_ok", "Reply::is_ended", "Reply::is_fault", "Entry::copy", "Entry::same",
+    "ends_case", "ends_pass", "created", "started_on", "is_alive_create", "OutFault::text", "CaseError::text", "CloseFault::text",
+    "verdict_status", "MetRuns::none", "MetRuns::add_refused", "MetRuns::contains", "take_behaviours", "take_end_line",
+    "take_entry_line", "take_short_line", "counts", "is_met",
 )
 # These take no memory, and are not made with every growth refused by themselves.
 UNTRIED: Tuple[Exempt, ...] = (
@@ -52,8 +62,6 @@ UNTRIED: Tuple[Exempt, ...] = (
     (("Progress::begin",), "the sweeps of the whole program refuse its line: it has no answer for that, and Progress::end has"),
     (("write_whole", "write_counted", "write_abort"), "the memory that their writer takes is the writer's"),
     (("Words::record_of", "Words::follow"), "Book::word_of, Book::wake and Book::leave make them"),
-    (("Sentence::bytes", "take_behaviours", "take_end_line", "take_entry_line", "take_short_line"), "they only look at what they are lent"),
-    (("MetRuns::none", "MetRuns::add_line", "MetRuns::add_refused", "MetRuns::contains"), "they are handed no allocator"),
-    (("Words::carried_to",), "it only looks at what it is lent; Book::record makes it"),
-    (("counts",), "it compares a word with the settings of a log, one by one; close_case makes it"),
+    (("Campaign::take_first", "CaseScript::take_first", "Script::steps", "Script::parameters"), "run makes them, and each of its growths is refused"),
+    (("Sentence::bytes", "MetRuns::add_line", "Words::carried_to", "Explored::status"), "they only look at what they are lent"),
 )

@@ -78,14 +78,13 @@ fn left_unstarted<R: Wait>(rt: &R, ticket: Ticket) -> Left {
     }
 }
 
-/// A case of two behaviours.
+/// A case of two behaviours, with the passes of the runs that were started, in their order.
 #[derive(Drop)]
 struct Opened<R: Wait + Copy> {
     rt: R,
     shared: Shared,
-    main: Pass,
+    passes: Vec<Pass>,
     tickets: Vec<Ticket>,
-    other: Option<Pass>,
 }
 
 /// Asks for a status. Why there is no answer; none if there is.
@@ -146,50 +145,49 @@ fn tell_halt(out: &mut Vec<u8>, halt: Option<Halt>) -> bool {
 }
 
 impl<R: Wait + Copy> Opened<R> {
-    /// A new case.
+    /// A new case, with room for both passes.
     fn new(rt: R, alloc: Global) -> Option<Opened<R>> {
+        let mut passes = Vec::with_capacity(alloc, 2).ok()?;
         let (shared, main, tickets) = open_case(alloc, 2).ok()?;
+        passes.push(main).ok()?;
         Some(Opened {
             rt,
             shared,
-            main,
+            passes,
             tickets,
-            other: None,
         })
     }
 
     /// Takes the pass of run 1, which was started.
     fn meet(&mut self) {
-        if let Some(ticket) = self.tickets.pop() {
-            self.other = await_start(&self.rt, ticket).ok();
+        if let Some(ticket) = self.tickets.pop()
+            && let Ok(pass) = await_start(&self.rt, ticket)
+        {
+            let _ = self.passes.push(pass);
         }
     }
 
-    /// What all runs leave, and what they leave it of.
-    fn left(self, alloc: Global) -> (Shared, Vec<Left>) {
-        let Opened {
-            rt,
-            shared,
-            main,
-            tickets,
-            other,
-        } = self;
-        let mut lefts = Vec::new(alloc);
-        let _ = lefts.push(main.leave(&rt));
-        if let Some(pass) = other {
-            let _ = lefts.push(pass.leave(&rt));
-        }
-        for ticket in tickets {
-            let _ = lefts.push(left_unstarted(&rt, ticket));
-        }
-        (shared, lefts)
+    /// The place of the pass of this run, and that of the pass of run 0 if it was not started.
+    fn place(&self, run: Run) -> usize {
+        usize::from(run == Run(1) && self.passes.len() == 2)
     }
+}
+
+/// What all runs leave of a case.
+fn lefts_of<R: Wait>(rt: &R, alloc: Global, passes: Vec<Pass>, tickets: Vec<Ticket>) -> Vec<Left> {
+    let mut lefts = Vec::new(alloc);
+    for pass in passes {
+        let _ = lefts.push(pass.leave(rt));
+    }
+    for ticket in tickets {
+        let _ = lefts.push(left_unstarted(rt, ticket));
+    }
+    lefts
 }
 
 impl<R: Wait + Copy> Told for Opened<R> {
     fn tell(&self, out: &mut Vec<u8>) {
-        tell_pass(out, &self.main);
-        if let Some(pass) = &self.other {
+        for pass in &self.passes {
             tell_pass(out, pass);
         }
     }
@@ -198,10 +196,11 @@ impl<R: Wait + Copy> Told for Opened<R> {
 impl<R: Wait + Copy> Called<(Run, Op)> for Opened<R> {
     fn call(&mut self, with: &(Run, Op), out: &mut Vec<u8>) -> bool {
         let (run, op) = with;
-        let halt = match &mut self.other {
-            Some(pass) if *run == Run(1) => call_on(&self.rt, pass, op),
-            _ => call_on(&self.rt, &mut self.main, op),
+        let place = self.place(*run);
+        let Some(pass) = self.passes.get_mut(place) else {
+            return false;
         };
+        let halt = call_on(&self.rt, pass, op);
         if halt.is_none() && matches!(op, Op::Start { .. }) {
             self.meet();
         }
@@ -250,7 +249,13 @@ pub(crate) fn call_last<R: Wait + Copy>(rt: R, trial: &mut Trial) {
 fn left_all<R: Wait + Copy>(rt: R, trial: &mut Trial) -> Option<(Shared, Vec<Left>)> {
     let mut opened = Opened::new(rt, trial.alloc)?;
     call_lines(trial, &mut opened, CALLS);
-    Some(opened.left(trial.alloc))
+    let Opened {
+        rt,
+        shared,
+        passes,
+        tickets,
+    } = opened;
+    Some((shared, lefts_of(&rt, trial.alloc, passes, tickets)))
 }
 
 /// A case that was closed after all calls.
@@ -336,9 +341,10 @@ pub(crate) fn open_all(trial: &mut Trial) {
 
 /// Appends what is asked of a case and its passes.
 fn tell_asked<R: Wait + Copy>(opened: &Opened<R>, out: &mut Vec<u8>) {
-    let pass = &opened.main;
-    tell_number(out, pass.args().len());
-    tell_number(out, usize::from(pass.hand().run().0));
+    for pass in &opened.passes {
+        tell_number(out, pass.args().len());
+        tell_number(out, usize::from(pass.hand().run().0));
+    }
     for ticket in &opened.tickets {
         tell_number(out, usize::from(ticket.run().0));
     }
@@ -352,7 +358,14 @@ fn leave<R: Wait>(rt: &R, out: &mut Vec<u8>, pass: Pass) {
     tell_left(out, &Back::after(pass, Ok(())).pass.leave(rt));
 }
 
-/// What is asked of a case after the first calls, the calls that follow, and the leave of run 0.
+/// Appends what the last of the passes leaves.
+fn leave_last<R: Wait>(rt: &R, out: &mut Vec<u8>, passes: &mut Vec<Pass>) {
+    if let Some(pass) = passes.pop() {
+        leave(rt, out, pass);
+    }
+}
+
+/// What is asked of a case after the first calls, the calls that follow, and the leaves of its runs, the last one first.
 fn ask_behind<R: Wait + Copy>(rt: R, trial: &mut Trial, before: &str, calls: &str) {
     if let Some(mut opened) = Opened::new(rt, trial.alloc) {
         call_lines(trial, &mut opened, before);
@@ -363,8 +376,10 @@ Look::has_place Pass::leave Back::after Left::run Left::log Left::started",
         );
         tell_asked(&opened, &mut trial.out);
         call_lines(trial, &mut opened, calls);
-        leave(&rt, &mut trial.out, opened.main);
+        leave_last(&rt, &mut trial.out, &mut opened.passes);
+        leave_last(&rt, &mut trial.out, &mut opened.passes);
         trial.end();
+        drop(opened);
     }
 }
 

@@ -7,14 +7,12 @@ mod campaigns;
 mod cases;
 mod hands;
 mod reports;
-mod searches;
 mod stock;
 mod tables;
 mod tells;
 mod texts;
 mod told;
 mod trial;
-mod values;
 
 use crate::stock::Stock;
 use crate::trial::Trial;
@@ -38,7 +36,6 @@ enum Kind {
     WritePart,
     Form,
     Live,
-    Search,
     NewBoard,
     Open,
     Call,
@@ -48,7 +45,7 @@ enum Kind {
     Quiet,
 }
 
-const KINDS: [(Kind, &str); 20] = [
+const KINDS: [(Kind, &str); 19] = [
     (Kind::NewTable, "tables"),
     (Kind::Play, "moves on a table"),
     (Kind::MakeRoom, "room on a table"),
@@ -61,7 +58,6 @@ const KINDS: [(Kind, &str); 20] = [
     (Kind::WritePart, "writers of a part"),
     (Kind::Form, "forms and summaries"),
     (Kind::Live, "live writers"),
-    (Kind::Search, "searches"),
     (Kind::NewBoard, "boards"),
     (Kind::Open, "opened cases"),
     (Kind::Call, "calls on a pass"),
@@ -76,10 +72,8 @@ const MOST: u16 = 10_000;
 
 /// Makes the calls that take no memory.
 fn ask<R: Threads + Wait + Copy + Send + 'static>(rt: &R, trial: &mut Trial, stock: &Stock) {
-    values::ask(trial, stock);
     tables::ask(trial, stock);
     tables::play_in_room(trial);
-    texts::take_all(trial);
     reports::ask(trial, stock);
     hands::wake_both(trial);
     hands::call_both(trial);
@@ -108,7 +102,6 @@ fn make<R: Threads + Wait + Copy + Send + 'static>(
         Kind::WritePart => texts::write_part(trial),
         Kind::Form => reports::make(trial, stock),
         Kind::Live => reports::write_live(trial),
-        Kind::Search => searches::make(trial),
         Kind::NewBoard => cases::make_boards(trial),
         Kind::Open => cases::open_all(trial),
         Kind::Call => cases::call(*rt, trial),

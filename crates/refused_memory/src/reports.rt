@@ -2,13 +2,11 @@
 use crate::stock::Stock;
 use crate::told::{Called, Told, call_again, made};
 use crate::trial::Trial;
-use tc_book::CloseFault;
-use tc_entry::{Name, NoMemory, Sequence, Verdict};
-use tc_exec::CaseError;
+use tc_entry::{Name, NoMemory, Sequence};
 use tc_report::{
-    CampaignEnd, LiveForm, LiveWriter, OutFault, csv_report, is_met, junit_report, status_of,
-    summaries_of_results, summary_of_case, summary_of_state, summary_report, tally, verdict_status,
-    worst_status, write_csv, write_evidence, write_history, write_junit, write_text,
+    CampaignEnd, LiveForm, LiveWriter, OutFault, csv_report, junit_report, status_of,
+    summaries_of_results, summary_of_case, summary_of_state, summary_report, tally, worst_status,
+    write_csv, write_evidence, write_history, write_junit, write_text,
 };
 
 const VERSION: &str = "1";
@@ -132,25 +130,12 @@ pub(crate) fn write_live(trial: &mut Trial) {
 /// What is asked of the results, and of the list of no bytes.
 pub(crate) fn ask(trial: &mut Trial, stock: &Stock) {
     let bytes = Vec::new(trial.alloc);
-    trial.begin_each(
-        "\
-Sequence::new Sequence::as_slice tally status_of worst_status verdict_status is_met OutFault::text CaseError::text CloseFault::text",
-    );
+    trial.begin_each("Sequence::new Sequence::as_slice tally status_of worst_status");
     let list: Sequence<u8> = Sequence::new(bytes);
-    let texts = [
-        OutFault::NoMemory.text(),
-        CaseError::Torn.text(),
-        CloseFault::Torn.text(),
-    ];
     let is_right = (tally(&stock.results).fail == 1)
         & (status_of(&stock.results) == 3)
         & (worst_status(&[]) == 0)
-        & (verdict_status(Verdict::Error) == 2)
-        & is_met(Some(Verdict::Fail), Verdict::Error)
         & list.as_slice().is_empty();
     trial.holds(is_right);
-    for it in &texts {
-        let _ = trial.out.extend_from_slice(it.as_bytes());
-    }
     trial.end();
 }

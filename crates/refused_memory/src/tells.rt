@@ -2,17 +2,9 @@
 use crate::told::Told;
 use tc_book::{Closed, Left, Pass, RunLog};
 use tc_entry::{Comp, Entry, Name, Run, Verdict};
-use tc_explore::Explored;
 use tc_history::{Block, write_block};
 use tc_report::{CaseEnd, Finished, Summary, append_verdict};
-use tc_script::{Campaign, CaseScript, Script};
 use tc_text::{MoveList, append_number, write_move, write_op};
-
-/// What the names of a behaviour are bound to.
-const BOUND: [Comp; 4] = [Comp(11), Comp(12), Comp(13), Comp(14)];
-
-/// How many test cases, and behaviours of one, have a text at most.
-const MOST: usize = 10;
 
 /// A number.
 pub(crate) fn tell_number(out: &mut Vec<u8>, number: usize) {
@@ -72,34 +64,6 @@ pub(crate) fn tell_finished(out: &mut Vec<u8>, case: &Finished) {
     tell_closed(out, &case.report);
 }
 
-/// A behaviour.
-fn tell_script(out: &mut Vec<u8>, name: &Name, script: &Script) {
-    let _ = out.extend_from_slice(name.bytes());
-    let _ = append_number(out, script.parameters() as u64);
-    for step in script.steps() {
-        let _ = write_op(out, &step.operation(Comp(10), &BOUND));
-    }
-}
-
-/// The behaviours of a test case, taken out.
-fn tell_case(out: &mut Vec<u8>, name: &Name, case: &mut CaseScript) {
-    let _ = out.extend_from_slice(name.bytes());
-    for _ in 0..MOST {
-        if let Some((name, script)) = case.take_first() {
-            tell_script(out, &name, &script);
-        }
-    }
-}
-
-/// A campaign: its test cases, taken out.
-pub(crate) fn tell_campaign(out: &mut Vec<u8>, campaign: &mut Campaign) {
-    for _ in 0..MOST {
-        if let Some((name, mut case)) = campaign.take_first() {
-            tell_case(out, &name, &mut case);
-        }
-    }
-}
-
 impl Told for Vec<u8> {
     fn tell(&self, out: &mut Vec<u8>) {
         let _ = out.extend_from_slice(self);
@@ -144,18 +108,6 @@ impl Told for Vec<Block> {
 impl Told for Closed {
     fn tell(&self, out: &mut Vec<u8>) {
         tell_closed(out, self);
-    }
-}
-
-impl Told for Explored {
-    fn tell(&self, out: &mut Vec<u8>) {
-        for count in self.reached.as_slice() {
-            let _ = append_number(out, *count as u64);
-        }
-        if let Some(name) = Name::read("told") {
-            let _ = self.append_line(out, &name);
-            let _ = self.append_witnesses(out, &name, 3);
-        }
     }
 }
 

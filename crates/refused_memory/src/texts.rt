@@ -1,14 +1,12 @@
 //! Readers and writers of texts.
 use crate::stock::Stock;
 use crate::tables::MOVES;
-use crate::tells::tell_campaign;
 use crate::told::{Called, call_again, made};
 use crate::trial::Trial;
 use tc_entry::{Entry, Fault, Name, NoMemory, Op, Reply, Run, Verdict};
 use tc_exec::CaseError;
 use tc_history::{read_history, write_block};
 use tc_report::{append_aborted, append_verdict};
-use tc_script::{ReadFault, read_campaign};
 use tc_stream::{InputFault, read_input};
 use tc_text::{
     TextFault, append_number, append_text, read_move, read_moves, write_move, write_op, write_reply,
@@ -29,46 +27,9 @@ history 2 second 200
 end error
 ";
 
-/// Two test cases, with a step of each kind.
-const SCRIPT: &str = "testcase first
-behaviour main
-create pump alive named left
-start pump serve mtc pump
-wait done pump
-running all
-getverdict
-end
-behaviour serve boss me
-alive boss
-setverdict inconc
-kill me
-end
-end
-testcase second
-behaviour main
-create pump
-killed any
-stop pump
-stopcase
-end
-end
-";
-
-/// A campaign that is read: its test cases and their behaviours are taken out one by one.
-fn read_script(trial: &mut Trial) {
-    match read_campaign(trial.alloc, SCRIPT.as_bytes()) {
-        Ok(mut campaign) => {
-            tell_campaign(&mut trial.out, &mut campaign);
-            drop(campaign);
-        }
-        Err(why) => trial.refuse(matches!(why, ReadFault::NoMemory)),
-    }
-    trial.end_call();
-}
-
-/// The readers of moves, of histories, of a script and of an input.
+/// The readers of moves, of histories and of an input.
 pub(crate) fn read(trial: &mut Trial) {
-    trial.begin("read_moves read_history read_campaign read_input");
+    trial.begin("read_moves read_history read_input");
     made(
         read_moves(trial.alloc, MOVES.as_bytes()),
         TextFault::NoMemory,
@@ -79,25 +40,12 @@ pub(crate) fn read(trial: &mut Trial) {
         TextFault::NoMemory,
         trial,
     );
-    read_script(trial);
     made(
         read_input(trial.alloc, &mut MOVES.as_bytes(), 10_000),
         InputFault::NoMemory,
         trial,
     );
     trial.end();
-}
-
-/// The test cases of a campaign and their behaviours, taken out one by one.
-pub(crate) fn take_all(trial: &mut Trial) {
-    if let Ok(mut campaign) = read_campaign(trial.alloc, SCRIPT.as_bytes()) {
-        trial.begin_each(
-            "Campaign::take_first CaseScript::take_first Script::steps Script::parameters",
-        );
-        tell_campaign(&mut trial.out, &mut campaign);
-        trial.end();
-        drop(campaign);
-    }
 }
 
 /// What is written.
@@ -137,7 +85,7 @@ fn write_history(out: &mut Vec<u8>, entries: &[Entry]) -> Result<(), NoMemory> {
 }
 
 /// What is before a text that is appended: so little that a text of several pieces needs more than one growth.
-pub(crate) const HEAD: &[u8] = b"#";
+const HEAD: &[u8] = b"#";
 
 /// Appends a text after what is there.
 fn write_one(trial: &mut Trial, text: &Text<'_>) {
@@ -157,13 +105,13 @@ pub(crate) fn write(trial: &mut Trial, stock: &Stock) {
     }
     write_one(trial, &Text::Op(&Op::StopCase));
     write_one(trial, &Text::Block(stock.table.history()));
-    write_one(trial, &Text::Words(SCRIPT));
+    write_one(trial, &Text::Words(HISTORIES));
     write_one(trial, &Text::Reply(Reply::Fault(Fault::AlreadyRunning)));
     write_one(trial, &Text::Number(u64::MAX));
 }
 
 /// Takes in what a writer appended that may leave a part.
-pub(crate) fn append_part(trial: &mut Trial, page: &[u8], answer: Result<(), NoMemory>) {
+fn append_part(trial: &mut Trial, page: &[u8], answer: Result<(), NoMemory>) {
     let _ = trial.out.extend_from_slice(page);
     if answer.is_err() {
         trial.refuse_part();
