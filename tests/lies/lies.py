@@ -421,4 +421,64 @@ pub fn append_entries(out: &mut Vec<u8>, entries: &[Entry]) -> Result<(), NoMemo
         entries.push(entry)?;
 """),
     ), "tc_parts_tests"),
+    Lie("the_close_tells_a_lost_setting_as_no_memory", (
+        ("fn is_one_each(lefts: &[Left], behaviours: u16) -> bool", "pub(crate) fn is_one_each(lefts: &[Left], behaviours: u16) -> bool"),
+        ("""\
+    shared.close(rt, alloc, lefts)
+""", """\
+    let is_each = match u16::try_from(lefts.len()) {
+        Ok(count) => crate::close::is_one_each(&lefts, count),
+        Err(_) => false,
+    };
+    match shared.close(rt, alloc, lefts) {
+        Err(CloseFault::Torn) if is_each => Err(CloseFault::NoMemory),
+        answer => answer,
+    }
+"""),
+    ), "tc_exec_tests"),
+    Lie("the_next_begins_after_a_verdict_worse_than_the_rule", (
+        ("""        let last = is_met(self.stop_on, case.report.verdict);""",
+         """        let last = self.stop_on == Some(case.report.verdict);"""),
+    ), shown="progress_of_a_verdict_worse_than_the_rule"),
+    Lie("no_nearest_word_is_explained", (
+        ("""\
+            let near = Part::Word(near);
+            append_parts(alloc, out, &[Part::Text(b"nearest:"), near])
+        }
+        None => Ok(()),
+""", """\
+            let _ = near;
+            Ok(())
+        }
+        None => Ok(()),
+"""),
+    ), shown="explain_a_keyword_misspelt"),
+    Lie("nothing_is_explained_but_the_line", (
+        ("""append_lines(alloc, out, hints.as_slice())""", """append_lines(alloc, out, &hints.as_slice()[..0])"""),
+    ), shown="explain_an_unbound_name"),
+    Lie("an_unknown_test_case_is_not_named", (
+        ("""Some(pattern) => append_word(alloc, out, pattern.bytes(), names),""", """Some(_) => Ok(()),"""),
+    ), shown="a_name_that_is_nearly_one_"),
+    Lie("the_last_unknown_name_is_told", (
+        ("""only.iter().find(|pattern| is_unknown(pattern, names))""", """only.iter().rev().find(|pattern| is_unknown(pattern, names))"""),
+    ), shown="the_first_of_two_unknown_names"),
+    Lie("an_unknown_name_is_looked_for_in_the_histories", (
+        ("""        _ if has_blocks(task) => names_of_script(alloc, split(text).0),""",
+         """        _ if has_blocks(task) => names_of_script(alloc, split(text).1),"""),
+    ), shown="a_name_that_is_nearly_one_before_histories"),
+    Lie("only_the_first_names_are_near", (
+        ("""    match nearest(alloc, word, table)? {""", """    match nearest(alloc, word, table.get(..64).unwrap_or(table))? {"""),
+    ), shown="a_name_that_is_nearly_the_last_of_many"),
+    Lie("the_first_name_of_a_component_stays", (
+        ("""\
+    if !is_same {
+        names[at] = None;
+""", """\
+    if !is_same && at == 0 {
+        names[at] = None;
+"""),
+    ), shown="a_component_of_two_names_has_none"),
+    Lie("none_begins_after_the_255th", (
+        ("""if let Some(name) = self.names.get(self.begun) {""", """if let Some(name) = self.names.get(..255).unwrap_or(self.names).get(self.begun) {"""),
+    ), shown="progress_of_three_hundred"),
 )

@@ -28,9 +28,11 @@ TOP = os.path.dirname(os.path.dirname(os.path.dirname(os.path.abspath(__file__))
 sys.path += [os.path.join(TOP, "tests", it) for it in ("program", "serve")]
 
 import chosen_blocks
+import chosen_rows
 import documents_run
 import examples
 import explain
+import progress
 import prover
 import rows
 import scripts
@@ -65,8 +67,9 @@ def plain_cases(shown: Set[str]) -> List[Case]:
     """The tests that a file and words make: all of examples/ and of the sizes, and of the others some, if they are not too long; and
     those with one of these in their names."""
     every: List[Case] = []
-    groups = [(it.cases(), step) for it, step in ((examples, 1), (documents_run, 1), (sizes, 1), (rows, EVERY), (scripts, EVERY),
-                                                  (words, EVERY), (explain, EVERY), (chosen_blocks, EVERY))]
+    groups = [(it.cases(), step) for it, step in ((examples, 1), (documents_run, 1), (sizes, 1), (progress, 1), (rows, EVERY), (scripts, EVERY),
+                                                  (words, EVERY), (explain, EVERY), (chosen_rows, EVERY),
+                                                  (chosen_blocks, EVERY))]
     for group, step in (*groups, (map(is_served, served_rows.rows()), EVERY)):
         plain = [it for it in group if is_plain(it)]
         every += [it for at, it in enumerate(plain)
