@@ -478,6 +478,19 @@ pub fn append_entries(out: &mut Vec<u8>, entries: &[Entry]) -> Result<(), NoMemo
         names[at] = None;
 """),
     ), shown="a_component_of_two_names_has_none"),
+    Lie("a_failed_flush_of_a_service_is_forgotten", (
+        ("""\
+    write_whole(writer, text)?;
+    match writer.flush() {
+        Ok(()) => Ok(()),
+        Err(_) => Err(WriteFault),
+    }
+""", """\
+    write_whole(writer, text)?;
+    let _ = writer.flush();
+    Ok(())
+"""),
+    ), "tc_parts_tests"),
     Lie("none_begins_after_the_255th", (
         ("""if let Some(name) = self.names.get(self.begun) {""", """if let Some(name) = self.names.get(..255).unwrap_or(self.names).get(self.begun) {"""),
     ), shown="progress_of_three_hundred"),

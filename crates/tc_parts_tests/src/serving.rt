@@ -172,11 +172,22 @@ fn devices_that_fail(rt: HostRuntime) {
     );
 }
 
-/// Takes all that is written, and notes how much it has at each flush.
+/// Takes all that is written, and notes how much it has at each flush; the flush of this number fails, counted from 0.
 #[derive(Drop)]
 struct FlushedWriter {
     taken: Vec<u8>,
     flushed: Vec<usize>,
+    fails_at: usize,
+}
+
+impl FlushedWriter {
+    fn new(alloc: Global, fails_at: usize) -> FlushedWriter {
+        FlushedWriter {
+            taken: Vec::new(alloc),
+            flushed: Vec::new(alloc),
+            fails_at,
+        }
+    }
 }
 
 impl Write for FlushedWriter {
@@ -188,6 +199,9 @@ impl Write for FlushedWriter {
     }
 
     fn flush(&mut self) -> io::Result<()> {
+        if self.flushed.len() == self.fails_at {
+            return Err(io::Error::from(io::ErrorKind::BrokenPipe));
+        }
         self.flushed.push(self.taken.len())?;
         Ok(())
     }
@@ -202,10 +216,7 @@ const ANSWERS: [usize; 5] = [15, 6, 13, 15, 9];
 #[test]
 fn answers_before_the_next_read(rt: HostRuntime) {
     let mut reader = SlowReader::new(TALK, NEVER);
-    let mut writer = FlushedWriter {
-        taken: Vec::new(rt.alloc()),
-        flushed: Vec::new(rt.alloc()),
-    };
+    let mut writer = FlushedWriter::new(rt.alloc(), NEVER);
     let mut errors = NarrowWriter::new(rt.alloc(), NEVER, WriteFailure::Full);
     let ending = serve(rt.alloc(), &mut reader, &mut writer, &mut errors);
     is(&rt, "the end", ending.outcome.is_ok(), true);
@@ -221,6 +232,25 @@ fn answers_before_the_next_read(rt: HostRuntime) {
     }
     is(&rt, "the lines", lines, 5);
     is(&rt, "all", writer.taken.as_slice().len(), due);
+}
+
+/// How a service ends in which the flush of this number fails, and how many reads it made.
+fn served_until(alloc: Global, fails_at: usize) -> (Ending, usize) {
+    let mut reader = SlowReader::new(TALK, NEVER);
+    let mut writer = FlushedWriter::new(alloc, fails_at);
+    let mut errors = NarrowWriter::new(alloc, NEVER, WriteFailure::Full);
+    let ending = serve(alloc, &mut reader, &mut writer, &mut errors);
+    (ending, reader.reads)
+}
+
+/// Each flush fails in turn.
+#[test]
+fn a_failed_flush_ends_a_service(rt: HostRuntime) {
+    for fails_at in 0..TALK.len() {
+        let (ending, reads) = served_until(rt.alloc(), fails_at);
+        is(&rt, "the end", ending.outcome, Err(ServeFault::Write));
+        is(&rt, "the reads", reads, fails_at + 1);
+    }
 }
 
 /// That many remarks.
@@ -242,10 +272,7 @@ fn is_remarked<R: Read>(
     append_text(&mut wanted, "evidence 1 t 1\n")?;
     append_remarks(&mut wanted, remarks.0, remarks.1)?;
     append_text(&mut wanted, "0 finish -> ok\nend none\n")?;
-    let mut writer = FlushedWriter {
-        taken: Vec::new(alloc),
-        flushed: Vec::new(alloc),
-    };
+    let mut writer = FlushedWriter::new(alloc, NEVER);
     let mut errors = NarrowWriter::new(alloc, NEVER, WriteFailure::Full);
     let ending = serve(alloc, reader, &mut writer, &mut errors);
     let ended = ending.outcome.is_ok_and(|served| !served.refused);
