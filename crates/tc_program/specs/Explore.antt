@@ -6,8 +6,7 @@ use Rattle.tc_script.specs.Campaign.{CampaignView}
 use Rattle.tc_explore.specs.Details.{details as of_details}
 use Rattle.tc_text.specs.Said.{TellsAmong}
 use Rattle.tc_explore.specs.Course.{most_states}
-use Rattle.tc_explore.specs.Found.{AreWitnesses, AreLegal, AreReached, IsOnce}
-use Rattle.tc_explore.specs.Found.{AllFound}
+use Rattle.tc_explore.specs.Found.{AllFound, AreWitnesses, AreLegal, AreMet, AreReached, HasCourses, IsOnce}
 use Rattle.tc_explore.specs.declared.explored.Ending.TheVariants as E
 use Rattle.tc_explore.specs.declared.explored.Explored.{Explored}
 use Rattle.tc_explore.specs.declared.locals.Locals.{Locals}
@@ -19,11 +18,14 @@ use Rattle.tc_program.specs.Passed.{AreToRun}
 use Rattle.tc_program.specs.Scripted.{CaseView, scripts_of}
 
 -- Each local verdict that was found of the components of these scripts has a complete course. If the search says that it is
--- complete, that of each complete course was found, and otherwise it looked at as many states as it may. The lines say so.
+-- complete, that of each complete course was found, and otherwise it looked at as many states as it may. For each state that it
+-- looked at there is a course of its own. The lines say so.
 pub record TellsLocals (states : ℕ) (scripts : List ScriptView) (before after : List ℕ) : Type 0 where
   pub locals : Locals
   pub sound : AreLocals scripts locals.found
   pub complete : locals.ending ≡ E.Complete → AllLocalsFound scripts locals.found
+  pub met : HasCourses scripts locals.states
+  pub most : locals.states ≤ most_states scripts states
   pub undecided : locals.ending ≡ E.Undecided → 1 ≤ length scripts → locals.states ≡ most_states scripts states
   pub told : TellsAmong (locals_lines locals) before after
 
@@ -39,7 +41,8 @@ TellsAfter o scripts e text =
 
 -- A test case was explored, and each verdict that was found has one witness: a complete course of its scripts, which is legal.
 -- If the search says that it is complete, the verdict of each complete course of its scripts was found. If it says that it is
--- undecided, it looked at as many states as it may. Some course of each run carries out as many steps as it reaches.
+-- undecided, it looked at as many states as it may. Some course of each run carries out as many steps as it reaches. For each
+-- state that it looked at there is a course of its own, in which no run carries out more.
 pub record IsExplored (o : ExploreOptions) (c : CaseView) (e : ExploredCase) : Type 0 where
   pub name : e.name ≡ c.0
   pub behaviours : e.behaviours ≡ length c.1
@@ -48,6 +51,7 @@ pub record IsExplored (o : ExploreOptions) (c : CaseView) (e : ExploredCase) : T
   pub once : IsOnce e.explored.found
   pub complete : e.explored.ending ≡ E.Complete → AllFound (scripts_of c.1) e.explored.found
   pub reached : AreReached (scripts_of c.1) e.explored.reached
+  pub met : AreMet (scripts_of c.1) e.explored.reached e.explored.states
   pub most : e.explored.states ≤ most_states (scripts_of c.1) o.states
   pub undecided : e.explored.ending ≡ E.Undecided → 1 ≤ length (scripts_of c.1) → e.explored.states ≡ most_states (scripts_of c.1) o.states
   pub details_are : TellsAfter o (scripts_of c.1) e.explored e.details
