@@ -216,6 +216,20 @@ LIES = (
         return Err(CaseError::NoThread);
 """),
     ), "tc_exec_tests"),
+    Lie("calls_after_it_in_the_summary", (
+        ("""log.get(..cause.before).unwrap_or(log)""", """log.get(cause.before..).unwrap_or(log)"""),
+    )),
+    Lie("first_calls_in_the_summary", (
+        ("""append_after(out, &calls[calls.len().saturating_sub(5)..])""", """append_after(out, calls.get(..5).unwrap_or(calls))"""),
+    )),
+    Lie("line_of_the_summary_too_long", (
+        ("""Ok(73usize.saturating_sub(text.len()))""", """Ok(79usize.saturating_sub(text.len()))"""),
+    )),
+    Lie("parked_call_in_the_summary", (
+        ("""    if !matches!(entry.reply, Reply::Parked) {
+        calls.push""", """    if !matches!(entry.reply, Reply::Ended) {
+        calls.push"""),
+    )),
     Lie("a_line_of_sixty_bytes_is_cut", (
         ("""if bytes.len() <= SHOWN { "`" }""", """if bytes.len() < SHOWN { "`" }"""),
     ), shown="explain_a_line_of_sixty_bytes"),

@@ -178,6 +178,16 @@ def long_report() -> Iterator[Case]:
     yield Case("junit_of_a_long_history", ("report", "--junit"), given, SomeText((cause, calls)), status=1)
     yield Case("summary_of_a_long_history", ("report", "--summary"), given, summary(
         1, f"t: fail;  {cause};  after:;" + ";".join(["    getverdict -> none"] * 5) + ";  fail: 0"), status=1)
+    names = ("", " named pump", " named valve_of_the_tank", "")
+    made = [f"0 create{names[at % 4]} -> made {at}" for at in range(1, 29)]
+    waits = ("0 start 1 1 -> ok", "0 wait done 1 -> parked", "1 setverdict pass -> ok", "1 finish -> ok", "0 wake done 1 -> matched")
+    yield Case("summary_of_many_components", ("report", "--summary"), text(";".join(
+        ["history 2 t 2", *made, *waits, *[call] * 3, *last, "end fail"])), summary(
+            1, f"t: fail;  {cause};  after:;    start 1 1 -> ok;    wait done 1 -> matched;" + "    getverdict -> none;" * 3
+            + "  fail: 0;  pass: 1 pump;  none: 2 valve_of_the_tank, 3, 4, 5 pump, 6 valve_of_the_tank, 7, 8,;"
+            "    9 pump, 10 valve_of_the_tank, 11, 12, 13 pump, 14 valve_of_the_tank, 15,;"
+            "    16, 17 pump, 18 valve_of_the_tank, 19, 20, 21 pump, 22 valve_of_the_tank,;"
+            "    23, 24, 25 pump, 26 valve_of_the_tank, 27, 28"), status=1)
     many = [f"history 2 t{at} 1;0 setverdict fail -> ok;0 finish -> ok;end fail" for at in range(200_000)]
     yield Case("summary_of_many_histories", ("report", "--summary"), text(";".join(many)), summary(
         len(many), ";;".join(f"t{at}: fail;  {cause};  fail: 0" for at, _ in enumerate(many))), status=1)

@@ -30,7 +30,7 @@ use Rattle.tc_program.specs.Inside.{IsJudgement, IsPlayedTo, IsRecorded, Reports
 use Rattle.tc_program.specs.declared.fault.RunFault.{RunFault}
 use Rattle.tc_program.specs.declared.fault.RunFault.TheVariants as F
 use Rattle.tc_command.specs.declared.task.ReportForm.{ReportForm}
-use Rattle.tc_program.specs.Report.{IsFirstIllegal, IsReport, IsReported, form_of, reported, unreported}
+use Rattle.tc_program.specs.Report.{AnswersCases, IsFirstIllegal, IsForm, IsReport, IsReported, unreported}
 use Rattle.tc_program.specs.declared.reply.Answer.{Answer}
 use Rattle.tc_program.specs.WrittenHistories.{AreFoundLegal, found_legal, legal_case}
 use Rattle.tc_program.proofs.Doing.{answer_of}
@@ -147,10 +147,10 @@ made_none ss o blocks chosen none made = subst (Reports blocks chosen ss) none m
 
 -- what is made of a text, none of whose blocks is illegal
 pub legal_report : (form : ReportForm) (text : List ℕ) (ss : List Summary) (o : Option Judgement) (names : List (List ℕ)) (notes : List ℕ) (a : Answer) (blocks chosen : List Block)
-    → o ≡ None → a ≡ reported form text notes (ss ++ map (bare_summary C.Missing) names) → Reports blocks chosen ss o → IsReport form text blocks chosen names notes a
+    → o ≡ None → AnswersCases form text notes (ss ++ map (bare_summary C.Missing) names) a → Reports blocks chosen ss o → IsReport form text blocks chosen names notes a
 legal_report form text ss o names notes a blocks chosen none is made =
     let made = made_none ss o blocks chosen none made in
-    IsReport.legal made.0.0 (whole each blocks made.0.0 true made.0.1) (is ∙ ap (λ l. reported form text notes (l ++ map (bare_summary C.Missing) names)) made.1)
+    IsReport.legal made.0.0 (whole each blocks made.0.0 true made.0.1) (subst (λ l. AnswersCases form text notes (l ++ map (bare_summary C.Missing) names) a) made.1 is)
 
 -- what is made of a text, one of whose blocks is illegal
 pub illegal_report : (form : ReportForm) (text : List ℕ) (ss : List Summary) (o : Option Judgement) (j : Judgement) (names : List (List ℕ)) (notes : List ℕ) (a : Answer)
@@ -186,11 +186,10 @@ reported_names form choice only text a same made named = (
 )
 
 -- an answer of these parts
-pub answer_made : (form : ReportForm) (text notes lent : List ℕ) (ss : List Summary) (out told : List ℕ) (status : ℕ) → out ≡ form_of form text ss → told ≡ notes → lent ≡ notes
-    → status ≡ (if length lent == 0 then status_of_summaries ss else 3) → answer_of out told status ≡ reported form text notes ss
+pub answer_made : (form : ReportForm) (text notes lent : List ℕ) (ss : List Summary) (out told : List ℕ) (status : ℕ) → IsForm form text ss out → told ≡ notes → lent ≡ notes
+    → status ≡ (if length lent == 0 then status_of_summaries ss else 3) → AnswersCases form text notes ss (answer_of out told status)
 answer_made form text notes lent ss out told status out_is told_is same status_is =
-    ap₂ (λ o t. answer_of o t status) out_is told_is
-    ∙ ap (λ s. answer_of (form_of form text ss) notes s) (status_is ∙ ap (λ l. if length l == 0 then status_of_summaries ss else 3) same)
+    (out_is, told_is, status_is ∙ ap (λ l. if length l == 0 then status_of_summaries ss else 3) same)
 
 -- ---- blocks that a run writes
 
@@ -215,11 +214,11 @@ module _ (kind : Kind) (r : Results) (ran : WereRun kind r) where
 
   -- the report of what a run wrote: none of it is illegal
   reported_so : (form : ReportForm) (a : Answer) → IsReport form (blocks_text kind r) (blocks_of kind 1 r.finished) (filter each (blocks_of kind 1 r.finished)) [] [] a
-      → a ≡ reported form (blocks_text kind r) [] (map case_summary r.finished)
+      → AnswersCases form (blocks_text kind r) [] (map case_summary r.finished) a
   reported_so form a (IsReport.legal lines checks is) =
       let blocks = blocks_of kind 1 r.finished in
-      is ∙ ap (reported form (blocks_text kind r) [])
-      (append-nil (map summary_at (filter each blocks)) ∙ (ap (map summary_at) (filter_each blocks) ∙ summaries_written kind 1 r.finished ran.each))
+      subst (λ l. AnswersCases form (blocks_text kind r) [] l a)
+      (append-nil (map summary_at (filter each blocks)) ∙ (ap (map summary_at) (filter_each blocks) ∙ summaries_written kind 1 r.finished ran.each)) is
   reported_so form a (IsReport.illegal b line first is) =
       absurd (none_illegal (blocks_of kind 1 r.finished) b line (are_right kind 1 r.finished ran.each) first)
 

@@ -12,23 +12,23 @@ use Rattle.tc_report.specs.Csv.{csv_of}
 use Rattle.tc_report.specs.Junit.{junit_of}
 use Rattle.tc_report.specs.Status.{status_of_summaries}
 use Rattle.tc_report.specs.Summary.{bare_summary, block_summary}
-use Rattle.tc_report.specs.SummaryText.{summary_text}
+use Rattle.tc_report.specs.SummaryText.{IsSummary}
 use Rattle.tc_report.specs.declared.results.CaseEnd.TheVariants as C
 use Rattle.tc_program.specs.declared.reply.Answer.{Answer}
 use Rattle.tc_program.specs.Check.{Checks, IsIllegalLine}
 use Rattle.tc_program.specs.Choosing.{each}
 
--- the form of blocks by their text and the summaries of their test cases
-abbrev pub form_of : ReportForm → List ℕ → List Summary → List ℕ
-form_of Forms.Csv text ss = csv_of ss
-form_of (Forms.Junit suite) text ss = junit_of VERSION.now suite ss
-form_of Forms.Html text ss = page_of text
-form_of Forms.Summary text ss = summary_text ss
+-- this is the form of blocks by their text and the summaries of their test cases
+abbrev pub IsForm : ReportForm → List ℕ → List Summary → List ℕ → Type 0
+IsForm Forms.Csv text ss out = out ≡ csv_of ss
+IsForm (Forms.Junit suite) text ss out = out ≡ junit_of VERSION.now suite ss
+IsForm Forms.Html text ss out = out ≡ page_of text
+IsForm Forms.Summary text ss out = IsSummary ss out
 
--- what is answered for test cases, with these lines for standard error: their form, and their status, or 3 if there is a line
-abbrev pub reported : ReportForm → List ℕ → List ℕ → List Summary → Answer
-reported form text notes ss =
-    record { out = form_of form text ss; told = notes; status = if length notes == 0 then status_of_summaries ss else 3 }
+-- this is answered for test cases, with these lines for standard error: their form, and their status, or 3 if there is a line
+abbrev pub AnswersCases : ReportForm → List ℕ → List ℕ → List Summary → Answer → Type 0
+AnswersCases form text notes ss a =
+    IsForm form text ss a.out × (a.told ≡ notes) × (a.status ≡ (if length notes == 0 then status_of_summaries ss else 3))
 
 -- what is answered if a block is not legal: nothing is written, its line of `check` is printed, and the status is 3
 abbrev pub unreported : List ℕ → Answer
@@ -51,7 +51,7 @@ summaries_of blocks missing = map (λ b. block_summary (history_of b)) blocks ++
 -- finds each block legal, or this is the first that it does not.
 pub data IsReport (form : ReportForm) (text : List ℕ) (blocks chosen : List Block) (missing : List (List ℕ)) (notes : List ℕ) (a : Answer) : Type 0 where
   legal : (lines : List ℕ) → Checks each blocks lines true
-      → a ≡ reported form text notes (summaries_of chosen missing) → IsReport form text blocks chosen missing notes a
+      → AnswersCases form text notes (summaries_of chosen missing) a → IsReport form text blocks chosen missing notes a
   illegal : (b : Block) (line : List ℕ) → IsFirstIllegal blocks b line → a ≡ unreported line → IsReport form text blocks chosen missing notes a
 
 -- the text is that of histories and evidence, and whatever blocks it is of, this is answered for the chosen ones

@@ -13,7 +13,7 @@ use Rattle.tc_program.specs.declared.reply.Answer.{Answer}
 use Rattle.tc_program.specs.Check.{RefusesBlocks, legal_line}
 use Rattle.tc_program.specs.Choosing.{ChoosesEach}
 use Rattle.tc_program.specs.Made.{IsMade}
-use Rattle.tc_program.specs.Report.{reported}
+use Rattle.tc_program.specs.Report.{AnswersCases}
 use Rattle.tc_program.specs.declared.fault.RunFault.{RunFault}
 use Rattle.tc_program.specs.declared.fault.RunFault.TheVariants as F
 
@@ -37,5 +37,5 @@ pub record AreFoundLegal (text : List ℕ) (r : Results) : Type 0 where
   pub checked_so : (choice : Choice) (explains : Bool) (a : Answer) → ChoosesEach choice → IsMade (T.Check choice explains) text (Ok a)
       → a ≡ found_legal r
   pub reported_so : (form : ReportForm) (choice : Choice) (explains : Bool) (a : Answer) → ChoosesEach choice
-      → IsMade (T.Report form choice explains) text (Ok a) → a ≡ reported form text [] (map case_summary r.finished)
+      → IsMade (T.Report form choice explains) text (Ok a) → AnswersCases form text [] (map case_summary r.finished) a
   pub refused_so : (fault : RunFault) → RefusesBlocks [] text fault → fault ≡ F.NoMemory

@@ -8,7 +8,7 @@ ghost use Rattle.tc_program.specs.Check.{RefusesHistory};
 ghost use Rattle.tc_program.specs.Choosing.{is_chosen, is_picked as spec_picked};
 ghost use Rattle.tc_program.specs.Inside.{IsRecorded, Reports, Summarizes, case_if_picked, illegal_line, judgement_line, picked_by};
 ghost use Rattle.tc_program.specs.Made.{IsMadeOfBlocks};
-ghost use Rattle.tc_program.specs.Report.{IsReport, IsReported, form_of, reported, unreported};
+ghost use Rattle.tc_program.specs.Report.{AnswersCases, IsForm, IsReport, IsReported, unreported};
 ghost use Rattle.tc_report.specs.Status.{status_of_summaries};
 ghost use Rattle.tc_report.specs.Summary.{bare_summary as bare};
 ghost use Rattle.tc_report.specs.declared.results.CaseEnd.TheVariants.{Missing};
@@ -182,7 +182,7 @@ fn form_text(
     text: &[u8],
     cases: &[Summary],
 ) -> Result<Vec<u8>, NoMemory>
-    ensures { IfOk result (λ v. v.items ≡ form_of form.now text.now cases.now) }
+    ensures { IfOk result (λ v. IsForm form.now text.now cases.now v.items) }
 {
     match form {
         ReportForm::Csv => csv_report(alloc, cases),
@@ -231,7 +231,7 @@ fn legal_answer(
     cases: &[Summary],
     notes: Vec<u8>,
 ) -> Result<Answer, NoMemory>
-    ensures { IfOk result (λ a. a ≡ reported form.now text.now notes.items cases.now) }
+    ensures { IfOk result (AnswersCases form.now text.now notes.items cases.now) }
 {
     let out = form_text(alloc, form, text, cases)?;
     let status = status_with(notes.as_slice(), cases);
@@ -263,7 +263,7 @@ fn answer_with_missing(
     missing: &[Name],
     notes: Vec<u8>,
 ) -> Result<Answer, NoMemory>
-    ensures { IfOk result (λ a. a ≡ reported form.now text.now notes.items (cases.old.items ++ map (bare Missing) missing.now)) }
+    ensures { IfOk result (AnswersCases form.now text.now notes.items (cases.old.items ++ map (bare Missing) missing.now)) }
 {
     add_missing(alloc, cases, missing)?;
     legal_answer(alloc, form, text, cases.as_slice(), notes)

@@ -7,5 +7,6 @@ pub mod Joining
 pub mod Locals
 pub mod Overalls
 pub mod Plain
+pub mod Wording
 pub mod Writing
 mod WorkedTexts

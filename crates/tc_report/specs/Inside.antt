@@ -1,10 +1,12 @@
 -- What the functions inside say, which no public clause names.
-use Rattle.std.specs.Prelude.{ℕ, ◌≡◌, ◌+◌, ◌==◌, Bool, true, false, List, [], ◌∷◌, ◌++◌}
+use Rattle.std.specs.Prelude.{ℕ, ◌≡◌, ◌+◌, ◌==◌, Bool, true, false, Option, List, [], ◌∷◌, ◌++◌, filter, map, slice_get}
 use Rattle.std.specs.Global.{Vec}
 use Rattle.csv.specs.declared.writer.Writer.{Writer}
 use Rattle.csv.specs.Writing.{default_writer, writer_setup, fields_written, has_written, writer_under, writer_pending}
+use Rattle.tc_report.specs.Cause.{named_text}
 use Rattle.tc_report.specs.Csv.{header_text}
-use Rattle.std.specs.List.{flat_map, join_with_byte}
+use Rattle.std.specs.List.{enumerate_from, flat_map, join_with_byte}
+use Rattle.std.specs.Option.{option_and_then}
 use Rattle.tc_report.specs.declared.live_form.LiveForm.{LiveForm}
 use Rattle.tc_report.specs.declared.results.Finished.{Finished}
 use Rattle.tc_report.specs.declared.results.Tally.{Tally}
@@ -13,6 +15,9 @@ use Rattle.tc_verdict.specs.declared.verdict.Verdict.TheVariants as V
 use Rattle.tc_verdict.specs.Verdict.{level_of}
 use Rattle.tc_report.specs.Live.{opening_text, part_text}
 use Rattle.tc_report.specs.Progress.{Names}
+use Rattle.tc_report.specs.SummaryText.{AreShown}
+use Rattle.tc_report.specs.declared.summary.Summary.{Summary}
+use Rattle.tc_text.specs.Said.{Holds, Line, ends_word}
 
 -- the bytes in memory, and then those that the writer holds back
 abbrev pub written_by : Writer (Vec ℕ) → List ℕ
@@ -56,3 +61,19 @@ tally_with t v = record {
 -- a text is appended that has the name and the verdict of each of these test cases
 abbrev pub Adds : List Finished → List ℕ → List ℕ → Type 0
 Adds fs before after = (text : List ℕ) × (after ≡ before ++ text) × Names fs text
+
+-- a text is appended before which a word ends, and which holds these words
+abbrev pub AddsWords : Line → List ℕ → List ℕ → Type 0
+AddsWords words before after = (text : List ℕ) × (after ≡ before ++ text) × (ends_word text ≡ true) × Holds words text
+
+-- a text is appended in which these test cases are shown
+abbrev pub AddsShown : List Summary → List ℕ → List ℕ → Type 0
+AddsShown ss before after = (text : List ℕ) × (after ≡ before ++ text) × AreShown ss text
+
+-- the numbers of the components with this local verdict
+abbrev pub numbers_with : Verdict → List Verdict → List ℕ
+numbers_with v locals = map (λ p. p.0) (filter (λ p. level_of p.1 == level_of v) (enumerate_from 0 locals))
+
+-- one of them, and its name if it has one
+abbrev pub member_text : List (Option (List ℕ)) → ℕ → List ℕ
+member_text names comp = named_text (option_and_then (λ n. n) (slice_get names comp)) comp

@@ -2,6 +2,7 @@
 use Rattle.std.specs.Prelude.{ℕ, ◌≡◌, nat_lt, Bool, true, false, List, [], ◌∷◌, ◌++◌, Option, Some, None, Result, Ok, Err, codes, filter}
 use Rattle.std.specs.Io.KnownBytes.{Appends, Keeps}
 use Rattle.tc_verdict.specs.Verdict.{name_of}
+use Rattle.tc_entry.specs.Name.{is_name_byte}
 use Rattle.tc_report.specs.declared.fault.OutFault.{OutFault}
 use Rattle.tc_report.specs.declared.progress.Progress.{Progress}
 use Rattle.tc_report.specs.declared.results.Finished.{Finished}
@@ -15,10 +16,11 @@ told f = codes " " ++ (f.name ++ (codes " " ++ name_of f.report.verdict))
 abbrev pub failed : List Finished → List Finished
 failed fs = filter (λ f. nat_lt 0 (verdict_status f.report.verdict)) fs
 
--- the text has this of each of these test cases, in their order
+-- the text has this of each of these test cases, in their order, and no letter, digit or `_` comes directly after it
 abbrev pub Names : List Finished → List ℕ → Type 0
 Names [] text = Unit {0}
-Names (f ∷ fs) text = (front : List ℕ) × (rest : List ℕ) × (text ≡ front ++ (told f ++ rest)) × Names fs rest
+Names (f ∷ fs) text =
+    (front : List ℕ) × (b : ℕ) × (rest : List ℕ) × (text ≡ front ++ (told f ++ b ∷ rest)) × (is_name_byte b ≡ false) × Names fs rest
 
 -- a text was printed that has this of each of these
 abbrev pub Prints : List Finished → Option (List ℕ) → Option (List ℕ) → Type 0

@@ -1,16 +1,17 @@
 //! What is printed about test cases as they begin and finish.
 ghost use Rattle.std.specs.Prelude.{ℕ, List, Option, ◌≡◌, ◌++◌, ◌∷◌, [], true, IfOk, OnOk, OnErr};
 ghost use Rattle.tc_report.specs.declared.results.Finished.{Finished as AnyFinished};
-ghost use Rattle.tc_report.specs.Inside.{Adds};
+ghost use Rattle.tc_report.specs.Inside.{Adds, AddsWords};
 ghost use Rattle.tc_report.specs.Progress.{HasTold, IsToldBy, Prints, Tells, failed as spec_failed, told};
 
-use crate::cause::{Cause, append_cause, cause_of};
+use crate::cause::{Cause, cause_of};
 use crate::fault::OutFault;
 use crate::observer::Observer;
 use crate::output::write_made;
 use crate::results::{CaseEnd, Finished};
 use crate::status::verdict_status;
 use crate::stopping::is_met;
+use crate::words::{append_cause_word, append_prose, append_word};
 use std::alloc::Global;
 use std::io::Write;
 use std::time::{Clock, Duration, Instant};
@@ -48,57 +49,64 @@ fn point_of(millis: u32) -> &'static str {
 }
 
 // Appends how long it took: seconds, to a thousandth.
-fn append_seconds(out: &mut Vec<u8>, time: Duration) -> Result<(), NoMemory> {
-    append_text(out, " ")?;
-    append_number(out, time.as_secs())?;
-    append_text(out, point_of(time.subsec_millis()))?;
-    append_number(out, u64::from(time.subsec_millis()))?;
-    append_text(out, " s")
+#[tactic(auto, using(crate::proofs::Wording::words_rules))]
+fn append_seconds(alloc: Global, out: &mut Vec<u8>, time: Duration) -> Result<(), NoMemory>
+    ensures { OnOk result (AddsWords [] out.old.items out.new.items) }
+{
+    let mut seconds = Vec::new(alloc);
+    append_number(&mut seconds, time.as_secs())?;
+    append_text(&mut seconds, point_of(time.subsec_millis()))?;
+    append_number(&mut seconds, u64::from(time.subsec_millis()))?;
+    append_word(out, seconds.as_slice())?;
+    append_prose(out, " s")
 }
 
-// Appends the end of a line: how long the test case took, if a clock said it, and what decided its verdict.
+// Appends how long it took, if a clock said it.
+#[tactic(auto, using(crate::proofs::Wording::words_rules))]
+fn append_time(alloc: Global, out: &mut Vec<u8>, time: Option<Duration>) -> Result<(), NoMemory>
+    ensures { OnOk result (AddsWords [] out.old.items out.new.items) }
+{
+    match time {
+        Some(time) => append_seconds(alloc, out, time),
+        None => Ok(()),
+    }
+}
+
+// Appends what decided the verdict, if it is one worse than pass.
+#[tactic(auto, using(crate::proofs::Wording::words_rules))]
+fn append_why(out: &mut Vec<u8>, cause: &Option<Cause>) -> Result<(), NoMemory>
+    ensures { OnOk result (AddsWords [] out.old.items out.new.items) }
+{
+    let Some(cause) = cause else {
+        return Ok(());
+    };
+    append_prose(out, ":")?;
+    append_cause_word(out, cause)
+}
+
+// Appends the end of a line, without its LF: how long the test case took, and what decided its verdict.
+#[tactic(auto, using(crate::proofs::Wording::words_rules))]
 fn append_rest(
-    out: &mut Vec<u8>,
-    time: Option<Duration>,
-    cause: &Option<Cause>,
-) -> Result<(), NoMemory> {
-    if let Some(time) = time {
-        append_seconds(out, time)?;
-    }
-    if let Some(cause) = cause {
-        append_text(out, ": ")?;
-        append_cause(out, cause)?;
-    }
-    append_text(out, "\n")
-}
-
-// The end of a line.
-fn rest_of(
     alloc: Global,
+    out: &mut Vec<u8>,
     time: Option<Duration>,
     cause: &Option<Cause>,
-) -> Result<Vec<u8>, NoMemory> {
-    let mut rest = Vec::new(alloc);
-    append_rest(&mut rest, time, cause)?;
-    Ok(rest)
+) -> Result<(), NoMemory>
+    ensures { OnOk result (AddsWords [] out.old.items out.new.items) }
+{
+    append_time(alloc, out, time)?;
+    append_why(out, cause)
 }
 
-// Appends the name and the verdict of the test case, between these texts.
-fn append_told(
-    out: &mut Vec<u8>,
-    front: &[u8],
-    case: &Finished,
-    rest: &[u8],
-) -> Result<(), NoMemory>
-    ensures { OnOk result (out.new.items ≡ out.old.items ++ (front.now ++ (told case.now ++ rest.now))) }
+// Appends the name and the verdict of the test case after this text.
+fn append_told(out: &mut Vec<u8>, front: &[u8], case: &Finished) -> Result<(), NoMemory>
+    ensures { OnOk result (out.new.items ≡ out.old.items ++ (front.now ++ told case.now)) }
 {
     out.extend_from_slice(front)?;
     append_text(out, " ")?;
     out.extend_from_slice(case.name.bytes())?;
     append_text(out, " ")?;
-    append_text(out, name_of(case.report.verdict))?;
-    out.extend_from_slice(rest)?;
-    Ok(())
+    append_text(out, name_of(case.report.verdict))
 }
 
 // Appends the line of the test case, which has this place.
@@ -113,8 +121,9 @@ fn append_line(
 ) -> Result<(), NoMemory>
     ensures { OnOk result (Adds (case.now ∷ []) out.old.items out.new.items) }
 {
-    let rest = rest_of(alloc, time, cause)?;
-    append_told(out, place, case, rest.as_slice())
+    append_told(out, place, case)?;
+    append_rest(alloc, out, time, cause)?;
+    append_text(out, "\n")
 }
 
 // Appends the line that names the test case again, if it has failed.

@@ -1,69 +1,59 @@
 //! The summary of test cases, a page for a person.
-ghost use Rattle.std.specs.Prelude.{◌≡◌, ◌++◌, ◌∷◌, ◌-◌, [], IfOk, OnOk, codes, filter, length, map};
-ghost use Rattle.std.specs.List.{flat_map};
-ghost use Rattle.tc_report.specs.Report.{shown_entry};
+ghost use Rattle.std.specs.Prelude.{◌≡◌, ◌++◌, ◌∷◌, [], IfOk, OnOk, codes, map};
+ghost use Rattle.tc_case.specs.Refusals.{refusal_text};
+ghost use Rattle.tc_verdict.specs.Verdict.{name_of as spec_name};
+ghost use Rattle.tc_report.specs.Cause.{cause_text};
+ghost use Rattle.tc_report.specs.Csv.{end_word as end_text};
+ghost use Rattle.tc_report.specs.Inside.{AddsShown, AddsWords, member_text as spec_member, numbers_with};
 ghost use Rattle.tc_report.specs.SummaryText as spec;
 
-use crate::cause::{Cause, append_cause, append_named};
+use crate::cause::{Cause, append_named};
 use crate::records::end_word;
 use crate::report::{append_count, append_entry, append_tally};
 use crate::results::{CaseEnd, Tally};
 use crate::status::{counted_as, verdict_status};
 use crate::summary::Summary;
+use crate::words::{append_cause_word, append_prose, append_word};
 use std::alloc::Global;
+use tc_case::CaseError;
 use tc_entry::{Entry, Name, NoMemory, Reply, Verdict};
 use tc_text::append_text;
 use tc_verdict::name as name_of;
 
-// The ends, numbered: the verdicts from best to worst, and then the others.
-fn kind_of(ending: CaseEnd) -> u8
-    ensures { result ≡ spec.kind_of ending }
-{
-    match ending {
-        CaseEnd::Over(Verdict::None) => 0,
-        CaseEnd::Over(Verdict::Pass) => 1,
-        CaseEnd::Over(Verdict::Inconc) => 2,
-        CaseEnd::Over(Verdict::Fail) => 3,
-        CaseEnd::Over(Verdict::Error) => 4,
-        CaseEnd::Unfinished => 5,
-        CaseEnd::Aborted(_) => 6,
-        CaseEnd::Missing => 7,
-        CaseEnd::NotRun => 8,
-    }
-}
-
-// How many of the test cases ended so.
-fn ended(cases: &[Summary], kind: u8) -> usize
-    ensures { result ≡ spec.ended kind cases.now }
+// How many of the test cases ended with this word.
+fn ended(cases: &[Summary], word: &str) -> usize
+    ensures { result ≡ spec.ended word.now cases.now }
 {
     cases
         .iter()
-        .filter(|case| kind_of(case.ending) == kind)
+        .filter(|case| end_word(case.ending) == word)
         .count()
 }
 
 // The test cases by their overall verdicts.
 fn tally_of(cases: &[Summary]) -> Tally
-    ensures { result ≡ spec.tally_of_summaries cases.now }
+    ensures { result ≡ spec.tally_of cases.now }
 {
     Tally {
         cases: cases.len(),
-        none: ended(cases, 0),
-        pass: ended(cases, 1),
-        inconc: ended(cases, 2),
-        fail: ended(cases, 3),
-        error: ended(cases, 4),
+        none: ended(cases, "none"),
+        pass: ended(cases, "pass"),
+        inconc: ended(cases, "inconc"),
+        fail: ended(cases, "fail"),
+        error: ended(cases, "error"),
     }
 }
 
-// Appends the line of test cases without an overall verdict, if there are some.
-fn append_other(out: &mut Vec<u8>, word: &str, count: usize) -> Result<(), NoMemory>
-    ensures { OnOk result (out.new.items ≡ out.old.items ++ spec.other_line word.now count) }
+// Appends the line of the test cases that ended with this word, if there are some.
+fn append_other(out: &mut Vec<u8>, word: &str, cases: &[Summary]) -> Result<(), NoMemory>
+    ensures { OnOk result (out.new.items ≡ out.old.items ++ spec.other_line word.now cases.now) }
 {
+    let count = ended(cases, word);
     if count == 0 {
         return Ok(());
     }
-    append_count(out, word, count)?;
+    append_text(out, word)?;
+    append_count(out, " ", count)?;
     append_text(out, "\n")
 }
 
@@ -73,15 +63,15 @@ fn append_counts(out: &mut Vec<u8>, cases: &[Summary]) -> Result<(), NoMemory>
     ensures { OnOk result (out.new.items ≡ out.old.items ++ spec.counts_text cases.now) }
 {
     append_tally(out, &tally_of(cases))?;
-    append_other(out, "unfinished ", ended(cases, 5))?;
-    append_other(out, "aborted ", ended(cases, 6))?;
-    append_other(out, "missing ", ended(cases, 7))?;
-    append_other(out, "notrun ", ended(cases, 8))
+    append_other(out, "unfinished", cases)?;
+    append_other(out, "aborted", cases)?;
+    append_other(out, "missing", cases)?;
+    append_other(out, "notrun", cases)
 }
 
 // The numbers of the components with this local verdict.
 fn members(alloc: Global, locals: &[Verdict], verdict: Verdict) -> Result<Vec<usize>, NoMemory>
-    ensures { IfOk result (λ v. v.items ≡ spec.members verdict locals.now) }
+    ensures { IfOk result (λ v. v.items ≡ numbers_with verdict locals.now) }
 {
     Ok(
         locals
@@ -95,25 +85,25 @@ fn members(alloc: Global, locals: &[Verdict], verdict: Verdict) -> Result<Vec<us
 
 // A component by its number, and its name if it has one.
 fn member_text(alloc: Global, names: &[Option<Name>], comp: usize) -> Result<Vec<u8>, NoMemory>
-    ensures { IfOk result (λ v. v.items ≡ spec.member_text names.now comp) }
+    ensures { IfOk result (λ v. v.items ≡ spec_member names.now comp) }
 {
     let mut text = Vec::new(alloc);
     append_named(&mut text, comp, names.get(comp).unwrap_or(&None))?;
     Ok(text)
 }
 
-// Appends one more text of a list, and returns how many columns its line has left.
+// Appends one more text of a list: in the same line, if it has that many columns left, otherwise in the next. Returns how
+// many columns the line has left then, of 78, one of them for a comma.
 fn append_next(out: &mut Vec<u8>, room: usize, text: &[u8]) -> Result<usize, NoMemory>
-    ensures text { OnOk result (out.new.items ≡ out.old.items ++ spec.next_text room text.now) }
-    ensures room { IfOk result (λ left. left ≡ spec.room_after room text.now) }
+    ensures { OnOk result (AddsWords (text.now ∷ []) out.old.items out.new.items) }
 {
     if text.len() + 2 > room {
-        append_text(out, ",\n    ")?;
-        out.extend_from_slice(text)?;
+        append_prose(out, ",\n   ")?;
+        append_word(out, text)?;
         Ok(73usize.saturating_sub(text.len()))
     } else {
-        append_text(out, ", ")?;
-        out.extend_from_slice(text)?;
+        append_prose(out, ",")?;
+        append_word(out, text)?;
         Ok(room - (text.len() + 2))
     }
 }
@@ -126,14 +116,14 @@ fn append_member(
     room: usize,
     comp: usize,
 ) -> Result<usize, NoMemory>
-    ensures text { OnOk result (out.new.items ≡ out.old.items ++ spec.next_text room (spec.member_text names.now comp)) }
-    ensures room { IfOk result (λ left. left ≡ spec.room_after room (spec.member_text names.now comp)) }
+    ensures { OnOk result (AddsWords (spec_member names.now comp ∷ []) out.old.items out.new.items) }
 {
     let text = member_text(alloc, names, comp)?;
     append_next(out, room, text.as_slice())
 }
 
 // Appends the other components of a list.
+#[tactic(auto, using(crate::proofs::Wording::adds_none))]
 fn append_listed(
     alloc: Global,
     out: &mut Vec<u8>,
@@ -141,33 +131,52 @@ fn append_listed(
     room: usize,
     members: &[usize],
 ) -> Result<(), NoMemory>
-    ensures { OnOk result (out.new.items ≡ out.old.items ++ spec.listed room (map (spec.member_text names.now) members.now)) }
+    ensures { OnOk result (AddsWords (map (spec_member names.now) members.now) out.old.items out.new.items) }
 {
     let mut room = room;
-    let mut rest = members;
-    while let Some((comp, others)) = rest.split_first() {
+    for comp in members {
         room = append_member(alloc, out, names, room, *comp)?;
-        rest = others;
     }
     Ok(())
 }
 
-// Appends the first component of a list, and returns how many columns its line has left.
+// Appends the name of a verdict, and the first component of its list. Returns how many columns the line has left.
 fn append_first(
     alloc: Global,
     out: &mut Vec<u8>,
     names: &[Option<Name>],
+    verdict: Verdict,
     comp: usize,
 ) -> Result<usize, NoMemory>
-    ensures text { OnOk result (out.new.items ≡ out.old.items ++ spec.member_text names.now comp) }
-    ensures room { IfOk result (λ left. left ≡ 67 - length (spec.member_text names.now comp)) }
+    ensures { OnOk result (AddsWords (spec_name verdict ∷ spec_member names.now comp ∷ []) out.old.items out.new.items) }
 {
     let text = member_text(alloc, names, comp)?;
-    out.extend_from_slice(text.as_slice())?;
+    append_prose(out, " ")?;
+    append_word(out, name_of(verdict).as_bytes())?;
+    append_prose(out, ":")?;
+    append_word(out, text.as_slice())?;
     Ok(67usize.saturating_sub(text.len()))
 }
 
+// Appends the name of a verdict, and these components.
+fn append_group(
+    alloc: Global,
+    out: &mut Vec<u8>,
+    names: &[Option<Name>],
+    verdict: Verdict,
+    first: usize,
+    others: &[usize],
+) -> Result<(), NoMemory>
+    ensures { OnOk result (AddsWords (spec_name verdict ∷ spec_member names.now first ∷ map (spec_member names.now) others.now)
+        out.old.items out.new.items) }
+{
+    let room = append_first(alloc, out, names, verdict, first)?;
+    append_listed(alloc, out, names, room, others)?;
+    append_prose(out, "\n")
+}
+
 // Appends the lines of the components with a local verdict, if there are some.
+#[tactic(auto, using(crate::proofs::Wording::adds_none))]
 fn append_members(
     alloc: Global,
     out: &mut Vec<u8>,
@@ -175,17 +184,12 @@ fn append_members(
     verdict: Verdict,
     members: &[usize],
 ) -> Result<(), NoMemory>
-    ensures { OnOk result (out.new.items ≡ out.old.items ++ spec.members_lines verdict (map (spec.member_text names.now) members.now)) }
+    ensures { OnOk result (AddsWords (spec.after_verdict verdict (map (spec_member names.now) members.now)) out.old.items out.new.items) }
 {
-    let Some((first, others)) = members.split_first() else {
-        return Ok(());
-    };
-    append_text(out, "  ")?;
-    append_text(out, name_of(verdict))?;
-    append_text(out, ": ")?;
-    let room = append_first(alloc, out, names, *first)?;
-    append_listed(alloc, out, names, room, others)?;
-    append_text(out, "\n")
+    match members {
+        [] => Ok(()),
+        [first, others @ ..] => append_group(alloc, out, names, verdict, *first, others),
+    }
 }
 
 // Appends the components with this local verdict.
@@ -196,8 +200,7 @@ fn append_locals_with(
     locals: &[Verdict],
     verdict: Verdict,
 ) -> Result<(), NoMemory>
-    ensures { OnOk result (out.new.items ≡ out.old.items
-        ++ spec.members_lines verdict (map (spec.member_text names.now) (spec.members verdict locals.now))) }
+    ensures { OnOk result (AddsWords (spec.after_verdict verdict (spec.members names.now locals.now verdict)) out.old.items out.new.items) }
 {
     let members = members(alloc, locals, verdict)?;
     append_members(alloc, out, names, verdict, members.as_slice())
@@ -210,7 +213,7 @@ fn append_locals(
     names: &[Option<Name>],
     locals: &[Verdict],
 ) -> Result<(), NoMemory>
-    ensures { OnOk result (out.new.items ≡ out.old.items ++ spec.locals_text names.now locals.now) }
+    ensures { OnOk result (AddsWords (spec.by_verdicts names.now locals.now) out.old.items out.new.items) }
 {
     append_locals_with(alloc, out, names, locals, Verdict::Error)?;
     append_locals_with(alloc, out, names, locals, Verdict::Fail)?;
@@ -221,15 +224,16 @@ fn append_locals(
 
 // Appends what is shown of an entry, deeper in.
 fn append_inner(out: &mut Vec<u8>, entry: &Entry) -> Result<(), NoMemory>
-    ensures { OnOk result (out.new.items ≡ out.old.items ++ (codes "  " ++ shown_entry entry.now)) }
+    ensures { OnOk result (AddsWords [] out.old.items out.new.items) }
 {
     append_text(out, "  ")?;
     append_entry(out, entry)
 }
 
 // Appends what is shown of each entry, deeper in.
+#[tactic(auto, using(crate::proofs::Wording::words_rules))]
 fn append_inner_calls(out: &mut Vec<u8>, entries: &[Entry]) -> Result<(), NoMemory>
-    ensures { OnOk result (out.new.items ≡ out.old.items ++ flat_map (λ e. codes "  " ++ shown_entry e) entries.now) }
+    ensures { OnOk result (AddsWords [] out.old.items out.new.items) }
 {
     for entry in entries {
         append_inner(out, entry)?;
@@ -238,118 +242,124 @@ fn append_inner_calls(out: &mut Vec<u8>, entries: &[Entry]) -> Result<(), NoMemo
 }
 
 // Appends the lines of entries, if there are some.
+#[tactic(auto, using(crate::proofs::Wording::words_rules))]
 fn append_after(out: &mut Vec<u8>, entries: &[Entry]) -> Result<(), NoMemory>
-    ensures { OnOk result (out.new.items ≡ out.old.items ++ spec.after_text entries.now) }
+    ensures { OnOk result (AddsWords [] out.old.items out.new.items) }
 {
     if entries.is_empty() {
         return Ok(());
     }
-    append_text(out, "  after:\n")?;
+    append_prose(out, "  after:\n")?;
     append_inner_calls(out, entries)
 }
 
-// Adds a copy of the entry if it is shown.
-fn add_if_shown(calls: &mut Vec<Entry>, entry: &Entry) -> Result<(), NoMemory>
-    ensures { OnOk result (calls.new.items ≡ calls.old.items ++ filter spec.is_shown (entry.now ∷ [])) }
-{
+// Adds a copy of the entry if it is shown: if it was not parked.
+fn add_if_shown(calls: &mut Vec<Entry>, entry: &Entry) -> Result<(), NoMemory> {
     if !matches!(entry.reply, Reply::Parked) {
         calls.push(entry.copy())?;
     }
     Ok(())
 }
 
-// Those of the entries that are shown.
-fn shown_of(alloc: Global, entries: &[Entry]) -> Result<Vec<Entry>, NoMemory>
-    ensures { IfOk result (λ v. v.items ≡ filter spec.is_shown entries.now) }
-{
+// The entries of the run before the one that decided, as far as they are shown.
+fn calls_before(alloc: Global, cause: &Cause) -> Result<Vec<Entry>, NoMemory> {
     let mut calls = Vec::new(alloc);
-    for entry in entries {
+    let log = cause.log.as_slice();
+    for entry in log.get(..cause.before).unwrap_or(log) {
         add_if_shown(&mut calls, entry)?;
     }
     Ok(calls)
 }
 
-// The entries of the run before the one that decided, as far as they are shown.
-fn calls_before(alloc: Global, cause: &Cause) -> Result<Vec<Entry>, NoMemory>
-    ensures { IfOk result (λ v. v.items ≡ spec.calls_before cause.now) }
-{
-    let log = cause.log.as_slice();
-    shown_of(alloc, log.get(..cause.before).unwrap_or(log))
-}
-
-// The last five.
-fn last_five(entries: &[Entry]) -> &[Entry]
-    ensures { result.now ≡ spec.last_five entries.now }
-{
-    &entries[entries.len().saturating_sub(5)..]
-}
-
-// Appends the last calls of the run before what decided a verdict.
+// Appends the last five calls of the run before what decided a verdict.
 fn append_before(alloc: Global, out: &mut Vec<u8>, cause: &Cause) -> Result<(), NoMemory>
-    ensures { OnOk result (out.new.items ≡ out.old.items ++ spec.after_text (spec.last_five (spec.calls_before cause.now))) }
+    ensures { OnOk result (AddsWords [] out.old.items out.new.items) }
 {
     let calls = calls_before(alloc, cause)?;
-    append_after(out, last_five(calls.as_slice()))
+    let calls = calls.as_slice();
+    append_after(out, &calls[calls.len().saturating_sub(5)..])
 }
 
 // Appends what decided a verdict, and the last calls of the run before.
-#[tactic(auto, unfolding(crate::specs::SummaryText::decided_text))]
 fn append_decided(alloc: Global, out: &mut Vec<u8>, cause: &Cause) -> Result<(), NoMemory>
-    ensures { OnOk result (out.new.items ≡ out.old.items ++ spec.decided_text cause.now) }
+    ensures { OnOk result (AddsWords (cause_text cause.now ∷ []) out.old.items out.new.items) }
 {
-    append_text(out, "  ")?;
-    append_cause(out, cause)?;
-    append_text(out, "\n")?;
+    append_prose(out, " ")?;
+    append_cause_word(out, cause)?;
+    append_prose(out, "\n")?;
     append_before(alloc, out, cause)
 }
 
+// Appends why a test case has no report.
+fn append_refused(out: &mut Vec<u8>, why: CaseError) -> Result<(), NoMemory>
+    ensures { OnOk result (AddsWords (refusal_text why ∷ []) out.old.items out.new.items) }
+{
+    append_prose(out, " ")?;
+    append_word(out, why.text().as_bytes())?;
+    append_prose(out, "\n")
+}
+
 // Appends why a test case ended so.
+#[tactic(auto, using(crate::proofs::Wording::words_rules))]
 fn append_why(
     alloc: Global,
     out: &mut Vec<u8>,
     ending: CaseEnd,
     cause: &Option<Cause>,
 ) -> Result<(), NoMemory>
-    ensures { OnOk result (out.new.items ≡ out.old.items ++ spec.why_text ending cause.now) }
+    ensures { OnOk result (AddsWords (spec.why ending cause.now) out.old.items out.new.items) }
 {
     match (ending, cause) {
         (CaseEnd::Over(_), Some(cause)) => append_decided(alloc, out, cause),
-        (CaseEnd::Aborted(why), _) => {
-            append_text(out, "  ")?;
-            append_text(out, why.text())?;
-            append_text(out, "\n")
-        }
+        (CaseEnd::Aborted(why), _) => append_refused(out, why),
         _ => Ok(()),
     }
 }
 
-// Appends a test case that failed.
-#[tactic(auto, unfolding(crate::specs::SummaryText::failed_text))]
-fn append_failed(alloc: Global, out: &mut Vec<u8>, case: &Summary) -> Result<(), NoMemory>
-    ensures { OnOk result (out.new.items ≡ out.old.items ++ spec.failed_text case.now) }
+// Appends the name of a test case, and how it ended.
+fn append_head(out: &mut Vec<u8>, case: &Summary) -> Result<(), NoMemory>
+    ensures { OnOk result (out.new.items
+        ≡ out.old.items ++ (codes "\n" ++ (case.now.name ++ (codes ": " ++ end_text case.now.ending)))) }
 {
     append_text(out, "\n")?;
     out.extend_from_slice(case.name.bytes())?;
     append_text(out, ": ")?;
-    append_text(out, end_word(case.ending))?;
-    append_text(out, "\n")?;
+    append_text(out, end_word(case.ending))
+}
+
+// Appends why a test case ended so, and its components.
+fn append_parts(alloc: Global, out: &mut Vec<u8>, case: &Summary) -> Result<(), NoMemory>
+    ensures { OnOk result (AddsWords (spec.why case.now.ending case.now.cause
+        ++ spec.by_verdicts case.now.names case.now.locals) out.old.items out.new.items) }
+{
+    append_prose(out, "\n")?;
     append_why(alloc, out, case.ending, &case.cause)?;
     append_locals(alloc, out, case.names.as_slice(), case.locals.as_slice())
 }
 
+// Appends a test case that failed.
+fn append_failed(alloc: Global, out: &mut Vec<u8>, case: &Summary) -> Result<(), NoMemory>
+    ensures { OnOk result (AddsShown (case.now ∷ []) out.old.items out.new.items) }
+{
+    append_head(out, case)?;
+    append_parts(alloc, out, case)
+}
+
 // Appends a test case if it failed.
+#[tactic(auto, using(crate::proofs::Wording::shown_rules))]
 fn append_if_failed(alloc: Global, out: &mut Vec<u8>, case: &Summary) -> Result<(), NoMemory>
-    ensures { OnOk result (out.new.items ≡ out.old.items ++ spec.text_if_failed case.now) }
+    ensures { OnOk result (AddsShown (spec.failed_of (case.now ∷ [])) out.old.items out.new.items) }
 {
     if verdict_status(counted_as(case.ending)) > 0 {
-        append_failed(alloc, out, case)?;
+        return append_failed(alloc, out, case);
     }
     Ok(())
 }
 
 // Appends each test case that failed.
+#[tactic(auto, using(crate::proofs::Wording::shown_rules))]
 fn append_all_failed(alloc: Global, out: &mut Vec<u8>, cases: &[Summary]) -> Result<(), NoMemory>
-    ensures { OnOk result (out.new.items ≡ out.old.items ++ flat_map spec.text_if_failed cases.now) }
+    ensures { OnOk result (AddsShown (spec.failed_of cases.now) out.old.items out.new.items) }
 {
     for case in cases {
         append_if_failed(alloc, out, case)?;
@@ -357,10 +367,11 @@ fn append_all_failed(alloc: Global, out: &mut Vec<u8>, cases: &[Summary]) -> Res
     Ok(())
 }
 
-/// The summary of these test cases, a page for a person: their counts, and then each that failed, with what decided its
-/// verdict and the local verdicts of its components.
+/// The summary of these test cases, a page for a person: their counts, and then each that failed. It has what decided its
+/// verdict, at most five calls of the run before that, and the local verdicts of its components.
+#[tactic(auto, using(crate::proofs::Wording::is_summary))]
 pub fn summary_report(alloc: Global, cases: &[Summary]) -> Result<Vec<u8>, NoMemory>
-    ensures { IfOk result (λ v. v.items ≡ spec.summary_text cases.now) }
+    ensures { IfOk result (λ v. spec.IsSummary cases.now v.items) }
 {
     let mut out = Vec::new(alloc);
     append_counts(&mut out, cases)?;

@@ -1,12 +1,14 @@
 -- What was printed of test cases as they finished, test case by test case.
-use Rattle.std.proofs.Common.{ℕ, ◌≡◌, ◌∙◌, nat_lt, is_some, Bool, true, false, List, [], ◌∷◌, ◌++◌, Option, Some, None, Result, Ok, Err, OnOk, OnErr, IfErr, refl, sym, ap, subst, append_assoc}
+use Rattle.std.proofs.Common.{ℕ, ◌≡◌, ◌∙◌, nat_lt, is_some, Bool, true, false, List, [], ◌∷◌, ◌++◌, Option, Some, None, Result, Ok, Err, OnOk, OnErr, IfErr, codes, not, refl, sym, ap, subst, append_assoc}
 use Rattle.std.proofs.lemmas.List.{append-nil}
 use Rattle.std.proofs.lemmas.List.Elements.{filter-append}
 use Rattle.std.specs.Io.KnownBytes.{Appends, Keeps}
+use Rattle.tc_entry.specs.Name.{is_name_byte}
+use Rattle.tc_text.specs.Said.{ends_word}
 use Rattle.tc_report.specs.declared.fault.OutFault.{OutFault}
 use Rattle.tc_report.specs.declared.progress.Progress.{Progress}
 use Rattle.tc_report.specs.declared.results.Finished.{Finished}
-use Rattle.tc_report.specs.Inside.{Adds}
+use Rattle.tc_report.specs.Inside.{Adds, AddsWords}
 use Rattle.tc_report.specs.Observers.{AreTaken, IsEndedAt}
 use Rattle.tc_report.specs.Output.{LeavesPrefix}
 use Rattle.tc_report.specs.Progress.{HasTold, IsSoFar, IsToldBy, Names, Prints, Tells, failed, told}
@@ -15,15 +17,18 @@ use Rattle.tc_report.proofs.Writing.{appends_both, left_is_prefix}
 
 names_front : (fs : List Finished) (a b : List ℕ) → Names fs b → Names fs (a ++ b)
 names_front [] a b q = tt
-names_front (f ∷ fs) a b (front, rest, is, more) = (a ++ front, rest, ap (λ l. a ++ l) is ∙ sym (append_assoc a front (told f ++ rest)), more)
+names_front (f ∷ fs) a b (front, x, rest, is, ends, more) =
+    (a ++ front, x, rest, ap (λ l. a ++ l) is ∙ sym (append_assoc a front (told f ++ x ∷ rest)), ends, more)
 
 -- two texts, one after the other
 pub names_both : (fs gs : List Finished) (a b : List ℕ) → Names fs a → Names gs b → Names (fs ++ gs) (a ++ b)
 names_both [] gs a b p q = names_front gs a b q
-names_both (f ∷ fs) gs a b (front, rest, is, more) q = (
+names_both (f ∷ fs) gs a b (front, x, rest, is, ends, more) q = (
   front,
+  x,
   rest ++ b,
-  ap (λ l. l ++ b) is ∙ append_assoc front (told f ++ rest) b ∙ ap (λ l. front ++ l) (append_assoc (told f) rest b),
+  ap (λ l. l ++ b) is ∙ append_assoc front (told f ++ x ∷ rest) b ∙ ap (λ l. front ++ l) (append_assoc (told f) (x ∷ rest) b),
+  ends,
   names_both fs gs rest b more q,
 )
 
@@ -64,9 +69,23 @@ prints_made fs before now text names all = (text, all, names)
 pub prints_part : (before now : Option (List ℕ)) (text : List ℕ) (fault : OutFault) → LeavesPrefix before now text fault → Prints [] before now
 prints_part before now text fault part = let left = left_is_prefix before now text fault part in (_, left.2, tt)
 
--- a text with the name and the verdict of a test case is appended
-pub adds_one : (f : Finished) (before after front rest : List ℕ) → after ≡ before ++ (front ++ (told f ++ rest)) → Adds (f ∷ []) before after
-adds_one f before after front rest is = (front ++ (told f ++ rest), is, (front, rest, refl, tt))
+untrue : (b : Bool) → not b ≡ true → b ≡ false
+untrue true h = absurd (cc h)
+untrue false h = refl
+
+-- the name and the verdict of a test case, and then the end of a line
+names_one : (f : Finished) (front rest : List ℕ) → ends_word rest ≡ true → Names (f ∷ []) ((front ++ told f) ++ (rest ++ 10 ∷ []))
+names_one f front [] ends = (front, 10, [], append_assoc front (told f) (10 ∷ []), refl, tt)
+names_one f front (x ∷ rest) ends = (front, x, rest ++ 10 ∷ [], append_assoc front (told f) (x ∷ rest ++ 10 ∷ []), untrue (is_name_byte x) ends, tt)
+
+-- a line with the name and the verdict of a test case is appended
+pub adds_one : (f : Finished) (before a b after front : List ℕ) → a ≡ before ++ (front ++ told f) → AddsWords [] a b → after ≡ b ++ codes "\n" → Adds (f ∷ []) before after
+adds_one f before a b after front named rest is = (
+  (front ++ told f) ++ (rest.0 ++ 10 ∷ []),
+  is ∙ ap (λ l. l ++ 10 ∷ []) (rest.1 ∙ ap (λ l. l ++ rest.0) named) ∙ append_assoc (before ++ (front ++ told f)) rest.0 (10 ∷ [])
+      ∙ append_assoc before (front ++ told f) (rest.0 ++ 10 ∷ []),
+  names_one f front rest.0 rest.2,
+)
 
 prints_any : (fs : List Finished) (a b : Option (List ℕ)) → Prints fs a b → Prints [] a b
 prints_any fs a b p = (p.0, p.1, tt)

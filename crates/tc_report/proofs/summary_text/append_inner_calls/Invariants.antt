@@ -1,7 +1,6 @@
-use Rattle.std.proofs.Common.{◌≡◌, ◌++◌, codes, take}
-use Rattle.std.specs.List.{flat_map}
-use Rattle.tc_report.specs.Report.{shown_entry}
+use Rattle.std.proofs.Common.{[]}
+use Rattle.tc_report.specs.Inside.{AddsWords}
 use Rattle.tc_report.proofs.summary_text.append_inner_calls.Given as goal
 
 abbrev pub invariant-loop-entry : goal.invariant-loop-entry
-invariant-loop-entry l = l.out.items ≡ l.fn.out.items ++ flat_map (λ e. codes "  " ++ shown_entry e) (take l.entry-index l.entries)
+invariant-loop-entry l = AddsWords [] l.fn.out.items l.out.items

@@ -1,10 +1,6 @@
-use Rattle.std.proofs.Common.{◌≡◌, ◌++◌, length, map}
-use Rattle.tc_report.specs.SummaryText.{listed, member_text}
+use Rattle.std.proofs.Common.{map, take}
+use Rattle.tc_report.specs.Inside.{AddsWords, member_text}
 use Rattle.tc_report.proofs.summary_text.append_listed.Given as goal
 
 abbrev pub invariant-loop-comp : goal.invariant-loop-comp
-invariant-loop-comp l =
-    l.out.items ++ listed l.room (map (member_text l.names) l.rest) ≡ l.fn.out.items ++ listed l.fn.room (map (member_text l.names) l.members)
-
-abbrev pub decreases-loop-comp : goal.decreases-loop-comp
-decreases-loop-comp l = length l.rest
+invariant-loop-comp l = AddsWords (map (member_text l.names) (take l.comp-index l.members)) l.fn.out.items l.out.items

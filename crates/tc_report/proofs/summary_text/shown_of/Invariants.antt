@@ -1,6 +1,0 @@
-use Rattle.std.proofs.Common.{◌≡◌, filter, take}
-use Rattle.tc_report.specs.SummaryText.{is_shown}
-use Rattle.tc_report.proofs.summary_text.shown_of.Given as goal
-
-abbrev pub invariant-loop-entry : goal.invariant-loop-entry
-invariant-loop-entry l = l.calls.items ≡ filter is_shown (take l.entry-index l.entries)
