@@ -12,7 +12,7 @@ Exempt = Tuple[Tuple[str, ...], str]
 REFUSED_BY_THE_PROGRAM = ("explain", "html_page", "read_task", "read_cases_task", "answer", "answer_cases", "carry_out", "tc_program::replay",
                           "check", "take_script", "run_cases", "give", "fault_line", "abort_line", "Progress::end", "serve",
                           "run_case_with", "run_campaign_with", "choose", "read_evidence", "Block::history",
-                          "explore_locals", "Locals::append_lines", "near_word", "explore", "Explored::append_line", "Explored::append_witnesses",
+                          "explore_locals", "Locals::append_lines", "append_unknown", "explore", "Explored::append_line", "Explored::append_witnesses",
                           "Explored::append_details", "is_course", "read_campaign")
 # The tasks by which nothing else refuses these calls each growth: in the gate too each one is refused.
 EACH = ("--explain", "--html", "serve", "--live", "--progress", "--shard", "--script", "--failed", "--summary", "--suite", "--locals", "--details")

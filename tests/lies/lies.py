@@ -230,6 +230,12 @@ LIES = (
         calls.push""", """    if !matches!(entry.reply, Reply::Ended) {
         calls.push"""),
     )),
+    Lie("the_column_of_a_word_is_counted_from_0", (
+        ("""        Part::Number(start as u64 + 1),""", """        Part::Number(start as u64),"""),
+    ), "tc_script_tests"),
+    Lie("a_word_passes_by_the_row_of_another_slot", (
+        ("""if row.0.0 == slot.0 && passes(""", """if row.0.0 <= slot.0 && passes("""),
+    ), "tc_script_tests"),
     Lie("a_line_of_sixty_bytes_is_cut", (
         ("""if bytes.len() <= SHOWN { "`" }""", """if bytes.len() < SHOWN { "`" }"""),
     ), shown="explain_a_line_of_sixty_bytes"),

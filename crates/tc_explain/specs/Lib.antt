@@ -1,5 +1,4 @@
 -- The definitions that the contracts of this crate cite.
 pub mod Scan
-pub mod Slots
 pub mod Places
 pub mod Explanation

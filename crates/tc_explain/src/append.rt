@@ -1,10 +1,10 @@
 //! The lines of an explanation.
-ghost use Rattle.std.specs.Prelude.{◌≡◌, ◌<◌, ◌+◌, ◌^◌, ◌++◌, [], ◌∷◌, OnOk, flat_map, map};
+ghost use Rattle.std.specs.Prelude.{◌<◌, ◌+◌, ◌^◌, [], ◌∷◌, OnOk};
 ghost use Rattle.std.specs.Fmt.{decimal};
-ghost use Rattle.tc_text.specs.Said.{TellsAmong, TellsLine, word_of};
+ghost use Rattle.tc_text.specs.Said.{TellsAmong, TellsLine};
 ghost use Rattle.tc_explain.specs.Places.{quoted};
 
-use crate::nearest::near_text;
+use crate::nearest::{near_text, near_word};
 use crate::quote::{quoted_begin, quoted_rest};
 use std::alloc::Global;
 use tc_line::Lines;
@@ -52,6 +52,7 @@ pub(crate) fn append_column(
 }
 
 /// Appends the column of a word, and the word.
+#[tactic(auto, using(tc_text::proofs::Lemmas::Among::among_skipped))]
 pub(crate) fn append_word(
     alloc: Global,
     out: &mut Vec<u8>,
@@ -59,7 +60,7 @@ pub(crate) fn append_word(
     word: &[u8],
 ) -> Result<(), NoMemory>
     requires { start < 2 ^ 63 }
-    ensures { OnOk result (TellsLine (decimal (start + 1) ∷ quoted word.now ∷ []) out.old.items out.new.items) }
+    ensures { OnOk result (TellsAmong [] out.old.items out.new.items) }
 {
     let begin = quoted_begin(alloc, word)?;
     let rest = quoted_rest(alloc, word)?;
@@ -87,29 +88,21 @@ pub(crate) fn append_shown(alloc: Global, out: &mut Vec<u8>, line: &[u8]) -> Res
     )
 }
 
-// Appends the words to the parts of a line.
-#[tactic(auto, using(tc_text::proofs::Lemmas::Saying::words_push))]
-fn push_words<'a>(parts: &mut Vec<Part<'a>>, words: &[&'a str]) -> Result<(), NoMemory>
-    ensures { OnOk result (flat_map word_of parts.new.items ≡ flat_map word_of parts.old.items ++ map (λ w. w.now) words.now) }
-{
-    for word in words {
-        parts.push(Part::Word(word.as_bytes()))?;
-    }
-    Ok(())
-}
-
 /// Appends the words that would be understood, and what else would.
+#[tactic(auto, using(tc_text::proofs::Lemmas::Among::among_skipped))]
 pub(crate) fn append_list(
     alloc: Global,
     out: &mut Vec<u8>,
     words: &[&str],
     other: &str,
 ) -> Result<(), NoMemory>
-    ensures { OnOk result (TellsLine (map (λ w. w.now) words.now) out.old.items out.new.items) }
+    ensures { OnOk result (TellsAmong [] out.old.items out.new.items) }
 {
     let mut parts = Vec::new(alloc);
     parts.push(Part::Text(b"understood there:"))?;
-    push_words(&mut parts, words)?;
+    for word in words {
+        parts.push(Part::Word(word.as_bytes()))?;
+    }
     parts.push(Part::Text(other.as_bytes()))?;
     append_parts(alloc, out, parts.as_slice())
 }
@@ -143,4 +136,23 @@ pub(crate) fn append_lines(alloc: Global, out: &mut Vec<u8>, text: &[u8]) -> Res
         append_parts(alloc, out, &[Part::Text(line)])?;
     }
     Ok(())
+}
+
+/// Appends a line with a word that is no name of a test case, and one with the name of these that is the nearest, if one
+/// is near. If memory runs out, a part of it.
+#[tactic(auto, using(tc_text::proofs::Lemmas::Among::among_rules))]
+pub fn append_unknown(
+    alloc: Global,
+    out: &mut Vec<u8>,
+    word: &[u8],
+    names: &[&[u8]],
+) -> Result<(), NoMemory>
+    ensures { OnOk result (TellsAmong ((word.now ∷ []) ∷ []) out.old.items out.new.items) }
+{
+    let head = Part::Text(b"no test case has the name");
+    append_parts(alloc, out, &[head, Part::Word(word)])?;
+    match near_word(alloc, word, names)? {
+        Some(near) => append_parts(alloc, out, &[Part::Text(b"nearest:"), Part::Word(near)]),
+        None => Ok(()),
+    }
 }

@@ -18,6 +18,6 @@ mod source;
 mod stop;
 mod telling;
 
-pub use nearest::near_word;
+pub use append::append_unknown;
 pub use sort::Refusal;
 pub use telling::explain;

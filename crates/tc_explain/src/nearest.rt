@@ -1,8 +1,4 @@
 //! The words that may be at a place, and the nearest to a word.
-ghost use Rattle.std.specs.Prelude.{◌≡◌, ◌++◌, IfOk, OnOk, map};
-ghost use Rattle.std.specs.List.{flat_map};
-ghost use Rattle.tc_explain.specs.Slots.{listed as listed_at, open_words as words_while, told_at, words_at as words_of};
-
 use crate::scan::Opened;
 use crate::slot::{KEYWORD, Row, Slot, Test, rows};
 use std::alloc::Global;
@@ -11,10 +7,7 @@ use tc_entry::NAME_BYTES;
 use tc_verdict::NoMemory;
 
 // Adds the word of a row of this slot.
-fn add_word(words: &mut Vec<&'static str>, slot: Slot, row: &Row) -> Result<(), NoMemory>
-    ensures { OnOk result (map (λ w. w.now) words.new.items
-        ≡ map (λ w. w.now) words.old.items ++ told_at slot (row.now.0, row.now.1, row.now.2.now, row.now.3)) }
-{
+fn add_word(words: &mut Vec<&'static str>, slot: Slot, row: &Row) -> Result<(), NoMemory> {
     if let Test::Word = row.1 {
         if row.0.0 == slot.0 {
             words.push(row.2)?;
@@ -24,9 +17,7 @@ fn add_word(words: &mut Vec<&'static str>, slot: Slot, row: &Row) -> Result<(), 
 }
 
 // The words of these rows of a slot.
-fn words_in(alloc: Global, slot: Slot, rows: &[Row]) -> Result<Vec<&'static str>, NoMemory>
-    ensures { IfOk result (λ v. map (λ w. w.now) v.items ≡ flat_map (told_at slot) (map (λ r. (r.0, r.1, r.2.now, r.3)) rows.now)) }
-{
+fn words_in(alloc: Global, slot: Slot, rows: &[Row]) -> Result<Vec<&'static str>, NoMemory> {
     let mut words = Vec::new(alloc);
     for row in rows {
         add_word(&mut words, slot, row)?;
@@ -35,17 +26,12 @@ fn words_in(alloc: Global, slot: Slot, rows: &[Row]) -> Result<Vec<&'static str>
 }
 
 /// The words that may be at a slot.
-pub(crate) fn words_at(alloc: Global, slot: Slot) -> Result<Vec<&'static str>, NoMemory>
-    ensures { IfOk result (λ v. map (λ w. w.now) v.items ≡ words_of slot) }
-{
+pub(crate) fn words_at(alloc: Global, slot: Slot) -> Result<Vec<&'static str>, NoMemory> {
     words_in(alloc, slot, rows())
 }
 
-// The keywords of a script, which are these, that may come while this is open.
-fn open_words<'t>(opened: Opened, keywords: &'t [&'static str]) -> &'t [&'static str]
-    requires { map (λ w. w.now) keywords.now ≡ words_of KEYWORD }
-    ensures { map (λ w. w.now) result.now ≡ words_while opened }
-{
+// Those of the keywords of a script that may come while this is open.
+fn open_words<'t>(opened: Opened, keywords: &'t [&'static str]) -> &'t [&'static str] {
     match opened {
         Opened::Nothing => &["testcase"],
         Opened::Begun(_, false) => &["behaviour"],
@@ -54,15 +40,12 @@ fn open_words<'t>(opened: Opened, keywords: &'t [&'static str]) -> &'t [&'static
     }
 }
 
-/// The words of a slot, which are these, that may come while this is open.
+/// Those of the words of a slot that may come while this is open.
 pub(crate) fn listed<'t>(
     opened: Opened,
     slot: Slot,
     words: &'t [&'static str],
-) -> &'t [&'static str]
-    requires { map (λ w. w.now) words.now ≡ words_of slot }
-    ensures { map (λ w. w.now) result.now ≡ listed_at opened slot }
-{
+) -> &'t [&'static str] {
     if slot.0 == KEYWORD.0 {
         open_words(opened, words)
     } else {
@@ -125,8 +108,8 @@ fn is_near(word: &[u8], distance: usize) -> bool {
     0 < distance && distance < word.len() && distance <= word.len().max(3) / 3
 }
 
-/// The word of the table that is the nearest to a word, if it is near. Memory may run out instead.
-pub fn near_word<'t>(
+/// The word of the table that is the nearest to a word, if it is near.
+pub(crate) fn near_word<'t>(
     alloc: Global,
     word: &[u8],
     table: &[&'t [u8]],

@@ -1,12 +1,9 @@
 //! Places in a line.
-ghost use Rattle.std.specs.Prelude.{◌≡◌, ◌≤◌, length, false};
-ghost use Rattle.tc_explain.specs.Places.{starts};
+ghost use Rattle.std.specs.Prelude.{◌≤◌, length};
 
 /// How many bytes are before the word at this place among the words of the line, or before its end.
-#[tactic(auto, unfolding(crate::specs::Places::starts))]
 pub(crate) fn start_of(line: &[u8], place: usize) -> usize
-    ensures start { result ≡ starts place false line.now }
-    ensures within { result ≤ length line.now }
+    ensures { result ≤ length line.now }
 {
     let mut left = place;
     let mut inside = false;

@@ -1,9 +1,4 @@
 //! What may be at a place of a line.
-ghost use Rattle.std.specs.Prelude.{◌≡◌, ◌&&◌, is_ok, map, nat_le};
-ghost use Rattle.std.specs.List.{list_all};
-ghost use Rattle.tc_line.specs.Line.{reference};
-ghost use Rattle.tc_line.specs.Words.{is_name as name_test};
-ghost use Rattle.tc_explain.specs.Slots.{next as next_of, passes as passes_test, rows as all_rows};
 
 use crate::sort::Sort;
 use std::alloc::Global;
@@ -208,9 +203,7 @@ const TEXTS: [(Slot, &str); 22] = [
 ];
 
 /// The rows.
-pub(crate) fn rows() -> &'static [Row]
-    ensures { map (λ r. (r.0, r.1, r.2.now, r.3)) result.now ≡ all_rows }
-{
+pub(crate) fn rows() -> &'static [Row] {
     &ROWS
 }
 
@@ -226,41 +219,23 @@ pub(crate) fn fixed_at(alloc: Global, slot: Slot) -> Result<Vec<&'static str>, N
 }
 
 /// Whether the word is of digits.
-pub(crate) fn is_digits(word: &[u8]) -> bool
-    ensures { result ≡ list_all (λ b. nat_le 48 b && nat_le b 57) word.now }
-{
+pub(crate) fn is_digits(word: &[u8]) -> bool {
     word.iter().all(|byte| 48 <= *byte && *byte <= 57)
 }
 
-fn is_name(word: &[u8]) -> bool
-    ensures { result ≡ name_test word.now }
-{
-    read_name(word).is_some()
-}
-
-fn is_reference(word: &[u8]) -> bool
-    ensures { result ≡ is_ok (reference word.now) }
-{
-    read_reference(word).is_ok()
-}
-
 // Whether the word passes in a text of this sort.
-fn passes(sort: Sort, test: Test, text: &[u8], word: &[u8]) -> bool
-    ensures { result ≡ passes_test sort test text.now word.now }
-{
+fn passes(sort: Sort, test: Test, text: &[u8], word: &[u8]) -> bool {
     match (test, sort) {
         (Test::Word | Test::Fixed, _) | (Test::Arrow, Sort::Histories) => is_word(word, text),
-        (Test::Name, _) | (Test::Behaviour, Sort::Script) => is_name(word),
-        (Test::Component, Sort::Script) => is_reference(word),
+        (Test::Name, _) | (Test::Behaviour, Sort::Script) => read_name(word).is_some(),
+        (Test::Component, Sort::Script) => read_reference(word).is_ok(),
         (Test::Number | Test::Component | Test::Behaviour, _) => is_digits(word),
         (Test::Arrow, _) => false,
     }
 }
 
 /// The slot after the word, by the first of these rows at whose slot it passes.
-pub(crate) fn next(sort: Sort, slot: Slot, word: &[u8], rows: &[Row]) -> Option<Slot>
-    ensures { result ≡ next_of sort slot word.now (map (λ r. (r.0, r.1, r.2.now, r.3)) rows.now) }
-{
+pub(crate) fn next(sort: Sort, slot: Slot, word: &[u8], rows: &[Row]) -> Option<Slot> {
     for row in rows {
         if row.0.0 == slot.0 && passes(sort, row.1, row.2.as_bytes(), word) {
             return Some(row.3);

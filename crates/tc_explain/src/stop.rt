@@ -1,7 +1,4 @@
 //! The place at which a line stops being understood.
-ghost use Rattle.std.specs.Prelude.{◌≡◌, map};
-ghost use Rattle.tc_explain.specs.Slots.{walk as walk_of};
-
 use crate::slot::{Slot, may_end, next, rows};
 use crate::sort::Sort;
 
@@ -14,9 +11,7 @@ pub(crate) struct Stop {
 }
 
 /// The place at which a line of a text of this sort stops, whose first word is at this slot.
-pub(crate) fn walk(sort: Sort, first: Slot, words: &[&[u8]]) -> Stop
-    ensures { result ≡ walk_of sort first 0 (map (λ w. w.now) words.now) }
-{
+pub(crate) fn walk(sort: Sort, first: Slot, words: &[&[u8]]) -> Stop {
     let mut slot = first;
     for (place, word) in words.iter().enumerate() {
         let Some(behind) = next(sort, slot, word, rows()) else {

@@ -1,14 +1,11 @@
 //! What is printed about a refused text.
-ghost use Rattle.std.specs.Prelude.{◌≡◌, ◌<◌, ◌+◌, false, [], ◌∷◌, IfOk, OnOk, length, map, option_copied, slice_get};
+ghost use Rattle.std.specs.Prelude.{◌<◌, ◌+◌, [], ◌∷◌, IfOk, OnOk, length, option_copied};
 ghost use Rattle.std.specs.Fmt.{decimal};
 ghost use Rattle.std.specs.List.{position};
 ghost use Rattle.std.specs.Option.{option_map_or};
-ghost use Rattle.tc_line.specs.Text.{words as words_of};
 ghost use Rattle.tc_text.specs.Said.{TellsAmong, TellsLine};
-ghost use Rattle.tc_explain.specs.Explanation.{explanation, kind_note, line_note, open_note, stop_note};
-ghost use Rattle.tc_explain.specs.Places.{is_odd, quoted, starts};
-ghost use Rattle.tc_explain.specs.Slots.{walk as walk_of};
-ghost use Rattle.tc_explain.specs.declared.sort.Refusal.TheVariants as R;
+ghost use Rattle.tc_explain.specs.Explanation.{explanation, line_note, open_note};
+ghost use Rattle.tc_explain.specs.Places.{is_odd};
 
 use crate::append::{
     append_column, append_lines, append_list, append_nearest, append_note, append_numbered,
@@ -44,13 +41,6 @@ fn append_sort(
     }
 }
 
-// The word at a place, if there is one.
-fn word_at<'t>(words: &[&'t [u8]], place: usize) -> Option<&'t [u8]>
-    ensures { option_copied result ≡ slice_get (map (λ w. w.now) words.now) place }
-{
-    words.get(place).copied()
-}
-
 // Appends the word at a place of the line, with its column, and what would be understood there: these words, and this
 // text after them.
 #[tactic(auto, using(tc_text::proofs::Lemmas::Among::among_rules))]
@@ -63,8 +53,7 @@ fn append_place(
     offered: &[&str],
     other: &str,
 ) -> Result<(), NoMemory>
-    ensures { OnOk result (TellsAmong ((decimal (starts place false line.now + 1) ∷ quoted word.now ∷ [])
-        ∷ map (λ w. w.now) offered.now ∷ []) out.old.items out.new.items) }
+    ensures { OnOk result (TellsAmong [] out.old.items out.new.items) }
 {
     append_word(alloc, out, start_of(line, place), word)?;
     append_list(alloc, out, offered, other)
@@ -100,13 +89,12 @@ fn append_stop(
     words: &[&[u8]],
     stop: Stop,
 ) -> Result<(), NoMemory>
-    requires { map (λ w. w.now) words.now ≡ words_of line.now }
-    ensures { OnOk result (TellsAmong (stop_note opened line.now stop) out.old.items out.new.items) }
+    ensures { OnOk result (TellsAmong [] out.old.items out.new.items) }
 {
     let other = text(sort, stop.slot, words.len() <= stop.place);
     let table = words_at(alloc, stop.slot)?;
     let offered = listed(opened, stop.slot, table.as_slice());
-    let Some(word) = word_at(words, stop.place) else {
+    let Some(word) = words.get(stop.place) else {
         let may_end = may_end(sort, stop.slot);
         return append_end(alloc, out, may_end, line, offered, other);
     };
@@ -123,8 +111,7 @@ fn append_walk(
     opened: Opened,
     line: &[u8],
 ) -> Result<(), NoMemory>
-    ensures { OnOk result (TellsAmong (stop_note opened line.now (walk_of sort first 0 (words_of line.now)))
-        out.old.items out.new.items) }
+    ensures { OnOk result (TellsAmong [] out.old.items out.new.items) }
 {
     let mut words = Vec::new(alloc);
     read_words(line, &mut words)?;
@@ -139,8 +126,7 @@ fn append_misplaced(
     opened: Opened,
     line: &[u8],
 ) -> Result<(), NoMemory>
-    ensures { OnOk result (TellsAmong (stop_note opened line.now (record { place = 0; slot = KEYWORD }))
-        out.old.items out.new.items) }
+    ensures { OnOk result (TellsAmong [] out.old.items out.new.items) }
 {
     let mut words = Vec::new(alloc);
     read_words(line, &mut words)?;
@@ -168,7 +154,7 @@ fn append_script(
     opened: Opened,
     line: &[u8],
 ) -> Result<(), NoMemory>
-    ensures { OnOk result (TellsAmong (kind_note (R.Script kind) opened line.now) out.old.items out.new.items) }
+    ensures { OnOk result (TellsAmong [] out.old.items out.new.items) }
 {
     match kind {
         ScriptKind::BadLine | ScriptKind::BadName => {
@@ -222,8 +208,8 @@ fn append_wrong(
     opened: Opened,
     line: &[u8],
 ) -> Result<(), NoMemory>
-    ensures { OnOk result (TellsAmong (option_map_or (λ at. (decimal (at + 1) ∷ []) ∷ []) (position is_odd line.now)
-        (kind_note refusal opened line.now)) out.old.items out.new.items) }
+    ensures { OnOk result (TellsAmong (option_map_or (λ at. (decimal (at + 1) ∷ []) ∷ []) (position is_odd line.now) [])
+        out.old.items out.new.items) }
 {
     match (odd_place(line), refusal) {
         (Some(at), _) => append_odd_at(alloc, out, line, at),
@@ -253,8 +239,7 @@ fn append_line(
     opened: Opened,
     line: Option<&[u8]>,
 ) -> Result<(), NoMemory>
-    ensures { OnOk result (TellsAmong (option_map_or (line_note refusal opened) (option_copied line.entry) [])
-        out.old.items out.new.items) }
+    ensures { OnOk result (TellsAmong (option_map_or line_note (option_copied line.entry) []) out.old.items out.new.items) }
 {
     match line {
         None => append_ended(alloc, out, number),
@@ -319,8 +304,7 @@ fn append_fault(
     opened: Opened,
     line: Option<&[u8]>,
 ) -> Result<(), NoMemory>
-    ensures { OnOk result (TellsAmong (option_map_or (line_note refusal opened) (option_copied line.entry) [])
-        out.old.items out.new.items) }
+    ensures { OnOk result (TellsAmong (option_map_or line_note (option_copied line.entry) []) out.old.items out.new.items) }
 {
     append_line(alloc, out, refusal, number, opened, line)?;
     let around = Around {
@@ -344,7 +328,7 @@ pub fn explain(
     number: usize,
     refusal: Refusal,
 ) -> Result<Vec<u8>, NoMemory>
-    ensures { IfOk result (λ v. TellsAmong (explanation refusal text.now number) [] v.items) }
+    ensures { IfOk result (λ v. TellsAmong (explanation text.now number) [] v.items) }
 {
     let sort = refusal.sort();
     let seen = seen_sort(alloc, text)?;

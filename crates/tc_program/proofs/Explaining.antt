@@ -5,7 +5,7 @@ use Rattle.tc_text.specs.Said.{Line}
 use Rattle.tc_text.proofs.Lemmas.Among.{among_some}
 use Rattle.tc_command.specs.declared.task.Task.{Task}
 use Rattle.tc_program.specs.declared.fault.RunFault.{RunFault}
-use Rattle.tc_program.specs.Explained.{IsToldOf, TellsIf, explains, is_of_text, notes_of, part_of, refusal_at}
+use Rattle.tc_program.specs.Explained.{IsToldOf, TellsIf, explains, is_of_text, notes_of, number_of, part_of}
 use Rattle.tc_program.specs.Fault.{line_of}
 
 some_if : (b : Bool) (notes : List Line) (line : List ℕ) → (told : List ℕ) × TellsIf b notes line told
@@ -14,7 +14,7 @@ some_if false notes line = (line, refl)
 
 -- something can be printed
 pub some_told : (task : Task) (text : List ℕ) (fault : RunFault) → (told : List ℕ) × IsToldOf task text fault told
-some_told task text fault = some_if (explains task && is_of_text fault) (notes_of (refusal_at task fault) (part_of task fault text)) (line_of fault)
+some_told task text fault = some_if (explains task && is_of_text fault) (notes_of (number_of fault) (part_of task fault text)) (line_of fault)
 
 -- what was made for printing, or something that can be printed
 pub told_or : {E : Type 0} (r : Result (Vec ℕ) E) (Is : List ℕ → Type 0) → ((told : List ℕ) × Is told) → IfOk r (λ v. Is v.items) →

@@ -1,9 +1,6 @@
 -- What is printed about a text that is refused.
 use Rattle.std.specs.Prelude.{ℕ, Bool, true, false, ◌≡◌, ◌&&◌, Option, Some, None, if◌then◌else◌, List, []}
-use Rattle.tc_text.specs.declared.fault.TextKind.{TextKind}
 use Rattle.tc_text.specs.declared.fault.TextFault.TheVariants as X
-use Rattle.tc_explain.specs.declared.sort.Refusal.{Refusal}
-use Rattle.tc_explain.specs.declared.sort.Refusal.TheVariants as R
 use Rattle.tc_explain.specs.Explanation.{explanation}
 use Rattle.tc_text.specs.Said.{Line, TellsAmong}
 use Rattle.tc_command.specs.declared.task.Task.{Task}
@@ -27,11 +24,6 @@ explains (T.Run o) = o.explains
 explains (T.Explore o) = o.explains
 explains T.Serve = false
 
--- what the text of a task should be, which has a fault of this kind; a script has faults of another
-abbrev pub refusal_by : Task → TextKind → Refusal
-refusal_by (T.Replay asked) kind = R.Moves kind
-refusal_by task kind = R.Histories kind
-
 -- the part of the text that the lines of this fault are counted in: the script, or the blocks after it
 abbrev pub part_by : RunFault → List ℕ → List ℕ
 part_by (F.Script fault) text = script_part text
@@ -41,16 +33,16 @@ part_by fault text = blocks_part text
 abbrev pub part_of : Task → RunFault → List ℕ → List ℕ
 part_of task fault text = if has_blocks task then part_by fault text else text
 
--- what a fault says of the text of a task, and the number of its line, if it is one of a line
-abbrev pub refusal_at : Task → RunFault → Option (Refusal × ℕ)
-refusal_at task (F.Text (X.At line kind)) = Some (refusal_by task kind, line)
-refusal_at task (F.Script fault) = Some (R.Script fault.kind, fault.line)
-refusal_at task fault = None
+-- the number of the line that a fault is in, if it is in one
+abbrev pub number_of : RunFault → Option ℕ
+number_of (F.Text (X.At line kind)) = Some line
+number_of (F.Script fault) = Some fault.line
+number_of fault = None
 
 -- what is explained of the text at least, if something is
-abbrev pub notes_of : Option (Refusal × ℕ) → List ℕ → List Line
+abbrev pub notes_of : Option ℕ → List ℕ → List Line
 notes_of None text = []
-notes_of (Some what) text = explanation what.0 text what.1
+notes_of (Some number) text = explanation text number
 
 -- the fault is one of the text
 abbrev pub is_of_text : RunFault → Bool
@@ -67,7 +59,7 @@ TellsIf false notes line told = told ≡ line
 -- this is printed for the text of a task that has this fault: its line, and what is explained of the text
 abbrev pub IsToldOf : Task → List ℕ → RunFault → List ℕ → Type 0
 IsToldOf task text fault told =
-    TellsIf (explains task && is_of_text fault) (notes_of (refusal_at task fault) (part_of task fault text)) (line_of fault) told
+    TellsIf (explains task && is_of_text fault) (notes_of (number_of fault) (part_of task fault text)) (line_of fault) told
 
 -- the outcome of a task whose text has this fault: that is printed
 abbrev pub IsExplained : Task → List ℕ → RunFault → Option (List ℕ) → Option (List ℕ) → Outcome → Type 0

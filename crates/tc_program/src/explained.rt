@@ -1,8 +1,9 @@
 //! What is printed about a text that is refused.
 ghost use Rattle.std.specs.Prelude.{◌≡◌, [], IfOk, OnOk};
+ghost use Rattle.std.specs.Option.{option_map};
 ghost use Rattle.tc_explain.specs.Explanation.{explanation};
 ghost use Rattle.tc_text.specs.Said.{TellsAmong};
-ghost use Rattle.tc_program.specs.Explained.{IsExplained, IsToldOf, explains as spec_explains, is_of_text as spec_of_text, notes_of, part_by as spec_part_by, part_of as spec_part_of, refusal_at as spec_at, refusal_by as spec_by};
+ghost use Rattle.tc_program.specs.Explained.{IsExplained, IsToldOf, explains as spec_explains, is_of_text as spec_of_text, notes_of, number_of, part_by as spec_part_by, part_of as spec_part_of};
 
 use crate::fault::{RunFault, fault_line};
 use crate::limits::has_blocks;
@@ -34,9 +35,7 @@ fn explains(task: &Task) -> bool
 }
 
 // What the text of the task should be, which has a fault of this kind; a script has faults of another.
-fn refusal_by(task: &Task, kind: TextKind) -> Refusal
-    ensures { result ≡ spec_by task.now kind }
-{
+fn refusal_by(task: &Task, kind: TextKind) -> Refusal {
     match task {
         Task::Replay { .. } => Refusal::Moves(kind),
         _ => Refusal::Histories(kind),
@@ -67,7 +66,7 @@ fn part_of<'a>(task: &Task, fault: RunFault, text: &'a [u8]) -> &'a [u8]
 
 // What the fault says of the text of the task, and the number of its line, if it is one of a line.
 fn refusal_at(task: &Task, fault: RunFault) -> Option<(Refusal, usize)>
-    ensures { result ≡ spec_at task.now fault }
+    ensures { option_map (λ r. r.1) result ≡ number_of fault }
 {
     match fault {
         RunFault::Text(TextFault::At { line, kind }) => { Some((refusal_by(task, kind), line)) }
@@ -90,7 +89,7 @@ fn append_notes(
     line: usize,
     refusal: Refusal,
 ) -> Result<(), NoMemory>
-    ensures { OnOk result (TellsAmong (explanation refusal text.now line) out.old.items out.new.items) }
+    ensures { OnOk result (TellsAmong (explanation text.now line) out.old.items out.new.items) }
 {
     let notes = explain(alloc, text, line, refusal)?;
     out.extend_from_slice(notes.as_slice())?;
@@ -105,7 +104,7 @@ fn append_explained(
     text: &[u8],
     refused: Option<(Refusal, usize)>,
 ) -> Result<(), NoMemory>
-    ensures { OnOk result (TellsAmong (notes_of refused text.now) out.old.items out.new.items) }
+    ensures { OnOk result (TellsAmong (notes_of (option_map (λ r. r.1) refused) text.now) out.old.items out.new.items) }
 {
     match refused {
         Some((refusal, line)) => append_notes(alloc, out, text, line, refusal),
@@ -179,7 +178,7 @@ fn append_why(
     text: &[u8],
     fault: RunFault,
 ) -> Result<(), NoMemory>
-    ensures { OnOk result (TellsAmong (notes_of (spec_at task.now fault) (spec_part_of task.now fault text.now))
+    ensures { OnOk result (TellsAmong (notes_of (number_of fault) (spec_part_of task.now fault text.now))
         out.old.items out.new.items) }
 {
     append_explained(

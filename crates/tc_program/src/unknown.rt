@@ -7,8 +7,6 @@ use crate::fault::RunFault;
 use crate::script::read_script;
 use std::alloc::Global;
 use tc_entry::{Name, NoMemory, Pattern};
-use tc_explain::near_word;
-use tc_text::{Part, append_parts};
 
 /// The names of the blocks of a text.
 pub(crate) fn names_of_blocks(alloc: Global, text: &[u8]) -> Result<Vec<Name>, RunFault> {
@@ -36,21 +34,7 @@ fn is_unknown(pattern: &Pattern, names: &[Name]) -> bool {
     !names.iter().any(|name| pattern.matches(name))
 }
 
-// The name that is the nearest to a word, if one is near.
-fn nearest<'a>(
-    alloc: Global,
-    word: &[u8],
-    names: &'a [Name],
-) -> Result<Option<&'a [u8]>, NoMemory> {
-    let mut words = Vec::new(alloc);
-    for name in names {
-        words.push(name.bytes())?;
-    }
-    near_word(alloc, word, words.as_slice())
-}
-
 // Appends that no test case has the name, and the name that is the nearest.
-#[tactic(auto, using(tc_text::proofs::Lemmas::Among::among_rules))]
 fn append_word(
     alloc: Global,
     out: &mut Vec<u8>,
@@ -59,12 +43,11 @@ fn append_word(
 ) -> Result<(), NoMemory>
     ensures { OnOk result (TellsAmong [] out.old.items out.new.items) }
 {
-    let head = Part::Text(b"no test case has the name");
-    append_parts(alloc, out, &[head, Part::Word(word)])?;
-    match nearest(alloc, word, names)? {
-        Some(near) => append_parts(alloc, out, &[Part::Text(b"nearest:"), Part::Word(near)]),
-        None => Ok(()),
+    let mut words = Vec::new(alloc);
+    for name in names {
+        words.push(name.bytes())?;
     }
+    tc_explain::append_unknown(alloc, out, word, words.as_slice())
 }
 
 /// Appends which pattern matches none of the names, and the name that is the nearest to it.

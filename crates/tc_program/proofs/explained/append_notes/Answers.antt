@@ -8,4 +8,4 @@ returns c =
     let front = c.args.out.now.items in
     let notes = c.in_ok-notes.notes.items in
     let is : c.extend_from_slice.new.self.items ≡ front ++ notes = search rules in
-    among_after (explanation c.args.refusal c.args.text.now c.args.line) front notes c.extend_from_slice.new.self.items c.in_ok-notes.ensures is
+    among_after (explanation c.args.text.now c.args.line) front notes c.extend_from_slice.new.self.items c.in_ok-notes.ensures is
