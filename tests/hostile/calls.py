@@ -20,7 +20,7 @@ FLOORS = {
     "states": (6, 32),
     "moves on a state": (38, 3),
     "copies": (40, 9),
-    "readers": (3, 8),
+    "readers": (3, 10),
     "writers": (43, 88),
     "writers of a part": (2, 5),
     "forms and summaries": (10, 100),
