@@ -140,15 +140,17 @@ class Browser:
         self.settle()
 
     def choose_files(self, paths: List[str]) -> None:
-        """Opens files as a user does by the button, and waits until a page that lists its sources has them."""
-        sources = "typeof app === 'object' && app.sources ? app.sources.length : -1"
-        before = self.js(sources)
+        """Chooses files as a user does by the button."""
         root = self.call("DOM.getDocument")["root"]["nodeId"]
         node = self.call("DOM.querySelector", nodeId=root, selector="#file")["nodeId"]
         self.call("DOM.setFileInputFiles", nodeId=node, files=paths)
-        if before >= 0:
-            self.until(f"app.sources.length >= {before + len(paths)}")
         self.settle(), time.sleep(0.1), self.settle()
+
+    def open_files(self, paths: List[str]) -> None:
+        """Chooses files, and waits until the page of histories has read them."""
+        before = self.js("app.sources.length")
+        self.choose_files(paths)
+        self.until(f"app.sources.length >= {before + len(paths)}"), self.settle()
 
     def picture(self) -> bytes:
         """What the browser shows, as PNG."""

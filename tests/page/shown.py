@@ -353,7 +353,7 @@ def it_opens_files(context: Context, browser: Browser) -> str:
     good, viewer = example("pumps").encode(), os.path.join(context.page, "viewer.html")
     worse = good.replace(b"2 setverdict pass", b"2 setverdict fail").replace(b"end pass", b"end fail")
     browser.open(viewer)
-    browser.choose_files([write(context, "monday.history", good), write(context, "tuesday.history", worse)])
+    browser.open_files([write(context, "monday.history", good), write(context, "tuesday.history", worse)])
     same(["pass monday.history", "none monday.history", "fail tuesday.history", "none tuesday.history"],
          [f"{row[0]} {row[2]}" for row in browser.js(ROWS)])
     browser.go("#/0/2")
@@ -376,7 +376,7 @@ def it_tells_faults(context: Context, browser: Browser) -> str:
              (good + b"<img src=x onerror=alert(1)>\n", 2), (b"\x00\xff", 0), (b"x" * (MOST_BYTES + 1), 0), (good[:-1] + b"\xff\n", 1))
     for at, (text, shown) in enumerate(texts):
         browser.open(os.path.join(context.page, "viewer.html"))
-        browser.choose_files([write(context, f"bad_{at}.history", text)])
+        browser.open_files([write(context, f"bad_{at}.history", text)])
         told = " ".join(browser.js("$('.fault').textContent").split())
         errors = check(context, text)[1].decode().replace("ttrun: ", "").strip()
         hold(f"bad_{at}.history: {errors}" in told and errors, (told, errors))

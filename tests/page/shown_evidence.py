@@ -155,13 +155,13 @@ def it_opens_files_of_evidence(context: Context, browser: Browser) -> str:
     texts: List[bytes] = [good, good.replace(b"<b>", b"\x8bb>"), good.replace(b"<b>", "\u2039b>".encode()), good.replace(b"\n", b"\r\n"),
                           good.replace(b"behaviour 4 ", b"behaviour 3 "), example("pumps").encode() + good, good.replace(b"closing", b"\x7flosing")]
     for at, text in enumerate(texts):
-        browser.open(viewer), browser.choose_files([write(context, f"one_{at}.evidence", text)])
+        browser.open(viewer), browser.open_files([write(context, f"one_{at}.evidence", text)])
         cases, fault = said.read(text)
         same(len(cases), len(shown_rows(browser)) if cases or fault is None else 0, text[:200])
         told = browser.js("$$('.fault b').map(one => one.textContent)")
         same([] if fault is None else [f"one_{at}.evidence: line {fault[0]}: {fault[1]}"], told)
     browser.open(viewer)
-    browser.choose_files([write(context, "pasted.evidence", good)]), browser.go("#/0")
+    browser.open_files([write(context, "pasted.evidence", good)]), browser.go("#/0")
     browser.js("choose(app.pane, 1)")
     same('0 # the device says <b>ready</b> & "ok"', browser.js("$('.state code').textContent"))
     return f"{len(texts)} files"
