@@ -1,16 +1,16 @@
 -- Lines at the head of a text that say nothing.
-use Rattle.std.proofs.Common.{ℕ, zero, suc, ◌≡◌, ◌∙◌, ◌+◌, ◌-◌, ◌≤◌, Bool, true, false, Ok, Some, List, [], ◌∷◌, ◌++◌, length, take, drop, refl, sym, ap, subst, cond, arith}
-use Rattle.std.specs.Prelude.{filter, slice_index}
+use Rattle.std.proofs.Common.{ℕ, zero, suc, ◌≡◌, ◌∙◌, ◌+◌, ◌≤◌, Bool, true, false, Ok, List, [], ◌∷◌, ◌++◌, length, refl, sym, ap, subst, cond, arith}
+use Rattle.std.specs.Prelude.{filter}
 use Rattle.std.specs.List.{slice_split, onto_first}
 use Rattle.std.proofs.lemmas.Bool.Decides.{nat_tests}
-use Rattle.std.proofs.lemmas.List.Elements.{All-nil, All-cons}
-use Rattle.memchr.specs.Find.{IsFirstByte, is_byte}
+use Rattle.std.proofs.lemmas.List.{append_assoc}
+use Rattle.std.proofs.lemmas.List.Elements.{All-nil, All-cons, All-append}
 use Rattle.tc_line.specs.declared.line.Line.TheVariants as L
 use Rattle.tc_line.specs.Text.{lines, words, is_newline, is_space, is_some_text}
 use Rattle.tc_line.specs.Line.{line_of, line_with}
-use Rattle.tc_line.specs.Inside.Indented.{spaces, IsIndented}
+use Rattle.tc_line.specs.Inside.Indented.{spaces, IsIndented, HasBefore}
 use Rattle.tc_line.specs.Skipping.{SkipsOne, Skips}
-use Rattle.tc_line.proofs.Taking.{HasNoEnd, cut_at, left_whole, lines_next}
+use Rattle.tc_line.proofs.Taking.{HasNoEnd, lines_next}
 
 pub one_space_more : (n : ℕ) (bytes : List ℕ) → spaces n (32 ∷ bytes) ≡ spaces (suc n) bytes
 one_space_more zero bytes = refl
@@ -77,20 +77,23 @@ pub blank_skipped : (text line rest : List ℕ) (b : ℕ) → IsIndented text li
 blank_skipped text line rest b is at end =
     skips_line is.many text [] rest (All-nil (λ x. is_newline x ≡ false)) (is.is ∙ ap (spaces is.many) (at ∙ ap (λ x. x ∷ rest) end)) (blank is.many)
 
-pub comment_skipped : (text line others : List ℕ) (b k : ℕ) → IsIndented text line → line ≡ b ∷ others → b ≡ 35 → IsFirstByte (is_byte 10) line (Some k)
-    → SkipsOne (lines text) (lines (take (length line - (k + 1)) (drop (k + 1) line)))
-comment_skipped text line others b zero is at hash first =
-    let same : line ≡ 35 ∷ others = at ∙ ap (λ x. x ∷ others) hash in
-    let here : slice_index line 0 ≡ 35 = ap (λ xs. slice_index xs 0) same in
-    let bad : is_newline 35 ≡ true = ap is_newline (sym here) ∙ first.1 in
-    absurd cc
-comment_skipped text line others b (suc k) is at hash first =
-    let same : line ≡ 35 ∷ others = at ∙ ap (λ x. x ∷ others) hash in
-    let front : take (suc k) line ≡ 35 ∷ take k others = ap (take (suc k)) same in
-    let two = cut_at line (suc k) first in
-    rw (left_whole line (suc k))
-    (skips_line is.many text (take (suc k) line) (drop (suc k + 1) line) two.0 (is.is ∙ ap (spaces is.many) two.1)
-    (ap (λ xs. line_of (spaces is.many xs)) front ∙ comment is.many (take k others)))
+pub comment_skipped : (text line others rest : List ℕ) (b : ℕ) → IsIndented text line → line ≡ b ∷ others → b ≡ 35 → HasBefore others (10 ∷ rest)
+    → SkipsOne (lines text) (lines rest)
+comment_skipped text line others rest b is at hash has =
+    let same : line ≡ 35 ∷ (has.before ++ 10 ∷ rest) = at ∙ ap (λ x. x ∷ others) hash ∙ ap (λ xs. 35 ∷ xs) has.is in
+    skips_line is.many text (35 ∷ has.before) rest (All-cons (λ x. is_newline x ≡ false) 35 has.before refl has.none) (is.is ∙ ap (spaces is.many) same) (comment is.many has.before)
+
+pub none_before : (text : List ℕ) → HasBefore text text
+none_before text = record { before = []; none = All-nil (λ x. is_newline x ≡ false); is = refl }
+
+pub more_before : (text rest others : List ℕ) (b : ℕ) → HasBefore text rest → rest ≡ b ∷ others → is_newline b ≡ false → HasBefore text others
+more_before text rest others b has at one = record {
+  before = has.before ++ b ∷ [];
+  none = All-append (λ x. is_newline x ≡ false) has.before (b ∷ []) has.none (All-cons (λ x. is_newline x ≡ false) b [] one (All-nil (λ x. is_newline x ≡ false)));
+  is = has.is ∙ ap (λ xs. has.before ++ xs) at ∙ sym (append_assoc has.before (b ∷ []) others);
+}
+
+pub ruleset ending_rules = (none_before)
 
 -- ---- some of them
 

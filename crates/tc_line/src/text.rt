@@ -2,7 +2,7 @@
 ghost use Rattle.std.specs.Prelude.{suc, ◌≡◌, ◌≤◌, [], ◌∷◌, length, OnOk, IfSome, MatchOption, map};
 ghost use Rattle.tc_line.specs.Text.{lines, words};
 ghost use Rattle.tc_line.specs.Skipping.{BeginsWith, Skips, SkipsOne};
-ghost use Rattle.tc_line.specs.Inside.Indented.{IsIndented};
+ghost use Rattle.tc_line.specs.Inside.Indented.{IsIndented, HasBefore};
 
 use memchr::memchr;
 use std::alloc::AllocError;
@@ -46,6 +46,22 @@ fn after_spaces(text: &[u8]) -> &[u8]
     rest
 }
 
+// What is after the first line feed of a text. Comments are short: a search by words would cost more than it saves.
+#[inline(always)]
+#[tactic(auto, using(crate::proofs::Skipping::ending_rules))]
+fn after_end(text: &[u8]) -> Option<&[u8]>
+    ensures { IfSome result (λ rest. HasBefore text.now (10 ∷ rest.now)) }
+{
+    let mut rest = text;
+    while let Some((first, others)) = rest.split_first() {
+        if *first == b'\n' {
+            return Some(others);
+        }
+        rest = others;
+    }
+    None
+}
+
 // What is after the first line of a text, if the line has an end and says nothing: it is blank, or a comment.
 #[inline(always)]
 #[tactic(auto, using(crate::proofs::Skipping::skipping_rules))]
@@ -56,10 +72,7 @@ fn after_skipped(text: &[u8]) -> Option<&[u8]>
     let (first, others) = line.split_first()?;
     match *first {
         b'\n' => Some(others),
-        b'#' => {
-            let at = memchr(b'\n', line)?;
-            Some(&line[at + 1..])
-        }
+        b'#' => after_end(others),
         _ => None,
     }
 }

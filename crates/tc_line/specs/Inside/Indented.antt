@@ -1,5 +1,6 @@
--- Bytes after spaces.
-use Rattle.std.specs.Prelude.{ℕ, zero, suc, ◌≡◌, List, ◌∷◌}
+-- Bytes after spaces, and bytes of a line.
+use Rattle.std.specs.Prelude.{ℕ, zero, suc, ◌≡◌, List, ◌∷◌, ◌++◌, false, All}
+use Rattle.tc_line.specs.Text.{is_newline}
 
 -- that many spaces, and then these bytes
 abbrev pub spaces : ℕ → List ℕ → List ℕ
@@ -10,3 +11,9 @@ spaces (suc n) bytes = 32 ∷ spaces n bytes
 pub record IsIndented (text bytes : List ℕ) : Type 0 where
   pub many : ℕ
   pub is : text ≡ spaces many bytes
+
+-- a text is these bytes after some that end no line
+pub record HasBefore (text rest : List ℕ) : Type 0 where
+  pub before : List ℕ
+  pub none : All (λ b. is_newline b ≡ false) before
+  pub is : text ≡ before ++ rest
