@@ -14,7 +14,7 @@ SCRIPTS = 12
 FEWEST = {"choices": 100, "empty choices": 5, "names": 40, "shards": 40, "names and shards": 15, "unknown names": 4, "live": 20, "stars": 30,
           "stars that take some": 15}
 
-ONLY = b"ttrun: --only takes the name of a test case of the script\n"
+ONLY = b"ttrun: --only takes the name of one of the test cases\n"
 STATUS = {"none": 0, "pass": 0, "inconc": 1, "fail": 1, "error": 2}
 LEVEL = ("none", "pass", "inconc", "fail", "error")
 

@@ -6,7 +6,7 @@ from typing import Iterator, List, Tuple
 from case import Case
 from rows import text
 
-ONLY = b"ttrun: --only takes the name of a test case of the script\n"
+ONLY = b"ttrun: --only takes the name of one of the test cases\n"
 NAMES = ("t_one", "t_two", "u_one", "one")
 SCRIPT = ";".join(f"testcase {it};behaviour main;end;end" for it in NAMES)
 

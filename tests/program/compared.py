@@ -87,12 +87,12 @@ CHOSEN: List[Tuple[str, str, str, str, int]] = [
 
 # Name, the words of a choice, text, the fault's line.
 REFUSED_CHOICES: List[Tuple[str, str, bytes, str]] = [
-    ("a_name_of_no_test_case", "--only d", text(f"{SCRIPT};{OF_A}"), "--only takes the name of a test case of the script"),
+    ("a_name_of_no_test_case", "--only d", text(f"{SCRIPT};{OF_A}"), "--only takes the name of one of the test cases"),
     ("a_name_of_no_test_case_and_a_bad_block", "--only d", text(f"{SCRIPT};history 2 a 1;0 create"),
-     "--only takes the name of a test case of the script"),
+     "--only takes the name of one of the test cases"),
     ("a_bad_script_and_a_name", "--only d", text(f"testcase a;behaviour m;setverdict good;end;end;{OF_A}"), "line 3: line not understood"),
     ("a_bad_block_of_another_shard", "--shard 2/2", text(f"{SCRIPT};history 2 a 1;0 create"), "line 2: bad entry"),
-    ("a_name_that_is_none", "--only 1 --shard 1/2", text(SCRIPT), "--only takes the name of a test case of the script"),
+    ("a_name_that_is_none", "--only 1 --shard 1/2", text(SCRIPT), "--only takes the name of one of the test cases"),
     ("a_bad_shard", "--only 1 --shard 0/2", text(SCRIPT), "--shard takes K/N, with K from 1 to N"),
     ("no_block_of_an_empty_shard", "--shard 4/4", text(SCRIPT), "line 1: text ends too early"),
 ]

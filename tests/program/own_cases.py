@@ -17,7 +17,7 @@ VERDICTS = dict(zip(NAMES, ("pass", "pass", "fail")))
 # What decides the verdict of the one that fails.
 WHY = b"run 2 on component 2 judge: setverdict fail -> ok"
 HEAD = b"testcase,components,none,pass,inconc,fail,error,verdict\n"
-ONLY = b"ttrun: --only takes the name of a test case of the script\n"
+ONLY = b"ttrun: --only takes the name of one of the test cases\n"
 SHARD = b"ttrun: --shard takes K/N, with K from 1 to N\n"
 STOP_ON = b"ttrun: --stop-on takes none, pass, inconc, fail or error\n"
 OPTIONS = ("csv", "history", "evidence", "junit", "suite", "live", "progress", "stop-on", "list", "only", "shard")

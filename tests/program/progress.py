@@ -156,7 +156,7 @@ def devices() -> List[Case]:
     refused = b"ttrun: line 3: line not understood\n"
     found.append(Case("progress_of_a_refused_script", words, misspelt, errors=refused, status=3))
     found.append(Case("progress_of_no_test_case", ("run", "--progress", "--only", "z"), given,
-                      errors=b"ttrun: --only takes the name of a test case of the script\n", status=3))
+                      errors=b"ttrun: --only takes the name of one of the test cases\n", status=3))
     found.append(Case("progress_of_an_empty_shard", (*words, "--shard", "3/3"), given, output=report[:report.index(b"a,")]))
     worse = lines_of(1, 2, b"a", b"fail", SETS % b"fail")
     found.append(Case("progress_of_a_verdict_worse_than_the_rule", (*words, "--stop-on", "inconc"), of_verdicts("fail", "pass"),

@@ -336,10 +336,10 @@ ORDERED: List[Tuple[str, bytes, bytes]] = [
     ("run --shard 0/2", b"x\n", b"ttrun: --shard takes K/N, with K from 1 to N\n"),
     ("run --list --only z --shard 0/2", b"x\n", b"ttrun: --shard takes K/N, with K from 1 to N\n"),
     ("run --stop-on x", b"x\n", b"ttrun: --stop-on takes none, pass, inconc, fail or error\n"),
-    ("run --only z- --stop-on x", NAMED, b"ttrun: --only takes the name of a test case of the script\n"),
+    ("run --only z- --stop-on x", NAMED, b"ttrun: --only takes the name of one of the test cases\n"),
     ("run --only z- --stop-on x --shard 0/1", NAMED, b"ttrun: --shard takes K/N, with K from 1 to N\n"),
     ("run --junit --suite 7 --stop-on x", b"x\n", SUITE_TOLD),
-    ("run --junit --suite 7 --only z-", NAMED, b"ttrun: --only takes the name of a test case of the script\n"),
+    ("run --junit --suite 7 --only z-", NAMED, b"ttrun: --only takes the name of one of the test cases\n"),
     ("run --junit --suite 7 --only z", NAMED, SUITE_TOLD),
     ("report --script --junit --suite 7 --shard 0/1", b"x\n", b"ttrun: --shard takes K/N, with K from 1 to N\n"),
     ("report --script --junit --suite 7 --only z", NAMED, SUITE_TOLD),
@@ -348,11 +348,11 @@ ORDERED: List[Tuple[str, bytes, bytes]] = [
     ("explore --states 0", b"x\n", b"ttrun: --states takes a number from 1 to 1000000\n"),
     ("explore --states 1", b"x\n", b"ttrun: line 1: line not understood\n"),
     ("run --only z --shard 1/2", b"", b"ttrun: line 1: text ends too early\n"),
-    ("run --only z --stop-on pass", NAMED, b"ttrun: --only takes the name of a test case of the script\n"),
-    ("run --only z --only z", NAMED, b"ttrun: --only takes the name of a test case of the script\n"),
-    ("run --only t --only t --only z", NAMED, b"ttrun: --only takes the name of a test case of the script\n"),
-    ("run --list --only z --shard 1/1", NAMED, b"ttrun: --only takes the name of a test case of the script\n"),
-    ("run --live --progress --only z", NAMED, b"ttrun: --only takes the name of a test case of the script\n"),
+    ("run --only z --stop-on pass", NAMED, b"ttrun: --only takes the name of one of the test cases\n"),
+    ("run --only z --only z", NAMED, b"ttrun: --only takes the name of one of the test cases\n"),
+    ("run --only t --only t --only z", NAMED, b"ttrun: --only takes the name of one of the test cases\n"),
+    ("run --list --only z --shard 1/1", NAMED, b"ttrun: --only takes the name of one of the test cases\n"),
+    ("run --live --progress --only z", NAMED, b"ttrun: --only takes the name of one of the test cases\n"),
 ]
 
 # Words after options that name nothing.
@@ -367,7 +367,7 @@ NAMELESS: List[Tuple[str, bytes]] = [
         ("suite takes 1 to 32 letters, digits or _, a letter first",
          ("run --junit --suite=", "run --junit --suite 1", "run --suite a-b --junit", "report --junit --suite all",
           "report --junit --script --suite " + "a" * 33)),
-        ("only takes the name of a test case of the script",
+        ("only takes the name of one of the test cases",
          ("run --only=", "run --list --only all", "run --only a --only 2b", "run --stop-on no --only 1")),
     ) for line in lines
 ]

@@ -44,5 +44,5 @@ abbrev pub text_of : WordFault → List ℕ
 text_of F.StopOn = codes "--stop-on takes none, pass, inconc, fail or error"
 text_of F.States = codes "--states takes a number from 1 to 1000000"
 text_of F.Shard = codes "--shard takes K/N, with K from 1 to N"
-text_of F.Only = codes "--only takes the name of a test case of the script"
+text_of F.Only = codes "--only takes the name of one of the test cases"
 text_of F.Suite = codes "--suite takes 1 to 32 letters, digits or _, a letter first"

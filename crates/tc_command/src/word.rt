@@ -41,7 +41,7 @@ impl WordFault {
             WordFault::StopOn => "--stop-on takes none, pass, inconc, fail or error",
             WordFault::States => "--states takes a number from 1 to 1000000",
             WordFault::Shard => "--shard takes K/N, with K from 1 to N",
-            WordFault::Only => "--only takes the name of a test case of the script",
+            WordFault::Only => "--only takes the name of one of the test cases",
             WordFault::Suite => "--suite takes 1 to 32 letters, digits or _, a letter first",
         }
     }

@@ -354,7 +354,7 @@ fn lines_of_faults(rt: HostRuntime) -> Result<(), Fail> {
         ),
         (
             RunFault::Only,
-            "--only takes the name of a test case of the script",
+            "--only takes the name of one of the test cases",
         ),
     ] {
         is_told(&rt, rt.alloc(), &fault, text)?;
