@@ -6,6 +6,7 @@ use Rattle.std.specs.Prelude.{◌≢◌, MatchResult, Result, Ok, Err}
 use Rattle.std.specs.Result.{IsErrAnd}
 use Rattle.tc_campaign.specs.Choosing.{have_names}
 use Rattle.tc_program.proofs.Doing.{answer_of}
+use Rattle.tc_program.proofs.Legal.{found_all}
 use Rattle.tc_text.specs.declared.fault.TextFault.{TextFault}
 use Rattle.tc_text.specs.declared.fault.TextFault.TheVariants as T
 use Rattle.tc_evidence.specs.declared.block.Block.{Block}
@@ -20,9 +21,9 @@ use Rattle.tc_command.specs.declared.task.Task.TheVariants as Tasks
 use Rattle.tc_program.specs.declared.fault.RunFault.{RunFault}
 use Rattle.tc_program.specs.declared.fault.RunFault.TheVariants as F
 use Rattle.tc_program.specs.declared.reply.Answer.{Answer}
-use Rattle.tc_program.specs.Check.{Checks, IsChecked, IsIllegalLine, IsLegalLine, NameBlocks, RefusesBlocks, RefusesHistory, other_line}
+use Rattle.tc_program.specs.Check.{AreAllLegal, Checks, IsChecked, IsIllegalLine, IsLegalLine, NameBlocks, RefusesBlocks, RefusesHistory, other_line}
 use Rattle.tc_program.specs.Choosing.{ChoosesEach, block_name, each, is_chosen, is_picked}
-use Rattle.tc_program.specs.Inside.{AreJudgedSo, Feeds, IsJudgement, RefusesNamesAt, judges_legal, judgement_line, line_by, of_text, picked_by}
+use Rattle.tc_program.specs.Inside.{AreJudgedSo, Feeds, IsJudgement, NamesBlocksAt, RefusesNamesAt, judges_legal, judgement_line, line_by, of_text, picked_by}
 use Rattle.tc_program.specs.Made.{IsMade, IsMadeOfBlocks, IsSilent}
 use Rattle.tc_script.specs.Names.{Word}
 
@@ -111,7 +112,7 @@ all_checked text c picks out status so only out_is status_is = record {
 -- ---- the patterns
 
 -- what is printed, if all are printed
-pub all_legal : (test : Block → Bool) (blocks : List Block) (out : List ℕ) (legal : Bool) → legal ≡ true → Checks test blocks out legal → (lines : List ℕ) × Checks each blocks lines true
+pub all_legal : (test : Block → Bool) (blocks : List Block) (out : List ℕ) (legal : Bool) → legal ≡ true → Checks test blocks out legal → AreAllLegal blocks
 all_legal test _ _ _ all Checks.none = ([], Checks.none)
 all_legal test _ _ _ all (Checks.goes_on b rest line out legal says more) =
     let behind = all_legal test rest out legal all more in
@@ -135,7 +136,7 @@ history_refused choice Is text fault refused = refused
 
 -- all blocks of the text are legal, if this is the status
 abbrev pub AreJudgedAt : ℕ → List ℕ → Type 0
-AreJudgedAt status text = status ≢ 3 → (all : List Block) → AreEvidence text all → (lines : List ℕ) × Checks each all lines true
+AreJudgedAt status text = status ≢ 3 → (all : List Block) → AreEvidence text all → AreAllLegal all
 
 -- a pattern is refused after the blocks are judged, or the text is
 pub names_refused : (choice : Choice) (Is : Answer → Type 0) (only : List Word) (text : List ℕ) (status : ℕ) (fault : RunFault) → only ≡ choice.only.items
@@ -148,9 +149,18 @@ names_refused choice Is only text status fault same judged refused = refused
 pub checked_at : (test : Block → Bool) (text out : List ℕ) (status : ℕ) → IsChecked test text out status → AreJudgedAt status text
 checked_at test text out status checked other all are = all_legal test all out checked.legal (is_legal checked.legal status checked.status_is other) (checked.checks all are)
 
+-- the status of legal blocks
+not_refused : (legal : Bool) (status : ℕ) → status ≡ (if legal then 0 else 3) → legal ≡ true → status ≢ 3
+not_refused true status is all = λ three. let no : 0 ≡ 3 = sym is ∙ three in absurd cc
+not_refused false status is all = absurd cc
+
+names_found : (test : Block → Bool) (only : List Word) (text out : List ℕ) (status : ℕ) → IsChecked test text out status → NamesBlocksAt status only text → NameBlocks only text
+names_found test only text out status checked named = λ all are legal.
+    named (not_refused checked.legal status checked.status_is (found_all test all out checked.legal legal (checked.checks all are))) all are
+
 -- what is printed, with each pattern the name of some block
 pub checked_names : (choice : Choice) (only : List Word) (text out given told : List ℕ) (status : ℕ) → only ≡ choice.only.items
-    → IsChecked (picked_by (is_picked only choice.failed)) text out status → given ≡ out → told ≡ [] → NameBlocks only text status
+    → IsChecked (picked_by (is_picked only choice.failed)) text out status → given ≡ out → told ≡ [] → NamesBlocksAt status only text
     → IsMadeOfBlocks choice text (IsSilent (IsChecked (is_chosen choice) text)) (Ok (answer_of given told status))
 checked_names choice only text out given told status same checked given_is told_is named = (
   (
@@ -158,7 +168,7 @@ checked_names choice only text out given told status same checked given_is told_
         (subst (λ l. IsChecked (picked_by (is_picked only choice.failed)) text l status) (sym given_is) checked),
     told_is,
   ),
-  subst (λ o. NameBlocks o text status) same named,
+  subst (λ o. NameBlocks o text) same (names_found (picked_by (is_picked only choice.failed)) only text out status checked named),
 )
 
 -- a choice of each block chooses each
@@ -170,9 +180,9 @@ each_chosen P choice all so =
 pub made_for : (some choice : Choice) (explains : Bool) (text : List ℕ) (made : Result Answer RunFault) → some.only.items ≡ choice.only.items → some.failed ≡ choice.failed
     → IsMade (Tasks.Check some explains) text made → IsMade (Tasks.Check choice explains) text made
 made_for some choice explains text made only failed is =
-    subst (λ f. MatchResult made (λ a. IsSilent (IsChecked (λ b. is_picked choice.only.items f (block_name b) b.verdict) text) a × NameBlocks choice.only.items text a.status)
+    subst (λ f. MatchResult made (λ a. IsSilent (IsChecked (λ b. is_picked choice.only.items f (block_name b) b.verdict) text) a × NameBlocks choice.only.items text)
     (RefusesBlocks choice.only.items text)) failed
-    (subst (λ o. MatchResult made (λ a. IsSilent (IsChecked (λ b. is_picked o some.failed (block_name b) b.verdict) text) a × NameBlocks o text a.status) (RefusesBlocks o text)) only is)
+    (subst (λ o. MatchResult made (λ a. IsSilent (IsChecked (λ b. is_picked o some.failed (block_name b) b.verdict) text) a × NameBlocks o text) (RefusesBlocks o text)) only is)
 
 -- a fault of the text is the command's
 pub refused : (text : List ℕ) (fault : TextFault) → IsEvidenceFault text fault → ((all : List Block) → AreEvidence text all → fault ≡ T.NoMemory) → RefusesHistory text (of_text fault)

@@ -1,6 +1,7 @@
 -- The lemmas of this crate.
 pub mod Doing
 pub mod Playing
+pub mod Legal
 pub mod Replaying
 pub mod Running
 pub mod Telling

@@ -10,7 +10,7 @@ use Rattle.tc_evidence.specs.declared.header.Kind.{Kind}
 use Rattle.tc_evidence.specs.Line.{entries_of}
 use Rattle.tc_evidence.specs.Laws.{history_of}
 use Rattle.tc_report.specs.declared.summary.Summary.{Summary}
-use Rattle.tc_report.specs.Status.{status_of_summaries}
+use Rattle.tc_report.specs.Status.{status_of_summaries, verdict_status, worst_of}
 use Rattle.tc_report.specs.declared.results.CaseEnd.TheVariants as C
 use Rattle.tc_report.specs.Summary.{bare_summary, block_summary, case_summary, summary_of}
 use Rattle.tc_report.proofs.Lemmas.Agreeing.{one_same}
@@ -22,23 +22,25 @@ use Rattle.tc_program.specs.declared.judge.Judgement.{Judgement}
 use Rattle.tc_program.specs.declared.judge.Judgement.TheVariants as J
 use Rattle.tc_program.specs.declared.report.Recorded.{Recorded}
 use Rattle.tc_program.specs.declared.report.ReportedBlock.{ReportedBlock}
-use Rattle.tc_program.specs.Check.{Checks, IsChecked, NameBlocks, RefusesBlocks}
+use Rattle.tc_program.specs.Check.{AreAllLegal, IsChecked, NameBlocks, RefusesBlocks}
 use Rattle.tc_program.specs.Choosing.{block_name, each, is_chosen, is_picked}
 use Rattle.tc_program.specs.Made.{IsMadeOfBlocks}
 use Rattle.tc_command.specs.declared.task.Choice.{Choice}
-use Rattle.tc_program.specs.Inside.{IsJudgement, IsPlayedTo, IsRecorded, Reports, Summarizes, WasRun, WereRun, case_if_picked, judges_legal, judgement_line, picked_by, reported_block}
+use Rattle.tc_program.specs.Inside.{IsJudgement, IsPlayedTo, IsRecorded, NamesBlocksAt, Reports, Summarizes, WasRun, WereRun, case_if_picked, judges_legal, judgement_line, picked_by, reported_block}
 use Rattle.tc_program.specs.declared.fault.RunFault.{RunFault}
 use Rattle.tc_program.specs.declared.fault.RunFault.TheVariants as F
 use Rattle.tc_command.specs.declared.task.ReportForm.{ReportForm}
-use Rattle.tc_program.specs.Report.{AnswersCases, IsFirstIllegal, IsForm, IsReport, IsReported, unreported}
+use Rattle.tc_program.specs.Report.{AnswersCases, IsFirstIllegal, IsForm, IsReport, IsReported, summaries_of, unreported}
 use Rattle.tc_program.specs.declared.reply.Answer.{Answer}
 use Rattle.tc_program.specs.WrittenHistories.{AreFoundLegal, found_legal, legal_case}
 use Rattle.tc_program.proofs.Doing.{answer_of}
 use Rattle.tc_program.proofs.Checking.{AreJudgedAt, each_chosen, fed_more, illegal_said, legal_said, whole}
 use Rattle.tc_script.specs.Names.{Word}
 use Rattle.tc_verdict.specs.declared.verdict.Verdict.{Verdict}
+use Rattle.tc_verdict.specs.declared.verdict.Verdict.TheVariants as V
 use Rattle.tc_program.proofs.Playing.{no_difference}
-use Rattle.tc_program.proofs.WrittenHistories.{IsRight, after, are_right, block_of, blocks_of, evidence_of, none_illegal, said_of_written, same_entries}
+use Rattle.tc_program.proofs.Legal.{IsRight, none_found, none_illegal}
+use Rattle.tc_program.proofs.WrittenHistories.{after, are_right, block_of, blocks_of, evidence_of, said_of_written, same_entries}
 
 -- a block that is judged legal is right
 right_of_legal : (b : Block) (j : Judgement) → judges_legal j ≡ true → IsJudgement b j → IsRight b
@@ -169,20 +171,34 @@ illegal_report form text ss o j names notes a blocks chosen some is made =
 
 -- if the status says so, all blocks are legal
 reported_at : (form : ReportForm) (text : List ℕ) (blocks chosen : List Block) (names : List (List ℕ)) (notes : List ℕ) (a : Answer)
-    → IsReport form text blocks chosen names notes a → a.status ≢ 3 → (lines : List ℕ) × Checks each blocks lines true
+    → IsReport form text blocks chosen names notes a → a.status ≢ 3 → AreAllLegal blocks
 reported_at form text blocks chosen names notes a (IsReport.legal lines checks is) other = (lines, checks)
 reported_at form text blocks chosen names notes a (IsReport.illegal b line first is) other = absurd (other (ap (λ x. x.status) is))
 
 pub judged_at : (form : ReportForm) (test : Block → Bool) (text : List ℕ) (a : Answer) → IsReported form test text a → AreJudgedAt a.status text
 judged_at form test text a made other all are = reported_at form text all (filter test all) [] [] a (made.made all are) other
 
+not_refused : (v : Verdict) → verdict_status v ≢ 3
+not_refused V.None = λ e. cc
+not_refused V.Pass = λ e. cc
+not_refused V.Inconc = λ e. cc
+not_refused V.Fail = λ e. cc
+not_refused V.Error = λ e. cc
+
+-- if all blocks are legal, the status does not say otherwise
+legal_at : (form : ReportForm) (text : List ℕ) (blocks chosen : List Block) (a : Answer) → AreAllLegal blocks → IsReport form text blocks chosen [] [] a → a.status ≢ 3
+legal_at form text blocks chosen a all (IsReport.legal lines checks is) =
+    subst (λ n. n ≢ 3) (sym is.2) (not_refused (worst_of (summaries_of chosen [])))
+legal_at form text blocks chosen a all (IsReport.illegal b line first is) = absurd (none_found blocks b line all first)
+
 -- what is reported, with each pattern the name of some block
 pub reported_names : (form : ReportForm) (choice : Choice) (only : List Word) (text : List ℕ) (a : Answer) → only ≡ choice.only.items
-    → IsReported form (picked_by (is_picked only choice.failed)) text a → NameBlocks only text a.status
+    → IsReported form (picked_by (is_picked only choice.failed)) text a → NamesBlocksAt a.status only text
     → IsMadeOfBlocks choice text (IsReported form (is_chosen choice) text) (Ok a)
 reported_names form choice only text a same made named = (
   subst (λ o. IsReported form (λ b. is_picked o choice.failed (block_name b) b.verdict) text a) same made,
-  subst (λ o. NameBlocks o text a.status) same named,
+  subst (λ o. NameBlocks o text) same
+      (λ all are legal. named (legal_at form text all (filter (picked_by (is_picked only choice.failed)) all) a legal (made.made all are)) all are),
 )
 
 -- an answer of these parts

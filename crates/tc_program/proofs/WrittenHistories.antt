@@ -17,7 +17,6 @@ use Rattle.tc_evidence.specs.declared.header.Kind.TheVariants as K
 use Rattle.tc_evidence.specs.declared.line.Line.{Line}
 use Rattle.tc_evidence.specs.declared.line.Line.TheVariants as L
 use Rattle.tc_evidence.specs.Line.{entries_of, is_about, is_met}
-use Rattle.tc_evidence.specs.Laws.{AreLegal, overall_of}
 use Rattle.tc_evidence.specs.Text.{AreBlocks, AreEvidence, AreLines, block_lines, format_of}
 use Rattle.tc_evidence.specs.Written.{text_of_blocks}
 use Rattle.tc_evidence.proofs.Lemmas.WrittenEvidence.{written_evidence}
@@ -27,12 +26,11 @@ use Rattle.tc_report.specs.declared.results.Results.{Results}
 use Rattle.tc_report.specs.Blocks.{blocks_text, case_block, case_lines, header_of, namings}
 use Rattle.tc_campaign.specs.Outline.{Outline}
 use Rattle.tc_campaign.specs.Campaign.{IsReported}
-use Rattle.tc_program.specs.Check.{Checks, IsIllegalLine, legal_line}
+use Rattle.tc_program.specs.Check.{Checks, legal_line}
 use Rattle.tc_program.specs.Choosing.{each}
-use Rattle.tc_program.specs.Report.{IsFirstIllegal}
 use Rattle.tc_program.specs.WrittenHistories.{legal_case, AreReported}
 use Rattle.tc_program.specs.Inside.{FitsItsTypes, WasRun, WereRun}
-use Rattle.tc_program.proofs.Playing.{no_difference}
+use Rattle.tc_program.proofs.Legal.{AreRight, IsRight, block_line, only_legal}
 
 -- the block of a finished test case, which begins in this line
 abbrev pub block_of : Kind → ℕ → Finished → Block
@@ -81,38 +79,6 @@ pub same_entries : (kind : Kind) (f : Finished) → entries_of (case_lines kind 
 same_entries K.Evidence f = behind_namings 0 (take f.report.behaviours f.names) f.report.history
 same_entries K.History1 f = only_entries f.report.history
 same_entries K.History2 f = only_entries f.report.history
-
--- each reply is the table's, and the verdict is that of the block
-abbrev pub IsRight : Block → Type 0
-IsRight b = AreLegal b.header.behaviours b.lines × (b.verdict ≡ overall_of b.lines)
-
-no_other : (b : Block) (line : List ℕ) → IsRight b → IsIllegalLine b line → ⊥
-no_other b line right (IsIllegalLine.other_reply before behind e reply place legal answers other said) =
-    no_difference b.header.behaviours b.lines before behind e reply right.0 place answers other
-no_other b line right (IsIllegalLine.other_verdict ok differs said) = differs right.1
-
--- the line of a block that is found legal
-abbrev pub block_line : Block → List ℕ
-block_line b = legal_line b.header.name (length (entries_of b.lines)) b.verdict
-
-abbrev pub AreRight : List Block → Type 0
-AreRight [] = Unit {0}
-AreRight (b ∷ bs) = IsRight b × AreRight bs
-
-pub only_legal : (bs : List Block) (out : List ℕ) (legal : Bool) → AreRight bs → Checks each bs out legal → (out ≡ flat_map block_line bs) × (legal ≡ true)
-only_legal _ _ _ all Checks.none = (refl, refl)
-only_legal _ _ _ all (Checks.goes_on b rest line out legal says more) =
-    let two = only_legal rest out legal all.1 more in
-    (ap (λ l. l ++ out) says.line_is ∙ ap (λ l. block_line b ++ l) two.0, two.1)
-only_legal _ _ _ all (Checks.stops b rest line says) = absurd (no_other b line all.0 says)
-
-right_at : (before behind : List Block) (b : Block) → AreRight (before ++ b ∷ behind) → IsRight b
-right_at [] behind b all = all.0
-right_at (c ∷ before) behind b all = right_at before behind b all.1
-
--- none of them is the first that is not legal
-pub none_illegal : (bs : List Block) (b : Block) (line : List ℕ) → AreRight bs → IsFirstIllegal bs b line → ⊥
-none_illegal bs b line all first = no_other b line (right_at first.before first.behind b (subst AreRight first.place all)) first.illegal
 
 -- the block of a test case that was run
 right_of : (kind : Kind) (line : ℕ) (f : Finished) → WasRun kind f → IsRight (block_of kind line f)

@@ -68,12 +68,15 @@ RefusesHistory text (F.Text fault) = IsEvidenceFault text fault × ((blocks : Li
 RefusesHistory text F.NoMemory = Unit {0}
 RefusesHistory text fault = ⊥
 
--- each of these patterns matches the name of a block of the text, if this is the status: a block is not legal if it is 3
-abbrev pub NameBlocks : List (List ℕ) → List ℕ → ℕ → Type 0
-NameBlocks only text status = status ≢ 3 → (all : List Block) → AreEvidence text all → have_names block_name only all ≡ true
+-- all of these blocks are legal
+abbrev pub AreAllLegal : List Block → Type 0
+AreAllLegal blocks = (lines : List ℕ) × Checks each blocks lines true
+
+-- each of these patterns matches the name of a block of the text, if all its blocks are legal
+abbrev pub NameBlocks : List (List ℕ) → List ℕ → Type 0
+NameBlocks only text = (all : List Block) → AreEvidence text all → AreAllLegal all → have_names block_name only all ≡ true
 
 -- the text is refused as one of histories and evidence; or all its blocks are legal, and some pattern matches the name of none
 abbrev pub RefusesBlocks : List (List ℕ) → List ℕ → RunFault → Type 0
-RefusesBlocks only text F.Only =
-    (all : List Block) × AreEvidence text all × ((lines : List ℕ) × Checks each all lines true) × (have_names block_name only all ≡ false)
+RefusesBlocks only text F.Only = (all : List Block) × AreEvidence text all × AreAllLegal all × (have_names block_name only all ≡ false)
 RefusesBlocks only text fault = RefusesHistory text fault

@@ -239,6 +239,10 @@ Feeds test blocks out false = (more : List Block) → Checks test (blocks ++ mor
 abbrev pub AreJudgedSo : List Block → List Judgement → Bool → Type 0
 AreJudgedSo blocks js legal = (picks : Word → Verdict → Bool) → Feeds (picked_by picks) blocks (flat_map (line_by picks) js) legal
 
+-- each of these patterns matches the name of a block of the text, or this is the status of a block that is not legal
+abbrev pub NamesBlocksAt : ℕ → List Word → List ℕ → Type 0
+NamesBlocksAt status only text = status ≢ 3 → (all : List Block) → AreEvidence text all → have_names block_name only all ≡ true
+
 -- this is not the status of a block that is not legal, and some pattern matches the name of no block of the text; or the
 -- text is refused
 abbrev pub RefusesNamesAt : ℕ → List Word → List ℕ → RunFault → Type 0

@@ -29,7 +29,7 @@ IsSilent Is a = Is a.out a.status × (a.told ≡ [])
 -- The answer is so, and if all blocks are legal, each pattern of the choice matches the name of one. Otherwise the text is
 -- refused, and after its blocks are judged a pattern.
 abbrev pub IsMadeOfBlocks : Choice → List ℕ → (Answer → Type 0) → Result Answer RunFault → Type 0
-IsMadeOfBlocks choice text Is made = MatchResult made (λ a. Is a × NameBlocks choice.only.items text a.status) (RefusesBlocks choice.only.items text)
+IsMadeOfBlocks choice text Is made = MatchResult made (λ a. Is a × NameBlocks choice.only.items text) (RefusesBlocks choice.only.items text)
 
 -- the answer is what a task, other than a run, makes of the text; or the task refuses the text for this fault, and any
 -- text if memory runs out

@@ -3,9 +3,8 @@ ghost use Rattle.std.specs.Prelude.{◌≡◌, IfErr, OnOk};
 ghost use Rattle.std.specs.List.{list_any};
 ghost use Rattle.tc_campaign.specs.Choosing.{have_names, is_asked as spec_asked};
 ghost use Rattle.tc_entry.specs.Pattern.{matches};
-ghost use Rattle.tc_program.specs.Check.{NameBlocks};
 ghost use Rattle.tc_program.specs.Choosing.{block_name, is_picked as spec_picked};
-ghost use Rattle.tc_program.specs.Inside.{RefusesNamesAt};
+ghost use Rattle.tc_program.specs.Inside.{NamesBlocksAt, RefusesNamesAt};
 
 use crate::compare::read_blocks;
 use crate::fault::RunFault;
@@ -62,7 +61,7 @@ pub(crate) fn refuse_names(
     only: &[Pattern],
     text: &[u8],
 ) -> Result<(), RunFault>
-    ensures named { OnOk result (NameBlocks only.now text.now status) }
+    ensures named { OnOk result (NamesBlocksAt status only.now text.now) }
     ensures refused { IfErr result (RefusesNamesAt status only.now text.now) }
 {
     if status == REFUSED || only.is_empty() {

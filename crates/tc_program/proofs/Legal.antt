@@ -1,0 +1,61 @@
+-- Blocks that are legal are found legal.
+use Rattle.std.proofs.Common.{ℕ, ◌≡◌, ◌∙◌, Bool, true, List, [], ◌∷◌, ◌++◌, length, refl, ap, subst}
+use Rattle.std.specs.List.{flat_map}
+use Rattle.tc_evidence.specs.declared.block.Block.{Block}
+use Rattle.tc_evidence.specs.Line.{entries_of}
+use Rattle.tc_evidence.specs.Laws.{AreLegal, overall_of}
+use Rattle.tc_program.specs.Check.{AreAllLegal, Checks, IsIllegalLine, legal_line}
+use Rattle.tc_program.specs.Choosing.{each}
+use Rattle.tc_program.specs.Report.{IsFirstIllegal}
+use Rattle.tc_program.proofs.Playing.{no_difference}
+
+-- each reply is the table's, and the verdict is that of the block
+abbrev pub IsRight : Block → Type 0
+IsRight b = AreLegal b.header.behaviours b.lines × (b.verdict ≡ overall_of b.lines)
+
+no_other : (b : Block) (line : List ℕ) → IsRight b → IsIllegalLine b line → ⊥
+no_other b line right (IsIllegalLine.other_reply before behind e reply place legal answers other said) =
+    no_difference b.header.behaviours b.lines before behind e reply right.0 place answers other
+no_other b line right (IsIllegalLine.other_verdict ok differs said) = differs right.1
+
+-- the line of a block that is found legal
+abbrev pub block_line : Block → List ℕ
+block_line b = legal_line b.header.name (length (entries_of b.lines)) b.verdict
+
+abbrev pub AreRight : List Block → Type 0
+AreRight [] = Unit {0}
+AreRight (b ∷ bs) = IsRight b × AreRight bs
+
+pub only_legal : (bs : List Block) (out : List ℕ) (legal : Bool) → AreRight bs → Checks each bs out legal → (out ≡ flat_map block_line bs) × (legal ≡ true)
+only_legal _ _ _ all Checks.none = (refl, refl)
+only_legal _ _ _ all (Checks.goes_on b rest line out legal says more) =
+    let two = only_legal rest out legal all.1 more in
+    (ap (λ l. l ++ out) says.line_is ∙ ap (λ l. block_line b ++ l) two.0, two.1)
+only_legal _ _ _ all (Checks.stops b rest line says) = absurd (no_other b line all.0 says)
+
+right_at : (before behind : List Block) (b : Block) → AreRight (before ++ b ∷ behind) → IsRight b
+right_at [] behind b all = all.0
+right_at (c ∷ before) behind b all = right_at before behind b all.1
+
+-- none of them is the first that is not legal
+pub none_illegal : (bs : List Block) (b : Block) (line : List ℕ) → AreRight bs → IsFirstIllegal bs b line → ⊥
+none_illegal bs b line all first = no_other b line (right_at first.before first.behind b (subst AreRight first.place all)) first.illegal
+
+-- blocks of which a choice is printed, and all are legal
+rights : (bs : List Block) (lines : List ℕ) (legal : Bool) → legal ≡ true → Checks each bs lines legal → AreRight bs
+rights _ _ _ all Checks.none = tt
+rights _ _ _ all (Checks.goes_on b rest line out legal says more) = ((says.replies, says.verdict), rights rest out legal all more)
+rights _ _ _ all (Checks.stops b rest line says) = absurd cc
+
+found : (test : Block → Bool) (bs : List Block) (out : List ℕ) (legal : Bool) → AreRight bs → Checks test bs out legal → legal ≡ true
+found test _ _ _ all Checks.none = refl
+found test _ _ _ all (Checks.goes_on b rest line out legal says more) = found test rest out legal all.1 more
+found test _ _ _ all (Checks.stops b rest line says) = absurd (no_other b line all.0 says)
+
+-- whichever of them are printed, legal blocks are found legal
+pub found_all : (test : Block → Bool) (bs : List Block) (out : List ℕ) (legal : Bool) → AreAllLegal bs → Checks test bs out legal → legal ≡ true
+found_all test bs out legal all checks = found test bs out legal (rights bs all.0 true refl all.1) checks
+
+-- and none of them is the first that is not
+pub none_found : (bs : List Block) (b : Block) (line : List ℕ) → AreAllLegal bs → IsFirstIllegal bs b line → ⊥
+none_found bs b line all = none_illegal bs b line (rights bs all.0 true refl all.1)
