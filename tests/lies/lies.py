@@ -114,14 +114,6 @@ LIES = (
         if book.wakes(self.run) {
 """),
     ), "tc_exec_tests"),
-    Lie("the_main_run_is_never_woken", (
-        ("""        for condition in &self.of_runs {""", """        for condition in self.of_runs.iter().skip(1) {"""),
-    ), "tc_exec_tests"),
-    Lie("a_place_is_never_given_up", (
-        ("""\
-                shared.give_up(rt, run);
-""", ""),
-    ), "tc_exec_tests"),
     Lie("a_long_log_is_torn", (
         ("""\
         self.look(rt).close(alloc, lefts)
