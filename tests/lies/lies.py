@@ -172,7 +172,7 @@ LIES = (
         gathered.take(worker.join(rt));
     }
 """),
-        ("use std::thread::{PromisedHandle, Threads};", "use std::thread;\nuse std::thread::{PromisedHandle, Threads};"),
+        ("use tc_book::{Pass, Shared, close_case, open_case};", "use std::thread;\nuse tc_book::{Pass, Shared, close_case, open_case};"),
         ("fn gather<R: Threads + Wait, B: Callable>(", "fn gather<R: Threads + Wait + Copy + Send + 'static, B: Callable>("),
         ("fn run_made<R: Threads + Wait, B: Callable>(", "fn run_made<R: Threads + Wait + Copy + Send + 'static, B: Callable>("),
     ), "tc_exec_tests"),
@@ -200,14 +200,6 @@ LIES = (
     Lie("another_odd_byte_is_told", (
         ("""append_hex(out, *byte)""", """append_hex(out, byte.wrapping_add(1))"""),
     ), "tc_script_tests"),
-    Lie("workers_are_left_behind_a_refusal", (
-        ("""\
-        dismiss(rt, pass, workers, gathered);
-        return Err(CaseError::NoThread);
-""", """\
-        return Err(CaseError::NoThread);
-"""),
-    ), "tc_exec_tests"),
     Lie("calls_after_it_in_the_summary", (
         ("""log.get(..cause.before).unwrap_or(log)""", """log.get(cause.before..).unwrap_or(log)"""),
     )),
