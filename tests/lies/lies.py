@@ -114,14 +114,6 @@ LIES = (
         if book.wakes(self.run) {
 """),
     ), "tc_exec_tests"),
-    Lie("the_main_run_is_never_woken", (
-        ("""        for condition in &self.of_runs {""", """        for condition in self.of_runs.iter().skip(1) {"""),
-    ), "tc_exec_tests"),
-    Lie("a_place_is_never_given_up", (
-        ("""\
-                shared.give_up(rt, run);
-""", ""),
-    ), "tc_exec_tests"),
     Lie("a_long_log_is_torn", (
         ("""\
         self.look(rt).close(alloc, lefts)
@@ -180,7 +172,7 @@ LIES = (
         gathered.take(worker.join(rt));
     }
 """),
-        ("use std::thread::{PromisedHandle, Threads};", "use std::thread;\nuse std::thread::{PromisedHandle, Threads};"),
+        ("use tc_book::{Pass, Shared, close_case, open_case};", "use std::thread;\nuse tc_book::{Pass, Shared, close_case, open_case};"),
         ("fn gather<R: Threads + Wait, B: Callable>(", "fn gather<R: Threads + Wait + Copy + Send + 'static, B: Callable>("),
         ("fn run_made<R: Threads + Wait, B: Callable>(", "fn run_made<R: Threads + Wait + Copy + Send + 'static, B: Callable>("),
     ), "tc_exec_tests"),
@@ -208,14 +200,6 @@ LIES = (
     Lie("another_odd_byte_is_told", (
         ("""append_hex(out, *byte)""", """append_hex(out, byte.wrapping_add(1))"""),
     ), "tc_script_tests"),
-    Lie("workers_are_left_behind_a_refusal", (
-        ("""\
-        dismiss(rt, pass, workers, gathered);
-        return Err(CaseError::NoThread);
-""", """\
-        return Err(CaseError::NoThread);
-"""),
-    ), "tc_exec_tests"),
     Lie("calls_after_it_in_the_summary", (
         ("""log.get(..cause.before).unwrap_or(log)""", """log.get(cause.before..).unwrap_or(log)"""),
     )),
@@ -509,6 +493,18 @@ pub fn append_entries(out: &mut Vec<u8>, entries: &[Entry]) -> Result<(), NoMemo
     write_whole(writer, text)?;
     let _ = writer.flush();
     Ok(())
+"""),
+    ), "tc_parts_tests"),
+    Lie("an_interrupted_flush_is_taken", (
+        ("""\
+    match writer.flush() {
+        Ok(()) => Ok(()),
+        Err(_) => Err(WriteFault),
+""", """\
+    match writer.flush() {
+        Ok(()) => Ok(()),
+        Err(fault) if matches!(fault.kind(), std::io::ErrorKind::Interrupted) => Ok(()),
+        Err(_) => Err(WriteFault),
 """),
     ), "tc_parts_tests"),
     Lie("none_begins_after_the_255th", (

@@ -12,7 +12,7 @@ ghost use Rattle.tc_case.specs.Report.{IsOneHistory};
 
 use crate::book::Book;
 use crate::left::Left;
-use crate::log::Log;
+use crate::logged_book::log::Log;
 use crate::pass::Pass;
 use crate::run_hand::RunHand;
 use crate::shared::Shared;

@@ -1,27 +1,13 @@
 //! The conditions that the runs of a case wait on.
-ghost use Rattle.std.specs.Prelude.{◌≡◌, ◌<◌, ℕ, false, IfOk, length, slice_index_or};
+ghost use Rattle.std.specs.Prelude.{◌≡◌, ◌<◌, ℕ, IfOk, length, slice_index_or};
 ghost use Rattle.tc_book.specs.declared.conditions.condition.Condition.{Condition};
 
-mod condition;
+pub(crate) mod condition;
 
-use crate::conditions::condition::Condition;
+use crate::conditions::condition::{Condition, Told};
 use crate::logged_book::LoggedBook;
 use std::alloc::Global;
 use tc_verdict::{NoMemory, Run};
-
-/// That each run was woken that waits and can continue, if there was one.
-#[derive(Drop)]
-pub(crate) struct Told(());
-
-impl Told {
-    /// Nobody had to be woken.
-    pub(crate) fn nobody(anyone: bool) -> Told
-        requires { anyone ≡ false }
-    {
-        let _ = anyone;
-        Told(())
-    }
-}
 
 /// A condition for each run of a case, on which it waits under the lock, and is woken.
 #[derive(Drop)]
@@ -50,10 +36,13 @@ impl Conditions {
     }
 
     /// Wakes each run that waits and can continue now.
-    pub(crate) fn tell(&self, book: &LoggedBook) -> Told {
+    pub(crate) fn tell(&self, book: &LoggedBook) -> Told
+        ensures { result.runs ≡ length self.now.of_runs.items }
+    {
+        let mut told = Told::nobody();
         for condition in &self.of_runs {
-            condition.tell(book);
+            told = condition.tell(book, told);
         }
-        Told(())
+        told
     }
 }

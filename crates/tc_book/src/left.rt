@@ -2,7 +2,7 @@
 ghost use Rattle.std.specs.Prelude.{◌≡◌, ◌↔◌, IsTrue, MatchOption, Some, None};
 ghost use Rattle.tc_book.specs.Closing.{run_log};
 
-use crate::logged_book::Unstarted;
+use crate::logged_book::GivenUp;
 use std::marker::Model;
 use tc_case::RunLog;
 use tc_entry::{Args, Comp, Entry, Sequence};
@@ -26,22 +26,22 @@ impl Model for Left {
 
 impl Left {
     /// What the pass of a started run leaves.
-    pub(crate) fn new(run: Run, log: Vec<Entry>, comp: Comp, args: Args) -> Left
-        ensures { result ≡ record { run = run; log = log.items; started = Some (comp, args) } }
+    pub(crate) fn new(given_up: GivenUp, log: Vec<Entry>, comp: Comp, args: Args) -> Left
+        ensures { result ≡ record { run = given_up.run; log = log.items; started = Some (comp, args) } }
     {
         Left {
-            run,
+            run: given_up.run(),
             log,
             started: Some((comp, args)),
         }
     }
 
     /// What a run leaves that was never started.
-    pub(crate) fn never_started(unstarted: Unstarted, log: Vec<Entry>) -> Left
-        ensures { result ≡ record { run = unstarted.run; log = log.items; started = None } }
+    pub(crate) fn never_started(given_up: GivenUp, log: Vec<Entry>) -> Left
+        ensures { result ≡ record { run = given_up.run; log = log.items; started = None } }
     {
         Left {
-            run: unstarted.run(),
+            run: given_up.run(),
             log,
             started: None,
         }

@@ -9,7 +9,6 @@ mod conditions;
 mod halt;
 pub mod laws;
 mod left;
-mod log;
 mod logged_book;
 mod parts;
 mod pass;

@@ -16,9 +16,11 @@ ghost use Rattle.tc_case.specs.Merge.{is_verdict_call};
 ghost use Rattle.tc_board.specs.Hand.{answered};
 ghost use Rattle.tc_board.specs.declared.answer.Answer.TheVariants.{Met};
 
+pub(crate) mod log;
+
 use crate::book::Book;
 use crate::left::Left;
-use crate::log::Log;
+use crate::logged_book::log::Log;
 use crate::run_hand::RunHand;
 use crate::until::Until;
 use crate::wake_up::WakeUp;
@@ -34,6 +36,21 @@ pub(crate) struct Unstarted {
 }
 
 impl Unstarted {
+    /// The run.
+    pub(crate) fn run(&self) -> Run
+        ensures { result ≡ self.now.run }
+    {
+        self.run
+    }
+}
+
+/// That the place for a run's leaving was given up. Only the book that gives it up makes one.
+#[derive(Drop)]
+pub(crate) struct GivenUp {
+    run: Run,
+}
+
+impl GivenUp {
     /// The run.
     pub(crate) fn run(&self) -> Run
         ensures { result ≡ self.now.run }
@@ -153,7 +170,7 @@ impl LoggedBook {
     }
 
     /// Gives up the place of the log's run, and adds its Finish to the history and to the log if the run has not ended.
-    pub(crate) fn leave(&mut self, log: &mut Log) -> Option<(Option<Reply>, WakeUp)>
+    pub(crate) fn leave(&mut self, log: &mut Log) -> Option<(Option<Reply>, WakeUp, GivenUp)>
         requires room { 1 ≤ log.old.room }
         ensures none { IfNone result (self.new.book ≡ self.old.book) }
         ensures none_logged { IfNone result (log.new ≡ log.old) }
@@ -166,6 +183,7 @@ impl LoggedBook {
         ensures behaviours { self.new.book.behaviours ≡ self.old.book.behaviours }
         ensures kept { OnSome result (IsTrue (has_leave self.old.book log.old.run)) }
         ensures places { OnSome result (self.new.book.places ≡ without_leave self.old.book log.old.run) }
+        ensures given_up { IfSome result (λ f. f.2.run ≡ log.old.run) }
         ensures quiet { IfSome result (λ f. IfNone f.0 ((self.new.book.history ≡ self.old.book.history) × (log.new ≡ log.old))) }
         ensures reply { IfSome result (λ f. IfSome f.0 (λ r. r ≡ reply_to self.old.book log.old.run ops.Finish)) }
         ensures suits { IfSome result (λ f. IfSome f.0 (λ r. suits ops.Finish r ≡ true)) }
@@ -176,19 +194,23 @@ impl LoggedBook {
         if let Some(reply) = finish {
             log.add(Op::Finish, reply);
         }
-        Some((finish, WakeUp::new(finish.is_some())))
+        let given_up = GivenUp { run: log.run() };
+        Some((finish, WakeUp::new(finish.is_some()), given_up))
     }
 
-    /// Gives up the place of a run that was never started, and says whether it was still kept.
-    pub(crate) fn give_up(&mut self, run: Run) -> bool
+    /// Gives up the place of a run that was never started, if it is still kept.
+    pub(crate) fn give_up(&mut self, unstarted: Unstarted) -> Option<GivenUp>
         ensures behaviours { self.new.book.behaviours ≡ self.old.book.behaviours }
         ensures history { self.new.book.history ≡ self.old.book.history }
-        ensures kept { result ≡ has_leave self.old.book run }
-        ensures places { IsTrue result → self.new.book.places ≡ without_leave self.old.book run }
-        ensures gone { IsFalse result → self.new.book ≡ self.old.book }
+        ensures given_up { IfSome result (λ g. g.run ≡ unstarted.run) }
+        ensures places { OnSome result (self.new.book.places ≡ without_leave self.old.book unstarted.run) }
+        ensures gone { IfNone result (IsFalse (has_leave self.old.book unstarted.run)) }
+        ensures none { IfNone result (self.new.book ≡ self.old.book) }
         ensures waiting { self.new.waiting.items ≡ self.old.waiting.items }
     {
-        self.book.leave(run, true).is_some()
+        let run = unstarted.run();
+        self.book.leave(run, true)?;
+        Some(GivenUp { run })
     }
 
     /// Whether a place is still kept for the leaving of a run.

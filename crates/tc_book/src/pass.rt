@@ -12,7 +12,7 @@ ghost use Rattle.tc_case.specs.Merge.{is_verdict_call};
 
 use crate::halt::Halt;
 use crate::left::Left;
-use crate::log::Log;
+use crate::logged_book::log::Log;
 use crate::shared::Shared;
 use std::marker::Model;
 use std::sync::Wait;
@@ -311,8 +311,8 @@ impl Pass {
             args,
             mut log,
         } = self;
-        shared.leave(rt, &mut log);
-        let (run, me) = (log.run(), log.own());
-        Left::new(run, log.into_entries(), me, args)
+        let (_, given_up) = shared.leave(rt, &mut log);
+        let me = log.own();
+        Left::new(given_up, log.into_entries(), me, args)
     }
 }

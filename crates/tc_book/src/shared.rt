@@ -18,8 +18,8 @@ ghost use Rattle.tc_board.specs.declared.answer.Answer.TheVariants.{Met};
 use crate::book::Book;
 use crate::conditions::Conditions;
 use crate::left::Left;
-use crate::log::Log;
-use crate::logged_book::{LoggedBook, Unstarted};
+use crate::logged_book::log::Log;
+use crate::logged_book::{GivenUp, LoggedBook, Unstarted};
 use crate::run_hand::RunHand;
 use crate::until::{Lack, Until};
 use std::alloc::{AllocError, Global};
@@ -157,18 +157,19 @@ impl Shared {
     }
 
     /// Gives up the place of the log's run, and records its Finish if the run has not ended.
-    pub(crate) fn leave<R: Wait>(&self, rt: &R, log: &mut Log) -> Option<Reply>
+    pub(crate) fn leave<R: Wait>(&self, rt: &R, log: &mut Log) -> (Option<Reply>, GivenUp)
         requires waits { log.old.run.0 < waiting_places self.now }
         requires room { 1 ≤ log.old.room }
         ensures run { log.new.run ≡ log.old.run }
         ensures own { log.new.own ≡ log.old.own }
-        ensures none { is_none result ≡ is_closed log.old }
-        ensures quiet { IfNone result (log.new ≡ log.old) }
-        ensures suits { IfSome result (λ r. suits ops.Finish r ≡ true) }
-        ensures entries { IfSome result (λ r. log.new.entries ≡ with_own log.old ops.Finish r) }
+        ensures none { is_none result.0 ≡ is_closed log.old }
+        ensures quiet { IfNone result.0 (log.new ≡ log.old) }
+        ensures suits { IfSome result.0 (λ r. suits ops.Finish r ≡ true) }
+        ensures entries { IfSome result.0 (λ r. log.new.entries ≡ with_own log.old ops.Finish r) }
+        ensures given_up { result.1.run ≡ log.old.run }
     {
         let mut book = self.held.book.lock(rt);
-        let Some((finish, wake_up)) = book.leave(log) else {
+        let Some((finish, wake_up, given_up)) = book.leave(log) else {
             self.held
                 .changed
                 .of(log.run())
@@ -176,20 +177,24 @@ impl Shared {
             unreachable!()
         };
         wake_up.give(&self.held.changed, &book);
-        finish
+        (finish, given_up)
     }
 
     /// Gives up the place of a run that was never started.
-    pub(crate) fn give_up<R: Wait>(&self, rt: &R, run: Run)
-        requires { run.0 < waiting_places self.now }
+    pub(crate) fn give_up<R: Wait>(&self, rt: &R, unstarted: Unstarted) -> GivenUp
+        requires { unstarted.run.0 < waiting_places self.now }
+        ensures { result.run ≡ unstarted.run }
     {
+        let run = unstarted.run();
         let mut book = self.held.book.lock(rt);
-        if !book.give_up(run) {
+        let Some(given_up) = book.give_up(unstarted) else {
             self.held
                 .changed
                 .of(run)
                 .stay(rt, book, Lack::PlaceForLeaving);
-        }
+            unreachable!()
+        };
+        given_up
     }
 
     /// What a run was started with, once it was started and its hand has met its word; or that it was not started, once

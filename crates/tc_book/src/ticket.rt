@@ -4,7 +4,7 @@ ghost use Rattle.std.specs.Vec.{vec_len, vec_capacity};
 ghost use Rattle.tc_book.specs.Inside.Waiting.{waiting_places};
 
 use crate::left::Left;
-use crate::log::Log;
+use crate::logged_book::log::Log;
 use crate::pass::Pass;
 use crate::run_hand::RunHand;
 use crate::shared::Shared;
@@ -76,10 +76,7 @@ impl Ticket {
         } = self;
         match shared.await_start(rt, run, &mut hand) {
             Ok((comp, args)) => Ok(Pass::new(shared, Log::new(run, comp, log, hand), args)),
-            Err(unstarted) => {
-                shared.give_up(rt, run);
-                Err(Left::never_started(unstarted, log))
-            }
+            Err(unstarted) => Err(Left::never_started(shared.give_up(rt, unstarted), log)),
         }
     }
 }

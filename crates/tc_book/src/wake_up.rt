@@ -1,7 +1,8 @@
 //! The runs that a change wakes.
-ghost use Rattle.std.specs.Prelude.{◌≡◌};
+ghost use Rattle.std.specs.Prelude.{◌≡◌, true, length};
 
-use crate::conditions::{Conditions, Told};
+use crate::conditions::Conditions;
+use crate::conditions::condition::Told;
 use crate::logged_book::LoggedBook;
 
 /// Whether somebody who waits can continue. It is no `Drop`: its holder gives it to those that wait.
@@ -17,12 +18,14 @@ impl WakeUp {
     }
 
     /// Wakes each run that waits and can continue now, if there may be one.
-    pub(crate) fn give(self, waiting: &Conditions, book: &LoggedBook) -> Told {
+    pub(crate) fn give(self, waiting: &Conditions, book: &LoggedBook) -> Told
+        ensures { self.anyone ≡ true → result.runs ≡ length waiting.now.of_runs.items }
+    {
         let WakeUp { anyone } = self;
         if anyone {
             waiting.tell(book)
         } else {
-            Told::nobody(anyone)
+            Told::nobody()
         }
     }
 }

@@ -1,6 +1,5 @@
 -- What the functions inside of a case say, which no public clause names.
 use Rattle.std.specs.Prelude.{ℕ, ◌≡◌, ◌≢◌, ◌<◌, ◌+◌, ◌++◌, Bool, true, false, None, List, Result, Ok, Err, length, map, slice_index_or}
-use Rattle.std.specs.declared.thread.PromisedHandle.{PromisedHandle}
 use Rattle.tc_verdict.specs.declared.run.Run.{Run}
 use Rattle.tc_case.specs.declared.closed.Closed.{Closed}
 use Rattle.tc_case.specs.declared.closed.CloseFault.{CloseFault}
@@ -10,8 +9,7 @@ use Rattle.tc_exec.specs.declared.job.Back.{Back}
 use Rattle.tc_exec.specs.declared.job.Ending.{Ending}
 use Rattle.tc_exec.specs.declared.job.Ending.TheVariants as E
 use Rattle.tc_exec.specs.declared.gathered.Gathered.{Gathered}
-use Rattle.tc_exec.specs.declared.handed.Handed.{Handed}
-use Rattle.tc_exec.specs.declared.worker.Task.{Task}
+use Rattle.tc_exec.specs.declared.worker.Worker.{Worker}
 use Rattle.tc_case.specs.Refusals.{of_close}
 use Rattle.tc_exec.specs.Workers.{AreLeftBy}
 
@@ -26,12 +24,12 @@ is_starved E.Starved = true
 is_starved E.Returned = false
 
 -- the runs of these workers
-abbrev pub runs_of : {B : Type 0} → List (PromisedHandle Handed (Task B)) → List Run
-runs_of workers = map (λ w. w.promise.run) workers
+abbrev pub runs_of : {B : Type 0} → List (Worker B) → List Run
+runs_of workers = map (λ w. w.handle.promise.run) workers
 
 -- the behaviours of these workers
-abbrev pub jobs_of : {B : Type 0} → List (PromisedHandle Handed (Task B)) → List B
-jobs_of workers = map (λ w. w.promise.behaviour.value) workers
+abbrev pub jobs_of : {B : Type 0} → List (Worker B) → List B
+jobs_of workers = map (λ w. w.handle.promise.behaviour.value) workers
 
 -- these are the runs above run 0, in their order
 abbrev pub AreAbove : List Run → Type 0

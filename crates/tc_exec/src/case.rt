@@ -12,12 +12,12 @@ ghost use Rattle.tc_case.specs.declared.refusal.CaseError.TheVariants.{NoBehavio
 use crate::callable::Callable;
 use crate::gate::{Everyone, Gate};
 use crate::gathered::Gathered;
-use crate::handed::{Handed, act};
+use crate::handed::act;
 use crate::job::Job;
-use crate::worker::{Task, join_workers, make_workers};
+use crate::worker::{Worker, join_workers, make_workers};
 use std::alloc::Global;
 use std::sync::Wait;
-use std::thread::{PromisedHandle, Threads};
+use std::thread::Threads;
 use tc_book::{Pass, Shared, close_case, open_case};
 use tc_case::{CaseError, CloseFault, Closed};
 use tc_entry::BEHAVIOURS;
@@ -73,7 +73,7 @@ fn gather<R: Threads + Wait, B: Callable>(
     rt: &R,
     pass: Pass,
     first: B,
-    workers: Vec<PromisedHandle<Handed, Task<B>>>,
+    workers: Vec<Worker<B>>,
     gathered: Gathered,
 ) -> Gathered
     requires main { pass ≡ opening }
@@ -95,7 +95,7 @@ fn gather<R: Threads + Wait, B: Callable>(
 fn dismiss<R: Threads + Wait, B: Callable>(
     rt: &R,
     pass: Pass,
-    workers: Vec<PromisedHandle<Handed, Task<B>>>,
+    workers: Vec<Worker<B>>,
     gathered: Gathered,
 ) -> Gathered
     requires room { vec_len gathered.lefts + vec_len workers ≤ vec_capacity gathered.lefts }
@@ -114,7 +114,7 @@ fn run_made<R: Threads + Wait, B: Callable>(
     shared: Shared,
     pass: Pass,
     first: B,
-    workers: Vec<PromisedHandle<Handed, Task<B>>>,
+    workers: Vec<Worker<B>>,
     gathered: Gathered,
 ) -> Result<Closed, CaseError>
     requires main { pass ≡ opening }
@@ -135,14 +135,15 @@ fn run_made<R: Threads + Wait, B: Callable>(
 fn room_for<B: Callable>(
     alloc: Global,
     runs: usize,
-) -> Result<(Vec<PromisedHandle<Handed, Task<B>>>, Gathered), tc_verdict::NoMemory>
+) -> Result<(Vec<Worker<B>>, Gathered), tc_verdict::NoMemory>
     ensures workers { IfOk result (λ r. r.0.items ≡ []) }
     ensures lefts { IfOk result (λ r. r.1.lefts.items ≡ []) }
     ensures room_of_workers { IfOk result (λ r. runs ≤ vec_capacity r.0) }
     ensures room_of_lefts { IfOk result (λ r. vec_capacity r.1.lefts ≡ runs) }
 {
+    let gathered = Gathered::new(alloc, runs)?;
     let workers = Vec::with_capacity(alloc, runs)?;
-    Ok((workers, Gathered::new(alloc, runs)?))
+    Ok((workers, gathered))
 }
 
 /// Runs the behaviours of a case, behaviour k as that of run k.

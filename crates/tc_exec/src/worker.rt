@@ -29,14 +29,29 @@ impl<B: Callable> Promise<Handed> for Task<B> {
     ghost kept_by = { λ t h. IsWorked t.run (B.outcome t.behaviour.value) h };
 }
 
+/// A worker. It is no `Drop`: its holder joins it.
+pub(crate) struct Worker<B: Callable> {
+    handle: PromisedHandle<Handed, Task<B>>,
+}
+
+impl<B: Callable> Worker<B> {
+    /// Waits until the worker has ended; what it hands back.
+    fn join<R: Threads>(self, rt: &R) -> Handed
+        ensures { IsWorked self.handle.promise.run (B.outcome self.handle.promise.behaviour.value) result }
+    {
+        let Worker { handle } = self;
+        handle.join(rt)
+    }
+}
+
 /// The worker of a ticket; none if its thread could not be made.
 fn worker_of<R: Threads + Wait + Copy + Send + 'static, B: Callable>(
     rt: &R,
     ticket: Ticket,
     behaviour: B,
-) -> Option<PromisedHandle<Handed, Task<B>>>
-    ensures run { IfSome result (λ w. w.promise.run ≡ ticket) }
-    ensures behaviour { IfSome result (λ w. w.promise.behaviour.value ≡ behaviour) }
+) -> Option<Worker<B>>
+    ensures run { IfSome result (λ w. w.handle.promise.run ≡ ticket) }
+    ensures behaviour { IfSome result (λ w. w.handle.promise.behaviour.value ≡ behaviour) }
 {
     let rt = *rt;
     let task = Task {
@@ -45,7 +60,7 @@ fn worker_of<R: Threads + Wait + Copy + Send + 'static, B: Callable>(
     };
     let builder = Builder::new().stack_size(WORKER_STACK);
     match builder.spawn_with(&rt, task, move || work(&rt, behaviour, ticket)) {
-        Ok(worker) => Some(worker),
+        Ok(handle) => Some(Worker { handle }),
         Err(_) => None,
     }
 }
@@ -56,7 +71,7 @@ pub(crate) fn make_workers<R: Threads + Wait + Copy + Send + 'static, B: Callabl
     gate: &mut G,
     tickets: Vec<Ticket>,
     behaviours: Vec<B>,
-    workers: &mut Vec<PromisedHandle<Handed, Task<B>>>,
+    workers: &mut Vec<Worker<B>>,
 ) -> bool
     requires empty { workers.old.items ≡ [] }
     requires room { vec_len tickets ≤ vec_capacity workers.old }
@@ -88,7 +103,7 @@ pub(crate) fn make_workers<R: Threads + Wait + Copy + Send + 'static, B: Callabl
 /// Joins all workers, and takes what they hand back.
 pub(crate) fn join_workers<R: Threads, B: Callable>(
     rt: &R,
-    workers: Vec<PromisedHandle<Handed, Task<B>>>,
+    workers: Vec<Worker<B>>,
     gathered: &mut Gathered,
 )
     requires room { vec_len gathered.old.lefts + vec_len workers ≤ vec_capacity gathered.old.lefts }
@@ -96,7 +111,9 @@ pub(crate) fn join_workers<R: Threads, B: Callable>(
     ensures lefts { GathersMore B.outcome (runs_of workers.items) (jobs_of workers.items) gathered.old gathered.new }
     ensures first { KeepsFirst gathered.old.lefts.items gathered.new.lefts.items }
 {
-    for worker in workers {
+    let mut rest = workers.into_iter();
+    while let Some(worker) = rest.next() {
         gathered.take(worker.join(rt));
     }
+    rest.destroy_empty();
 }

@@ -173,6 +173,7 @@ fn devices_that_fail(rt: HostRuntime) {
 }
 
 /// Takes all that is written, and notes how much it has at each flush; the flush of this number fails, counted from 0.
+/// A flush of an even number fails as one that was interrupted.
 #[derive(Drop)]
 struct FlushedWriter {
     taken: Vec<u8>,
@@ -200,7 +201,11 @@ impl Write for FlushedWriter {
 
     fn flush(&mut self) -> io::Result<()> {
         if self.flushed.len() == self.fails_at {
-            return Err(io::Error::from(io::ErrorKind::BrokenPipe));
+            return Err(io::Error::from(if self.fails_at % 2 == 0 {
+                io::ErrorKind::Interrupted
+            } else {
+                io::ErrorKind::BrokenPipe
+            }));
         }
         self.flushed.push(self.taken.len())?;
         Ok(())

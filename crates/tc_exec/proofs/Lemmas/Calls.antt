@@ -1,6 +1,7 @@
 -- What workers left, one after another.
 use Rattle.std.proofs.Common.{ℕ, zero, suc, ◌≡◌, ◌≢◌, ◌<◌, ◌+◌, ◌==◌, ◌||◌, inl, inr, Bool, true, false, Some, None, Result, Ok, Err, IfOk, List, [], ◌∷◌, ◌++◌, All, length, get_or, map, reverse, refl, sym, ap, ◌∙◌, arith}
 use Rattle.std.proofs.lemmas.Bool.Decides.{nat_tests}
+use Rattle.std.proofs.lemmas.List.{append-nil}
 use Rattle.std.proofs.lemmas.List.Elements.{All-get_or}
 use Rattle.tc_entry.specs.declared.entry.Entry.{Entry}
 use Rattle.tc_table.specs.History.{comp_of}
@@ -64,6 +65,10 @@ module _ {B : Type 0} (outcome : B → PassState → Back → Type 0) where
   over f [] [] w = refl
   over f [] (v ∷ ws) w = ap (λ q. f v ∷ q) (over f [] ws w)
   over f (x ∷ xs) ws w = ap (λ q. x ∷ q) (over f xs ws w)
+
+  -- no worker was joined so far
+  pub joined_none : (runs : List Run) (bs : List B) (ls : List LeftState) → AreLeftBy outcome runs bs ls → AreLeftBy outcome (runs ++ []) (bs ++ []) ls
+  joined_none runs bs ls all = rw (append-nil runs, append-nil bs) all
 
   -- one worker more was joined
   pub joined : {W : Type 0} (run : W → Run) (behaviour : W → B) (runs : List Run) (bs : List B) (ls : List LeftState) (ws : List W) (w : W) (l : LeftState) (after : List LeftState) →

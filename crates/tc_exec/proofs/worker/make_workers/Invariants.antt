@@ -9,6 +9,6 @@ invariant-loop-behaviour g l =
     (vec_len l.workers + into_iter_len l.behaviour-iterator ≡ vec_len l.fn.behaviours)
     × (vec_len l.workers + into_iter_len l.tickets ≡ vec_len l.fn.tickets)
     × (vec_len l.fn.tickets ≤ vec_capacity l.workers)
-    × (map (λ w. w.promise.run) l.workers.items ++ into_iter_items l.tickets ≡ l.fn.tickets.items)
-    × (map (λ w. w.promise.behaviour.value) l.workers.items ++ into_iter_items l.behaviour-iterator ≡ l.fn.behaviours.items)
-    × AreAllowed g.G.Gate.asks (map (λ w. w.promise.run) l.workers.items) l.fn.gate l.gate
+    × (map (λ w. w.handle.promise.run) l.workers.items ++ into_iter_items l.tickets ≡ l.fn.tickets.items)
+    × (map (λ w. w.handle.promise.behaviour.value) l.workers.items ++ into_iter_items l.behaviour-iterator ≡ l.fn.behaviours.items)
+    × AreAllowed g.G.Gate.asks (map (λ w. w.handle.promise.run) l.workers.items) l.fn.gate l.gate

@@ -121,8 +121,8 @@ impl Log {
         Ok(())
     }
 
-    /// Adds an entry of the run in its place, which is none of a verdict call.
-    pub(crate) fn add(&mut self, op: Op, reply: Reply)
+    /// Adds an entry of the run in its place, which is none of a verdict call: only the book does, once it has the entry.
+    pub(super) fn add(&mut self, op: Op, reply: Reply)
         requires other { is_verdict_call op ≡ false }
         requires room { 1 ≤ self.old.room }
         ensures run { self.new.run ≡ self.old.run }

@@ -1,6 +1,6 @@
 use Rattle.tc_entry.specs.declared.entry.Entry.{Entry}
 use Rattle.tc_book.proofs.Handed.{hand_other}
-use Rattle.tc_book.proofs.log.Log.add.Goals as goal
+use Rattle.tc_book.proofs.logged_book.log.Log.add.Goals as goal
 
 pub invariant_of-self : goal.invariant_of-self
 invariant_of-self c =

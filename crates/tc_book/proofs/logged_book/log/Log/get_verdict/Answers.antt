@@ -1,7 +1,7 @@
 use Rattle.tc_entry.specs.declared.entry.Entry.{Entry}
 use Rattle.tc_entry.specs.declared.op.Op.TheVariants as ops
 use Rattle.tc_book.proofs.Handed.{hand_said}
-use Rattle.tc_book.proofs.log.Log.get_verdict.Goals as goal
+use Rattle.tc_book.proofs.logged_book.log.Log.get_verdict.Goals as goal
 
 pub invariant_of-self : goal.invariant_of-self
 invariant_of-self c =
