@@ -24,7 +24,8 @@ use Rattle.tc_report.specs.declared.results.Finished.{Finished}
 use Rattle.tc_report.specs.declared.results.Results.{Results}
 use Rattle.tc_campaign.specs.declared.case.Case.{Case}
 use Rattle.tc_campaign.specs.Outline.{Outline, HasNames, outline_of}
-use Rattle.tc_campaign.specs.Campaign.{AreFinished, IsCalled, IsEnding, IsOfCase, IsReported, IsRunTo, IsWhy, IsWithoutRoom}
+use Rattle.tc_campaign.specs.Campaign.{AreFinished, IsCalled, IsEnding, IsOfCase, IsRunTo, IsWhy, IsWithoutRoom}
+use Rattle.tc_campaign.specs.Inside.{IsReported}
 use Rattle.tc_report.specs.Output.{LeavesPrefix}
 use Rattle.tc_program.specs.Output.{live_form, text_of}
 use Rattle.tc_program.specs.Limits.{worker_limit}
