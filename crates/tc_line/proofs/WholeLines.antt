@@ -1,6 +1,6 @@
 -- What the commonest lines say.
 use Rattle.std.proofs.Common.{ℕ, ◌≡◌, true, Ok, List, codes, refl}
-use Rattle.std.specs.Cmp.Lexicographic.{pointwise, bytes_decides}
+use Rattle.std.specs.Cmp.Lexicographic.{bytes_decides}
 use Rattle.tc_line.specs.declared.line.Call.TheVariants as C
 use Rattle.tc_line.specs.declared.line.Line.TheVariants as L
 use Rattle.tc_line.specs.Text.{words}
