@@ -47,10 +47,6 @@ pub within_last : (n : ℕ) (before : List RunLog) (l : RunLog) → All (λ r. r
 within_last n before l within =
     subst (λ (r : RunLog). r.run.0 < n) (get_or-append_seam before l [] l) (within (length before) l (omega (arith, length-append before (l ∷ []))))
 
-pub after_all : (parts : List (List Entry)) (logs : List RunLog) (n : ℕ) (log : ℕ → List Entry) → length logs ≡ 0 → HasAfter parts logs n log → (b : ℕ) → b < n → get_or parts b [] ≡ log b
-after_all parts [] n log none has b below = has b below
-after_all parts (l ∷ logs) n log none has b below = absurd (omega arith)
-
 -- after this history so much is left of the parts
 abbrev pub AreLeft : List (List Entry) → List (Bor (List Entry)) → List Entry → Type 0
 AreLeft parts rests h = (b : ℕ) (d : Bor (List Entry)) → b < length parts → get_or parts b [] ≡ part h b ++ (get_or rests b d).now

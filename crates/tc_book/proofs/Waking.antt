@@ -19,10 +19,6 @@ both : (a b : Bool) → a ≡ true → b ≡ true → (a && b) ≡ true
 both true b h k = k
 both false b h k = absurd cc
 
-and_left : (a b : Bool) → (a && b) ≡ true → a ≡ true
-and_left true b h = refl
-and_left false b h = absurd cc
-
 if_same : {A : Type 0} (t : Bool) (x : A) → (if t then x else x) ≡ x
 if_same true x = refl
 if_same false x = refl

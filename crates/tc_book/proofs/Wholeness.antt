@@ -104,9 +104,6 @@ whole_parts n parts h lefts put w b below =
     let within : b < n = rw put.as_many at below in
     put.each b within ∙ log_of_fits h lefts b (omega (arith, w.one_each.each b within)) w.fitting
 
-pub whole_together : (n : ℕ) (h : List Entry) (lefts : List LeftState) → IsWhole n h lefts → length h ≡ logged (map run_log lefts)
-whole_together n h lefts w = w.as_long ∙ sym (logged_map lefts)
-
 -- the starts of a book's history are those of the merged one
 pub merged_starts : (starts : List (Option (Comp × List Comp))) (k : List Entry) (lefts : List LeftState) → KnowsStarts starts (reverse k) → KnowsStarts starts (reverse (merged k lefts))
 merged_starts starts k lefts known = starts_same starts (merged k lefts) k (others-merge k (map run_log lefts)) known

@@ -5,6 +5,7 @@ use Rattle.tc_entry.specs.declared.op.Op.{Op}
 use Rattle.tc_entry.specs.declared.op.Op.TheVariants as O
 use Rattle.tc_entry.specs.declared.reply.Reply.{Reply}
 use Rattle.tc_entry.specs.declared.reply.Reply.TheVariants as R
+use Rattle.tc_entry.specs.Reply.{is_ok}
 use Rattle.tc_case.specs.Merge.{is_verdict_call}
 
 -- the target of a wait does not hold yet
@@ -28,11 +29,6 @@ is_local (R.Local V.Error) = false
 is_local (R.Local v) = true
 is_local _ = false
 
--- the call was made, and there is nothing to answer
-abbrev pub is_plain_ok : Reply → Bool
-is_plain_ok R.Ok = true
-is_plain_ok _ = false
-
 -- the target of a wait holds, or not yet
 abbrev pub is_of_wait : Reply → Bool
 is_of_wait R.Matched = true
@@ -49,7 +45,7 @@ suits_plainly (O.Killed t) r = is_answer r
 suits_plainly (O.Wait k t) r = is_of_wait r
 suits_plainly (O.Wake k t) r = is_of_wait r
 suits_plainly O.GetVerdict r = is_local r
-suits_plainly _ r = is_plain_ok r
+suits_plainly _ r = is_ok r
 
 -- the operation can get this reply; a verdict call gets no error
 abbrev pub suits : Op → Reply → Bool

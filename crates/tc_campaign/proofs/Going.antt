@@ -4,6 +4,8 @@ use Rattle.std.specs.Prelude.{IfSome, slice_get}
 use Rattle.std.proofs.lemmas.List.Elements.{All-nil}
 use Rattle.tc_verdict.specs.declared.verdict.Verdict.{Verdict}
 use Rattle.tc_book.specs.Passes.{PassState}
+use Rattle.tc_case.specs.declared.refusal.CaseError.TheVariants as C
+use Rattle.tc_exec.specs.Case.{IsHandedBack}
 use Rattle.tc_exec.specs.declared.job.Back.{Back}
 use Rattle.tc_report.specs.declared.results.CampaignEnd.{CampaignEnd}
 use Rattle.tc_report.specs.declared.results.CampaignEnd.TheVariants as E
@@ -13,7 +15,7 @@ use Rattle.tc_report.proofs.Lemmas.Observing.{taken_more}
 use Rattle.tc_campaign.specs.declared.case.Case.{Case}
 use Rattle.tc_campaign.specs.declared.step.Step.TheVariants as S
 use Rattle.tc_campaign.specs.Outline.{outline_of}
-use Rattle.tc_campaign.specs.Campaign.{IsCalled, IsRefusal, IsTorn}
+use Rattle.tc_campaign.specs.Campaign.{IsCalled, IsRefusal}
 use Rattle.tc_campaign.specs.Inside.{HasThreads, IsGoing, IsOf, IsSoFar, IsStep, WasRun}
 use Rattle.tc_campaign.proofs.Places.{slice_get-behind}
 use Rattle.tc_campaign.proofs.Lemmas.Running.{done_begin, done_more, done_none, run_aborted, run_complete, run_cut, run_stopped, so_far_more, so_far_none, threads_more}
@@ -48,7 +50,7 @@ module _ {B O : Type 0} (outcome : B → PassState → Back → Type 0) (takes :
       called = done_begin _ _ _ _ (done_more (IsCalled outcome) cases left c rest going.finished step.0 _ going.called at step.1.called refl);
       threads_are = threads_more threads going.finished step.0 _ going.threads_are step.1.threads_are refl;
       why = rw step.2.0 tt;
-      torn = rw step.2.0 tt;
+      torn = λ name is. let bad : E.StoppedAfter step.0.name ≡ E.Aborted name C.Torn = sym step.2.0 ∙ is in absurd cc;
       given = taken_more takes going.finished step.0 before between after going.taken step.3;
     }
 
@@ -67,7 +69,10 @@ module _ {B O : Type 0} (outcome : B → PassState → Back → Type 0) (takes :
       called = done_begin _ _ _ _ going.called;
       threads_are = going.threads_are;
       why = rw step.0.aborted (subst (λ o. IfSome o (IsRefusal threads step.0.why)) (sym outline_next) step.0.cause);
-      torn = rw step.0.aborted (subst (λ o. IfSome o (IsTorn outcome step.0.why)) (sym case_next) step.0.torn);
+      torn = λ name is.
+          let both : E.Aborted c.name step.0.why ≡ E.Aborted name C.Torn = sym step.0.aborted ∙ is in
+          let why : step.0.why ≡ C.Torn = cc in
+          subst (λ o. IfSome o (λ k. IsHandedBack outcome k.jobs.items)) (sym case_next) (step.0.torn why);
       given = subst (AreTaken takes going.finished before) (sym step.1) going.taken;
     }
 
@@ -90,6 +95,6 @@ module _ {B O : Type 0} (outcome : B → PassState → Back → Type 0) (takes :
     called = done_begin _ _ _ _ going.called;
     threads_are = going.threads_are;
     why = tt;
-    torn = tt;
+    torn = λ name is. absurd cc;
     given = going.taken;
   }

@@ -11,8 +11,8 @@ use Rattle.tc_report.specs.declared.results.Finished.{Finished}
 use Rattle.tc_campaign.specs.declared.case.Case.{Case}
 use Rattle.tc_report.specs.Stopping.{IsBetter, IsMet}
 use Rattle.tc_campaign.specs.Outline.{Outline, HasNames, outline_of}
-use Rattle.tc_campaign.specs.Campaign.{AreFinished, HasBehaviours, IsCalled, IsCutShort, IsEnding, IsObserved, IsOfCase, IsReported}
-use Rattle.tc_campaign.specs.Inside.{IsNamed, IsOf, IsSoFar, IsRun, WasRun}
+use Rattle.tc_campaign.specs.Campaign.{AreFinished, IsCalled, IsCutShort, IsEnding, IsObserved, IsOfCase}
+use Rattle.tc_campaign.specs.Inside.{HasBehaviours, IsReported, IsNamed, IsOf, IsSoFar, IsRun, WasRun}
 use Rattle.tc_campaign.specs.Inside.IsRun.{complete, aborted, stopped, cut}
 use Rattle.tc_campaign.proofs.Places.{AllZip-pushed, AllZip-weaker, AllZip-begin, slice_get-behind, take-front, slice_get-last, All-slice_get}
 

@@ -22,14 +22,6 @@ pub record IsOfCase (c : Outline) (f : Finished) : Type 0 where
   pub name : f.name ≡ c.name
   pub names : f.names ≡ c.names
 
--- the report of a finished case is one of a case with as many behaviours as this case has jobs
-abbrev pub IsReported : Outline → Finished → Type 0
-IsReported c f = IsCaseReport (c.jobs) f.report
-
--- a finished case has 1 to 256 behaviours
-abbrev pub HasBehaviours : Finished → Type 0
-HasBehaviours f = IsBehaviours f.report.behaviours
-
 -- the jobs of a finished case are those of this case. Each of which the run was started was called, with a new pass of
 -- that run, and the report is made of what the passes handed back have logged.
 abbrev pub IsCalled : {B : Type 0} → (B → PassState → Back → Type 0) → Case B → Finished → Type 0
@@ -51,12 +43,6 @@ IsRefusal threads C.TooManyBehaviours c = BEHAVIOURS < c.jobs
 IsRefusal threads C.NoThread c = (1 < c.jobs) × (c.jobs ≤ BEHAVIOURS)
 IsRefusal threads why c = IsBehaviours c.jobs × (c.jobs ≤ threads + 1)
 
--- if a run of this case is refused for what its jobs handed back, each was called, did not run out of memory, and
--- handed it back
-abbrev pub IsTorn : {B : Type 0} → (B → PassState → Back → Type 0) → CaseError → Case B → Type 0
-IsTorn outcome C.Torn c = IsHandedBack outcome c.jobs.items
-IsTorn outcome why c = ⊤
-
 -- if the campaign was aborted, a run of the next case can be refused so
 abbrev pub IsWhy : ℕ → Option Outline → CampaignEnd → Type 0
 IsWhy threads next (E.Aborted name why) = IfSome next (IsRefusal threads why)
@@ -65,8 +51,7 @@ IsWhy threads next ending = ⊤
 -- if the campaign was aborted for what the jobs of the next case handed back, each was called, did not run out of
 -- memory, and handed it back
 abbrev pub IsTornAt : {B : Type 0} → (B → PassState → Back → Type 0) → Option (Case B) → CampaignEnd → Type 0
-IsTornAt outcome next (E.Aborted name why) = IfSome next (IsTorn outcome why)
-IsTornAt outcome next ending = ⊤
+IsTornAt outcome next ending = (name : List ℕ) → ending ≡ E.Aborted name C.Torn → IfSome next (λ c. IsHandedBack outcome c.jobs.items)
 
 -- the campaign was aborted because there was no room for its reports, and none of its cases was run
 abbrev pub IsWithoutRoom : List Finished → CampaignEnd → Type 0
@@ -80,13 +65,13 @@ module _ {C : Type 0} (outline : C → Outline) (called : C → Finished → Typ
     pub names : AllZip IsOfCase (take (length finished) (map outline cases)) finished
     -- each but the last is better than stop_on
     pub better : All (λ f. IsBetter stop_on f.report.verdict) (take (length finished - 1) finished)
-    -- each report is of its own case, whose jobs were called
-    pub reports : AllZip IsReported (take (length finished) (map outline cases)) finished
+    -- each report is of its own case, with as many behaviours as the case has jobs, and these were called
+    pub reports : AllZip (λ c f. IsCaseReport c.jobs f.report) (take (length finished) (map outline cases)) finished
     pub calls : AllZip called (take (length finished) cases) finished
-    -- each has a name for each behaviour, and a worker thread for each except that of run 0
+    -- each has 1 to 256 behaviours, a name for each, and a worker thread for each except that of run 0
     pub named : All (λ f. length f.names ≡ f.report.behaviours) finished
     pub threads_are : All (λ f. f.report.behaviours ≤ threads + 1) finished
-    pub behaviours : All HasBehaviours finished
+    pub behaviours : All (λ f. IsBehaviours f.report.behaviours) finished
 
   -- these test cases were finished, and the campaign ended so after them; it may have had no room for its reports
   pub record IsRunTo (finished : List Finished) (ending : CampaignEnd) : Type 0 where

@@ -1,12 +1,13 @@
 -- What the functions inside of a campaign say, which no public clause names.
 use Rattle.std.specs.Prelude.{ℕ, ◌≡◌, ◌≤◌, ◌+◌, ◌++◌, ◌∷◌, [], Option, Some, None, Bool, true, false, Result, Ok, Err, List, All, IfSome, length, map, take, slice_get}
+use Rattle.tc_entry.specs.Limits.{IsBehaviours}
 use Rattle.tc_entry.specs.declared.limits.TheConstants.{BEHAVIOURS}
 use Rattle.tc_case.specs.declared.closed.Closed.{Closed}
 use Rattle.std.specs.List.{AllZip}
 use Rattle.tc_verdict.specs.declared.verdict.Verdict.{Verdict}
 use Rattle.tc_case.specs.declared.refusal.CaseError.{CaseError}
 use Rattle.tc_case.specs.declared.refusal.CaseError.TheVariants as C
-use Rattle.tc_exec.specs.Case.{IsCaseReport}
+use Rattle.tc_exec.specs.Case.{IsCaseReport, IsHandedBack}
 use Rattle.tc_exec.specs.declared.job.Back.{Back}
 use Rattle.tc_book.specs.Passes.{PassState}
 use Rattle.tc_report.specs.declared.results.CampaignEnd.{CampaignEnd}
@@ -18,7 +19,15 @@ use Rattle.tc_campaign.specs.declared.step.Step.{Step}
 use Rattle.tc_campaign.specs.declared.step.Step.TheVariants as S
 use Rattle.tc_campaign.specs.Outline.{Outline, outline_of}
 use Rattle.tc_report.specs.Stopping.{IsBetter, IsMet}
-use Rattle.tc_campaign.specs.Campaign.{IsCalled, IsOfCase, IsRefusal, IsTorn, IsTornAt, IsWhy}
+use Rattle.tc_campaign.specs.Campaign.{IsCalled, IsOfCase, IsRefusal, IsTornAt, IsWhy}
+
+-- the report of a finished case is one of a case with as many behaviours as this case has jobs
+abbrev pub IsReported : Outline → Finished → Type 0
+IsReported c f = IsCaseReport (c.jobs) f.report
+
+-- a finished case has 1 to 256 behaviours
+abbrev pub HasBehaviours : Finished → Type 0
+HasBehaviours f = IsBehaviours f.report.behaviours
 
 -- a finished case has a name for each behaviour
 abbrev pub IsNamed : Finished → Type 0
@@ -44,7 +53,7 @@ pub record IsRefused {B : Type 0} (outcome : B → PassState → Back → Type 0
   pub why : CaseError
   pub aborted : ending ≡ E.Aborted c.name why
   pub cause : IsRefusal threads why (outline_of c)
-  pub torn : IsTorn outcome why c
+  pub torn : why ≡ C.Torn → IsHandedBack outcome c.jobs.items
 
 -- what becomes of a case by the answer to its run
 abbrev pub ended_by : List ℕ → List (List ℕ) → Result Closed CaseError → Result Finished CampaignEnd

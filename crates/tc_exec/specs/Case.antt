@@ -34,19 +34,6 @@ pub record IsCaseReport (n : ℕ) (c : Closed) : Type 0 where
 abbrev pub AreCalled : {B : Type 0} → (B → PassState → Back → Type 0) → List B → Closed → Type 0
 AreCalled outcome jobs c = (k : ℕ) (b : _) → k < length jobs → comp_of (reverse c.history) k ≢ None → WasCalledFor (record { 0 = k }) (outcome (slice_index_or jobs k b))
 
--- What a report was made of. Each behaviour was called with a new pass of its run, did not run out of memory, and the
--- pass that it handed back has left, or its run was never started. What they left is whole, so the logs of the report
--- are the logs of these passes.
-pub record IsMadeOf {B : Type 0} (outcome : B → PassState → Back → Type 0) (jobs : List B) (c : Closed) : Type 0 where
-  pub runs : List Run
-  pub lefts : List LeftState
-  -- behaviour k is that of run k
-  pub numbered : (k : ℕ) (run : Run) → k < length runs → (slice_index_or runs k run).0 ≡ k
-  pub left : AreLeftBy outcome runs jobs lefts
-  -- that of run 0 was called
-  pub main : (l : LeftState) → (slice_index_or lefts 0 l).started ≢ None
-  pub whole : IsWhole c.behaviours c.history lefts
-
 -- What was handed back of a case, whole or not. Each behaviour was called with a new pass of its run, did not run out
 -- of memory, and the pass that it handed back has left; or its run was never started.
 pub record IsHandedBack {B : Type 0} (outcome : B → PassState → Back → Type 0) (jobs : List B) : Type 0 where
@@ -57,3 +44,9 @@ pub record IsHandedBack {B : Type 0} (outcome : B → PassState → Back → Typ
   pub left : AreLeftBy outcome runs jobs lefts
   -- that of run 0 was called
   pub main : (l : LeftState) → (slice_index_or lefts 0 l).started ≢ None
+
+-- What a report was made of: what was handed back, and it is whole, so the logs of the report are the logs of the passes
+-- that have left.
+pub record IsMadeOf {B : Type 0} (outcome : B → PassState → Back → Type 0) (jobs : List B) (c : Closed) : Type 0 where
+  pub handed : IsHandedBack outcome jobs
+  pub whole : IsWhole c.behaviours c.history handed.lefts

@@ -1,6 +1,6 @@
 -- Single words of a script.
 use Rattle.std.specs.Prelude.{ℕ, ◌&&◌, ◌||◌, not, nat_eq, nat_le, Bool, false, if◌then◌else◌, Option, Some, None, List, [], ◌∷◌, length, codes}
-use Rattle.std.specs.List.{list_all}
+use Rattle.std.specs.List.{find, list_all}
 use Rattle.std.specs.Char.{is_ascii_alphabetic}
 use Rattle.std.specs.Cmp.Lexicographic.{pointwise}
 use Rattle.tc_line.specs.declared.line.Keyword.{Keyword}
@@ -10,6 +10,8 @@ use Rattle.tc_entry.specs.declared.limits.TheConstants.{NAME_BYTES}
 use Rattle.tc_entry.specs.Name.{is_name_byte}
 use Rattle.tc_verdict.specs.declared.user_verdict.UserVerdict.{UserVerdict}
 use Rattle.tc_verdict.specs.declared.user_verdict.UserVerdict.TheVariants as V
+use Rattle.tc_verdict.specs.UserVerdict.{given}
+use Rattle.tc_verdict.specs.Verdict.{name_of}
 
 -- two texts are one
 unfoldable pub is_text : List ℕ → List ℕ → Bool
@@ -56,31 +58,12 @@ keyword_text K.Wait = codes "wait"
 keyword_text K.SetVerdict = codes "setverdict"
 keyword_text K.GetVerdict = codes "getverdict"
 
--- the first word of a line
+-- the keyword of this spelling
 unfoldable pub keyword : List ℕ → Option Keyword
-keyword word =
-    if is_text word (keyword_text K.TestCase) then Some K.TestCase
-    else if is_text word (keyword_text K.Behaviour) then Some K.Behaviour
-    else if is_text word (keyword_text K.End) then Some K.End
-    else if is_text word (keyword_text K.Create) then Some K.Create
-    else if is_text word (keyword_text K.Start) then Some K.Start
-    else if is_text word (keyword_text K.Stop) then Some K.Stop
-    else if is_text word (keyword_text K.Kill) then Some K.Kill
-    else if is_text word (keyword_text K.StopCase) then Some K.StopCase
-    else if is_text word (keyword_text (K.Ask S.Running)) then Some (K.Ask S.Running)
-    else if is_text word (keyword_text (K.Ask S.Alive)) then Some (K.Ask S.Alive)
-    else if is_text word (keyword_text (K.Ask S.Done)) then Some (K.Ask S.Done)
-    else if is_text word (keyword_text (K.Ask S.Killed)) then Some (K.Ask S.Killed)
-    else if is_text word (keyword_text K.Wait) then Some K.Wait
-    else if is_text word (keyword_text K.SetVerdict) then Some K.SetVerdict
-    else if is_text word (keyword_text K.GetVerdict) then Some K.GetVerdict
-    else None
+keyword word = find (λ k. is_text word (keyword_text k)) (
+    K.TestCase ∷ K.Behaviour ∷ K.End ∷ K.Create ∷ K.Start ∷ K.Stop ∷ K.Kill ∷ K.StopCase ∷ K.Ask S.Running ∷ K.Ask S.Alive ∷ K.Ask S.Done ∷ K.Ask S.Killed
+    ∷ K.Wait ∷ K.SetVerdict ∷ K.GetVerdict ∷ [])
 
 -- what setverdict may set
 unfoldable pub verdict : List ℕ → Option UserVerdict
-verdict word =
-    if is_text word (codes "none") then Some V.None
-    else if is_text word (codes "pass") then Some V.Pass
-    else if is_text word (codes "inconc") then Some V.Inconc
-    else if is_text word (codes "fail") then Some V.Fail
-    else None
+verdict word = find (λ v. is_text word (name_of (given v))) (V.None ∷ V.Pass ∷ V.Inconc ∷ V.Fail ∷ [])

@@ -73,39 +73,10 @@ fn is_keyword(word: &[u8], keyword: Keyword) -> bool
 pub fn read_keyword(word: &[u8]) -> Option<Keyword>
     ensures { result ≡ keyword word.now }
 {
-    if is_keyword(word, Keyword::TestCase) {
-        Some(Keyword::TestCase)
-    } else if is_keyword(word, Keyword::Behaviour) {
-        Some(Keyword::Behaviour)
-    } else if is_keyword(word, Keyword::End) {
-        Some(Keyword::End)
-    } else if is_keyword(word, Keyword::Create) {
-        Some(Keyword::Create)
-    } else if is_keyword(word, Keyword::Start) {
-        Some(Keyword::Start)
-    } else if is_keyword(word, Keyword::Stop) {
-        Some(Keyword::Stop)
-    } else if is_keyword(word, Keyword::Kill) {
-        Some(Keyword::Kill)
-    } else if is_keyword(word, Keyword::StopCase) {
-        Some(Keyword::StopCase)
-    } else if is_keyword(word, Keyword::Ask(Status::Running)) {
-        Some(Keyword::Ask(Status::Running))
-    } else if is_keyword(word, Keyword::Ask(Status::Alive)) {
-        Some(Keyword::Ask(Status::Alive))
-    } else if is_keyword(word, Keyword::Ask(Status::Done)) {
-        Some(Keyword::Ask(Status::Done))
-    } else if is_keyword(word, Keyword::Ask(Status::Killed)) {
-        Some(Keyword::Ask(Status::Killed))
-    } else if is_keyword(word, Keyword::Wait) {
-        Some(Keyword::Wait)
-    } else if is_keyword(word, Keyword::SetVerdict) {
-        Some(Keyword::SetVerdict)
-    } else if is_keyword(word, Keyword::GetVerdict) {
-        Some(Keyword::GetVerdict)
-    } else {
-        None
-    }
+    KEYWORDS
+        .iter()
+        .copied()
+        .find(|keyword| is_keyword(word, *keyword))
 }
 
 /// What `setverdict` may set, by its name.

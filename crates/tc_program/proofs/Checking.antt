@@ -101,11 +101,13 @@ pub all_checked : (text : List ℕ) (c : Checking) (picks : Word → Verdict →
     → ((all : List Block) → AreEvidence text all → AreJudgedSo all c.judgements.items c.legal) → out ≡ flat_map (line_by picks) c.judgements.items
     → status ≡ (if c.legal then 0 else 3) → IsChecked (picked_by picks) text out status
 all_checked text c picks out status so only out_is status_is = record {
-  blocks = so.0;
-  evidence = so.1;
   legal = c.legal;
-  checks = λ all is. whole (picked_by picks) all out c.legal
-      (subst (λ l. Feeds (picked_by picks) all l c.legal) (sym out_is) (only all is picks));
+  checks = record {
+    blocks = so.0;
+    evidence = so.1;
+    holds = λ all is. whole (picked_by picks) all out c.legal
+        (subst (λ l. Feeds (picked_by picks) all l c.legal) (sym out_is) (only all is picks));
+  };
   status_is = status_is;
 }
 
@@ -147,7 +149,7 @@ names_refused choice Is only text status F.Only same judged refused =
 names_refused choice Is only text status fault same judged refused = refused
 
 pub checked_at : (test : Block → Bool) (text out : List ℕ) (status : ℕ) → IsChecked test text out status → AreJudgedAt status text
-checked_at test text out status checked other all are = all_legal test all out checked.legal (is_legal checked.legal status checked.status_is other) (checked.checks all are)
+checked_at test text out status checked other all are = all_legal test all out checked.legal (is_legal checked.legal status checked.status_is other) (checked.checks.holds all are)
 
 -- the status of legal blocks
 not_refused : (legal : Bool) (status : ℕ) → status ≡ (if legal then 0 else 3) → legal ≡ true → status ≢ 3
@@ -156,7 +158,7 @@ not_refused false status is all = absurd cc
 
 names_found : (test : Block → Bool) (only : List Word) (text out : List ℕ) (status : ℕ) → IsChecked test text out status → NamesBlocksAt status only text → NameBlocks only text
 names_found test only text out status checked named = λ all are legal.
-    named (not_refused checked.legal status checked.status_is (found_all test all out checked.legal legal (checked.checks all are))) all are
+    named (not_refused checked.legal status checked.status_is (found_all test all out checked.legal legal (checked.checks.holds all are))) all are
 
 -- what is printed, with each pattern the name of some block
 pub checked_names : (choice : Choice) (only : List Word) (text out given told : List ℕ) (status : ℕ) → only ≡ choice.only.items

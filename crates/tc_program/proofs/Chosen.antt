@@ -8,7 +8,7 @@ use Rattle.tc_entry.specs.Shard.{ShardView, has_place}
 use Rattle.tc_campaign.specs.declared.case.Case.{Case}
 use Rattle.tc_campaign.specs.Choosing.{case_name, chosen, have_names, is_asked, named, placed}
 use Rattle.tc_step.specs.Steps.{ScriptView}
-use Rattle.tc_program.specs.Choosing.{RefusesChoice, RefusesScript, list_text, script_name}
+use Rattle.tc_program.specs.Choosing.{RefusesChoice, list_text, script_name}
 use Rattle.tc_program.specs.declared.fault.RunFault.{RunFault}
 use Rattle.tc_program.specs.declared.fault.RunFault.TheVariants as F
 use Rattle.tc_command.specs.declared.task.Choice.{Choice}
@@ -201,9 +201,3 @@ pub unready : (choice : Choice) (text : List ℕ) (all : CampaignView) (made : L
 unready choice text all made F.Only spelled each have = (all, spelled, same_names choice.only.items all made each ∙ have)
 unready choice text all made F.NoMemory spelled each have = tt
 unready choice text all made fault spelled each have = absurd have
-
--- a script that is refused has no test cases
-pub unspelled : (choice : Choice) (text : List ℕ) (fault : RunFault) → RefusesScript text fault → RefusesChoice choice text fault
-unspelled choice text (F.Script fault) refused = refused
-unspelled choice text F.NoMemory refused = tt
-unspelled choice text fault refused = absurd refused

@@ -16,12 +16,12 @@ use Rattle.tc_command.specs.declared.task.Task.TheVariants as T
 use Rattle.tc_exec.specs.declared.job.Back.{Back}
 use Rattle.tc_report.specs.declared.fault.OutFault.{OutFault}
 use Rattle.tc_program.proofs.Chosen.{all_chosen}
-use Rattle.tc_program.specs.Alone.{IsAnsweredAlone, IsLeft}
+use Rattle.tc_program.specs.Alone.{IsAnsweredAlone}
 use Rattle.tc_program.specs.Answer.{IsAnsweredBy, IsRefused}
 use Rattle.tc_program.specs.Cases.{DoesCases, IsMadeOfCases, RefusesCases, WereMade}
 use Rattle.tc_program.specs.Choosing.{AreChosenOf}
 use Rattle.tc_program.specs.Fault.{line_of, of_output}
-use Rattle.tc_program.specs.Inside.{IsOfCases, RefusesNames}
+use Rattle.tc_program.specs.Inside.{IsOfCases, RefusesNames, IsUnbegun}
 use Rattle.tc_program.specs.Made.{IsListed}
 use Rattle.tc_program.specs.Program.{IsCarriedOut, IsDoneBy}
 use Rattle.tc_program.specs.Run.{IsRun, IsUnwritten}
@@ -55,7 +55,7 @@ of_value P r v is holds = subst (λ x. IfOk x P) (sym is) holds
 
 -- arguments that are a task are answered without threads if it is done, or is a run that is not begun
 pub alone_answered : (words : List (List ℕ)) (task : Task) (input : Option (List ℕ)) (s : Streams) (Unread Unwritten : Type 0) (outcome : Outcome) → IsReading false words (Ok task)
-    → IsCarriedOut task input s outcome ⊎ IsLeft task input s outcome → IsAnsweredAlone words input s Unread Unwritten outcome
+    → IsCarriedOut task input s outcome ⊎ IsUnbegun task input s outcome → IsAnsweredAlone words input s Unread Unwritten outcome
 alone_answered words task input s Unread Unwritten outcome reads (inl done) = inl (record { answer = Ok task; reading = reads; task = done; no_task = tt; unread = tt })
 alone_answered words task input s Unread Unwritten outcome reads (inr left) = inr (task, reads, left)
 
@@ -105,16 +105,18 @@ module _ {B E : Type 0} (called : B → PassState → Back → Type 0) (made : R
     (ks : List (Case B)) (are : AreChosenOf case_name (WereMade made) o.choice ks) where
   -- a run of the chosen ones is what a task does that asks for it
   pub ran : (s : Streams) (outcome : Outcome) → IsRun outline_of (IsCalled called) ks o s outcome → DoesCases called (WereMade made) task s outcome
-  ran s outcome run = IsDoneBy.run o is (inl (record { cases = ks; chosen = are; run = run }))
+  ran s outcome run = IsDoneBy.run o is (record { cases = ks; chosen = are; run = inl run })
 
   -- and so is one whose results were not written whole
   pub ran_unwritten : (s : Streams) (fault : OutFault) (told : Option (List ℕ)) (outcome : Outcome) → IsUnwritten outline_of (IsCalled called) ks o s fault
       → IsRefusal s.told told (line_of (of_output fault)) outcome → DoesCases called (WereMade made) task (record s { told = told }) outcome
-  ran_unwritten s fault told outcome run refusal = IsDoneBy.run o is (inr (record {
+  ran_unwritten s fault told outcome run refusal = IsDoneBy.run o is (record {
     cases = ks;
     chosen = are;
-    fault = fault;
-    between = s.told;
-    run = record { results = run.results; left = run.left; told = run.told };
-    refusal = refusal;
-  }))
+    run = inr (record {
+      fault = fault;
+      between = s.told;
+      run = record { results = run.results; left = run.left; told = run.told };
+      refusal = refusal;
+    });
+  })

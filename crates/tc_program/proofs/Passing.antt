@@ -102,9 +102,11 @@ ready_unpassed choice text ks rs blocks s are evidence only seen left =
       chosen = record {
         all = are.cases;
         chosen = are.chosen;
-        blocks = blocks;
-        evidence = evidence;
-        are = λ bs so. ap (λ l. filter (λ c. not (has_passed (reverse l) (script_name c))) are.cases) (only bs so);
+        are = record {
+          blocks = blocks;
+          evidence = evidence;
+          holds = λ bs so. ap (λ l. filter (λ c. not (has_passed (reverse l) (script_name c))) are.cases) (only bs so);
+        };
       };
       distinct = distinct_filtered test are.cases are.distinct;
       lawful = all_filtered (λ c. IsCase c.1) test are.cases are.lawful;
@@ -120,5 +122,3 @@ to_run_left choice text ks is are = subst (λ b. AreReadyAs (to_run_by b choice 
 
 pub to_run_chosen : (choice : Choice) (text : List ℕ) (ks : List (Case ScriptView)) → choice.failed ≡ false → AreReady choice text ks → AreReadyToRun choice text ks
 to_run_chosen choice text ks is are = subst (λ b. AreReadyAs (to_run_by b choice text) ks) (sym is) are
-
-pub ruleset running_rules = (to_run_left, to_run_chosen)

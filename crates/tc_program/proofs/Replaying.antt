@@ -6,16 +6,14 @@ use Rattle.std.proofs.lemmas.List.Concat.{flat_map-append}
 use Rattle.tc_verdict.specs.declared.verdict.Verdict.{Verdict}
 use Rattle.tc_entry.specs.declared.entry.Entry.{Entry}
 use Rattle.tc_entry.specs.declared.reply.Reply.{Reply}
-use Rattle.tc_text.specs.declared.fault.TextFault.{TextFault}
-use Rattle.tc_text.specs.declared.fault.TextFault.TheVariants as T
-use Rattle.tc_text.specs.MoveList.{Move, IsMadeOf, IsMoveList, IsListFault}
+use Rattle.tc_text.specs.MoveList.{Move, IsMadeOf, IsMoveList}
 use Rattle.tc_text.specs.Spelling.{reply_text}
 use Rattle.tc_table.specs.Standing.{StandsFor}
 use Rattle.tc_table.proofs.Lemmas.Standing.{legal_for}
 use Rattle.tc_table.specs.Local.{overall}
 use Rattle.tc_program.specs.declared.replay.Replaying.{Replaying}
-use Rattle.tc_program.specs.Inside.{ArePlayed, of_text}
-use Rattle.tc_program.specs.Replay.{move_of, reply_line, RefusesMoves, Replays}
+use Rattle.tc_program.specs.Inside.{ArePlayed}
+use Rattle.tc_program.specs.Replay.{move_of, reply_line, Replays}
 use Rattle.tc_report.specs.Report.{verdict_line}
 use Rattle.tc_report.specs.Status.{verdict_status}
 
@@ -54,8 +52,3 @@ all_played text out r verdict so is more =
       out_is = more ∙ (ap (λ l. l ++ verdict_line verdict) played.lines ∙ ap (λ v. flat_map reply_line h ++ verdict_line v) right);
       status_is = ap verdict_status right;
     }
-
--- a fault of the list is the command's
-pub refused : (text : List ℕ) (fault : TextFault) → IsListFault text fault → RefusesMoves text (of_text fault)
-refused text (T.At line kind) bad = bad
-refused text T.NoMemory bad = tt

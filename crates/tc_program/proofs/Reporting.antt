@@ -176,7 +176,7 @@ reported_at form text blocks chosen names notes a (IsReport.legal lines checks i
 reported_at form text blocks chosen names notes a (IsReport.illegal b line first is) other = absurd (other (ap (λ x. x.status) is))
 
 pub judged_at : (form : ReportForm) (test : Block → Bool) (text : List ℕ) (a : Answer) → IsReported form test text a → AreJudgedAt a.status text
-judged_at form test text a made other all are = reported_at form text all (filter test all) [] [] a (made.made all are) other
+judged_at form test text a made other all are = reported_at form text all (filter test all) [] [] a (made.holds all are) other
 
 not_refused : (v : Verdict) → verdict_status v ≢ 3
 not_refused V.None = λ e. cc
@@ -198,7 +198,7 @@ pub reported_names : (form : ReportForm) (choice : Choice) (only : List Word) (t
 reported_names form choice only text a same made named = (
   subst (λ o. IsReported form (λ b. is_picked o choice.failed (block_name b) b.verdict) text a) same made,
   subst (λ o. NameBlocks o text) same
-      (λ all are legal. named (legal_at form text all (filter (picked_by (is_picked only choice.failed)) all) a legal (made.made all are)) all are),
+      (λ all are legal. named (legal_at form text all (filter (picked_by (is_picked only choice.failed)) all) a legal (made.holds all are)) all are),
 )
 
 -- an answer of these parts
@@ -223,7 +223,7 @@ summaries_written kind line (f ∷ fs) all =
 module _ (kind : Kind) (r : Results) (ran : WereRun kind r) where
   checked_so : (a : Answer) → IsChecked each (blocks_text kind r) a.out a.status → a.told ≡ [] → a ≡ found_legal r
   checked_so a is told =
-      let two = said_of_written kind r a.out is.legal ran (is.checks (blocks_of kind 1 r.finished) (evidence_of kind r ran)) in
+      let two = said_of_written kind r a.out is.legal ran (is.checks.holds (blocks_of kind 1 r.finished) (evidence_of kind r ran)) in
       let status_is : a.status ≡ 0 = is.status_is ∙ ap (λ t. if t then 0 else 3) two.1 in
       let lines = flat_map legal_case r.finished in
       ap (λ x. answer_of x a.told a.status) two.0 ∙ ap (λ x. answer_of lines x a.status) told ∙ ap (λ x. answer_of lines [] x) status_is
@@ -250,6 +250,6 @@ module _ (kind : Kind) (r : Results) (ran : WereRun kind r) where
     checked_so = λ choice explains a all is. checked_so a (each_chosen (λ t. IsChecked t (blocks_text kind r) a.out a.status) choice all is.0.0) is.0.1;
     reported_so = λ form choice explains a all is.
         let blocks = blocks_of kind 1 r.finished in
-        reported_so form a (each_chosen (λ t. IsReport form (blocks_text kind r) blocks (filter t blocks) [] [] a) choice all (is.0.made blocks (evidence_of kind r ran)));
+        reported_so form a (each_chosen (λ t. IsReport form (blocks_text kind r) blocks (filter t blocks) [] [] a) choice all (is.0.holds blocks (evidence_of kind r ran)));
     refused_so = λ fault refused. refused_so fault refused;
   }

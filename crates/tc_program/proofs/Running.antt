@@ -18,7 +18,8 @@ use Rattle.tc_report.specs.declared.results.CampaignEnd.TheVariants as E
 use Rattle.tc_report.specs.declared.results.Finished.{Finished}
 use Rattle.tc_report.specs.declared.results.Results.{Results}
 use Rattle.tc_report.specs.Ending.{abort_text}
-use Rattle.tc_report.specs.Live.{LiveState, closing_text, form_text, opening_text}
+use Rattle.tc_report.specs.Inside.{form_text}
+use Rattle.tc_report.specs.Live.{LiveState, closing_text, opening_text}
 use Rattle.tc_report.specs.Output.{LeavesPrefix}
 use Rattle.tc_report.specs.Progress.{IsToldBy}
 use Rattle.tc_report.specs.Status.{ending_status, results_status}

@@ -1,5 +1,5 @@
 -- The results of the test cases that were made of a script are those of the script.
-use Rattle.std.proofs.Common.{ℕ, zero, suc, ◌≡◌, ◌∙◌, ◌-◌, ◌⊎◌, List, [], ◌∷◌, Option, None, Some, All, length, map, take, arith, refl, sym, ap, subst}
+use Rattle.std.proofs.Common.{ℕ, zero, suc, ◌≡◌, ◌∙◌, ◌-◌, ◌⊎◌, inl, inr, List, [], ◌∷◌, Option, None, Some, All, length, map, take, arith, refl, sym, ap, subst}
 use Rattle.std.proofs.lemmas.List.{length-map}
 use Rattle.std.proofs.lemmas.List.Elements.{All-nil, All-cons, All-tail}
 use Rattle.std.specs.List.{AllZip}
@@ -24,7 +24,8 @@ use Rattle.tc_report.specs.declared.results.Finished.{Finished}
 use Rattle.tc_report.specs.declared.results.Results.{Results}
 use Rattle.tc_campaign.specs.declared.case.Case.{Case}
 use Rattle.tc_campaign.specs.Outline.{Outline, HasNames, outline_of}
-use Rattle.tc_campaign.specs.Campaign.{AreFinished, IsCalled, IsEnding, IsOfCase, IsReported, IsRunTo, IsWhy, IsWithoutRoom}
+use Rattle.tc_campaign.specs.Campaign.{AreFinished, IsCalled, IsEnding, IsOfCase, IsRunTo, IsWhy, IsWithoutRoom}
+use Rattle.tc_campaign.specs.Inside.{IsReported}
 use Rattle.tc_report.specs.Output.{LeavesPrefix}
 use Rattle.tc_program.specs.Output.{live_form, text_of}
 use Rattle.tc_program.specs.Limits.{worker_limit}
@@ -35,7 +36,7 @@ use Rattle.tc_program.specs.Stderr.{IsRefusal}
 use Rattle.tc_program.specs.declared.outcome.Outcome.{Outcome}
 use Rattle.tc_program.specs.Run.{IsLeft, IsRun, IsUnwritten}
 use Rattle.tc_program.specs.Passed.{AreToRun}
-use Rattle.tc_program.specs.Program.{LeavesScript, RunsScript}
+use Rattle.tc_program.specs.Program.{RunsCases}
 use Rattle.tc_program.specs.Streams.{Streams}
 use Rattle.tc_program.specs.Scripted.{CaseView, IsScripted, scripts_of, script_outline}
 use Rattle.tc_program.specs.Inside.{IsCaseOf, names_of}
@@ -127,17 +128,18 @@ module _ (cs : List CaseView) (ks : List (Case ScriptView)) (stop_on : Option Ve
 module _ (o : RunOptions) (text : List ℕ) (cs : List CaseView) (ks : List (Case ScriptView)) (chosen : AreToRun o.choice text cs) (lawful : All (λ c. IsCase c.1) cs)
     (each : AllZip IsCaseOf cs ks) where
   -- a run of the test cases that were made of a script is a run of that script
-  pub run_done : (streams : Streams) (outcome : Outcome) → IsRun outline_of (IsCalled Acts) ks o streams outcome → RunsScript o text streams outcome
+  pub run_done : (streams : Streams) (outcome : Outcome) → IsRun outline_of (IsCalled Acts) ks o streams outcome
+      → RunsCases script_outline IsScripted (AreToRun o.choice text) o streams outcome
   run_done streams outcome run = record {
     cases = cs;
     chosen = chosen;
-    run = record {
+    run = inl (record {
       results = run.results;
       right = results cs ks o.stop_on worker_limit lawful each run.results.finished run.results.ending run.right;
       status = run.status;
       written = subst (λ ns. Appends streams.before streams.after (text_of o.form ns run.results)) (same_names cs ks each) run.written;
       told = run.told;
-    };
+    });
   }
 
   left_of : (live : Option LiveForm) (s : Streams) (r : Results) (fault : OutFault) → IsLeft outline_of (IsCalled Acts) ks o live s r fault
@@ -153,12 +155,15 @@ module _ (o : RunOptions) (text : List ℕ) (cs : List CaseView) (ks : List (Cas
 
   -- and so is one whose results were not written whole
   pub run_left : (streams : Streams) (fault : OutFault) (told : Option (List ℕ)) (outcome : Outcome) → IsUnwritten outline_of (IsCalled Acts) ks o streams fault
-      → IsRefusal streams.told told (line_of (of_output fault)) outcome → LeavesScript o text (record streams { told = told }) outcome
+      → IsRefusal streams.told told (line_of (of_output fault)) outcome
+      → RunsCases script_outline IsScripted (AreToRun o.choice text) o (record streams { told = told }) outcome
   run_left streams fault told outcome run refusal = record {
     cases = cs;
     chosen = chosen;
-    fault = fault;
-    between = streams.told;
-    run = record { results = run.results; left = left_of (live_form o.live o.form) streams run.results fault run.left; told = run.told };
-    refusal = refusal;
+    run = inr (record {
+      fault = fault;
+      between = streams.told;
+      run = record { results = run.results; left = left_of (live_form o.live o.form) streams run.results fault run.left; told = run.told };
+      refusal = refusal;
+    });
   }

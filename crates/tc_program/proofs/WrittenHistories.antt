@@ -25,7 +25,7 @@ use Rattle.tc_report.specs.declared.results.Finished.{Finished}
 use Rattle.tc_report.specs.declared.results.Results.{Results}
 use Rattle.tc_report.specs.Blocks.{blocks_text, case_block, case_lines, header_of, namings}
 use Rattle.tc_campaign.specs.Outline.{Outline}
-use Rattle.tc_campaign.specs.Campaign.{IsReported}
+use Rattle.tc_campaign.specs.Inside.{IsReported}
 use Rattle.tc_program.specs.Check.{Checks, legal_line}
 use Rattle.tc_program.specs.Choosing.{each}
 use Rattle.tc_program.specs.WrittenHistories.{legal_case, AreReported}

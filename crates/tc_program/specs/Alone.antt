@@ -14,21 +14,16 @@ use Rattle.tc_program.specs.Passed.{AreToRun}
 use Rattle.tc_program.specs.Stderr.{IsRefusal}
 use Rattle.tc_program.specs.Streams.{Streams}
 
--- what is said of a run that is not begun
-abbrev pub threads_text : List ℕ
-threads_text = codes "a run needs threads, and there are none here: try explore"
-
 -- the task is a run of test cases that the text spells: it was not begun, nothing was written, and it is printed that it needs threads
 abbrev pub IsNotBegun : Task → List ℕ → Streams → Outcome → Type 0
 IsNotBegun (T.Run o) text s outcome =
-    ((cases : CampaignView) × AreToRun o.choice text cases) × Keeps s.before s.after × IsRefusal s.untold s.told (said threads_text) outcome
+    ((cases : CampaignView) × AreToRun o.choice text cases) × Keeps s.before s.after
+    × IsRefusal s.untold s.told (said (codes "a run needs threads, and there are none here: try explore")) outcome
 IsNotBegun task text s outcome = ⊥
 
--- the task is a run of test cases that the input spells, and was not begun
-abbrev pub IsLeft : Task → Option (List ℕ) → Streams → Outcome → Type 0
-IsLeft task input s outcome = IsRead (limit_of task) input (λ text. IsNotBegun task text s outcome)
-
--- the arguments are answered as the program answers them, or they ask for a run that is not begun
+-- the arguments are answered as the program answers them, or they ask for a run of test cases that the input spells, which
+-- is not begun
 abbrev pub IsAnsweredAlone : List (List ℕ) → Option (List ℕ) → Streams → Type 0 → Type 0 → Outcome → Type 0
 IsAnsweredAlone words input s Unread Unwritten outcome =
-    IsAnswered false words input s Unread Unwritten outcome ⊎ ((task : Task) × IsReading false words (Ok task) × IsLeft task input s outcome)
+    IsAnswered false words input s Unread Unwritten outcome
+    ⊎ ((task : Task) × IsReading false words (Ok task) × IsRead (limit_of task) input (λ text. IsNotBegun task text s outcome))

@@ -1,5 +1,5 @@
 -- What a program with test cases of its own does with its arguments.
-use Rattle.std.specs.Prelude.{ℕ, ◌≡◌, ◌⊎◌, List, MatchResult, Result, IsOkAnd}
+use Rattle.std.specs.Prelude.{ℕ, ◌≡◌, List, MatchResult, Result, IsOkAnd}
 use Rattle.std.specs.Global.{Vec}
 use Rattle.tc_book.specs.Passes.{PassState}
 use Rattle.tc_campaign.specs.Campaign.{IsCalled}
@@ -8,7 +8,6 @@ use Rattle.tc_campaign.specs.Outline.{outline_of}
 use Rattle.tc_campaign.specs.declared.case.Case.{Case}
 use Rattle.tc_command.specs.Asked.{IsCasesReading}
 use Rattle.tc_command.specs.declared.task.Choice.{Choice}
-use Rattle.tc_command.specs.declared.task.RunOptions.{RunOptions}
 use Rattle.tc_command.specs.declared.task.Task.{Task}
 use Rattle.tc_command.specs.declared.task.Task.TheVariants as T
 use Rattle.tc_exec.specs.declared.job.Back.{Back}
@@ -16,7 +15,7 @@ use Rattle.tc_program.specs.Answer.{IsAnsweredBy}
 use Rattle.tc_program.specs.Choosing.{AreChosenOf, LackName}
 use Rattle.tc_program.specs.Fault.{line_of}
 use Rattle.tc_program.specs.Made.{IsListed}
-use Rattle.tc_program.specs.Program.{IsDoneBy, LeavesCases, RunsCases}
+use Rattle.tc_program.specs.Program.{IsDoneBy, RunsCases}
 use Rattle.tc_program.specs.Stderr.{IsRefusal}
 use Rattle.tc_program.specs.Streams.{Streams}
 use Rattle.tc_program.specs.declared.fault.RunFault.{RunFault}
@@ -42,17 +41,12 @@ module _ {B : Type 0} (Are : List (Case B) → Type 0) where
   IsMadeOfCases task made = ⊥
 
 module _ {B : Type 0} (called : B → PassState → Back → Type 0) (Are : List (Case B) → Type 0) where
-  -- the chosen test cases were run, and their results were written whole or not; each report is of the test case at its
-  -- place, and made of what its behaviours handed back
-  abbrev pub RunsThem : RunOptions → Streams → Outcome → Type 0
-  RunsThem o s outcome =
-      RunsCases outline_of (IsCalled called) (AreChosenOf case_name Are o.choice) o s outcome
-      ⊎ LeavesCases outline_of (IsCalled called) (AreChosenOf case_name Are o.choice) o s outcome
-
-  -- what is done with the test cases for a task
+  -- What is done with the test cases for a task. In a run each report is of the chosen test case at its place, and made of
+  -- what its behaviours handed back.
   abbrev pub DoesCases : Task → Streams → Outcome → Type 0
   DoesCases task s outcome =
-      IsDoneBy task (IsMadeOfCases Are task) (λ fault. IsRefusal s.untold s.told (line_of fault) outcome) (λ o. RunsThem o s outcome) s outcome
+      IsDoneBy task (IsMadeOfCases Are task) (λ fault. IsRefusal s.untold s.told (line_of fault) outcome)
+      (λ o. RunsCases outline_of (IsCalled called) (AreChosenOf case_name Are o.choice) o s outcome) s outcome
 
   -- the arguments are read as those of a program with test cases of its own; they are a task, which was done, or ask for
   -- none. There is no input.

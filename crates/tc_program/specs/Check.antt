@@ -53,13 +53,17 @@ pub data Checks (is_chosen : Block → Bool) : List Block → List ℕ → Bool 
       → Checks is_chosen rest out legal → Checks is_chosen (b ∷ rest) ((if is_chosen b then line else []) ++ out) legal
   stops : (b : Block) (rest : List Block) (line : List ℕ) → IsIllegalLine b line → Checks is_chosen (b ∷ rest) line false
 
--- The text is that of histories and evidence; whatever blocks it is of, this output says which of the chosen are legal, and
--- which is the first of all that is not. The status is 0 if all are, otherwise 3.
-pub record IsChecked (is_chosen : Block → Bool) (text out : List ℕ) (status : ℕ) : Type 0 where
+-- the text is that of histories and evidence, and whatever blocks it is of, this holds of them
+pub record HoldsOfBlocks (text : List ℕ) (Holds : List Block → Type 0) : Type 0 where
   pub blocks : List Block
   pub evidence : AreEvidence text blocks
+  pub holds : (all : List Block) → AreEvidence text all → Holds all
+
+-- This output says which of the chosen blocks of the text are legal, and which is the first of all that is not. The status
+-- is 0 if all are, otherwise 3.
+pub record IsChecked (is_chosen : Block → Bool) (text out : List ℕ) (status : ℕ) : Type 0 where
   pub legal : Bool
-  pub checks : (all : List Block) → AreEvidence text all → Checks is_chosen all out legal
+  pub checks : HoldsOfBlocks text (λ all. Checks is_chosen all out legal)
   pub status_is : status ≡ (if legal then 0 else 3)
 
 -- a text is refused as one of histories and evidence, and is none of any; if memory runs out, nothing is said about it

@@ -14,7 +14,7 @@ use Rattle.tc_step.specs.Steps.{ScriptView}
 use Rattle.tc_line.specs.Words.{is_text}
 use Rattle.tc_script.specs.Campaign.{CampaignView}
 use Rattle.tc_script.specs.Names.{Word}
-use Rattle.tc_program.specs.Check.{IsChecked, RefusesHistory}
+use Rattle.tc_program.specs.Check.{HoldsOfBlocks, IsChecked, RefusesHistory}
 use Rattle.tc_program.specs.Choosing.{AreChosen, RefusesChoice, each}
 use Rattle.tc_program.specs.declared.fault.RunFault.{RunFault}
 use Rattle.tc_program.specs.declared.fault.RunFault.TheVariants as F
@@ -128,8 +128,6 @@ RefusesAgainst choice text fault = RefusesChoice choice (script_part text) fault
 pub record IsReportedAgainst (form : ReportForm) (choice : Choice) (text : List ℕ) (a : Answer) : Type 0 where
   pub cases : CampaignView
   pub chosen : AreChosen choice (script_part text) cases
-  pub blocks : List Block
-  pub evidence : AreEvidence (blocks_part text) blocks
   pub notes : List ℕ
-  pub compared : (all : List Block) → AreEvidence (blocks_part text) all → IsCompared cases all notes
-  pub made : (all : List Block) → AreEvidence (blocks_part text) all → IsReport form (blocks_part text) all all (missing (reverse all) cases) notes a
+  pub made : HoldsOfBlocks (blocks_part text) (λ all.
+      IsCompared cases all notes × IsReport form (blocks_part text) all all (missing (reverse all) cases) notes a)

@@ -53,7 +53,9 @@ use Rattle.tc_command.specs.declared.task.RunOptions.{RunOptions}
 use Rattle.tc_explore.specs.declared.explored.Explored.{Explored}
 use Rattle.tc_explore.specs.Details.{details as of_details}
 use Rattle.tc_text.specs.Said.{Line}
-use Rattle.tc_program.specs.Limits.{worker_limit}
+use Rattle.tc_program.specs.Alone.{IsNotBegun}
+use Rattle.tc_program.specs.Input.{IsRead}
+use Rattle.tc_program.specs.Limits.{limit_of, worker_limit}
 use Rattle.tc_program.specs.declared.fault.RunFault.{RunFault}
 use Rattle.tc_program.specs.declared.fault.RunFault.TheVariants as F
 use Rattle.tc_program.specs.declared.judge.Difference.{Difference}
@@ -354,6 +356,10 @@ abbrev pub WritesTo : Task → List ℕ → Option (List ℕ) → Option (List �
 WritesTo task text before after (Ok status) = (a : Answer) × Makes task text a × Appends before after a.out × (status ≡ a.status)
 WritesTo task text before after (Err F.Write) = (a : Answer) × Makes task text a × AppendsPrefix before after a.out
 WritesTo task text before after (Err fault) = Refuses task text fault × Keeps before after
+
+-- the task is a run of test cases that the input spells, and was not begun
+abbrev pub IsUnbegun : Task → Option (List ℕ) → Streams → Outcome → Type 0
+IsUnbegun task input s outcome = IsRead (limit_of task) input (λ text. IsNotBegun task text s outcome)
 
 -- by this, a task is done if this is made of its text
 abbrev pub Finishes : Task → List ℕ → Result Answer RunFault → Streams → Outcome → Type 0

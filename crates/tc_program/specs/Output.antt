@@ -1,13 +1,16 @@
 -- What `run` writes.
-use Rattle.std.specs.Prelude.{ℕ, ◌≡◌, Bool, true, false, List, Option, Some, None}
+use Rattle.std.specs.Prelude.{ℕ, ◌≡◌, Bool, true, false, List, Option, Some, None, map}
 use Rattle.tc_report.specs.declared.results.Results.{Results}
 use Rattle.tc_report.specs.declared.live_form.LiveForm.{LiveForm}
 use Rattle.tc_report.specs.declared.live_form.LiveForm.TheVariants as LiveForms
-use Rattle.tc_report.specs.Live.{form_text}
+use Rattle.tc_evidence.specs.declared.header.Kind.TheVariants as K
+use Rattle.tc_report.specs.Blocks.{blocks_text}
+use Rattle.tc_report.specs.Csv.{csv_of}
+use Rattle.tc_report.specs.Report.{report_text}
 use Rattle.tc_report.specs.Output.{LeavesPrefix}
 use Rattle.tc_report.specs.declared.fault.OutFault.{OutFault}
 use Rattle.tc_report.specs.Junit.{junit_of}
-use Rattle.tc_report.specs.Summary.{results_summaries}
+use Rattle.tc_report.specs.Summary.{case_summary, results_summaries}
 use Rattle.tc_command.specs.declared.command.TheConstants.{VERSION}
 use Rattle.tc_command.specs.declared.task.Form.{Form}
 use Rattle.tc_command.specs.declared.task.Form.TheVariants as Forms
@@ -26,10 +29,10 @@ live_form true (Forms.Junit suite) = None
 
 -- the text of the results of test cases with these names in this form
 abbrev pub text_of : Form → List (List ℕ) → Results → List ℕ
-text_of Forms.Text names r = form_text LiveForms.Text r
-text_of Forms.Csv names r = form_text LiveForms.Csv r
-text_of Forms.History names r = form_text LiveForms.History r
-text_of Forms.Evidence names r = form_text LiveForms.Evidence r
+text_of Forms.Text names r = report_text r
+text_of Forms.Csv names r = csv_of (map case_summary r.finished)
+text_of Forms.History names r = blocks_text K.History2 r
+text_of Forms.Evidence names r = blocks_text K.Evidence r
 text_of (Forms.Junit suite) names r = junit_of VERSION.now suite (results_summaries names r)
 
 -- why a text was not written whole: without memory nothing was, if the writer failed a prefix; there is no other fault

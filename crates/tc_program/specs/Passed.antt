@@ -2,9 +2,9 @@
 use Rattle.std.specs.Prelude.{ℕ, ◌≡◌, ◌&&◌, Bool, true, false, not, List, filter, reverse}
 use Rattle.tc_command.specs.declared.task.Choice.{Choice}
 use Rattle.tc_evidence.specs.declared.block.Block.{Block}
-use Rattle.tc_evidence.specs.Text.{AreEvidence}
 use Rattle.tc_script.specs.Campaign.{CampaignView}
 use Rattle.tc_script.specs.Names.{Word}
+use Rattle.tc_program.specs.Check.{HoldsOfBlocks}
 use Rattle.tc_program.specs.Choosing.{AreChosen, RefusesChoice, is_passing, script_name}
 use Rattle.tc_program.specs.Compared.{RefusesAgainst, blocks_part, is_met, script_part}
 use Rattle.tc_program.specs.declared.fault.RunFault.{RunFault}
@@ -22,9 +22,7 @@ has_passed blocks name = is_met (filter is_passed blocks) name && not (is_met (f
 pub record AreUnpassed (choice : Choice) (text : List ℕ) (cases : CampaignView) : Type 0 where
   pub all : CampaignView
   pub chosen : AreChosen choice (script_part text) all
-  pub blocks : List Block
-  pub evidence : AreEvidence (blocks_part text) blocks
-  pub are : (bs : List Block) → AreEvidence (blocks_part text) bs → cases ≡ filter (λ c. not (has_passed (reverse bs) (script_name c))) all
+  pub are : HoldsOfBlocks (blocks_part text) (λ blocks. cases ≡ filter (λ c. not (has_passed (reverse blocks) (script_name c))) all)
 
 -- these are the test cases that a run is asked for: the chosen ones, without those that have passed if it is asked for
 abbrev pub AreToRun : Choice → List ℕ → CampaignView → Type 0

@@ -25,31 +25,19 @@ use Rattle.tc_program.specs.Streams.{Streams}
 use Rattle.tc_program.specs.Stderr.{IsRefusal, IsTold}
 
 module _ {C : Type 0} (outline : C → Outline) (called : C → Finished → Type 0) (AreToBeRun : List C → Type 0) (o : RunOptions) (streams : Streams) (outcome : Outcome) where
-  -- The test cases that are asked for were run, as it is asked for. Their right results were written, and their status
-  -- and the line of an aborted campaign are those of the outcome.
-  pub record RunsCases : Type 0 where
-    pub cases : List C
-    pub chosen : AreToBeRun cases
-    pub run : IsRun outline called cases o streams outcome
-
-  -- the test cases were run so, their results were not written whole, and that is printed after what was printed
-  -- of them
-  pub record LeavesCases : Type 0 where
-    pub cases : List C
-    pub chosen : AreToBeRun cases
+  -- the results of these test cases were not written whole, and that is printed after what was printed of them
+  pub record LeavesCases (cases : List C) : Type 0 where
     pub fault : OutFault
     pub between : Option (List ℕ)
     pub run : IsUnwritten outline called cases o (record streams { told = between }) fault
     pub refusal : IsRefusal between streams.told (line_of (of_output fault)) outcome
 
--- The same of test cases of the campaign that the text spells. Each report is of the test case at its place, and made of
--- what its scripts do.
-abbrev pub RunsScript : RunOptions → List ℕ → Streams → Outcome → Type 0
-RunsScript o text = RunsCases script_outline IsScripted (AreToRun o.choice text) o
-
--- the test cases of the script were run so, and their results were not written whole
-abbrev pub LeavesScript : RunOptions → List ℕ → Streams → Outcome → Type 0
-LeavesScript o text = LeavesCases script_outline IsScripted (AreToRun o.choice text) o
+  -- The test cases that are asked for were run, as it is asked for. Their right results were written, and their status
+  -- and the line of an aborted campaign are those of the outcome; or the results were not written whole.
+  pub record RunsCases : Type 0 where
+    pub cases : List C
+    pub chosen : AreToBeRun cases
+    pub run : IsRun outline called cases o streams outcome ⊎ LeavesCases cases
 
 -- what the program does with a task, by what the task makes of what is given, what is printed of its refusal, and what a
 -- run of it is
@@ -65,20 +53,17 @@ pub data IsDoneBy (task : Task) (Makes : Result Answer RunFault → Type 0) (Ref
   -- a campaign was run, and its results were written whole or not
   run : (o : RunOptions) → task ≡ T.Run o → Runs o → IsDoneBy task Makes Refuses Runs s outcome
 
--- what the program does with the text of a task
+-- What the program does with the text of a task. In a run each report is of the test case at its place in the script, and
+-- made of what its scripts do.
 abbrev pub IsDone : Task → List ℕ → Streams → Outcome → Type 0
 IsDone task text s outcome =
     IsDoneBy task (IsMade task text) (λ fault. IsExplained task text fault s.untold s.told outcome)
-    (λ o. RunsScript o text s outcome ⊎ LeavesScript o text s outcome) s outcome
+    (λ o. RunsCases script_outline IsScripted (AreToRun o.choice text) o s outcome) s outcome
 
--- what the program does with a task by its whole input: it was read, and the text is done; or it was not, nothing was
--- written, and why is printed
-abbrev pub IsDoneWhole : Task → Option (List ℕ) → Streams → Outcome → Type 0
-IsDoneWhole task input s outcome =
-    IsRead (limit_of task) input (λ text. IsDone task text s outcome)
-    ⊎ ((fault : RunFault) × IsUnread (limit_of task) input fault × Keeps s.before s.after × IsRefusal s.untold s.told (line_of fault) outcome)
-
--- what the program does with a task: it serves the input line by line, or takes it whole
+-- What the program does with a task: it serves the input line by line, or takes it whole. Then the input was read, and its
+-- text is done; or it was not, nothing was written, and why is printed.
 abbrev pub IsCarriedOut : Task → Option (List ℕ) → Streams → Outcome → Type 0
 IsCarriedOut T.Serve input s outcome = Serves input s outcome
-IsCarriedOut task input s outcome = IsDoneWhole task input s outcome
+IsCarriedOut task input s outcome =
+    IsRead (limit_of task) input (λ text. IsDone task text s outcome)
+    ⊎ ((fault : RunFault) × IsUnread (limit_of task) input fault × Keeps s.before s.after × IsRefusal s.untold s.told (line_of fault) outcome)

@@ -5,7 +5,6 @@ use Rattle.tc_command.specs.declared.task.ReportForm.{ReportForm}
 use Rattle.tc_command.specs.declared.task.ReportForm.TheVariants as Forms
 use Rattle.tc_evidence.specs.declared.block.Block.{Block}
 use Rattle.tc_evidence.specs.Laws.{history_of}
-use Rattle.tc_evidence.specs.Text.{AreEvidence}
 use Rattle.tc_page.specs.Page.{page_of}
 use Rattle.tc_report.specs.declared.summary.Summary.{Summary}
 use Rattle.tc_report.specs.Csv.{csv_of}
@@ -15,7 +14,7 @@ use Rattle.tc_report.specs.Summary.{bare_summary, block_summary}
 use Rattle.tc_report.specs.SummaryText.{IsSummary}
 use Rattle.tc_report.specs.declared.results.CaseEnd.TheVariants as C
 use Rattle.tc_program.specs.declared.reply.Answer.{Answer}
-use Rattle.tc_program.specs.Check.{Checks, IsIllegalLine}
+use Rattle.tc_program.specs.Check.{Checks, HoldsOfBlocks, IsIllegalLine}
 use Rattle.tc_program.specs.Choosing.{each}
 
 -- this is the form of blocks by their text and the summaries of their test cases
@@ -54,8 +53,6 @@ pub data IsReport (form : ReportForm) (text : List ℕ) (blocks chosen : List Bl
       → AnswersCases form text notes (summaries_of chosen missing) a → IsReport form text blocks chosen missing notes a
   illegal : (b : Block) (line : List ℕ) → IsFirstIllegal blocks b line → a ≡ unreported line → IsReport form text blocks chosen missing notes a
 
--- the text is that of histories and evidence, and whatever blocks it is of, this is answered for the chosen ones
-pub record IsReported (form : ReportForm) (is_chosen : Block → Bool) (text : List ℕ) (a : Answer) : Type 0 where
-  pub blocks : List Block
-  pub evidence : AreEvidence text blocks
-  pub made : (all : List Block) → AreEvidence text all → IsReport form text all (filter is_chosen all) [] [] a
+-- this is answered for the chosen blocks of the text
+abbrev pub IsReported : ReportForm → (Block → Bool) → List ℕ → Answer → Type 0
+IsReported form is_chosen text a = HoldsOfBlocks text (λ all. IsReport form text all (filter is_chosen all) [] [] a)

@@ -3,8 +3,9 @@ use Rattle.std.specs.Prelude.{ℕ, ◌≡◌, ◌≢◌, Bool, List, [], All, Ok
 use Rattle.std.specs.List.{AllZip, flat_map}
 use Rattle.tc_report.specs.declared.results.Finished.{Finished}
 use Rattle.tc_report.specs.declared.results.Results.{Results}
+use Rattle.tc_entry.specs.Limits.{IsBehaviours}
 use Rattle.tc_campaign.specs.Outline.{Outline}
-use Rattle.tc_campaign.specs.Campaign.{HasBehaviours, IsReported}
+use Rattle.tc_exec.specs.Case.{IsCaseReport}
 use Rattle.tc_command.specs.declared.task.Choice.{Choice}
 use Rattle.tc_command.specs.declared.task.ReportForm.{ReportForm}
 use Rattle.tc_command.specs.declared.task.Task.TheVariants as T
@@ -21,8 +22,8 @@ use Rattle.tc_program.specs.declared.fault.RunFault.TheVariants as F
 -- and 1 to 256 behaviours
 pub record AreReported (cases : List Outline) (r : Results) : Type 0 where
   pub some : r.finished ≢ []
-  pub reports : AllZip IsReported (take (length r.finished) cases) r.finished
-  pub behaviours : All HasBehaviours r.finished
+  pub reports : AllZip (λ c f. IsCaseReport c.jobs f.report) (take (length r.finished) cases) r.finished
+  pub behaviours : All (λ f. IsBehaviours f.report.behaviours) r.finished
 
 -- a test case is legal: its name, how many entries it has, its verdict
 abbrev pub legal_case : Finished → List ℕ

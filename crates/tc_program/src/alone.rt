@@ -2,8 +2,9 @@
 ghost use Rattle.std.specs.Prelude.{◌≡◌, ◌≢◌, ◌⊎◌, IfOk, IfErr, OnErr, map, string_bytes};
 ghost use Rattle.std.specs.IoError.{error_kind};
 ghost use Rattle.tc_command.specs.declared.task.Task.TheVariants.{Run, Serve};
-ghost use Rattle.tc_program.specs.Alone.{IsAnsweredAlone, IsLeft, IsNotBegun};
+ghost use Rattle.tc_program.specs.Alone.{IsAnsweredAlone, IsNotBegun};
 ghost use Rattle.tc_program.specs.Answer.{IsUnread};
+ghost use Rattle.tc_program.specs.Inside.{IsUnbegun};
 ghost use Rattle.tc_program.specs.Program.{IsCarriedOut, IsDone};
 ghost use Rattle.tc_program.specs.Streams.{held};
 
@@ -80,7 +81,7 @@ fn carry_out<I: Read, W: Write, E: Write>(
     errors: &mut E,
 ) -> Outcome
     ensures { IsCarriedOut task.now (I.remaining reader.old) (held W.contents writer.old writer.new E.contents errors.old errors.new) result
-        ⊎ IsLeft task.now (I.remaining reader.old) (held W.contents writer.old writer.new E.contents errors.old errors.new) result }
+        ⊎ IsUnbegun task.now (I.remaining reader.old) (held W.contents writer.old writer.new E.contents errors.old errors.new) result }
 {
     if let Task::Serve = task {
         return serve_input(alloc, reader, writer, errors);

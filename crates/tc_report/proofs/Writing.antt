@@ -2,7 +2,7 @@
 use Rattle.std.proofs.Common.{ℕ, ◌≡◌, ◌∙◌, ◌+◌, arith, List, [], ◌∷◌, ◌++◌, Option, Some, None, length, take, refl, sym, ap, subst, append_assoc}
 use Rattle.std.proofs.lemmas.List.{append-nil, flat_map_more, length-append, take-append-le}
 use Rattle.std.proofs.lemmas.List.Folds.{flat_map-map}
-use Rattle.std.proofs.Math.Seq.{take-append-add, take-length}
+use Rattle.std.proofs.Math.Seq.{take-append-add}
 use Rattle.std.specs.Io.KnownBytes.{Appends, Keeps}
 use Rattle.tc_stream.specs.Output.{AppendsPrefix}
 use Rattle.tc_report.specs.declared.fault.OutFault.{OutFault}
@@ -12,8 +12,8 @@ use Rattle.tc_report.specs.declared.live_form.LiveForm.TheVariants as F
 use Rattle.tc_report.specs.declared.results.CampaignEnd.{CampaignEnd}
 use Rattle.tc_report.specs.declared.results.Finished.{Finished}
 use Rattle.tc_report.specs.Csv.{header_text, row_line}
-use Rattle.tc_report.specs.Live.{closing_text, form_text, part_text}
-use Rattle.tc_report.specs.Inside.{text_so_far}
+use Rattle.tc_report.specs.Live.{closing_text, part_text}
+use Rattle.tc_report.specs.Inside.{form_text, text_so_far}
 use Rattle.tc_report.specs.Output.{LeavesPrefix}
 use Rattle.tc_report.specs.Summary.{case_summary}
 use Rattle.tc_report.specs.Tally.{tally_of_cases}
@@ -24,17 +24,6 @@ appends_both None b c xs ys p q = tt
 appends_both (Some s) None c xs ys p q = absurd p
 appends_both (Some s) (Some t) None xs ys p q = absurd q
 appends_both (Some s) (Some t) (Some u) xs ys p q = q ∙ ap (λ l. l ++ ys) p ∙ append_assoc s xs ys
-
--- a text, and then nothing more
-pub appends_kept : (a b c : Option (List ℕ)) (xs : List ℕ) → Appends a b xs → Keeps b c → Appends a c xs
-appends_kept None b c xs p q = tt
-appends_kept (Some s) None c xs p q = absurd p
-appends_kept (Some s) (Some t) None xs p q = absurd q
-appends_kept (Some s) (Some t) (Some u) xs p q = q ∙ p
-
--- a whole text is a prefix of itself
-pub whole_is_prefix : (a b : Option (List ℕ)) (xs : List ℕ) → Appends a b xs → AppendsPrefix a b xs
-whole_is_prefix a b xs p = (length xs, omega arith, subst (Appends a b) (sym (take-length xs)) p)
 
 keeps_appends : (a b : Option (List ℕ)) (xs : List ℕ) → Keeps a b → Appends a b (take 0 xs)
 keeps_appends None b xs p = tt

@@ -4,10 +4,16 @@ use Rattle.std.specs.Global.{Vec}
 use Rattle.csv.specs.declared.writer.Writer.{Writer}
 use Rattle.csv.specs.Writing.{default_writer, writer_setup, fields_written, has_written, writer_under, writer_pending}
 use Rattle.tc_report.specs.Cause.{named_text}
-use Rattle.tc_report.specs.Csv.{header_text}
+use Rattle.tc_report.specs.Csv.{csv_of, header_text}
 use Rattle.std.specs.List.{enumerate_from, flat_map, join_with_byte}
 use Rattle.std.specs.Option.{option_and_then}
 use Rattle.tc_report.specs.declared.live_form.LiveForm.{LiveForm}
+use Rattle.tc_report.specs.Summary.{case_summary}
+use Rattle.tc_report.specs.Report.{report_text}
+use Rattle.tc_report.specs.Blocks.{blocks_text}
+use Rattle.tc_report.specs.declared.results.Results.{Results}
+use Rattle.tc_report.specs.declared.live_form.LiveForm.TheVariants as F
+use Rattle.tc_evidence.specs.declared.header.Kind.TheVariants as K
 use Rattle.tc_report.specs.declared.results.Finished.{Finished}
 use Rattle.tc_report.specs.declared.results.Tally.{Tally}
 use Rattle.tc_verdict.specs.declared.verdict.Verdict.{Verdict}
@@ -38,7 +44,14 @@ pub record IsStarted (w : Writer (Vec ℕ)) : Type 0 where
 abbrev pub csv_line : List (List ℕ) → List ℕ
 csv_line fields = join_with_byte 44 fields ++ (10 ∷ [])
 
--- what of a campaign's text comes up to the last of these test cases
+-- the text of the results in this form
+abbrev pub form_text : LiveForm → Results → List ℕ
+form_text F.Text r = report_text r
+form_text F.Csv r = csv_of (map case_summary r.finished)
+form_text F.History r = blocks_text K.History2 r
+form_text F.Evidence r = blocks_text K.Evidence r
+
+-- what of it comes up to the last of these test cases
 abbrev pub text_so_far : LiveForm → List Finished → List ℕ
 text_so_far form fs = opening_text form ++ flat_map (part_text form) fs
 

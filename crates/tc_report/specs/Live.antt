@@ -1,5 +1,5 @@
 -- The text of a campaign that is written as its test cases finish.
-use Rattle.std.specs.Prelude.{ℕ, ◌≡◌, Bool, true, false, List, [], ◌∷◌, ◌++◌, Option, Some, map}
+use Rattle.std.specs.Prelude.{ℕ, ◌≡◌, Bool, true, false, List, [], ◌∷◌, ◌++◌, Option, Some}
 use Rattle.std.specs.Io.KnownBytes.{Appends}
 use Rattle.tc_verdict.specs.declared.verdict.Verdict.{Verdict}
 use Rattle.tc_verdict.specs.Verdict.{worse}
@@ -10,36 +10,28 @@ use Rattle.tc_report.specs.declared.live_form.LiveForm.TheVariants as F
 use Rattle.tc_report.specs.declared.live.LiveWriter.{LiveWriter}
 use Rattle.tc_report.specs.declared.results.CampaignEnd.{CampaignEnd}
 use Rattle.tc_report.specs.declared.results.Finished.{Finished}
-use Rattle.tc_report.specs.declared.results.Results.{Results}
 use Rattle.tc_report.specs.declared.results.Tally.{Tally}
-use Rattle.tc_report.specs.Blocks.{blocks_text, case_block}
-use Rattle.tc_report.specs.Csv.{csv_of, header_text, row_line}
+use Rattle.tc_report.specs.Blocks.{case_block}
+use Rattle.tc_report.specs.Csv.{header_text, row_line}
 use Rattle.tc_report.specs.Ending.{ending_line}
 use Rattle.tc_report.specs.Output.{LeavesPrefix}
-use Rattle.tc_report.specs.Report.{case_text, report_text}
+use Rattle.tc_report.specs.Report.{case_text}
 use Rattle.tc_report.specs.Summary.{case_summary}
 use Rattle.tc_report.specs.Tally.{tally_line, tally_of_cases}
 
--- the text of the results in this form
-abbrev pub form_text : LiveForm → Results → List ℕ
-form_text F.Text r = report_text r
-form_text F.Csv r = csv_of (map case_summary r.finished)
-form_text F.History r = blocks_text K.History2 r
-form_text F.Evidence r = blocks_text K.Evidence r
-
--- what of it is before the test cases
+-- what is before the test cases, in this form
 abbrev pub opening_text : LiveForm → List ℕ
 opening_text F.Csv = header_text
 opening_text form = []
 
--- what of it says one test case
+-- what says one test case
 abbrev pub part_text : LiveForm → Finished → List ℕ
 part_text F.Text f = case_text f
 part_text F.Csv f = row_line (case_summary f)
 part_text F.History f = case_block K.History2 f
 part_text F.Evidence f = case_block K.Evidence f
 
--- what of it is after the test cases
+-- what is after the test cases
 abbrev pub closing_text : LiveForm → Tally → CampaignEnd → List ℕ
 closing_text F.Text tally ending = tally_line tally ++ ending_line ending
 closing_text form tally ending = []

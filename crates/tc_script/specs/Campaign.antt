@@ -1,5 +1,6 @@
 -- The campaign that a text spells, or its first fault.
-use Rattle.std.specs.Prelude.{ℕ, Option, Some, None, Result, Ok, Err, List, [], ◌∷◌, length, map}
+use Rattle.std.specs.Prelude.{ℕ, Result, Ok, Err, List, [], ◌∷◌, length, map}
+use Rattle.std.specs.Option.{option_map_or}
 use Rattle.tc_line.specs.declared.line.Call.{Call}
 use Rattle.tc_line.specs.declared.line.Call.TheVariants as C
 use Rattle.tc_line.specs.declared.line.Line.{Line}
@@ -62,13 +63,8 @@ cases (_ ∷ rest) = cases rest
 abbrev pub CampaignView : Type 0
 CampaignView = List (Word × List (Word × ScriptView))
 
--- the fault, if there is one; otherwise the value
-abbrev pub or_else : {A : Type 0} → Option ScriptFault → A → Result A ScriptFault
-or_else (Some fault) x = Err fault
-or_else None x = Ok x
-
 -- the lines are judged by the kinds from BadByte to Cut; only if there is no such fault, by the others
 unfoldable pub campaign : List ℕ → Result CampaignView ScriptFault
 campaign text = do
   ls ← parsed [] (lines text)
-  or_else (misnamed [] ls) (cases ls)
+  option_map_or (λ fault. Err fault) (misnamed [] ls) (Ok (cases ls))

@@ -1,5 +1,6 @@
 -- How a line changes the server's state, and what holds of all that is served.
 use Rattle.std.proofs.Common.{ℕ, ◌≡◌, ◌∙◌, ◌⊎◌, ◌<◌, ◌^◌, ◌&&◌, not, nat_lt, inl, inr, if◌then◌else◌, Bool, true, false, is_some, Option, Some, None, MatchOption, Result, Ok, Err, List, [], ◌∷◌, refl, ap, sym, subst}
+use Rattle.std.specs.List.{AllByRecursion}
 use Rattle.std.specs.Option.{option_map_or}
 use Rattle.std.specs.Result.{result_map_both, result_unwrap_or}
 use Rattle.tc_verdict.specs.declared.run.Run.{Run}
@@ -18,7 +19,7 @@ use Rattle.tc_serve.specs.declared.refusal.Refusal.TheVariants as W
 use Rattle.tc_serve.specs.Order.{IsOrder}
 use Rattle.tc_serve.specs.Refusal.{why_text}
 use Rattle.tc_serve.specs.Protocol.{AreServed, Came, Comes, Played, Sent, Stand, added, is_wake, made, moved, named, sleep_of, taken, was_done, was_lost, was_refused, with_current, with_line, with_open}
-use Rattle.tc_serve.specs.Laws.{AllServed, EachOf, asked_by, done_by}
+use Rattle.tc_serve.specs.Laws.{AllServed, asked_by, done_by}
 
 abbrev pub new : List ℕ → ℕ → Played
 new name n = record { name = name; behaviours = n; lines = [] }
@@ -171,7 +172,7 @@ changes (was_lost why) ended line s t came = inr (inr (inr (inr (refl, sym came.
 
 -- also of one that is open
 abbrev pub AllOf : (Played → Type 0) → Stand → Type 0
-AllOf P s = EachOf P s.closed × MatchOption s.current (Unit {0}) P
+AllOf P s = AllByRecursion P s.closed × MatchOption s.current (Unit {0}) P
 
 pub of_current : (s : Stand) (p : Played) (P : Played → Type 0) → s.current ≡ Some p → MatchOption s.current (Unit {0}) P → P p
 of_current s p P some so = subst (λ (c : Option Played). MatchOption c (Unit {0}) P) some so
@@ -191,7 +192,7 @@ module _ (P : Played → Type 0) (at_first : (name : List ℕ) (n : ℕ) → IsN
   all [] s served = subst (AllOf P) (sym served) (tt, tt)
   all (l ∷ before) t served = next _ served.0 t (all before served.0 served.1) (changes l.came l.ended _ served.0 t served.4)
 
-  at_end : (s : Stand) (c : Option Played) → EachOf P s.closed → MatchOption c (Unit {0}) P → EachOf P (result_unwrap_or (closing s c) s).closed
+  at_end : (s : Stand) (c : Option Played) → AllByRecursion P s.closed → MatchOption c (Unit {0}) P → AllByRecursion P (result_unwrap_or (closing s c) s).closed
   at_end s None closed current = closed
   at_end s (Some p) closed current = (current, closed)
 

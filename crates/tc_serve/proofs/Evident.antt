@@ -1,7 +1,7 @@
 -- What is written is evidence.
 use Rattle.std.proofs.Common.{ℕ, ◌≡◌, ◌≢◌, ◌∙◌, ◌==◌, ◌||◌, ◌&&◌, ◌+◌, ◌<◌, ◌≤◌, ◌^◌, inr, not, nat_lt, if◌then◌else◌, zero, suc, Bool, true, false, IsTrue, Option, Some, None, List, [], ◌∷◌, ◌++◌, length, reverse, refl, ap, sym, subst, append_assoc, arith}
 use Rattle.std.specs.Result.{result_unwrap_or}
-use Rattle.std.specs.List.{All, flat_map, list_all}
+use Rattle.std.specs.List.{All, AllByRecursion, flat_map, list_all}
 use Rattle.std.proofs.lemmas.Bool.Decides.{nat_tests}
 use Rattle.std.proofs.lemmas.List.{append-nil, reverse-append, reverse-reverse}
 use Rattle.tc_verdict.specs.declared.run.Run.{Run}
@@ -38,7 +38,7 @@ use Rattle.tc_serve.specs.declared.refusal.Refusal.TheVariants as W
 use Rattle.tc_serve.specs.Protocol.{Played, Stand, called, finished, is_parked, moved, past_of, wake_op, with_line, woken, woken_from}
 use Rattle.tc_serve.specs.Text.{block, header_of, stand_text}
 use Rattle.tc_serve.specs.Inside.{after_call}
-use Rattle.tc_serve.specs.Laws.{EachOf, ServedIsEvidence, block_of, blocks_of}
+use Rattle.tc_serve.specs.Laws.{ServedIsEvidence, block_of, blocks_of}
 use Rattle.tc_serve.specs.Refusal.{why_text}
 use Rattle.tc_serve.proofs.Changes.{IsNote, all_served, closing, may_add}
 use Rattle.tc_serve.proofs.Going.{lines_text}
@@ -226,11 +226,11 @@ move_fits p caller op low fits is =
 
 -- ---- the text
 
-fit_append : (xs ys : List Played) → EachOf IsEvident xs → EachOf IsEvident ys → EachOf IsEvident (xs ++ ys)
+fit_append : (xs ys : List Played) → AllByRecursion IsEvident xs → AllByRecursion IsEvident ys → AllByRecursion IsEvident (xs ++ ys)
 fit_append [] ys a b = b
 fit_append (x ∷ xs) ys a b = (a.0, fit_append xs ys a.1 b)
 
-fit_reverse : (xs : List Played) → EachOf IsEvident xs → EachOf IsEvident (reverse xs)
+fit_reverse : (xs : List Played) → AllByRecursion IsEvident xs → AllByRecursion IsEvident (reverse xs)
 fit_reverse [] a = a
 fit_reverse (x ∷ xs) a = rw (reverse-append (x ∷ []) xs) (fit_append (reverse xs) (x ∷ []) (fit_reverse xs a.1) (a.0, tt))
 
@@ -243,7 +243,7 @@ blocks_text line (p ∷ ps) =
     ap (λ (l : List ℕ). l ++ text_of_blocks (blocks_of (line + length (block_lines (block_of line p))) ps)) (block_is line p)
     ∙ ap (λ (l : List ℕ). block p ++ l) (blocks_text (line + length (block_lines (block_of line p))) ps)
 
-are_blocks : (line : ℕ) (ps : List Played) → EachOf IsEvident ps → AreBlocks line (blocks_of line ps)
+are_blocks : (line : ℕ) (ps : List Played) → AllByRecursion IsEvident ps → AreBlocks line (blocks_of line ps)
 are_blocks line [] fit = tt
 are_blocks line (p ∷ ps) fit = (
   record { header = record { name_is = fit.0.name; few = fit.0.behaviours; kind_fits = inr refl }; inside = fit.0.lines; first = refl },
@@ -269,6 +269,6 @@ pub served_is_evidence : ServedIsEvidence
 served_is_evidence lines s served some =
     let ps = reverse (finished s).closed in
     let are = all_served IsEvident (λ name n name_is few. record { name = name_is; behaviours = few; entries = tt; lines = tt }) note_fits (λ p caller op may. move_fits p caller op) lines s served in
-    let fit : EachOf IsEvident ps = fit_reverse (finished s).closed are in
+    let fit : AllByRecursion IsEvident ps = fit_reverse (finished s).closed are in
     rw (closed_text (finished s) (none_left s s.current refl))
     (rw (blocks_text 1 ps) at (written_evidence (blocks_of 1 ps) (some_blocks ps (some_reversed (finished s).closed some)) (are_blocks 1 ps fit)))

@@ -1,5 +1,5 @@
 -- Bytes that are fed, and the lines that they are.
-use Rattle.std.proofs.Common.{ℕ, ◌≡◌, ◌≢◌, ◌∙◌, ◌==◌, ◌&&◌, ◌||◌, ◌+◌, ◌-◌, ◌<◌, ◌≤◌, ◌^◌, inl, inr, if◌then◌else◌, Bool, true, false, is_some, Option, Some, None, Result, Ok, Err, MatchResult, List, [], ◌∷◌, ◌++◌, codes, zero, suc, length, take, get_or, refl, ap, sym, subst, append_assoc, arith}
+use Rattle.std.proofs.Common.{ℕ, ◌≡◌, ◌≢◌, ◌∙◌, ◌==◌, ◌&&◌, ◌||◌, ◌+◌, ◌-◌, ◌<◌, ◌≤◌, inl, inr, if◌then◌else◌, Bool, true, false, is_some, Option, Some, None, Result, Ok, Err, MatchResult, List, [], ◌∷◌, ◌++◌, codes, zero, suc, length, take, get_or, refl, ap, sym, subst, append_assoc, arith}
 use Rattle.std.specs.Result.{result_unwrap_or}
 use Rattle.std.specs.List.{list_all}
 use Rattle.std.specs.Io.KnownBytes.{IsAtEnd}
@@ -129,12 +129,6 @@ module _ (ended : Bool) (v : Serving) (server server' : Server) (looked out mid 
   bad_line number told closed next line lines s before before' at_ =
       let none = tries s before at_.counts.stands in
       (next ∙ ap (λ (n : ℕ). n + 1) at_.counts.many, sym (closed s before mid none.1), subst (λ (l : List ℕ). Refuses why ended l s) (same ∙ at_.kept) none.0)
-
-pub too_long : (ended : Bool) (v : Serving) (out told : List ℕ) → 2 ^ 64 - 1 ≤ v.lines → Fails ended v out told F.TooLong
-too_long ended v out told long line lines s before before' at_ = subst (λ (n : ℕ). 2 ^ 64 - 1 ≤ n) at_.counts.many long
-
-pub no_memory : (ended : Bool) (v : Serving) (out told : List ℕ) → Fails ended v out told F.NoMemory
-no_memory ended v out told line lines s before before' at_ = tt
 
 -- ---- what is fed
 

@@ -29,10 +29,6 @@ begun_before out move begun written is begins =
     let parts : written ≡ out ++ (move ++ behind) = sym (take-append-drop (length begun) written) ∙ (ap (λ (l : List ℕ). l ++ behind) (begins ∙ is) ∙ append_assoc out move behind) in
     ap (take (length out)) parts ∙ take_at out (move ++ behind) (length out) refl
 
--- nothing is
-pub nothing : (before out text : List ℕ) → before ++ out ≡ text → before ++ out ≡ text ++ []
-nothing before out text is = is ∙ sym (append-nil text)
-
 abbrev pub lines_text : List Line → List ℕ
 lines_text lines = flat_map (λ l. ended (line_text l)) (reverse lines)
 

@@ -12,7 +12,6 @@ use Rattle.tc_evidence.specs.Sentence.{IsSentence}
 use Rattle.tc_evidence.proofs.Notes.{entry_not_said, said_not_naming}
 use Rattle.tc_serve.specs.declared.refusal.Refusal.{Refusal}
 use Rattle.tc_serve.specs.declared.refusal.Refusal.TheVariants as W
-use Rattle.tc_serve.specs.Inside.{IsOther}
 use Rattle.tc_serve.specs.Order.{IsOrder, order_text}
 use Rattle.tc_serve.specs.declared.order.Order.{Order}
 use Rattle.tc_serve.specs.declared.order.Order.TheVariants as O
@@ -88,12 +87,3 @@ only_move text run op low spelled only (O.Named r name) fits e =
 only_move text run op low spelled only (O.Move r p) fits e = ap asked (only r.0 p fits.0 fits.1 e)
 only_move text run op low spelled only (O.Remark r sentence) fits e = absurd (said_not_move r.0 run.0 op sentence fits.0 low.0 low.1 (sym e ∙ spelled))
 only_move text run op low spelled only O.End fits e = absurd (move_no_letter run.0 101 op (codes "nd") low.0 (omega arith) (sym spelled ∙ e))
-
--- a line that is neither a move nor a remark
-pub only_other : (text : List ℕ) (found : Option Order) → ((r : ℕ) (p : Op) → r < 2 ^ 16 → IsOp p → text ≡ move_text r p → ⊥) → ((k : ℕ) (sentence : List ℕ) → k < 2 ^ 16 → text ≡ said_text false k sentence → ⊥) →
-    ((o : Order) → IsOrder o → IsOther o → text ≡ order_text o → found ≡ Some o) → (o : Order) → IsOrder o → text ≡ order_text o → found ≡ Some o
-only_other text found no_move no_remark only (O.Move r p) fits e = absurd (no_move r.0 p fits.0 fits.1 e)
-only_other text found no_move no_remark only (O.Remark r sentence) fits e = absurd (no_remark r.0 sentence fits.0 e)
-only_other text found no_move no_remark only (O.Case name n) fits e = only (O.Case name n) fits tt e
-only_other text found no_move no_remark only (O.Named r name) fits e = only (O.Named r name) fits tt e
-only_other text found no_move no_remark only O.End fits e = only O.End fits tt e

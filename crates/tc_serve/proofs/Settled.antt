@@ -1,6 +1,6 @@
 -- No run that can continue is left asleep: one pass over the runs, in the order of their numbers, wakes all that can.
 use Rattle.std.proofs.Common.{ℕ, ◌≡◌, ◌≢◌, ◌<◌, ◌≤◌, ◌==◌, ◌&&◌, ◌||◌, ◌⊎◌, inl, inr, not, if◌then◌else◌, zero, suc, Bool, true, false, Option, Some, None, List, [], ◌∷◌, ◌++◌, drop, refl, ap, sym, subst, ◌∙◌, arith}
-use Rattle.std.specs.List.{list_any, list_all}
+use Rattle.std.specs.List.{AllByRecursion, list_any, list_all}
 use Rattle.std.proofs.lemmas.Bool.Decides.{nat_tests}
 use Rattle.tc_verdict.specs.declared.run.Run.{Run}
 use Rattle.tc_entry.specs.declared.comp.Comp.{Comp}
@@ -33,7 +33,7 @@ use Rattle.tc_evidence.specs.declared.line.Line.{Line}
 use Rattle.tc_evidence.specs.Line.{entries_of, entry_of}
 use Rattle.tc_serve.specs.Protocol.{Played, called, moved, past_of, wake_op, with_line, woken, woken_from}
 use Rattle.tc_serve.specs.Inside.{after_call, wakes_nobody}
-use Rattle.tc_serve.specs.Laws.{AllServed, EachOf, IsSettled, IsSound}
+use Rattle.tc_serve.specs.Laws.{AllServed, IsSettled, IsSound}
 use Rattle.tc_serve.proofs.Changes.{all_served}
 use Rattle.tc_serve.proofs.Sound.{all_legal, move_sound, no_entry, note_sound}
 
@@ -408,7 +408,7 @@ both = all_served (λ p. IsSound p × IsSettled p) (λ name n name_is few. (reco
     (λ p l may note so. (note_sound p l may so.0, noted_settled p l (no_entry p l may) so.1))
     (λ p caller op may low fits so. (move_sound p caller op may so.0, moved_settled p caller op so.0.legal))
 
-second : (ps : List Played) → EachOf (λ p. IsSound p × IsSettled p) ps → EachOf IsSettled ps
+second : (ps : List Played) → AllByRecursion (λ p. IsSound p × IsSettled p) ps → AllByRecursion IsSettled ps
 second [] so = tt
 second (p ∷ ps) so = (so.0.1, second ps so.1)
 

@@ -1,5 +1,5 @@
 -- The runs that sleep, in the order of their numbers.
-use Rattle.std.proofs.Common.{ℕ, ◌≡◌, ◌≢◌, ◌∙◌, ◌+◌, ◌==◌, ◌<◌, ◌≤◌, zero, suc, nat_lt, if◌then◌else◌, Bool, true, false, Some, None, List, [], ◌∷◌, ◌++◌, length, get_or, take, drop, drop-cons, drop_at, take_all, take_at, take-take, length-take-le, add-one, refl, ap, sym, subst, arith}
+use Rattle.std.proofs.Common.{ℕ, ◌≡◌, ◌≢◌, ◌∙◌, ◌+◌, ◌==◌, ◌<◌, ◌≤◌, zero, suc, nat_lt, if◌then◌else◌, Bool, true, false, Some, None, List, [], ◌∷◌, ◌++◌, length, get_or, take, drop, drop-cons, drop_at, take_all, take_at, take-take, length-take-le, refl, ap, sym, subst, arith}
 use Rattle.std.specs.Prelude.{remove}
 use Rattle.std.proofs.lemmas.Bool.Decides.{nat_tests}
 use Rattle.std.proofs.lemmas.List.{append-nil, take-append-drop, take_more}
@@ -163,9 +163,6 @@ other_there r ss i d within other below from =
 
 -- ---- what a call does to who sleeps
 
-pub asleep_none : (n : ℕ) → AreAsleep n [] []
-asleep_none n = record { order = tt; few = tt; sleeps = λ b less. refl }
-
 -- the same sleep, if the caller did not and does not
 pub asleep_on : (n : ℕ) (ss : List Sleeper) (past : List Entry) (e : Entry) → AreAsleep n ss past → (e.caller.0 < n → waiting past e.caller.0 ≡ None) → (e.caller.0 < n → parks e.op e.reply ≡ None) → AreAsleep n ss (e ∷ past)
 asleep_on n ss past e so awake goes = record { order = so.order; few = so.few; sleeps = λ b less. by_test b less (e.caller.0 == b) refl }
@@ -301,9 +298,6 @@ removed ss place within =
       where
         parts : take place ss ++ drop place (take (suc place) ss) ≡ take (suc place) ss
         parts = ap (λ l. l ++ drop place (take (suc place) ss)) (sym (take-take place (suc place) ss (omega arith))) ∙ take-append-drop place (take (suc place) ss)
-
-pub passed : (ss : List Sleeper) (place next : ℕ) → next ≡ place + 1 → IsPassed ss place ss next
-passed ss place next is = subst (IsPassed ss place ss) (sym (is ∙ add-one place)) (record { behind = refl; before = λ k below. below })
 
 -- what a run of any number waits for
 pub sleep_is : (p : Played) (ss : List Sleeper) (b : ℕ) → AreAsleep p.behaviours ss (past_of p) → sleep_in ss b ≡ sleep_of p b

@@ -1,5 +1,6 @@
 -- All that is served is legal, and nobody is woken for nothing.
 use Rattle.std.proofs.Common.{ℕ, ◌≡◌, ◌&&◌, not, if◌then◌else◌, zero, suc, Bool, true, false, Option, Some, None, List, [], ◌∷◌, ◌++◌, refl, ap, sym, subst}
+use Rattle.std.specs.List.{AllByRecursion}
 use Rattle.tc_verdict.specs.declared.run.Run.{Run}
 use Rattle.tc_entry.specs.declared.entry.Entry.{Entry}
 use Rattle.tc_entry.specs.declared.op.Op.{Op}
@@ -11,8 +12,12 @@ use Rattle.tc_evidence.specs.declared.line.Line.TheVariants as L
 use Rattle.tc_evidence.specs.Line.{entries_of, entry_of}
 use Rattle.tc_serve.specs.Protocol.{Played, called, is_parked, is_wake, moved, wake_op, with_line, woken, woken_from}
 use Rattle.tc_serve.specs.Inside.{after_call}
-use Rattle.tc_serve.specs.Laws.{AllServed, IsSound, NoIdleWake}
+use Rattle.tc_serve.specs.Laws.{AllServed, IsSound}
 use Rattle.tc_serve.proofs.Changes.{all_served, may_add, may_ask}
+
+-- no wake is replied parked
+abbrev NoIdleWake : List Entry → Type 0
+NoIdleWake past = AllByRecursion (λ e. is_wake e.op ≡ true → is_parked e.reply ≡ false) past
 
 -- the entries among the lines are legal, and no wake is replied parked
 record Sound (n : ℕ) (lines : List Line) : Type 0 where

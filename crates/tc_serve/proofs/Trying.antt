@@ -67,22 +67,6 @@ module _ (v : Server) (held after : OpenCase) (ask : Played → Result Played Re
       by_current (Some p) current kept =
           subst (λ (c : Option Played). MatchResult (changed s ask c) Yes No) (sym current) (by_change p (ask p) current (change p s.closed before (record { is = kept; text = stands.text ∙ text_is s (Some p) current })))
 
--- none is open
-pub none_open : (v w : Server) (ask : Played → Result Played Refusal) (out : List ℕ) → v.current ≡ None → w.current ≡ None → w.worst ≡ v.worst → Tries (λ s. with_open s ask) (Some W.NoCase) v w out out
-none_open v w ask out none none' worst s before stands = by_current s.current refl (open_is v None s s.current before out none stands refl)
-  where
-    No : Refusal → Type 0
-    No e = (◌≡◌ {A = Option Refusal} (Some W.NoCase) (Some e)) × StandsAs w s before out
-
-    Yes : Stand → Type 0
-    Yes t = (◌≡◌ {A = Option Refusal} (Some W.NoCase) None) × StandsAs w t before out
-
-    by_current : (c : Option Played) → s.current ≡ c → IsCurrent None c → MatchResult (with_open s ask) Yes No
-    by_current (Some p) current kept = absurd kept
-    by_current None current kept =
-        subst (λ (c : Option Played). MatchResult (changed s ask c) Yes No) (sym current)
-        (refl, record { current = subst (λ (o : Option OpenCase). IsCurrent o s.current) (sym none') (subst (IsCurrent None) (sym current) tt); worst = worst ∙ stands.worst; text = stands.text })
-
 -- ---- a test case that is opened
 
 abbrev new : List ℕ → ℕ → Played
@@ -146,21 +130,6 @@ closing v held left own all out written is none owns alls appends s before stand
           },
         )
 
-pub not_closed : (v w : Server) (out : List ℕ) → v.current ≡ None → w.current ≡ None → w.worst ≡ v.worst → Tries (λ s. taken s O.End) (Some W.NoCase) v w out out
-not_closed v w out none none' worst s before stands = by_current s.current refl (open_is v None s s.current before out none stands refl)
-  where
-    Yes : Stand → Type 0
-    Yes t = (◌≡◌ {A = Option Refusal} (Some W.NoCase) None) × StandsAs w t before out
-
-    No : Refusal → Type 0
-    No e = (◌≡◌ {A = Option Refusal} (Some W.NoCase) (Some e)) × StandsAs w s before out
-
-    by_current : (c : Option Played) → s.current ≡ c → IsCurrent None c → MatchResult (ending s s.current) Yes No
-    by_current (Some p) current kept = absurd kept
-    by_current None current kept =
-        subst (λ (c : Option Played). MatchResult (ending s c) Yes No) (sym current)
-        (refl, record { current = subst (λ (o : Option OpenCase). IsCurrent o s.current) (sym none') (subst (IsCurrent None) (sym current) tt); worst = worst ∙ stands.worst; text = stands.text })
-
 -- ---- lines
 
 -- the line asks for this, which is tried
@@ -185,10 +154,6 @@ asked_by line o (Some why) v w out written fits spelled tries = λ s before stan
 -- it asks for nothing
 pub nothing_asked : (ended : Bool) (line : List ℕ) (why : Refusal) (v : Server) (out : List ℕ) → ((o : Order) → Asks ended line o → ⊥) → IsWhyNothing why ended line → TriesLine ended line (Some why) v v out out
 nothing_asked ended line why v out none is = λ s before stands. (inr (none, is), stands)
-
--- a line that LF did not end asks for nothing
-pub not_ended : (line : List ℕ) (v : Server) (out : List ℕ) → TriesLine false line (Some W.Unended) v v out out
-not_ended line v out = nothing_asked false line W.Unended v out (λ o asks. absurd (let e = asks.0 in cc)) refl
 
 -- ---- lines that are refused
 

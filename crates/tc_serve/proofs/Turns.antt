@@ -1,6 +1,6 @@
 -- What is read and written, and what goes to standard error, turn by turn.
 use Rattle.std.proofs.Common.{ℕ, ◌≡◌, ◌≢◌, ◌∙◌, ◌+◌, ◌-◌, ◌<◌, ◌≤◌, ◌^◌, ◌↔◌, inl, inr, Bool, true, false, MatchOption, Option, Some, None, Result, Ok, Err, IfErr, IfOk, List, [], ◌∷◌, ◌++◌, length, take, zero-add, suc-add, refl, ap, sym, subst, append_assoc, arith}
-use Rattle.std.specs.Io.KnownBytes.{Appends, Consumes, IsAtEnd, Keeps}
+use Rattle.std.specs.Io.KnownBytes.{Appends, Consumes, IsAtEnd}
 use Rattle.std.proofs.lemmas.Grind.{common_steps}
 use Rattle.std.proofs.lemmas.List.{append-nil, length-append, take_all}
 use Rattle.tc_stream.specs.Output.{AppendsPrefix}
@@ -19,19 +19,6 @@ consumes_join None b c x y p q = tt
 consumes_join (Some u) None c x y p q = absurd p
 consumes_join (Some u) (Some v) None x y p q = absurd q
 consumes_join (Some u) (Some v) (Some w) x y p q = p ∙ (ap (λ l. x ++ l) q ∙ sym (append_assoc x y w))
-
-consumes_none : (a : Option (List ℕ)) → Consumes a a []
-consumes_none None = tt
-consumes_none (Some u) = refl
-
-consumes_kept : (a b : Option (List ℕ)) → Keeps a b → Consumes a b []
-consumes_kept None b k = tt
-consumes_kept (Some u) None k = absurd k
-consumes_kept (Some u) (Some v) k = sym k
-
-appends_none : (a : Option (List ℕ)) → Appends a a []
-appends_none None = tt
-appends_none (Some u) = sym (append-nil u)
 
 appends_join : (a b c : Option (List ℕ)) (x y : List ℕ) → Appends a b x → Appends b c y → Appends a c (x ++ y)
 appends_join None b c x y p q = tt
@@ -68,10 +55,6 @@ told_join false true a b c x y p q = absurd (let e = q.0 in cc)
 told_join false false a b c x y p q = prefix_longer a c x y (subst (λ (o : Option (List ℕ)). AppendsPrefix a o x) (sym q.1) p)
 
 -- ---- where the service is
-
-pub at_start : (from : Devices) (v : Serving) → IsFed [] v [] [] [] [] → IsAt from from true 0 v
-at_start from v fed =
-    record { bytes = []; read = consumes_none from.input; many = omega arith; before = []; before' = []; fed = fed; written = appends_none from.output; told_is = appends_none from.errors }
 
 -- what was written before, and is appended, is written
 fed_again : (bytes : List ℕ) (v : Serving) (before out before' told : List ℕ) → IsFed bytes v before out before' told → IsFed bytes v (before ++ out) [] (before' ++ told) []
@@ -112,24 +95,8 @@ stopped_at from to told turns v f at_ not_write why =
       told_is = subst (λ (l : List ℕ). IsTaken told from.errors to.errors l) reports at_.told_is;
     }
 
-is_read : F.Read ≢ F.Write
-is_read = λ e. cc
-
 is_long : F.TooLong ≢ F.Write
 is_long = λ e. cc
-
-pub unread : (from : Devices) (left rest output errors : Option (List ℕ)) (told : Bool) (turns : ℕ) (v : Serving) → Keeps left rest → IsAt from (devices left output errors) told turns v → IsStopped from (devices rest output errors) told F.Read
-unread from left rest output errors told turns v kept at_ =
-    stopped_at from (devices rest output errors) told turns v F.Read (record {
-      bytes = at_.bytes;
-      read = subst (λ (l : List ℕ). Consumes from.input rest l) (append-nil at_.bytes) (consumes_join from.input left rest at_.bytes [] at_.read (consumes_kept left rest kept));
-      many = at_.many;
-      before = at_.before;
-      before' = at_.before';
-      fed = at_.fed;
-      written = at_.written;
-      told_is = at_.told_is;
-    }) is_read at_.fed.last_is
 
 pub uncounted : (from to : Devices) (told : Bool) (turns : ℕ) (v : Serving) → 2 ^ 64 - 1 ≤ turns → IsAt from to told turns v → IsStopped from to told F.TooLong
 uncounted from to told turns v most at_ =

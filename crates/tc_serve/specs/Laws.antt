@@ -1,7 +1,7 @@
 -- What holds of all that is served.
 use Rattle.std.specs.Prelude.{ℕ, ◌≡◌, ◌≢◌, ◌+◌, ◌<◌, ◌≤◌, length, reverse, if◌then◌else◌, Bool, true, false, Some, List, [], ◌∷◌, ◌++◌}
 use Rattle.std.specs.Option.{option_map_or}
-use Rattle.std.specs.List.{flat_map}
+use Rattle.std.specs.List.{AllByRecursion, flat_map}
 use Rattle.tc_entry.specs.declared.entry.Entry.{Entry}
 use Rattle.tc_entry.specs.declared.reply.Reply.TheVariants as R
 use Rattle.tc_table.specs.declared.awaited.Awaited.{Awaited}
@@ -20,24 +20,14 @@ use Rattle.tc_serve.specs.declared.refusal.Refusal.TheVariants as W
 use Rattle.tc_serve.specs.Protocol.{AreServed, Came, Comes, Played, Refuses, Sent, Stand, finished, is_parked, is_wake, past_of, seen, wake_op, was_done}
 use Rattle.tc_serve.specs.Text.{header_of, stand_text}
 
--- this holds of each of these test cases
-abbrev pub EachOf : (Played → Type 0) → List Played → Type 0
-EachOf P [] = Unit {0}
-EachOf P (p ∷ ps) = P p × EachOf P ps
-
 -- of all that is served this holds of each test case, also of one that is open
 abbrev pub AllServed : (Played → Type 0) → Type 0
-AllServed P = (lines : List Sent) (s : Stand) → AreServed lines s → EachOf P (finished s).closed
-
--- no wake is replied parked
-abbrev pub NoIdleWake : List Entry → Type 0
-NoIdleWake [] = Unit {0}
-NoIdleWake (e ∷ past) = (is_wake e.op ≡ true → is_parked e.reply ≡ false) × NoIdleWake past
+AllServed P = (lines : List Sent) (s : Stand) → AreServed lines s → AllByRecursion P (finished s).closed
 
 -- the history is legal, each reply is the component table's; and no wake in it is replied parked
 pub record IsSound (p : Played) : Type 0 where
   pub legal : IsLegal p.behaviours (past_of p)
-  pub wakes : NoIdleWake (past_of p)
+  pub wakes : AllByRecursion (λ e. is_wake e.op ≡ true → is_parked e.reply ≡ false) (past_of p)
 
 -- no run that can continue sleeps: the wake of each run that sleeps would be parked
 abbrev pub IsSettled : Played → Type 0

@@ -3,7 +3,7 @@
 use Rattle.std.specs.Prelude.{ℕ, ◌≡◌, ◌==◌, ◌<◌, ◌^◌, ◌≤◌, ◌⊎◌, ◌&&◌, nat_lt, if◌then◌else◌, zero, suc, Bool, true, false, Option, Some, None, is_some, Result, Ok, Err, is_err, List, [], ◌∷◌, ◌++◌, length, take}
 use Rattle.std.specs.Option.{option_map_or}
 use Rattle.std.specs.Result.{result_map_both, result_unwrap_or}
-use Rattle.std.specs.List.{list_all}
+use Rattle.std.specs.List.{AllByRecursion, list_all}
 use Rattle.std.specs.Fmt.{decimal}
 use Rattle.tc_verdict.specs.declared.run.Run.{Run}
 use Rattle.tc_entry.specs.declared.entry.Entry.{Entry}
@@ -60,14 +60,13 @@ is_parked _ = false
 abbrev pub wake_op : Awaited → Op
 wake_op a = Ops.Wake a.killed a.target
 
--- the entry is added, unless its caller would sleep on
-abbrev pub unless_parked : Entry → List Line → List Line
-unless_parked e lines = if is_parked e.reply then lines else L.Entry e ∷ lines
-
--- run b, of which this is the wait if it sleeps, is woken if it can continue
+-- run b, of which this is the wait if it sleeps, is woken if it can continue: the entry of its wake is added, unless that is
+-- replied parked
 abbrev pub woken_from : ℕ → List Line → ℕ → Option Awaited → List Line
 woken_from n lines b None = lines
-woken_from n lines b (Some a) = unless_parked (called n lines (record { 0 = b }) (wake_op a)) lines
+woken_from n lines b (Some a) =
+    let e = called n lines (record { 0 = b }) (wake_op a) in
+    if is_parked e.reply then lines else L.Entry e ∷ lines
 
 -- so are the first k runs, in the order of their numbers, each judged after those before it
 abbrev pub woken : ℕ → List Line → ℕ → List Line
@@ -177,8 +176,7 @@ pub record Sent : Type 0 where
 
 -- no byte is LF
 abbrev pub NoLf : List ℕ → Type 0
-NoLf [] = Unit {0}
-NoLf (b ∷ bs) = ((b == 10) ≡ false) × NoLf bs
+NoLf bytes = AllByRecursion (λ b. (b == 10) ≡ false) bytes
 
 -- what is looked at of a line
 abbrev pub seen : List ℕ → List ℕ

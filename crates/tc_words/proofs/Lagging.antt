@@ -11,7 +11,7 @@ use Rattle.tc_entry.specs.declared.op.Op.TheVariants as O
 use Rattle.tc_entry.specs.declared.reply.Reply.{Reply}
 use Rattle.tc_entry.specs.declared.reply.Reply.TheVariants as R
 use Rattle.tc_entry.specs.Reply.{is_ok}
-use Rattle.tc_table.specs.History.{comp_of, first_some, halts}
+use Rattle.tc_table.specs.History.{comp_of, first_some, halts, started_on}
 use Rattle.tc_table.specs.Phases.{last_run, phase, start_in}
 use Rattle.tc_table.specs.Status.{is_running}
 use Rattle.tc_table.specs.Answers.{answer, is_active}
@@ -20,7 +20,7 @@ use Rattle.tc_table.proofs.Lemmas.Going.{halted_by_entry, started_by_entry, star
 use Rattle.tc_table.proofs.Lemmas.Sound.{plain_if, no_special, start_in_range, starts_fresh}
 use Rattle.tc_board.specs.declared.record.Record.{Record}
 use Rattle.tc_board.specs.declared.record.Record.TheVariants.{Unbegun, Open}
-use Rattle.tc_words.specs.Words.{record_at, record_for, left_by, closing, is_closed, starts_on, last_on, run_before, carried, carried_to, AreTold}
+use Rattle.tc_words.specs.Words.{record_at, record_for, left_by, closing, is_closed, last_on, run_before, carried, carried_to, AreTold}
 use Rattle.tc_words.specs.Inside.{Lags, ArePartlyTold, CanBegin, with_start}
 use Rattle.tc_words.proofs.Settling.{at_same, at_other}
 
@@ -33,22 +33,22 @@ first_or (Some c) = refl
 first_or None = refl
 
 -- a run that the entry does not start continues after it only if it continued before it
-active_before : (n : ℕ) (past : List Entry) (e : Entry) (b : ℕ) → IsLegal n (e ∷ past) → starts_on e b ≡ None → is_active (e ∷ past) b ≡ true → is_active past b ≡ true
+active_before : (n : ℕ) (past : List Entry) (e : Entry) (b : ℕ) → IsLegal n (e ∷ past) → started_on e b ≡ None → is_active (e ∷ past) b ≡ true → is_active past b ≡ true
 active_before n past e b legal none h = by_comp (comp_of past b) refl
   where
     by_comp : (o : Option Comp) → comp_of past b ≡ o → is_active past b ≡ true
     by_comp (Some c) on = first_true (is_active past b) (not (halts (comp_of past e.caller.0) e c.0)) (sym (halted_by_entry n past e b c legal on) ∙ h)
     by_comp None free = let q : false ≡ true = sym (started_by_entry n past e b legal free ∙ ap is_some none) ∙ h in absurd cc
 
-comp_same : (past : List Entry) (e : Entry) (b : ℕ) → starts_on e b ≡ None → comp_of (e ∷ past) b ≡ comp_of past b
+comp_same : (past : List Entry) (e : Entry) (b : ℕ) → started_on e b ≡ None → comp_of (e ∷ past) b ≡ comp_of past b
 comp_same past e b none = rw none (first_or (comp_of past b))
 
 if_some : (s : Bool) (x y : Option Run) (a : Run) → y ≡ None → (if s then x else y) ≡ Some a → x ≡ Some a
 if_some true x y a none is = is
 if_some false x y a none is = cc
 
-before_same : (past : List Entry) (e : Entry) (b : ℕ) (a : Run) → starts_on e b ≡ None → run_before (e ∷ past) b ≡ Some a → run_before past b ≡ Some a
-before_same past e b a none is = if_some (is_some (comp_of past b)) (run_before past b) (last_on past (starts_on e b)) a (ap (last_on past) none) is
+before_same : (past : List Entry) (e : Entry) (b : ℕ) (a : Run) → started_on e b ≡ None → run_before (e ∷ past) b ≡ Some a → run_before past b ≡ Some a
+before_same past e b a none is = if_some (is_some (comp_of past b)) (run_before past b) (last_on past (started_on e b)) a (ap (last_on past) none) is
 
 record_same : (o : Option Comp) (was : Bool) (words : List Record) (x y : Option Run) (v : UserVerdict) →
     record_for o was (left_by words x) v ≡ record_for o was (left_by words (if is_some o then x else y)) v
@@ -56,16 +56,16 @@ record_same None was words x y v = refl
 record_same (Some c) was words x y v = refl
 
 -- the word of a run that the entry does not start lags at most
-lags_other : (n : ℕ) (past : List Entry) (e : Entry) (words : List Record) (b : ℕ) → IsLegal n (e ∷ past) → starts_on e b ≡ None → b < n → AreTold n past words → Lags (e ∷ past) words b
+lags_other : (n : ℕ) (past : List Entry) (e : Entry) (words : List Record) (b : ℕ) → IsLegal n (e ∷ past) → started_on e b ≡ None → b < n → AreTold n past words → Lags (e ∷ past) words b
 lags_other n past e words b legal none less t = record {
   was = is_active past b;
   active = active_before n past e b legal none;
   is = rw (comp_same past e b none)
-      (t.each b less ∙ record_same (comp_of past b) (is_active past b) words (run_before past b) (last_on past (starts_on e b)) (closing (record_at words b)));
+      (t.each b less ∙ record_same (comp_of past b) (is_active past b) words (run_before past b) (last_on past (started_on e b)) (closing (record_at words b)));
 }
 
 -- after an entry that starts no run
-partly_after : (n : ℕ) (past : List Entry) (e : Entry) (words : List Record) → IsLegal n (e ∷ past) → ((b : ℕ) → starts_on e b ≡ None) → AreTold n past words →
+partly_after : (n : ℕ) (past : List Entry) (e : Entry) (words : List Record) → IsLegal n (e ∷ past) → ((b : ℕ) → started_on e b ≡ None) → AreTold n past words →
     ArePartlyTold n (e ∷ past) words 0
 partly_after n past e words legal none t = record {
   as_many = t.as_many;
@@ -111,9 +111,9 @@ partly_started n past words caller comp run args legal t =
     let not_it : (a : ℕ) → is_closed (record_at words a) ≡ true → a ≢ run.0 =
     λ a d is. let q : is_closed (record_at words run.0) ≡ true = subst (λ k. is_closed (record_at words k) ≡ true) is d in
     let z : is_closed Unbegun ≡ true = rw empty at q in let y : false ≡ true = z in cc in
-    let here : starts_on e run.0 ≡ Some comp = rw (same_test run.0) refl in
+    let here : started_on e run.0 ≡ Some comp = rw (same_test run.0) refl in
     let before_here : run_before (e ∷ past) run.0 ≡ last_run past comp.0 = rw (free, here) refl in
-    let other : (b : ℕ) → b ≢ run.0 → starts_on e b ≡ None = λ b ne. rw (ne_eqb run.0 b (λ h. ne (sym h))) refl in
+    let other : (b : ℕ) → b ≢ run.0 → started_on e b ≡ None = λ b ne. rw (ne_eqb run.0 b (λ h. ne (sym h))) refl in
     let all_before : (b : ℕ) (a : Run) → run_before (e ∷ past) b ≡ Some a → is_closed (record_at words a.0) ≡ true =
     λ b a is. elim (cases_eq b run.0) [
       | inl same ↦ last_closed n past words comp.0 a some legal.1 t still (sym before_here ∙ subst (λ k. run_before (e ∷ past) k ≡ Some a) same is)

@@ -71,15 +71,6 @@ close_one n past words i w p less begun halted =
           (rw (at_same words i r within) (λ e. let q : false ≡ true = e in cc));
     }
 
-pub skip_one : (n : ℕ) (past : List Entry) (words : List Record) (i : ℕ) → ArePartlyTold n past words i →
-    (is_open (record_at words i) ≡ true → is_active past i ≡ true) → ArePartlyTold n past words (i + 1)
-skip_one n past words i p going = record {
-  as_many = p.as_many;
-  each = p.each;
-  before = p.before;
-  settled = below_more (λ b. is_open (record_at words b) ≡ true → is_active past b ≡ true) i p.settled going;
-}
-
 told_by : (c : Option Comp) (was active : Bool) (u v : UserVerdict) (r : Record) → r ≡ record_for c was u v →
     (active ≡ true → was ≡ true) → (is_open r ≡ true → active ≡ true) → r ≡ record_for c active u v
 told_by None was active u v r is a s = is
@@ -106,6 +97,3 @@ pub open_unclosed : (r : Record) → is_open r ≡ true → is_closed r ≡ fals
 open_unclosed Unbegun h = refl
 open_unclosed (Open u) h = refl
 open_unclosed (Closed u v) h = absurd cc
-
-pub stay_on : (a b c : List Record) → StayClosed a b → StayClosed b c → StayClosed a c
-stay_on a b c f g k h = g k (ap is_closed (f k h) ∙ h) ∙ f k h

@@ -8,8 +8,7 @@ use Rattle.tc_entry.specs.declared.comp.Comp.{Comp}
 use Rattle.tc_entry.specs.declared.entry.Entry.{Entry}
 use Rattle.tc_entry.specs.declared.op.Op.{Op}
 use Rattle.tc_entry.specs.declared.op.Op.TheVariants as O
-use Rattle.tc_entry.specs.Reply.{is_ok}
-use Rattle.tc_table.specs.History.{comp_of, starts_run}
+use Rattle.tc_table.specs.History.{comp_of, started_on}
 use Rattle.tc_table.specs.Phases.{last_run}
 use Rattle.tc_table.specs.Answers.{is_active}
 use Rattle.tc_board.specs.declared.record.Record.{Record}
@@ -34,10 +33,6 @@ abbrev pub left_by : List Record → Option Run → UserVerdict
 left_by words (Some run) = closing (record_at words run.0)
 left_by words None = U.None
 
--- the component on which the entry starts run b
-abbrev pub starts_on : Entry → ℕ → Option Comp
-starts_on e b = if is_ok e.reply then starts_run e.op b else None
-
 -- the last run on this component, if there is one
 abbrev pub last_on : List Entry → Option Comp → Option Run
 last_on past (Some c) = last_run past c.0
@@ -46,7 +41,7 @@ last_on past None = None
 -- the run before run b on its component: the last on it as run b was started
 abbrev pub run_before : List Entry → ℕ → Option Run
 run_before [] b = None
-run_before (e ∷ past) b = if is_some (comp_of past b) then run_before past b else last_on past (starts_on e b)
+run_before (e ∷ past) b = if is_some (comp_of past b) then run_before past b else last_on past (started_on e b)
 
 -- what the component of run b carried as the run was started: what the close of the word of the run before it gave
 abbrev pub carried : List Record → List Entry → ℕ → UserVerdict

@@ -1,5 +1,5 @@
 -- The pass as the steps of a script are called.
-use Rattle.std.proofs.Common.{ℕ, suc, ◌≡◌, ◌∙◌, ◌+◌, ◌<◌, inl, inr, ◌++◌, Bool, true, false, List, [], ◌∷◌, length, drop, get_or, drop-cons, arith, refl, sym, ap, subst, append_assoc}
+use Rattle.std.proofs.Common.{ℕ, suc, ◌≡◌, ◌∙◌, ◌+◌, ◌<◌, inl, inr, ◌++◌, false, List, [], ◌∷◌, length, drop, get_or, drop-cons, arith, sym, ap, subst, append_assoc}
 use Rattle.std.proofs.lemmas.List.{append-nil}
 use Rattle.tc_entry.specs.declared.comp.Comp.{Comp}
 use Rattle.tc_entry.specs.declared.entry.Entry.{Entry}
@@ -11,8 +11,7 @@ use Rattle.tc_step.specs.declared.step.Step.TheVariants as S
 use Rattle.tc_step.specs.Operation.{operation, target}
 use Rattle.tc_step.specs.Steps.{AreBound}
 use Rattle.tc_book.specs.Passes.{PassState, has_ended, entry_of}
-use Rattle.tc_exec.specs.declared.job.Ending.TheVariants as E
-use Rattle.tc_behaviour.specs.Calls.{Calls, HasCalled, HasGrown, IsRun, ending}
+use Rattle.tc_behaviour.specs.Calls.{Calls, HasCalled, HasGrown, IsRun}
 use Rattle.tc_behaviour.specs.Calls.HasCalled.{none, one_more}
 use Rattle.tc_behaviour.specs.Inside.{IsStepped, IsSoFar}
 
@@ -60,26 +59,6 @@ so_far_more steps start now left s comps comps-new mid new r so at on did =
     record {
       called = subst (λ b. HasCalled steps start left b new) (sym did.binds) (one_more s left comps mid new r called on did.called);
       bound = λ on-new. subst (λ n. AreBound n left) (sym (did.counts on-new)) are.1;
-    }
-
-ends_returned : (b : Bool) → ending b [] ≡ E.Returned
-ends_returned true = refl
-ends_returned false = refl
-
-pub run_ended : (steps : List Step) (start : PassState) (left : List Step) (comps : List Comp) (now : PassState) → IsSoFar steps start left comps now → has_ended now ≡ true → IsRun steps start now E.Returned
-run_ended steps start left comps now so is = record { left = left; bound = comps; called = so.called; ending_is = sym (ap (λ b. ending b left) is) }
-
-pub run_whole : (steps : List Step) (start : PassState) (left : List Step) (comps : List Comp) (now : PassState) → IsSoFar steps start left comps now → left ≡ [] → IsRun steps start now E.Returned
-run_whole steps start left comps now so is = record { left = left; bound = comps; called = so.called; ending_is = sym (ap (ending (has_ended now)) is ∙ ends_returned (has_ended now)) }
-
-pub run_starved : (steps : List Step) (start : PassState) (now left : List Step) (s : Step) (comps : List Comp) (mid new : PassState)
-    → IsSoFar steps start now comps mid → now ≡ s ∷ left → has_ended mid ≡ false → new ≡ mid → IsRun steps start new E.Starved
-run_starved steps start now left s comps mid new so at on same =
-    record {
-      left = now;
-      bound = comps;
-      called = subst (HasCalled steps start now comps) (sym same) so.called;
-      ending_is = sym (ap (λ b. ending b now) (ap has_ended same ∙ on) ∙ ap (ending false) at);
     }
 
 pub step_at : (steps : List Step) (i : ℕ) (d : Step) → i < length steps → drop i steps ≡ get_or steps i d ∷ drop (i + 1) steps

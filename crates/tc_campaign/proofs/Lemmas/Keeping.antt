@@ -1,22 +1,24 @@
 -- What a campaign leaves with an observer that has room for all its test cases, and one that has no room for them.
-use Rattle.std.proofs.Common.{ℕ, zero, suc, ◌≡◌, ◌≤◌, ◌∷◌, [], List, Option, Some, length, map, take, arith, inl, inr, refl, sym, subst}
+use Rattle.std.proofs.Common.{ℕ, zero, suc, ◌≡◌, ◌≤◌, ◌∷◌, [], List, Option, Some, length, map, take, arith, inl, inr, refl, sym, subst, ◌∙◌}
 use Rattle.std.specs.Prelude.{IfSome, slice_get}
 use Rattle.std.specs.Vec.{vec_capacity}
 use Rattle.std.proofs.lemmas.List.Elements.{All-nil}
 use Rattle.std.proofs.lemmas.Slice.Zip.{AllZip-long}
 use Rattle.tc_verdict.specs.declared.verdict.Verdict.{Verdict}
 use Rattle.tc_book.specs.Passes.{PassState}
+use Rattle.tc_case.specs.declared.refusal.CaseError.TheVariants as C
 use Rattle.tc_exec.specs.declared.job.Back.{Back}
 use Rattle.tc_report.specs.declared.kept.Kept.{Kept}
 use Rattle.tc_report.specs.declared.results.CampaignEnd.{CampaignEnd}
+use Rattle.tc_report.specs.declared.results.CampaignEnd.TheVariants as E
 use Rattle.tc_report.specs.declared.results.Finished.{Finished}
 use Rattle.tc_report.specs.Kept.{Keeps}
 use Rattle.tc_report.specs.Observers.{AreTaken, IsEndedAt}
 use Rattle.tc_report.proofs.Lemmas.Keeping.{are_kept, never_ended}
 use Rattle.tc_campaign.specs.declared.case.Case.{Case}
 use Rattle.tc_campaign.specs.Outline.{outline_of}
-use Rattle.tc_campaign.specs.Campaign.{AreFinished, HasBehaviours, IsCalled, IsCutShort, IsObserved, IsRunTo, IsTornAt}
-use Rattle.tc_campaign.specs.Inside.{IsUnrun}
+use Rattle.tc_campaign.specs.Campaign.{AreFinished, IsCalled, IsCutShort, IsObserved, IsRunTo, IsTornAt}
+use Rattle.tc_campaign.specs.Inside.{HasBehaviours, IsUnrun}
 
 take_short : {A : Type 0} (n : ℕ) (xs : List A) → length (take n xs) ≤ length xs
 take_short zero xs = omega arith
@@ -82,5 +84,5 @@ module _ {B : Type 0} (outcome : B → PassState → Back → Type 0) (finished 
   unrun_torn cases is = subst (λ fs. IsTornAt outcome (slice_get cases (length fs)) ending) (sym none) (go cases is)
     where
       go : (cs : List (Case B)) → IsUnrun (map outline_of cs) ending → IsTornAt outcome (slice_get cs 0) ending
-      go [] is = rw is tt
-      go (c ∷ cs) is = rw is tt
+      go [] is = λ name torn. let bad : E.Complete ≡ E.Aborted name C.Torn = sym is ∙ torn in absurd cc
+      go (c ∷ cs) is = λ name torn. let bad : E.Aborted (outline_of c).name C.NoMemory ≡ E.Aborted name C.Torn = sym is ∙ torn in absurd cc

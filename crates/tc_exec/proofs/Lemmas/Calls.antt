@@ -161,7 +161,7 @@ module _ {B : Type 0} (outcome : B → PassState → Back → Type 0) where
       ((k : ℕ) (run : Run) → k < length runs → (get_or runs k run).0 ≡ k) →
       (starved ≡ false → (l : LeftState) → (get_or ls 0 l).started ≢ None) →
       IfOk result (λ c. IsWhole c.behaviours c.history ls) → IfOk result (IsMadeOf outcome bs)
-  report_made (Ok c) false runs bs ls refused all number main whole = record { runs = runs; lefts = ls; numbered = number; left = all refl; main = main refl; whole = whole }
+  report_made (Ok c) false runs bs ls refused all number main whole = record { handed = record { runs = runs; lefts = ls; numbered = number; left = all refl; main = main refl }; whole = whole }
   report_made (Ok c) true runs bs ls refused all number main whole = let bad = refused refl in absurd cc
   report_made (Err e) starved runs bs ls refused all number main whole = tt
 

@@ -10,8 +10,8 @@ use Rattle.tc_report.specs.declared.fault.OutFault.{OutFault}
 use Rattle.tc_report.specs.declared.live_form.LiveForm.{LiveForm}
 use Rattle.tc_report.specs.declared.results.CampaignEnd.{CampaignEnd}
 use Rattle.tc_report.specs.declared.results.Finished.{Finished}
-use Rattle.tc_report.specs.Live.{LiveState, IsWritten, Writes, closing_text, form_text, opening_text, part_text}
-use Rattle.tc_report.specs.Inside.{text_so_far}
+use Rattle.tc_report.specs.Live.{LiveState, IsWritten, Writes, closing_text, opening_text, part_text}
+use Rattle.tc_report.specs.Inside.{form_text, text_so_far}
 use Rattle.tc_report.specs.Observers.{AreTaken, IsEndedAt}
 use Rattle.tc_report.specs.Output.{LeavesPrefix}
 use Rattle.tc_report.specs.Status.{ending_status, results_status, worst_of}

@@ -1,5 +1,5 @@
 -- What was printed of test cases as they finished, test case by test case.
-use Rattle.std.proofs.Common.{ℕ, ◌≡◌, ◌∙◌, nat_lt, is_some, Bool, true, false, List, [], ◌∷◌, ◌++◌, Option, Some, None, Result, Ok, Err, OnOk, OnErr, IfErr, codes, not, refl, sym, ap, subst, append_assoc}
+use Rattle.std.proofs.Common.{ℕ, ◌≡◌, ◌∙◌, nat_lt, Bool, true, false, List, [], ◌∷◌, ◌++◌, Option, Some, None, Result, Ok, Err, OnOk, OnErr, IfErr, codes, not, refl, sym, ap, subst, append_assoc}
 use Rattle.std.proofs.lemmas.List.{append-nil}
 use Rattle.std.proofs.lemmas.List.Elements.{filter-append}
 use Rattle.std.specs.Io.KnownBytes.{Appends, Keeps}
@@ -58,13 +58,6 @@ nothing_of true start = prints_none start
 
 pub silent : (tells : Bool) (start : Option (List ℕ)) (fs : List Finished) → tells ≡ false → IsToldBy tells start start fs (Ok tt)
 silent tells start fs is = subst (λ t. IsToldBy t start start fs (Ok tt)) (sym is) (refl, kept start)
-
-pub unprinted : (tells : Bool) (start : Option (List ℕ)) (fs : List Finished) (fault : OutFault) → tells ≡ true → IsToldBy tells start start fs (Err fault)
-unprinted tells start fs fault is = subst (λ t. IsToldBy t start start fs (Err fault)) (sym is) (prints_none start)
-
--- a text that was made is printed, or a prefix
-pub prints_made : (fs : List Finished) (before now : Option (List ℕ)) (text : List ℕ) → Names fs text → Appends before now text → Prints fs before now
-prints_made fs before now text names all = (text, all, names)
 
 pub prints_part : (before now : Option (List ℕ)) (text : List ℕ) (fault : OutFault) → LeavesPrefix before now text fault → Prints [] before now
 prints_part before now text fault part = let left = left_is_prefix before now text fault part in (_, left.2, tt)
@@ -125,16 +118,6 @@ module _ (start now later : Option (List ℕ)) (fs : List Finished) (again : Lis
       → IfErr answer (LeavesPrefix now later again) → IsToldBy true start later fs answer
   so_ended (Ok done) so all part = prints_both fs (failed fs) start now later so.0 (again, all, so.1)
   so_ended (Err fault) so all part = prints_more [] start now later (prints_any fs start now so.0) (prints_part now later again fault part)
-
--- if nothing more is printed
-pub so_spared : (start now : Option (List ℕ)) (fs gs : List Finished) (again : List ℕ) (w : Option OutFault) → is_some w ≡ true
-    → IsSoFar w start fs now again → IsSoFar w start gs now again
-so_spared start now fs gs again (Some why) is so = so
-so_spared start now fs gs again None is so = absurd (cc is)
-
--- before the first test case
-pub so_none : (start : Option (List ℕ)) (again : List ℕ) → again ≡ [] → IsSoFar None start [] start again
-so_none start again is = (prints_none start, tt)
 
 module _ {O E C : Type 0} (contents : E → Option (List ℕ)) (takes : O → Finished → O → Bool → Type 0) where
   -- what a test case does to a `Progress`, and to the observer that it passes it on to

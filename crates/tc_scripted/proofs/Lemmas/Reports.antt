@@ -192,7 +192,7 @@ module _ (scripts : List ScriptView) (c : Closed) (report : IsCaseReport (length
   legal = subst (λ n. IsLegal n whole) report.behaviours report.one_history.legal
 
   some : 1 ≤ length scripts
-  some = some_job made.runs scripts made.lefts made.left made.main
+  some = some_job made.handed.runs scripts made.handed.lefts made.handed.left made.handed.main
 
   -- the log of a run that was started is that of its script, on the component and with the arguments of its start
   log_is : (b : ℕ) (w : Comp × List Comp) → b < length scripts → given whole b ≡ Some w → IsLogOf (steps_of scripts b) w.0 w.1 (part c.history b)

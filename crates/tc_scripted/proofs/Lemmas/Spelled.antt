@@ -172,28 +172,28 @@ module _ (scripts : List (Word × ScriptView)) (c : Closed) (lawful : IsCase scr
   job_at : (k : ℕ) (b : ScriptView) → k < length scripts → get_or jobs k b ≡ script k
   job_at k b below = get_or-map (λ b. b.1) scripts k no_script b below
 
-  number_at : (k : ℕ) (run : Run) → k < length made.runs → get_or made.runs k run ≡ record { 0 = k }
-  number_at k run below = ap (λ m. let r : Run = record { 0 = m } in r) (made.numbered k run below)
+  number_at : (k : ℕ) (run : Run) → k < length made.handed.runs → get_or made.handed.runs k run ≡ record { 0 = k }
+  number_at k run below = ap (λ m. let r : Run = record { 0 = m } in r) (made.handed.numbered k run below)
 
   as_many_jobs : length jobs ≡ length scripts
   as_many_jobs = length-map scripts (λ b. b.1)
 
   -- what the worker of run k left
-  worker : (k : ℕ) (l : LeftState) → k < length scripts → IsLeftBy Acts (record { 0 = k }) (script k) (get_or made.lefts k l) × IsFitting c.history (get_or made.lefts k l)
+  worker : (k : ℕ) (l : LeftState) → k < length scripts → IsLeftBy Acts (record { 0 = k }) (script k) (get_or made.handed.lefts k l) × IsFitting c.history (get_or made.handed.lefts k l)
   worker k l below =
       let run : Run = record { 0 = 0 } in
       let b : ScriptView = no_script.1 in
-      let h = at Acts made.runs jobs made.lefts made.left k run b l (omega (arith, below, as_many_jobs)) in
-      let own : IsLeftBy Acts (record { 0 = k }) (get_or jobs k b) (get_or made.lefts k l) = subst (λ r. IsLeftBy Acts r (get_or jobs k b) (get_or made.lefts k l)) (number_at k run h.1) h.0 in
-      (subst (λ s. IsLeftBy Acts (record { 0 = k }) s (get_or made.lefts k l)) (job_at k b below) own, All-get_or (IsFitting c.history) made.lefts k l h.2 made.whole.fitting)
+      let h = at Acts made.handed.runs jobs made.handed.lefts made.handed.left k run b l (omega (arith, below, as_many_jobs)) in
+      let own : IsLeftBy Acts (record { 0 = k }) (get_or jobs k b) (get_or made.handed.lefts k l) = subst (λ r. IsLeftBy Acts r (get_or jobs k b) (get_or made.handed.lefts k l)) (number_at k run h.1) h.0 in
+      (subst (λ s. IsLeftBy Acts (record { 0 = k }) s (get_or made.handed.lefts k l)) (job_at k b below) own, All-get_or (IsFitting c.history) made.handed.lefts k l h.2 made.whole.fitting)
 
   log_gives : (k : ℕ) → k < length scripts → GiveAll heads (part c.history k)
   log_gives k below =
       let l = nothing_left in
       let w = worker k l below in
       let ones : All (StartsOne heads) (script k).steps = All-get_or (λ b. All (StartsOne heads) b.1.steps) scripts k no_script below lawful.starts in
-      let same : (get_or made.lefts k l).run ≡ record { 0 = k } = own_run (record { 0 = k }) (script k) (get_or made.lefts k l) w.0 in
-      subst (GiveAll heads) (w.1.part ∙ ap (λ r. part c.history r.0) same) (worker_gives heads (record { 0 = k }) (script k) (get_or made.lefts k l) ones w.0)
+      let same : (get_or made.handed.lefts k l).run ≡ record { 0 = k } = own_run (record { 0 = k }) (script k) (get_or made.handed.lefts k l) w.0 in
+      subst (GiveAll heads) (w.1.part ∙ ap (λ r. part c.history r.0) same) (worker_gives heads (record { 0 = k }) (script k) (get_or made.handed.lefts k l) ones w.0)
 
   history_gives : 0 < length scripts → GiveAll heads c.history
   history_gives some = λ k d below.
@@ -216,19 +216,19 @@ module _ (scripts : List (Word × ScriptView)) (c : Closed) (lawful : IsCase scr
   main_has_none some = subst (λ o. IfSome o (λ b. b.1.parameters ≡ 0)) (slice_get-get_or scripts 0 no_script some) lawful.main
 
   -- each behaviour was called with as many arguments as it has parameters
-  as_many : (k : ℕ) (l : LeftState) → k < length scripts → (w : WasStarted (record { 0 = k }) (Acts (script k)) (record { left = get_or made.lefts k l; ending = E.Returned }))
+  as_many : (k : ℕ) (l : LeftState) → k < length scripts → (w : WasStarted (record { 0 = k }) (Acts (script k)) (record { left = get_or made.handed.lefts k l; ending = E.Returned }))
       → length w.pass.args ≡ (script k).parameters
   as_many zero l below w = ap (λ p. length p.args) (w.main refl) ∙ sym (main_has_none below)
   as_many (suc k) l below w =
       let some : 0 < length scripts = omega (arith, below) in
-      let started = called_with c.history (record { 0 = suc k }) (script (suc k)) (get_or made.lefts (suc k) l) w (worker (suc k) l below).1 (omega arith) in
+      let started = called_with c.history (record { 0 = suc k }) (script (suc k)) (get_or made.handed.lefts (suc k) l) w (worker (suc k) l below).1 (omega arith) in
       let past : GiveAll heads (reverse c.history) = reversed (λ e. GivesAll heads e.op) c.history (history_gives some) in
       has_as_many (suc k) w.pass.args below (start_gives heads (reverse c.history) (suc k) (w.pass.me, w.pass.args) past started)
 
-  made_its_calls : (k : ℕ) (l : LeftState) → k < length scripts → IsLeftBy MakesItsCalls (record { 0 = k }) (script k) (get_or made.lefts k l)
+  made_its_calls : (k : ℕ) (l : LeftState) → k < length scripts → IsLeftBy MakesItsCalls (record { 0 = k }) (script k) (get_or made.handed.lefts k l)
   made_its_calls k l below = by (worker k l below).0
     where
-      by : IsLeftBy Acts (record { 0 = k }) (script k) (get_or made.lefts k l) → IsLeftBy MakesItsCalls (record { 0 = k }) (script k) (get_or made.lefts k l)
+      by : IsLeftBy Acts (record { 0 = k }) (script k) (get_or made.handed.lefts k l) → IsLeftBy MakesItsCalls (record { 0 = k }) (script k) (get_or made.handed.lefts k l)
       by (inl none) = inl none
       by (inr w) =
           let many = as_many k l below w in
@@ -240,26 +240,26 @@ module _ (scripts : List (Word × ScriptView)) (c : Closed) (lawful : IsCase scr
             called = record { back = w.called.back; outcome_of = record { as_many = many; calls = w.called.outcome_of.calls many }; left = w.called.left; ending = w.called.ending };
           })
 
-  left_by_calls : AreLeftBy MakesItsCalls made.runs jobs made.lefts
-  left_by_calls = each_left Acts MakesItsCalls made.runs jobs made.lefts made.left (λ k run b l below.
+  left_by_calls : AreLeftBy MakesItsCalls made.handed.runs jobs made.handed.lefts
+  left_by_calls = each_left Acts MakesItsCalls made.handed.runs jobs made.handed.lefts made.handed.left (λ k run b l below.
       let low : k < length scripts = omega (arith, below, as_many_jobs) in
-      let h = at Acts made.runs jobs made.lefts made.left k run b l below in
-      let own : IsLeftBy MakesItsCalls (get_or made.runs k run) (script k) (get_or made.lefts k l) =
-      subst (λ r. IsLeftBy MakesItsCalls r (script k) (get_or made.lefts k l)) (sym (number_at k run h.1)) (made_its_calls k l low) in
-      subst (λ s. IsLeftBy MakesItsCalls (get_or made.runs k run) s (get_or made.lefts k l)) (sym (job_at k b low)) own)
+      let h = at Acts made.handed.runs jobs made.handed.lefts made.handed.left k run b l below in
+      let own : IsLeftBy MakesItsCalls (get_or made.handed.runs k run) (script k) (get_or made.handed.lefts k l) =
+      subst (λ r. IsLeftBy MakesItsCalls r (script k) (get_or made.handed.lefts k l)) (sym (number_at k run h.1)) (made_its_calls k l low) in
+      subst (λ s. IsLeftBy MakesItsCalls (get_or made.handed.runs k run) s (get_or made.handed.lefts k l)) (sym (job_at k b low)) own)
 
   -- the report is made of the calls of the scripts
   pub made_of_calls : IsMadeOf MakesItsCalls jobs c
-  made_of_calls = record { runs = made.runs; lefts = made.lefts; numbered = made.numbered; left = left_by_calls; main = made.main; whole = made.whole }
+  made_of_calls = record { handed = record { runs = made.handed.runs; lefts = made.handed.lefts; numbered = made.handed.numbered; left = left_by_calls; main = made.handed.main }; whole = made.whole }
 
   main_calls : (b : ScriptView) → 0 < length scripts → WasCalledFor (record { 0 = 0 }) (MakesItsCalls (get_or jobs 0 b))
   main_calls b some = subst (λ s. WasCalledFor (record { 0 = 0 }) (MakesItsCalls s)) (sym (job_at 0 b some)) (by (made_its_calls 0 nothing_left some))
     where
-      by : IsLeftBy MakesItsCalls (record { 0 = 0 }) (script 0) (get_or made.lefts 0 nothing_left) → WasCalledFor (record { 0 = 0 }) (MakesItsCalls (script 0))
-      by (inl none) = absurd (made.main nothing_left (ap (λ h. h.left.started) none))
+      by : IsLeftBy MakesItsCalls (record { 0 = 0 }) (script 0) (get_or made.handed.lefts 0 nothing_left) → WasCalledFor (record { 0 = 0 }) (MakesItsCalls (script 0))
+      by (inl none) = absurd (made.handed.main nothing_left (ap (λ h. h.left.started) none))
       by (inr w) = record { pass = w.pass; own = w.own; new = w.new; main = w.main; back = w.called.back; outcome_of = w.called.outcome_of }
 
   pub are_called : AreCalled MakesItsCalls jobs c
   are_called = λ k b below started.
-      all_called MakesItsCalls c.history made.runs jobs made.lefts left_by_calls made.numbered made.whole.fitting
+      all_called MakesItsCalls c.history made.handed.runs jobs made.handed.lefts left_by_calls made.handed.numbered made.whole.fitting
       (λ b. main_calls b (omega (arith, below, as_many_jobs))) k b below started

@@ -1,4 +1,4 @@
-use Rattle.std.proofs.Common.{inl, inr, subst, sym}
+use Rattle.std.proofs.Common.{subst, sym}
 use Rattle.tc_program.specs.Fault.{line_of}
 use Rattle.tc_program.specs.Inside.{Refuses}
 use Rattle.tc_program.specs.Program.{IsDoneBy}
@@ -20,14 +20,14 @@ pub returns-in-Ok-run_cases : goal.returns-in-Ok-run_cases
 returns-in-Ok-run_cases g c =
     let are = c.in-Ok.ensures.chosen in
     IsDoneBy.run c.args.options.now c.requires
-    (inl (run_done c.args.options.now c.args.text.now are.cases c.in-Ok.cases.items are.chosen are.lawful are.each
-    (held g.W.Write.contents c.args.writer.now c.run_cases.new.writer g.E.Write.contents c.args.errors.now c.run_cases.new.errors) c.in-Ok-run_cases.outcome c.in-Ok-run_cases.ensures.done))
+    (run_done c.args.options.now c.args.text.now are.cases c.in-Ok.cases.items are.chosen are.lawful are.each
+    (held g.W.Write.contents c.args.writer.now c.run_cases.new.writer g.E.Write.contents c.args.errors.now c.run_cases.new.errors) c.in-Ok-run_cases.outcome c.in-Ok-run_cases.ensures.done)
 
 pub returns-in-Err-run_cases : goal.returns-in-Err-run_cases
 returns-in-Err-run_cases g c =
     let are = c.in-Ok.ensures.chosen in
     IsDoneBy.run c.args.options.now c.requires
-    (inr (run_left c.args.options.now c.args.text.now are.cases c.in-Ok.cases.items are.chosen are.lawful are.each
+    (run_left c.args.options.now c.args.text.now are.cases c.in-Ok.cases.items are.chosen are.lawful are.each
     (held g.W.Write.contents c.args.writer.now c.run_cases.new.writer g.E.Write.contents c.args.errors.now c.run_cases.new.errors) c.in-Err-run_cases.fault
     (g.E.Write.contents c.refuse.new.errors) c.refuse.result c.in-Err-run_cases.ensures.refused
-    (subst (λ f. IsRefusal (g.E.Write.contents c.run_cases.new.errors) (g.E.Write.contents c.refuse.new.errors) (line_of f) c.refuse.result) c.from.ensures c.refuse.ensures)))
+    (subst (λ f. IsRefusal (g.E.Write.contents c.run_cases.new.errors) (g.E.Write.contents c.refuse.new.errors) (line_of f) c.refuse.result) c.from.ensures c.refuse.ensures))

@@ -21,14 +21,17 @@ returns-clause-done c =
     record {
       cases = ready.cases;
       chosen = ready.chosen;
-      blocks = done.0;
-      evidence = subst (λ t. AreEvidence t done.0) part done.1;
       notes = found.notes.items;
-      compared = λ all are. (c.in_ok-notes.ensures.done ready.cases all ready.each (here all are)).0;
-      made = λ all are.
+      made = record {
+        blocks = done.0;
+        evidence = subst (λ t. AreEvidence t done.0) part done.1;
+        holds = λ all are. (
+          (c.in_ok-notes.ensures.done ready.cases all ready.each (here all are)).0,
           subst (λ t. IsReport c.args.form.now t all all (missing (reverse all) ready.cases) found.notes.items c.in_ok-answer.answer) part
-          (subst (λ l. IsReport c.args.form.now c.split.result.1.now all all l found.notes.items c.in_ok-answer.answer)
-          (names ∙ (c.in_ok-notes.ensures.done ready.cases all ready.each (here all are)).1)
-          (c.in_ok-answer.ensures all all
-          (subst (λ l. Reports all l c.in_ok-cases.cases.items c.in_ok-cases.illegal) (filter_each all) (c.in_ok-cases.ensures.only all (here all are)))));
+              (subst (λ l. IsReport c.args.form.now c.split.result.1.now all all l found.notes.items c.in_ok-answer.answer)
+              (names ∙ (c.in_ok-notes.ensures.done ready.cases all ready.each (here all are)).1)
+              (c.in_ok-answer.ensures all all
+              (subst (λ l. Reports all l c.in_ok-cases.cases.items c.in_ok-cases.illegal) (filter_each all) (c.in_ok-cases.ensures.only all (here all are))))),
+        );
+      };
     }

@@ -11,6 +11,6 @@ returns-clause-done c =
     record {
       blocks = so.0;
       evidence = so.1;
-      made = λ all are. subst (λ notes. IsReport c.args.form.now c.args.text.now all (chosen all) [] notes c.in_ok-answer.answer) c.new.ensures.items
+      holds = λ all are. subst (λ notes. IsReport c.args.form.now c.args.text.now all (chosen all) [] notes c.in_ok-answer.answer) c.new.ensures.items
           (c.in_ok-answer.ensures all (chosen all) (c.in_ok-cases.ensures.only all are));
     }
