@@ -412,8 +412,11 @@ TOP = os.path.dirname(os.path.dirname(os.path.dirname(os.path.abspath(__file__))
 RACE = (b"testcase t\nbehaviour main\ncreate p\nstart p w\nkill p\nend\n"
         b"behaviour w\nsetverdict fail\nend\nend\n")
 
-# Another, whose search needs four states.
+# Another, each of whose searches needs three states.
 LOOSE = b"testcase t\nbehaviour main\ncreate p\nstart p w\nend\nbehaviour w\nsetverdict fail\nend\nend\n"
+
+# One whose worker makes a component after it has set its verdict.
+MAKING = LOOSE.replace(b"fail\n", b"fail\ncreate q\n")
 
 # Its worker waits for its own end, and nobody comes after that.
 DEAD = (b"testcase t\nbehaviour main\ncreate p alive\nstart p w\nwait done p\nsetverdict pass\nend\n"
@@ -469,7 +472,9 @@ def of_explore() -> List[Case]:
                   errors=STATES)
              for word in ("0", "x", "", "01", "1000001") for form in ((), ("--history",), ("--details",), ("--locals",))]
     found.append(Case("one_state_decides_nothing", ("explore", "--states", "1"), RACE, SomeText(("t undecided",)), status=3))
-    found.append(Case("three_states_are_not_complete", ("explore", "--states", "3"), LOOSE, b"t none undecided after 3 states\n", status=3))
+    found.append(Case("two_states_are_not_complete", ("explore", "--states", "2"), LOOSE, b"t undecided after 2 states\n", status=3))
+    found.append(Case("three_states_are_complete", ("explore", "--states", "3"), LOOSE, b"t none fail complete\n", status=1))
+    found.append(Case("the_worst_verdict_is_found_first", ("explore", "--states", "3"), MAKING, b"t fail undecided after 3 states\n", status=3))
     found.append(Case("a_race_is_told_complete", ("explore",), RACE, b"t none fail complete\n", status=1))
     found.append(Case("steps_behind_a_wait_are_dead", ("explore", "--details"), DEAD, DEAD_TOLD))
     found.append(Case("a_stopped_component_is_waited_for", ("explore", "--details"), STOPPED, STOPPED_TOLD))

@@ -1,5 +1,5 @@
 -- What holds of a history that is ahead of another by the ends of runs.
-use Rattle.std.proofs.Common.{ℕ, ◌≡◌, ◌==◌, ◌||◌, ◌&&◌, ◌⊎◌, inl, inr, not, if◌then◌else◌, nat_le, Bool, true, false, Option, Some, None, is_some, MatchOption, List, [], ◌∷◌, length, drop, refl, ap, sym, subst, ◌∙◌}
+use Rattle.std.proofs.Common.{ℕ, ◌≡◌, ◌==◌, ◌||◌, ◌&&◌, ◌⊎◌, inl, inr, not, if◌then◌else◌, nat_le, Bool, true, false, Option, Some, None, is_some, MatchOption, List, [], ◌∷◌, length, drop, refl, ap, sym, subst, ◌∙◌, ◌≤◌, arith}
 use Rattle.std.specs.List.{list_any, list_all}
 use Rattle.tc_verdict.specs.declared.run.Run.{Run}
 use Rattle.tc_entry.specs.declared.limits.TheConstants.{COMPONENTS}
@@ -20,7 +20,7 @@ use Rattle.tc_table.specs.declared.awaited.Awaited.{Awaited}
 use Rattle.tc_table.specs.History.{comp_of, ptcs, exists, is_in, created, add_new, halts, kills}
 use Rattle.tc_table.specs.Phases.{phase, start_in}
 use Rattle.tc_table.specs.Status.{done, killed, is_running, is_killed, is_done}
-use Rattle.tc_table.specs.Local.{gives}
+use Rattle.tc_table.specs.Local.{gives, overall}
 use Rattle.tc_table.specs.Waiting.{holds}
 use Rattle.tc_table.specs.Faults.{fault, names, all_exist, asks_many, special_fault, start_fault, components}
 use Rattle.tc_table.specs.Answers.{answer, plain_answer, is_active, is_active_on, is_run_of}
@@ -32,9 +32,11 @@ use Rattle.tc_table.proofs.Lemmas.Over.{on_existing}
 use Rattle.tc_table.proofs.Lemmas.Going.{starts_still}
 use Rattle.tc_table.proofs.Lemmas.Sound.{plain_if}
 use Rattle.tc_explore.specs.Course.{Stand, stand, goes_on, IsCourse}
-use Rattle.tc_explore.specs.Inside.Simulation.{IsAlike, IsQuietAt, call_at, IsLastAt, WasParked, IsLeaving, IsEnding, IsAhead}
-use Rattle.tc_explore.proofs.Alike.{is_plain_call, phase_next, overall_next}
+use Rattle.tc_explore.specs.Inside.Simulation.{IsAlike, IsQuietAt, call_at, IsLastAt, WasParked, IsLeaving, IsEnding, IsAhead, IsBarredBefore}
+use Rattle.tc_explore.proofs.Alike.{is_plain_call, phase_next, overall_next, next_no_better}
 use Rattle.tc_explore.proofs.Lemmas.Standings.{stand_comp, stand_other}
+use Rattle.tc_verdict.specs.Verdict.{level_of}
+use Rattle.tc_verdict.specs.declared.verdict.Verdict.{Verdict}
 
 -- ---- waits
 
@@ -58,36 +60,36 @@ all_more f g (x ∷ xs) h k = by_test (all_more f g xs h) (f x) refl k
     by_test rest true j l = rw (h x j, rest l) refl
     by_test rest false j l = absurd cc
 
-module _ {scripts : List ScriptView} {p q : List Entry} where
-  phase_more : IsAhead scripts p q → (g : Phase → Bool) → g P.Killed ≡ true → (c : ℕ) → g (phase p c) ≡ true → g (phase q c) ≡ true
+module _ {aim : Verdict} {scripts : List ScriptView} {p q : List Entry} where
+  phase_more : IsAhead aim scripts p q → (g : Phase → Bool) → g P.Killed ≡ true → (c : ℕ) → g (phase p c) ≡ true → g (phase q c) ≡ true
   phase_more s g k c h = by_phase (s.phases c)
     where
-      by_phase : (phase p c ≡ phase q c) ⊎ IsEnding scripts p q c → g (phase q c) ≡ true
+      by_phase : (phase p c ≡ phase q c) ⊎ IsEnding aim scripts p q c → g (phase q c) ≡ true
       by_phase (inl e) = ap g (sym e) ∙ h
       by_phase (inr n) = ap g n.ended ∙ k
 
-  any_ahead : IsAhead scripts p q → (g : Phase → Bool) → g P.Killed ≡ true → list_any (λ c. g (phase p c)) (ptcs p) ≡ true → list_any (λ c. g (phase q c)) (ptcs q) ≡ true
+  any_ahead : IsAhead aim scripts p q → (g : Phase → Bool) → g P.Killed ≡ true → list_any (λ c. g (phase p c)) (ptcs p) ≡ true → list_any (λ c. g (phase q c)) (ptcs q) ≡ true
   any_ahead s g k h =
       any_more (λ c. g (phase p c)) (λ c. g (phase q c)) (ptcs q) (phase_more s g k) (ap (λ cs. list_any (λ c. g (phase p c)) (drop 1 cs)) (sym s.comps_same) ∙ h)
 
-  all_ahead : IsAhead scripts p q → (g : Phase → Bool) → g P.Killed ≡ true → list_all (λ c. g (phase p c)) (ptcs p) ≡ true → list_all (λ c. g (phase q c)) (ptcs q) ≡ true
+  all_ahead : IsAhead aim scripts p q → (g : Phase → Bool) → g P.Killed ≡ true → list_all (λ c. g (phase p c)) (ptcs p) ≡ true → list_all (λ c. g (phase q c)) (ptcs q) ≡ true
   all_ahead s g k h =
       all_more (λ c. g (phase p c)) (λ c. g (phase q c)) (ptcs q) (phase_more s g k) (ap (λ cs. list_all (λ c. g (phase p c)) (drop 1 cs)) (sym s.comps_same) ∙ h)
 
-  done_ahead : IsAhead scripts p q → (t : Target) → done p t ≡ true → done q t ≡ true
+  done_ahead : IsAhead aim scripts p q → (t : Target) → done p t ≡ true → done q t ≡ true
   unfolding done
   done_ahead s (T.One c) h = phase_more s is_done refl c.0 h
   done_ahead s T.Any h = any_ahead s is_done refl h
   done_ahead s T.All h = all_ahead s (λ ph. not (is_running ph)) refl h
 
-  killed_ahead : IsAhead scripts p q → (t : Target) → killed p t ≡ true → killed q t ≡ true
+  killed_ahead : IsAhead aim scripts p q → (t : Target) → killed p t ≡ true → killed q t ≡ true
   unfolding killed
   killed_ahead s (T.One c) h = phase_more s is_killed refl c.0 h
   killed_ahead s T.Any h = any_ahead s is_killed refl h
   killed_ahead s T.All h = all_ahead s is_killed refl h
 
   -- what has come stays so
-  pub holds_ahead : IsAhead scripts p q → (a : Awaited) → holds p a ≡ true → holds q a ≡ true
+  pub holds_ahead : IsAhead aim scripts p q → (a : Awaited) → holds p a ≡ true → holds q a ≡ true
   unfolding holds
   holds_ahead s a h = by_kind a.killed h
     where
@@ -100,17 +102,17 @@ module _ {scripts : List ScriptView} {p q : List Entry} where
 not_run : (b : ℕ) (ph : Phase) → ph ≡ P.Killed → is_run_of b ph ≡ false
 not_run b ph h = ap (is_run_of b) h
 
-module _ {scripts : List ScriptView} {p q : List Entry} where
-  pub ending_active : (c : ℕ) (n : IsEnding scripts p q c) → is_active p n.run.0 ≡ true
+module _ {aim : Verdict} {scripts : List ScriptView} {p q : List Entry} where
+  pub ending_active : (c : ℕ) (n : IsEnding aim scripts p q c) → is_active p n.run.0 ≡ true
   unfolding is_active
   ending_active c n = rw n.on (ap (is_run_of n.run.0) n.running ∙ self_equal n.run.0)
 
-  pub ended_inactive : IsAhead scripts p q → (c : ℕ) (n : IsEnding scripts p q c) → is_active q n.run.0 ≡ false
+  pub ended_inactive : IsAhead aim scripts p q → (c : ℕ) (n : IsEnding aim scripts p q c) → is_active q n.run.0 ≡ false
   unfolding is_active
   ended_inactive s c n = ap (is_active_on q n.run.0) (sym (s.comp_same n.run.0) ∙ n.on) ∙ not_run n.run.0 (phase q c) n.ended
 
   -- a run that continues after q is not among those that are leaving
-  pub not_ending_run : IsAhead scripts p q → (b : ℕ) → is_active q b ≡ true → (c : ℕ) (n : IsEnding scripts p q c) → (b == n.run.0) ≡ false
+  pub not_ending_run : IsAhead aim scripts p q → (b : ℕ) → is_active q b ≡ true → (c : ℕ) (n : IsEnding aim scripts p q c) → (b == n.run.0) ≡ false
   not_ending_run s b act c n = by_test (b == n.run.0) refl
     where
       by_test : (t : Bool) → (b == n.run.0) ≡ t → t ≡ false
@@ -120,7 +122,7 @@ module _ {scripts : List ScriptView} {p q : List Entry} where
           let off : is_active q n.run.0 ≡ false = ended_inactive s c n in
           absurd cc
 
-  pub active_back : IsAhead scripts p q → (b : ℕ) → is_active q b ≡ true → is_active p b ≡ true
+  pub active_back : IsAhead aim scripts p q → (b : ℕ) → is_active q b ≡ true → is_active p b ≡ true
   unfolding is_active
   active_back s b h = ap (is_active_on p b) (s.comp_same b) ∙ by_comp (comp_of q b) h
     where
@@ -128,19 +130,19 @@ module _ {scripts : List ScriptView} {p q : List Entry} where
       by_comp None k = absurd cc
       by_comp (Some c) k = by_phase (s.phases c.0)
         where
-          by_phase : (phase p c.0 ≡ phase q c.0) ⊎ IsEnding scripts p q c.0 → is_run_of b (phase p c.0) ≡ true
+          by_phase : (phase p c.0 ≡ phase q c.0) ⊎ IsEnding aim scripts p q c.0 → is_run_of b (phase p c.0) ≡ true
           by_phase (inl e) = ap (is_run_of b) e ∙ k
           by_phase (inr n) = let off : is_run_of b (phase q c.0) ≡ false = not_run b (phase q c.0) n.ended in absurd cc
 
-  pub active_forth : IsAhead scripts p q → (b : ℕ) → is_active p b ≡ true → (is_active q b ≡ true) ⊎ ((c : ℕ) × (n : IsEnding scripts p q c) × (n.run.0 ≡ b))
+  pub active_forth : IsAhead aim scripts p q → (b : ℕ) → is_active p b ≡ true → (is_active q b ≡ true) ⊎ ((c : ℕ) × (n : IsEnding aim scripts p q c) × (n.run.0 ≡ b))
   unfolding is_active
   active_forth s b h = by_comp (comp_of p b) refl h
     where
-      by_comp : (o : Option Comp) → comp_of p b ≡ o → is_active_on p b o ≡ true → (is_active q b ≡ true) ⊎ ((c : ℕ) × (n : IsEnding scripts p q c) × (n.run.0 ≡ b))
+      by_comp : (o : Option Comp) → comp_of p b ≡ o → is_active_on p b o ≡ true → (is_active q b ≡ true) ⊎ ((c : ℕ) × (n : IsEnding aim scripts p q c) × (n.run.0 ≡ b))
       by_comp None on k = absurd cc
       by_comp (Some c) on k = by_phase (s.phases c.0)
         where
-          by_phase : (phase p c.0 ≡ phase q c.0) ⊎ IsEnding scripts p q c.0 → (is_active q b ≡ true) ⊎ ((c : ℕ) × (n : IsEnding scripts p q c) × (n.run.0 ≡ b))
+          by_phase : (phase p c.0 ≡ phase q c.0) ⊎ IsEnding aim scripts p q c.0 → (is_active q b ≡ true) ⊎ ((c : ℕ) × (n : IsEnding aim scripts p q c) × (n.run.0 ≡ b))
           by_phase (inl e) = inl (ap (is_active_on q b) (sym (s.comp_same b) ∙ on) ∙ (ap (is_run_of b) (sym e) ∙ k))
           by_phase (inr n) = inr (c.0, n, equal_if n.run.0 b (ap (is_run_of b) (sym n.running) ∙ k))
 
@@ -165,23 +167,23 @@ some_if_all true t x y f g h = refl
 some_if_all false true x y f g h = refl
 some_if_all false false x y f g h = h
 
-module _ {scripts : List ScriptView} {p q : List Entry} where
-  start_ahead : IsAhead scripts p q → (n c b : ℕ) → is_some (start_fault n p c b) ≡ is_some (start_fault n q c b)
+module _ {aim : Verdict} {scripts : List ScriptView} {p q : List Entry} where
+  start_ahead : IsAhead aim scripts p q → (n c b : ℕ) → is_some (start_fault n p c b) ≡ is_some (start_fault n q c b)
   unfolding start_fault
   start_ahead s n c b = by_phase (s.phases c)
     where
-      by_phase : (phase p c ≡ phase q c) ⊎ IsEnding scripts p q c → is_some (start_fault n p c b) ≡ is_some (start_fault n q c b)
+      by_phase : (phase p c ≡ phase q c) ⊎ IsEnding aim scripts p q c → is_some (start_fault n p c b) ≡ is_some (start_fault n q c b)
       by_phase (inl e) = rw (e, s.comp_same b) refl
       by_phase (inr m) = rw (m.running, m.ended) (some_if_both (c == 0) F.StartMain F.AlreadyRunning F.NotStartable)
 
-  special_ahead : IsAhead scripts p q → (n : ℕ) (op : Op) → is_some (special_fault n p op) ≡ is_some (special_fault n q op)
+  special_ahead : IsAhead aim scripts p q → (n : ℕ) (op : Op) → is_some (special_fault n p op) ≡ is_some (special_fault n q op)
   unfolding components
   special_ahead s n (O.Create alive name) = ap (λ cs. is_some (if nat_le COMPONENTS (length cs) then Some F.TooMany else None)) s.comps_same
   special_ahead s n (O.Start c run args) = start_ahead s n c.0 run.0
   special_ahead s n _ = refl
 
   -- a call is an error in both or in none
-  pub fault_ahead : IsAhead scripts p q → (n b : ℕ) (op : Op) → is_some (fault n p b op) ≡ is_some (fault n q b op)
+  pub fault_ahead : IsAhead aim scripts p q → (n b : ℕ) (op : Op) → is_some (fault n p b op) ≡ is_some (fault n q b op)
   unfolding fault
   fault_ahead s n b op =
       rw (all_exist_same p q (names op) s.comps_same)
@@ -197,8 +199,8 @@ answer_as : (n : ℕ) (past : List Entry) (b : ℕ) (op : Op) → is_active past
 unfolding answer
 answer_as n past b op act h = rw (act, h) refl
 
-module _ {scripts : List ScriptView} {p q : List Entry} where
-  plain_ahead : IsAhead scripts p q → (b : ℕ) (op : Op) → is_plain_call op ≡ true → goes_on (plain_answer p b op) ≡ true → plain_answer p b op ≡ plain_answer q b op
+module _ {aim : Verdict} {scripts : List ScriptView} {p q : List Entry} where
+  plain_ahead : IsAhead aim scripts p q → (b : ℕ) (op : Op) → is_plain_call op ≡ true → goes_on (plain_answer p b op) ≡ true → plain_answer p b op ≡ plain_answer q b op
   unfolding components
   plain_ahead s b (O.Create alive name) h g = ap (λ (cs : List ℕ). R.Made (record { 0 = length cs })) s.comps_same
   plain_ahead s b (O.Start c run args) h g = refl
@@ -216,7 +218,7 @@ module _ {scripts : List ScriptView} {p q : List Entry} where
   plain_ahead s b _ h g = absurd cc
 
   -- a call that is no error and is not parked is answered alike
-  pub answer_ahead : IsAhead scripts p q → (n b : ℕ) (op : Op) → is_plain_call op ≡ true → is_active q b ≡ true → goes_on (answer n p b op) ≡ true → is_fault (answer n p b op) ≡ false → answer n p b op ≡ answer n q b op
+  pub answer_ahead : IsAhead aim scripts p q → (n b : ℕ) (op : Op) → is_plain_call op ≡ true → is_active q b ≡ true → goes_on (answer n p b op) ≡ true → is_fault (answer n p b op) ≡ false → answer n p b op ≡ answer n q b op
   answer_ahead s n b op h act on plain =
       let is = plain_if n p b op (answer n p b op) (ended_goes_not (answer n p b op) on) plain refl in
       let none : fault n q b op ≡ None = none_too (fault n p b op) (fault n q b op) (fault_ahead s n b op) is.no_fault in
@@ -228,8 +230,8 @@ module _ {scripts : List ScriptView} {p q : List Entry} where
 abbrev pub KeepsQuiet : ℕ → List Entry → List Entry → Type 0
 KeepsQuiet n q r = (b : ℕ) (op : Op) → IsQuietAt n q b op → IsQuietAt n r b op
 
-pub leaving_later : (scripts : List ScriptView) (q r : List Entry) (b : ℕ) (s : Stand) → KeepsQuiet (length scripts) q r → IsLeaving scripts q b s → IsLeaving scripts r b s
-leaving_later scripts q r b s keeps l = record { parked = by_wake s.wake l.parked; calls = λ k m. by_call (call_at scripts b s s.comp k) (l.calls k m) }
+pub leaving_later : {aim : Verdict} (scripts : List ScriptView) (q r : List Entry) (b : ℕ) (s : Stand) → KeepsQuiet (length scripts) q r → IsLeaving aim scripts q b s → IsLeaving aim scripts r b s
+leaving_later {aim} scripts q r b s keeps l = record { parked = by_wake s.wake l.parked; calls = λ k m. by_bar k (l.calls k m) }
   where
     by_wake : (o : Option Op) → MatchOption o (Unit {0}) (λ wake. WasParked scripts q b s wake) → MatchOption o (Unit {0}) (λ wake. WasParked scripts r b s wake)
     by_wake None h = tt
@@ -239,20 +241,24 @@ leaving_later scripts q r b s keeps l = record { parked = by_wake s.wake l.parke
     by_call op (inl h) = inl (keeps b op h)
     by_call op (inr h) = inr h
 
-pub ahead_self : (scripts : List ScriptView) (p : List Entry) → IsAhead scripts p p
-ahead_self scripts p = record { comps_same = refl; phases = λ c. inl refl; kind_same = λ c. refl; comp_same = λ b. refl; overall_same = refl }
+    by_bar : (k : ℕ) → IsLastAt (length scripts) q b (call_at scripts b s s.comp k) ⊎ IsBarredBefore aim scripts b s k → IsLastAt (length scripts) r b (call_at scripts b s s.comp k) ⊎ IsBarredBefore aim scripts b s k
+    by_bar k (inl h) = inl (by_call (call_at scripts b s s.comp k) h)
+    by_bar k (inr h) = inr h
+
+pub ahead_self : {aim : Verdict} (scripts : List ScriptView) (p : List Entry) → IsAhead aim scripts p p
+ahead_self scripts p = record { comps_same = refl; phases = λ c. inl refl; kind_same = λ c. refl; comp_same = λ b. refl; no_better = omega arith }
 
 -- q changes to what is alike
-pub ahead_after : (scripts : List ScriptView) (p q r : List Entry) → IsAhead scripts p q → IsAlike q r → KeepsQuiet (length scripts) q r → IsAhead scripts p r
-ahead_after scripts p q r s a keeps = record {
+pub ahead_after : {aim : Verdict} (scripts : List ScriptView) (p q r : List Entry) → IsAhead aim scripts p q → IsAlike q r → KeepsQuiet (length scripts) q r → level_of (overall q) ≤ level_of (overall r) → IsAhead aim scripts p r
+ahead_after {aim} scripts p q r s a keeps worse = record {
   comps_same = s.comps_same ∙ a.comps_same;
   phases = λ c. by_phase c (s.phases c);
   kind_same = λ c. s.kind_same c ∙ a.kind_same c;
   comp_same = λ b. s.comp_same b ∙ a.comp_same b;
-  overall_same = s.overall_same ∙ a.overall_same;
+  no_better = let l = s.no_better in omega (arith, l, worse);
 }
   where
-    by_phase : (c : ℕ) → (phase p c ≡ phase q c) ⊎ IsEnding scripts p q c → (phase p c ≡ phase r c) ⊎ IsEnding scripts p r c
+    by_phase : (c : ℕ) → (phase p c ≡ phase q c) ⊎ IsEnding aim scripts p q c → (phase p c ≡ phase r c) ⊎ IsEnding aim scripts p r c
     by_phase c (inl e) = inl (e ∙ a.phase_same c)
     by_phase c (inr n) = inr (record {
       run = n.run;
@@ -265,27 +271,27 @@ ahead_after scripts p q r s a keeps = record {
     })
 
 -- what is known of a run that is leaving, after an entry of another
-pub leaving_other : (scripts : List ScriptView) (p q : List Entry) (e : Entry) (c : ℕ) (n : IsEnding scripts p q c) → IsCourse scripts p → (e.caller.0 == n.run.0) ≡ false → IsLeaving scripts q n.run.0 (stand (e ∷ p) n.run.0)
-leaving_other scripts p q e c n cp other =
+pub leaving_other : {aim : Verdict} (scripts : List ScriptView) (p q : List Entry) (e : Entry) (c : ℕ) (n : IsEnding aim scripts p q c) → IsCourse scripts p → (e.caller.0 == n.run.0) ≡ false → IsLeaving aim scripts q n.run.0 (stand (e ∷ p) n.run.0)
+leaving_other {aim} scripts p q e c n cp other =
     let here : (stand p n.run.0).comp ≡ Some (record { 0 = c }) = stand_comp scripts p n.run.0 cp ∙ n.on in
-    subst (λ s. IsLeaving scripts q n.run.0 s) (sym (stand_other p e n.run.0 (record { 0 = c }) other here)) n.leaving
+    subst (λ s. IsLeaving aim scripts q n.run.0 s) (sym (stand_other p e n.run.0 (record { 0 = c }) other here)) n.leaving
 
 -- one more entry of p, after which all is alike
-pub ahead_turn : (scripts : List ScriptView) (p q : List Entry) (e : Entry) → IsCourse scripts p → IsAlike (e ∷ p) p → IsAhead scripts p q →
-    ((c : ℕ) (n : IsEnding scripts p q c) → (e.caller.0 == n.run.0) ≡ true → IsLeaving scripts q n.run.0 (stand (e ∷ p) n.run.0)) → IsAhead scripts (e ∷ p) q
-ahead_turn scripts p q e cp a s own = record {
+pub ahead_turn : {aim : Verdict} (scripts : List ScriptView) (p q : List Entry) (e : Entry) → IsCourse scripts p → IsAlike (e ∷ p) p → IsAhead aim scripts p q →
+    ((c : ℕ) (n : IsEnding aim scripts p q c) → (e.caller.0 == n.run.0) ≡ true → IsLeaving aim scripts q n.run.0 (stand (e ∷ p) n.run.0)) → level_of (overall (e ∷ p)) ≤ level_of (overall q) → IsAhead aim scripts (e ∷ p) q
+ahead_turn {aim} scripts p q e cp a s own better = record {
   comps_same = a.comps_same ∙ s.comps_same;
   phases = λ c. by_phase c (s.phases c);
   kind_same = λ c. a.kind_same c ∙ s.kind_same c;
   comp_same = λ b. a.comp_same b ∙ s.comp_same b;
-  overall_same = a.overall_same ∙ s.overall_same;
+  no_better = better;
 }
   where
-    by_test : (c : ℕ) (n : IsEnding scripts p q c) → (t : Bool) → (e.caller.0 == n.run.0) ≡ t → IsLeaving scripts q n.run.0 (stand (e ∷ p) n.run.0)
+    by_test : (c : ℕ) (n : IsEnding aim scripts p q c) → (t : Bool) → (e.caller.0 == n.run.0) ≡ t → IsLeaving aim scripts q n.run.0 (stand (e ∷ p) n.run.0)
     by_test c n true k = own c n k
     by_test c n false k = leaving_other scripts p q e c n cp k
 
-    by_phase : (c : ℕ) → (phase p c ≡ phase q c) ⊎ IsEnding scripts p q c → (phase (e ∷ p) c ≡ phase q c) ⊎ IsEnding scripts (e ∷ p) q c
+    by_phase : (c : ℕ) → (phase p c ≡ phase q c) ⊎ IsEnding aim scripts p q c → (phase (e ∷ p) c ≡ phase q c) ⊎ IsEnding aim scripts (e ∷ p) q c
     by_phase c (inl h) = inl (a.phase_same c ∙ h)
     by_phase c (inr n) = inr (record {
       run = n.run;
@@ -309,7 +315,7 @@ not_started n past e c r legal running = by_some (start_in e c) refl
         let on : is_running (phase past c) ≡ true = ap is_running running in
         absurd cc
 
-module _ (scripts : List ScriptView) (p q : List Entry) (e : Entry) (cp : IsCourse scripts p) (lp : IsLegal (length scripts) (e ∷ p)) (lq : IsLegal (length scripts) (e ∷ q)) (s : IsAhead scripts p q)
+module _ {aim : Verdict} (scripts : List ScriptView) (p q : List Entry) (e : Entry) (cp : IsCourse scripts p) (lp : IsLegal (length scripts) (e ∷ p)) (lq : IsLegal (length scripts) (e ∷ q)) (s : IsAhead aim scripts p q)
     (act : is_active q e.caller.0 ≡ true) (keeps : KeepsQuiet (length scripts) q (e ∷ q)) where
   exists_same : (c : ℕ) → exists p c ≡ exists q c
   unfolding exists
@@ -318,7 +324,7 @@ module _ (scripts : List ScriptView) (p q : List Entry) (e : Entry) (cp : IsCour
   after_same : (c : ℕ) → phase p c ≡ phase q c → phase (e ∷ p) c ≡ phase (e ∷ q) c
   after_same c h = phase_next (length scripts) p e c lp ∙ (rw (exists_same c, s.comp_same e.caller.0, s.kind_same c, h) refl ∙ sym (phase_next (length scripts) q e c lq))
 
-  after_ending : (c : ℕ) → IsEnding scripts p q c → (phase (e ∷ p) c ≡ phase (e ∷ q) c) ⊎ IsEnding scripts (e ∷ p) (e ∷ q) c
+  after_ending : (c : ℕ) → IsEnding aim scripts p q c → (phase (e ∷ p) c ≡ phase (e ∷ q) c) ⊎ IsEnding aim scripts (e ∷ p) (e ∷ q) c
   after_ending c n = by_tests (kills e c) (halts (comp_of p e.caller.0) e c) refl refl
     where
       there : exists p c ≡ true
@@ -333,7 +339,7 @@ module _ (scripts : List ScriptView) (p q : List Entry) (e : Entry) (cp : IsCour
       after_q : phase (e ∷ q) c ≡ next_phase (kills e c) None (halts (comp_of p e.caller.0) e c) false P.Killed
       after_q = phase_next (length scripts) q e c lq ∙ rw (← exists_same c, ← s.comp_same e.caller.0, ← s.kind_same c, there, none, n.ordinary, n.ended) refl
 
-      by_tests : (k h : Bool) → kills e c ≡ k → halts (comp_of p e.caller.0) e c ≡ h → (phase (e ∷ p) c ≡ phase (e ∷ q) c) ⊎ IsEnding scripts (e ∷ p) (e ∷ q) c
+      by_tests : (k h : Bool) → kills e c ≡ k → halts (comp_of p e.caller.0) e c ≡ h → (phase (e ∷ p) c ≡ phase (e ∷ q) c) ⊎ IsEnding aim scripts (e ∷ p) (e ∷ q) c
       by_tests true h i j = inl (after_p ∙ (rw i refl ∙ sym after_q))
       by_tests false true i j = inl (after_p ∙ (rw (i, j) refl ∙ sym after_q))
       by_tests false false i j = inr (record {
@@ -350,20 +356,20 @@ module _ (scripts : List ScriptView) (p q : List Entry) (e : Entry) (cp : IsCour
   pub died_before : (c : ℕ) → phase (e ∷ q) c ≡ P.Killed → (phase q c ≡ P.Killed) ⊎ (phase (e ∷ p) c ≡ P.Killed)
   died_before c dead = by_phase (s.phases c)
     where
-      by_phase : (phase p c ≡ phase q c) ⊎ IsEnding scripts p q c → (phase q c ≡ P.Killed) ⊎ (phase (e ∷ p) c ≡ P.Killed)
+      by_phase : (phase p c ≡ phase q c) ⊎ IsEnding aim scripts p q c → (phase q c ≡ P.Killed) ⊎ (phase (e ∷ p) c ≡ P.Killed)
       by_phase (inl h) = inr (after_same c h ∙ dead)
       by_phase (inr n) = inl n.ended
 
-  pub ahead_step : IsAhead scripts (e ∷ p) (e ∷ q)
+  pub ahead_step : IsAhead aim scripts (e ∷ p) (e ∷ q)
   unfolding exists
   ahead_step = record {
     comps_same = ap (add_new (created e.op e.reply)) s.comps_same;
     phases = λ c. by_phase c (s.phases c);
     kind_same = λ c. rw (s.comps_same, s.kind_same c) refl;
     comp_same = λ b. rw (s.comp_same b) refl;
-    overall_same = overall_next (length scripts) p e lp ∙ (ap (next_local (gives e.op e.reply)) s.overall_same ∙ sym (overall_next (length scripts) q e lq));
+    no_better = rw (overall_next (length scripts) p e lp, overall_next (length scripts) q e lq) (next_no_better (gives e.op e.reply) (overall p) (overall q) s.no_better);
   }
     where
-      by_phase : (c : ℕ) → (phase p c ≡ phase q c) ⊎ IsEnding scripts p q c → (phase (e ∷ p) c ≡ phase (e ∷ q) c) ⊎ IsEnding scripts (e ∷ p) (e ∷ q) c
+      by_phase : (c : ℕ) → (phase p c ≡ phase q c) ⊎ IsEnding aim scripts p q c → (phase (e ∷ p) c ≡ phase (e ∷ q) c) ⊎ IsEnding aim scripts (e ∷ p) (e ∷ q) c
       by_phase c (inl h) = inl (after_same c h)
       by_phase c (inr n) = after_ending c n

@@ -1,12 +1,12 @@
 -- Histories that are alike are answered alike, except for questions, and are alike after the same entry.
-use Rattle.std.proofs.Common.{ℕ, ◌≡◌, ◌==◌, ◌&&◌, ◌||◌, not, if◌then◌else◌, nat_lt, Bool, true, false, Option, Some, None, is_some, List, [], ◌∷◌, ◌++◌, length, drop, map, refl, ap, sym, ◌∙◌, arith}
+use Rattle.std.proofs.Common.{ℕ, ◌≡◌, ◌==◌, ◌&&◌, ◌||◌, not, if◌then◌else◌, nat_lt, Bool, true, false, Option, Some, None, is_some, List, [], ◌∷◌, ◌++◌, length, drop, map, refl, ap, sym, ◌∙◌, arith, ◌≤◌}
 use Rattle.std.proofs.lemmas.Bool.Decides.{nat_tests}
 use Rattle.std.specs.List.{list_any, list_all}
 use Rattle.tc_verdict.specs.declared.run.Run.{Run}
 use Rattle.tc_verdict.specs.declared.verdict.Verdict.{Verdict}
 use Rattle.tc_verdict.specs.declared.verdict.Verdict.TheVariants as V
 use Rattle.tc_verdict.specs.Verdict.{worse, worst, level_of}
-use Rattle.tc_verdict.proofs.Lemmas.Order.{worse_later, worse_swap}
+use Rattle.tc_verdict.proofs.Lemmas.Order.{worse_later, worse_swap, worse_left, worse_right}
 use Rattle.tc_entry.specs.declared.comp.Comp.{Comp}
 use Rattle.tc_entry.specs.declared.entry.Entry.{Entry}
 use Rattle.tc_entry.specs.declared.op.Op.{Op}
@@ -55,7 +55,6 @@ alike_sym p q a = record {
   phase_same = λ c. sym (a.phase_same c);
   kind_same = λ c. sym (a.kind_same c);
   comp_same = λ b. sym (a.comp_same b);
-  overall_same = sym a.overall_same;
 }
 
 module _ {p q : List Entry} where
@@ -317,15 +316,46 @@ overall_next n past e legal = by_made (created e.op e.reply) refl
             let after : local (e ∷ past) m.0 ≡ V.None = local_next past e m.0 ∙ rw (no_caller n past e.caller.0 m.0 legal.1 j) none in
             worst_none (local (e ∷ past)) m.0 (comps past) after ∙ overall_by n past e legal
 
+-- ---- it gets no better
+
+pub worse_most : (a v : Verdict) (n : ℕ) → level_of a ≤ n → level_of v ≤ n → level_of (worse a v) ≤ n
+worse_most a v n k l = by_test (nat_lt (level_of a) (level_of v))
+  where
+    by_test : (t : Bool) → level_of (if t then v else a) ≤ n
+    by_test true = l
+    by_test false = k
+
+never_better : (vs : List Verdict) (w : Verdict) → level_of w ≤ level_of (next_local vs w)
+never_better [] w = omega arith
+never_better (v ∷ vs) w = let l = never_better vs w in let m = worse_left (next_local vs w) v in omega (arith, l, m)
+
+pub overall_grows : (n : ℕ) (past : List Entry) (e : Entry) → IsLegal n (e ∷ past) → level_of (overall past) ≤ level_of (overall (e ∷ past))
+overall_grows n past e legal = rw (overall_next n past e legal) (never_better (gives e.op e.reply) (overall past))
+
+-- what is no better stays so
+pub next_no_better : (vs : List Verdict) (w x : Verdict) → level_of w ≤ level_of x → level_of (next_local vs w) ≤ level_of (next_local vs x)
+next_no_better [] w x l = l
+next_no_better (v ∷ vs) w x l =
+    let m = next_no_better vs w x l in
+    let left = worse_left (next_local vs x) v in
+    worse_most (next_local vs w) v (level_of (worse (next_local vs x) v)) (omega (arith, m, left)) (worse_right (next_local vs x) v)
+
+-- what is no worse than n stays so
+pub next_within : (vs : List Verdict) (w x : Verdict) (n : ℕ) → level_of (next_local vs w) ≤ n → level_of x ≤ n → level_of (next_local vs x) ≤ n
+next_within [] w x n k l = l
+next_within (v ∷ vs) w x n k l =
+    let left = worse_left (next_local vs w) v in
+    let right = worse_right (next_local vs w) v in
+    worse_most (next_local vs x) v n (next_within vs w x n (omega (arith, left, k)) l) (omega (arith, right, k))
+
 -- ---- after an entry that changes nothing
 
--- the entry makes, starts, halts and kills nothing, and changes no overall verdict
+-- the entry makes, starts, halts and kills nothing
 pub record ChangesNothing (past : List Entry) (e : Entry) : Type 0 where
   pub made : created e.op e.reply ≡ None
   pub no_run : (b : ℕ) → started_on e b ≡ None
   pub no_start : (c : ℕ) → start_in e c ≡ None
   pub no_halt : (c : ℕ) → halts (comp_of past e.caller.0) e c ≡ false
-  pub no_gain : next_local (gives e.op e.reply) (overall past) ≡ overall past
 
 none_killed : (past : List Entry) (e : Entry) → ChangesNothing past e → (c : ℕ) → kills e c ≡ false
 none_killed past e u c = by_test (kills e c) refl
@@ -355,5 +385,4 @@ alike_unchanged n past e legal u = record {
       ∙ kept_by (exists past c) (phase past c) (λ k. ap (λ (s : ComponentState). s.phase) (fresh n past c legal.1 k)));
   kind_same = λ c. rw u.made (kind_kept (exists past c) (is_alive_type past c) (λ k. ap (λ (s : ComponentState). s.alive_type) (fresh n past c legal.1 k)));
   comp_same = λ b. ap (first_some (comp_of past b)) (u.no_run b) ∙ first_kept (comp_of past b);
-  overall_same = overall_next n past e legal ∙ u.no_gain;
 }

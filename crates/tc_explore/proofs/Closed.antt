@@ -1,5 +1,5 @@
 -- When what comes after a state is seen, or its verdict is found.
-use Rattle.std.proofs.Common.{ℕ, ◌≡◌, ◌+◌, ◌<◌, Bool, true, false, Some, List, ◌∷◌, ◌++◌, length, reverse, nat_lt, refl, ap, sym, subst, ◌∙◌, arith, length-append}
+use Rattle.std.proofs.Common.{ℕ, ◌≡◌, ◌+◌, ◌<◌, ◌≤◌, Bool, true, false, Some, List, ◌∷◌, ◌++◌, length, reverse, nat_lt, refl, ap, sym, subst, ◌∙◌, arith, length-append}
 use Rattle.std.proofs.lemmas.List.{append_assoc}
 use Rattle.std.proofs.lemmas.Bool.Decides.{nat_tests}
 use Rattle.tc_verdict.specs.declared.run.Run.{Run}
@@ -17,9 +17,11 @@ use Rattle.tc_explore.specs.declared.search.Met.{Met}
 use Rattle.tc_explore.specs.Told.{is_found}
 use Rattle.tc_explore.specs.Course.{goes_on, turn, IsTurn, IsCourse}
 use Rattle.tc_explore.specs.Inside.Going.{taken, IsOn, CannotGo}
-use Rattle.tc_explore.specs.Inside.Simulation.{is_spent, IsCovered, GoesOn, IsClosedFor}
+use Rattle.tc_explore.specs.Inside.Simulation.{is_spent, IsCovered, GoesOn, IsClosedFor, IsWithin}
 use Rattle.tc_explore.specs.Inside.Seen.{IsSeen, IsLonger, StandsOn, IsAfter, IsRunClosed, IsCalm, IsState, IsStillAt, AreStill, IsFull}
 use Rattle.tc_explore.proofs.Seeing.{closed_for_longer, covered_by}
+use Rattle.tc_verdict.specs.declared.verdict.Verdict.{Verdict}
+use Rattle.tc_verdict.specs.Verdict.{level_of}
 
 -- what a copy of a course has called, it has called
 pub with_copied : (t u v : Case) (run : Run) (op : Op) → u.behaviours ≡ t.behaviours → u.history ≡ t.history → past_of v ≡ taken u.behaviours (past_of u) run op ∷ past_of u →
@@ -35,22 +37,30 @@ on_copied scripts t u v run op on n h m is turn =
     record { behaviours = m ∙ (n ∙ on.behaviours); course = subst (IsCourse scripts) (sym (with_copied t u v run op n h is)) c }
 
 -- the case is over, and its verdict found
-pub after_over : (scripts : List ScriptView) (states : List Case) (found : List Witness) (q : List Entry) (e : Entry) (u : Case) → past_of u ≡ e ∷ q → is_over (past_of u) ≡ true →
-    is_found found (overall (past_of u)) ≡ true → IsAfter scripts states found q e
+pub after_over : {aim : Verdict} (scripts : List ScriptView) (states : List Case) (found : List Witness) (q : List Entry) (e : Entry) (u : Case) → past_of u ≡ e ∷ q → is_over (past_of u) ≡ true →
+    is_found found (overall (past_of u)) ≡ true → IsAfter aim scripts states found q e
 after_over scripts states found q e u is over told = record {
   over = λ h. ap (λ x. is_found found (overall x)) (sym is) ∙ told;
-  more = λ h. let was : is_over (e ∷ q) ≡ true = ap is_over (sym is) ∙ over in absurd cc;
+  more = λ h within. let was : is_over (e ∷ q) ≡ true = ap is_over (sym is) ∙ over in absurd cc;
 }
 
 -- it is not over, and a state that is seen represents it
-pub after_seen : (scripts : List ScriptView) (states : List Case) (found : List Witness) (q : List Entry) (e : Entry) (u v : Case) → past_of u ≡ e ∷ q → is_over (past_of u) ≡ false →
-    StandsOn scripts u v → IsSeen states (past_of v) → IsAfter scripts states found q e
-after_seen scripts states found q e u v is going stands seen = record {
+pub after_seen : {aim : Verdict} (scripts : List ScriptView) (states : List Case) (found : List Witness) (q : List Entry) (e : Entry) (u v : Case) → past_of u ≡ e ∷ q → is_over (past_of u) ≡ false →
+    StandsOn aim scripts u v → IsSeen states (past_of v) → IsAfter aim scripts states found q e
+after_seen {aim} scripts states found q e u v is going stands seen = record {
   over = λ h. let was : is_over (e ∷ q) ≡ false = ap is_over (sym is) ∙ going in absurd cc;
-  more = λ h. subst (IsCovered scripts (IsSeen states)) is (covered_by scripts states u v stands seen);
+  more = λ h within. subst (IsCovered aim scripts (IsSeen states)) is (covered_by scripts states u v stands seen);
 }
 
-pub ruleset closed_rules = (with_copied, on_copied, after_over, after_seen)
+-- its verdict is worse than is looked for
+pub after_worse : {aim : Verdict} (scripts : List ScriptView) (states : List Case) (found : List Witness) (q : List Entry) (e : Entry) (u : Case) → past_of u ≡ e ∷ q → is_over (past_of u) ≡ false →
+    level_of aim < level_of (overall (past_of u)) → IsAfter aim scripts states found q e
+after_worse {aim} scripts states found q e u is going worse = record {
+  over = λ h. let was : is_over (e ∷ q) ≡ false = ap is_over (sym is) ∙ going in absurd cc;
+  more = λ h within. let l : level_of (overall (past_of u)) ≤ level_of aim = subst (IsWithin aim) (sym is) within in absurd (omega (arith, l, worse));
+}
+
+pub ruleset closed_rules = (with_copied, on_copied, after_over, after_seen, after_worse)
 
 -- ---- one run
 
@@ -76,23 +86,23 @@ same_entry scripts q e d h k own =
     same_run : (x y : Run) → x.0 ≡ y.0 → x ≡ y
     same_run x y h = ap (λ (m : ℕ). record { 0 = m }) h
 
-pub run_cannot : (scripts : List ScriptView) (states : List Case) (found : List Witness) (q : List Entry) (b : ℕ) → CannotGo scripts q b → IsRunClosed scripts states found q b
+pub run_cannot : {aim : Verdict} (scripts : List ScriptView) (states : List Case) (found : List Witness) (q : List Entry) (b : ℕ) → CannotGo scripts q b → IsRunClosed aim scripts states found q b
 run_cannot scripts states found q b cannot = λ e own t on. absurd (cannot e own t)
 
-pub run_parked : (scripts : List ScriptView) (states : List Case) (found : List Witness) (n : ℕ) (q : List Entry) (run : Run) (op : Op) → IsTurn scripts q (taken n q run op) → goes_on (answer n q run.0 op) ≡ false →
-    IsRunClosed scripts states found q run.0
+pub run_parked : {aim : Verdict} (scripts : List ScriptView) (states : List Case) (found : List Witness) (n : ℕ) (q : List Entry) (run : Run) (op : Op) → IsTurn scripts q (taken n q run op) → goes_on (answer n q run.0 op) ≡ false →
+    IsRunClosed aim scripts states found q run.0
 run_parked scripts states found n q run op t off = λ e own h on.
     let same : e ≡ taken n q run op = same_entry scripts q e (taken n q run op) h t own in
     let was : goes_on e.reply ≡ goes_on (answer n q run.0 op) = ap (λ (x : Entry). goes_on x.reply) same in
     absurd cc
 
 -- in a state a call that continues is an error, or changes something
-pub run_closed : (scripts : List ScriptView) (states : List Case) (found : List Witness) (n : ℕ) (q : List Entry) (run : Run) (op : Op) → IsCalm scripts q → run.0 < length scripts → IsTurn scripts q (taken n q run op) →
-    goes_on (answer n q run.0 op) ≡ true → IsAfter scripts states found q (taken n q run op) → IsRunClosed scripts states found q run.0
-run_closed scripts states found n q run op calm near t goes after = λ e own h on.
+pub run_closed : {aim : Verdict} (scripts : List ScriptView) (states : List Case) (found : List Witness) (n : ℕ) (q : List Entry) (run : Run) (op : Op) → IsCalm scripts q → run.0 < length scripts → IsTurn scripts q (taken n q run op) →
+    goes_on (answer n q run.0 op) ≡ true → IsAfter aim scripts states found q (taken n q run op) → IsRunClosed aim scripts states found q run.0
+run_closed {aim} scripts states found n q run op calm near t goes after = λ e own h on.
     let loud : is_fault (answer n q run.0 op) ≡ false → is_spent q op ≡ false = calm run.0 near (taken n q run op) refl t goes in
     let same : taken n q run op ≡ e = sym (same_entry scripts q e (taken n q run op) h t own) in
-    subst (λ x. IsClosedFor scripts (IsSeen states) found q x) same (record { loud = loud; over = after.over; more = after.more })
+    subst (λ x. IsClosedFor aim scripts (IsSeen states) found q x) same (record { loud = loud; over = after.over; more = after.more })
 
 pub goes_on_by : (scripts : List ScriptView) (n : ℕ) (q : List Entry) (run : Run) (op : Op) → IsTurn scripts q (taken n q run op) → goes_on (answer n q run.0 op) ≡ true → is_fault (answer n q run.0 op) ≡ false → GoesOn scripts q
 goes_on_by scripts n q run op t on plain = record { entry = taken n q run op; turn = t; on = on; no_fault = plain }
@@ -112,27 +122,27 @@ still_fault scripts n q run op t fault = λ e own h on.
     let same : e ≡ taken n q run op = same_entry scripts q e (taken n q run op) h t own in
     ap (λ (x : Entry). is_fault x.reply) same ∙ fault
 
-pub calm_state : (scripts : List ScriptView) (t : Case) → IsState scripts t → IsCalm scripts (past_of t)
+pub calm_state : {aim : Verdict} (scripts : List ScriptView) (t : Case) → IsState aim scripts t → IsCalm scripts (past_of t)
 calm_state scripts t s = s.calm
 
 pub ruleset run_rules = (run_cannot, run_parked, run_closed, goes_on_by, still_cannot, still_parked, still_fault, calm_state)
 
 -- ---- all runs
 
-run_longer : (scripts : List ScriptView) (a b : List Case) (f g : List Witness) (q : List Entry) (k : ℕ) → IsLonger a b → IsLonger f g → IsRunClosed scripts a f q k → IsRunClosed scripts b g q k
+run_longer : {aim : Verdict} (scripts : List ScriptView) (a b : List Case) (f g : List Witness) (q : List Entry) (k : ℕ) → IsLonger a b → IsLonger f g → IsRunClosed aim scripts a f q k → IsRunClosed aim scripts b g q k
 run_longer scripts a b f g q k states found closed = λ e own t on. closed_for_longer scripts a b f g q e states found (closed e own t on)
 
-pub runs_longer : (scripts : List ScriptView) (a b : List Case) (f g : List Witness) (q : List Entry) (n : ℕ) → IsLonger a b → IsLonger f g → ((k : ℕ) → k < n → IsRunClosed scripts a f q k) →
-    (k : ℕ) → k < n → IsRunClosed scripts b g q k
+pub runs_longer : {aim : Verdict} (scripts : List ScriptView) (a b : List Case) (f g : List Witness) (q : List Entry) (n : ℕ) → IsLonger a b → IsLonger f g → ((k : ℕ) → k < n → IsRunClosed aim scripts a f q k) →
+    (k : ℕ) → k < n → IsRunClosed aim scripts b g q k
 runs_longer scripts a b f g q n states found closed k less = run_longer scripts a b f g q k states found (closed k less)
 
-pub runs_more : (scripts : List ScriptView) (a b : List Case) (f g : List Witness) (q : List Entry) (n : ℕ) → IsLonger a b → IsLonger f g → ((k : ℕ) → k < n → IsRunClosed scripts a f q k) → IsRunClosed scripts b g q n →
-    (k : ℕ) → k < n + 1 → IsRunClosed scripts b g q k
-runs_more scripts a b f g q n states found closed last k less = by_place (nat_lt k n) refl
+pub runs_more : {aim : Verdict} (scripts : List ScriptView) (a b : List Case) (f g : List Witness) (q : List Entry) (n : ℕ) → IsLonger a b → IsLonger f g → ((k : ℕ) → k < n → IsRunClosed aim scripts a f q k) → IsRunClosed aim scripts b g q n →
+    (k : ℕ) → k < n + 1 → IsRunClosed aim scripts b g q k
+runs_more {aim} scripts a b f g q n states found closed last k less = by_place (nat_lt k n) refl
   where
-    by_place : (t : Bool) → nat_lt k n ≡ t → IsRunClosed scripts b g q k
+    by_place : (t : Bool) → nat_lt k n ≡ t → IsRunClosed aim scripts b g q k
     by_place true h = run_longer scripts a b f g q k states found (closed k (grind (arith, nat_tests)))
-    by_place false h = let same : n ≡ k = grind (arith, nat_tests) in subst (IsRunClosed scripts b g q) same last
+    by_place false h = let same : n ≡ k = grind (arith, nat_tests) in subst (IsRunClosed aim scripts b g q) same last
 
 pub longer_then : {A : Type 0} (a b c : List A) → IsLonger a b → IsLonger b c → IsLonger a c
 longer_then a b c h k = (h.0 ++ k.0, k.1 ∙ (ap (λ x. x ++ k.0) h.1 ∙ append_assoc a h.0 k.0))

@@ -4,7 +4,7 @@ use Rattle.std.proofs.Common.{ℕ, zero, suc, ◌≡◌, ◌<◌, ◌≤◌, ◌
 use Rattle.std.proofs.lemmas.Bool.Decides.{nat_tests}
 use Rattle.tc_verdict.specs.declared.verdict.Verdict.{Verdict}
 use Rattle.tc_verdict.specs.declared.verdict.Verdict.TheVariants as V
-use Rattle.tc_verdict.specs.Verdict.{worse}
+use Rattle.tc_verdict.specs.Verdict.{worse, level_of}
 use Rattle.tc_entry.specs.declared.comp.Comp.{Comp}
 use Rattle.tc_entry.specs.declared.entry.Entry.{Entry}
 use Rattle.tc_entry.specs.declared.op.Op.{Op}
@@ -22,7 +22,7 @@ use Rattle.tc_step.specs.Steps.{ScriptView}
 use Rattle.tc_table.specs.declared.awaited.Awaited.{Awaited}
 use Rattle.tc_table.specs.History.{comp_of, comps, exists, is_in, created, started_on, ends_case, is_over}
 use Rattle.tc_table.specs.Phases.{phase}
-use Rattle.tc_table.specs.Local.{overall}
+use Rattle.tc_table.specs.Local.{overall, gives}
 use Rattle.tc_table.specs.Waiting.{holds, waiting, waits_in_vain, is_still, is_stuck, awaited}
 use Rattle.tc_table.specs.Faults.{fault, all_exist}
 use Rattle.tc_table.specs.Answers.{answer, plain_answer, wake_reply, is_active, is_active_on, is_run_of}
@@ -35,26 +35,30 @@ use Rattle.tc_explore.specs.declared.witness.Witness.{Witness}
 use Rattle.std.specs.Option.{unwrap_or}
 use Rattle.tc_explore.specs.Course.{Stand, stand, goes_on, after_own, after_other_by, is_wake, is_idle, wake_if, call_of, turn, steps_of, IsTurn, IsCourse, IsComplete}
 use Rattle.tc_explore.specs.Told.{is_found}
-use Rattle.tc_explore.specs.Inside.Simulation.{IsAlike, is_quiet, is_late, is_met, is_spent, IsQuietAt, call_at, IsWakeOf, IsBefore, IsParkedAt, IsFollowed, IsLastAt, WasParked, IsLeaving, place_of, IsEnding, IsAhead, IsFor, IsCovered, GoesOn, IsClosed}
+use Rattle.tc_explore.specs.Inside.Simulation.{IsAlike, is_quiet, is_late, is_met, is_spent, IsQuietAt, call_at, IsWakeOf, IsBefore, IsParkedAt, IsFollowed, IsLastAt, WasParked, IsLeaving, place_of, IsEnding, IsAhead, IsFor, IsCovered, GoesOn, IsClosed, IsWithin, is_barred, IsBarredBefore, AreOrdered}
 use Rattle.tc_explore.proofs.Legality.{course_legal}
-use Rattle.tc_explore.proofs.Alike.{ChangesNothing, alike_sym, alike_unchanged, active_alike, holds_alike, is_plain_call, overall_next}
+use Rattle.tc_explore.proofs.Alike.{ChangesNothing, alike_sym, alike_unchanged, active_alike, holds_alike, is_plain_call, overall_next, overall_grows, next_within}
 use Rattle.tc_explore.proofs.Ahead.{holds_ahead, ending_active, ended_inactive, not_ending_run, died_before, active_back, active_forth, none_too, some_too, fault_ahead, answer_ahead, ahead_self, ahead_after, ahead_turn, ahead_step}
 use Rattle.tc_explore.proofs.Leaving.{Ends, running_on, ends_no_case, after_end}
 use Rattle.tc_explore.proofs.Lemmas.Standings.{HasTurn, has_turn, turn_of, never_wake, stand_own, stand_comp, stand_unstarted, unstarted, IsAwaitedBy, waiting_wake, wake_after_other, run_in_range}
-use Rattle.tc_explore.proofs.Late.{IsGone, late_for, late_reply, late_halts, IsMetFor, met_for, met_reply, met_or_parked, met_holds, halt_not_ending, other_than_gone, ahead_late}
+use Rattle.tc_explore.proofs.Late.{IsGone, late_for, late_reply, late_halts, IsMetFor, met_for, met_reply, met_or_parked, met_holds, halt_not_ending, other_than_gone, ahead_late, late_free}
 use Rattle.tc_explore.proofs.Ordered.{order_opening}
-use Rattle.tc_explore.proofs.Simulation.{unchanged_ended, unchanged_quiet, unchanged_wait, unchanged_wake, some_if, stay, stutter, both}
-use Rattle.tc_explore.proofs.Places.{not_ending, quiet_sets_no_wake, quiet_no_wake, Spent, how_spent, loud_not_quiet, behind, parked, woken_behind, leaving_on, leaving_parked, leaving_woken, together, woken, followed_self, keeps_quiet}
+use Rattle.tc_explore.proofs.Simulation.{unchanged_ended, unchanged_quiet, unchanged_wait, unchanged_wake, some_if, stay, stutter, both, ended_kept, wait_kept, wake_kept, quiet_within}
+use Rattle.tc_explore.proofs.Places.{not_ending, quiet_sets_no_wake, quiet_no_wake, Spent, how_spent, loud_not_quiet, behind, parked, woken_behind, leaving_on, leaving_parked, leaving_woken, together, woken, followed_self, keeps_quiet, barred_sets, quiet_free}
+use Rattle.tc_explore.specs.Inside.Seen.{IsToldBy}
+use Rattle.tc_verdict.proofs.Lemmas.Order.{worse_right}
+use Rattle.tc_verdict.specs.declared.user_verdict.UserVerdict.{UserVerdict}
+use Rattle.tc_verdict.specs.UserVerdict.{given}
 
 -- what is found of a course, or represents it
-pub record IsTold (scripts : List ScriptView) (Seen : List Entry → Type 0) (found : List Witness) (p : List Entry) : Type 0 where
-  pub over : is_over p ≡ true → is_found found (overall p) ≡ true
-  pub going : is_over p ≡ false → (r : List Entry) × IsClosed scripts Seen found r × IsFor scripts r p
+pub record IsTold (aim : Verdict) (scripts : List ScriptView) (Seen : List Entry → Type 0) (found : List Witness) (p : List Entry) : Type 0 where
+  pub over : is_over p ≡ true → IsToldBy aim found (overall p)
+  pub going : is_over p ≡ false → (r : List Entry) × IsClosed aim scripts Seen found r × IsFor aim scripts r p
 
 -- each seen history is closed, or another that represents the same is
-abbrev pub SeenIsClosed : List ScriptView → (List Entry → Type 0) → List Witness → Type 0
-SeenIsClosed scripts Seen found =
-    (r p : List Entry) → Seen r → IsCourse scripts p → IsFor scripts r p → (s : List Entry) × IsClosed scripts Seen found s × IsFor scripts s p
+abbrev pub SeenIsClosed : Verdict → List ScriptView → (List Entry → Type 0) → List Witness → Type 0
+SeenIsClosed aim scripts Seen found =
+    (r p : List Entry) → Seen r → IsCourse scripts p → IsFor aim scripts r p → (s : List Entry) × IsClosed aim scripts Seen found s × IsFor aim scripts s p
 
 -- ---- replies
 
@@ -167,20 +171,21 @@ pub or_left : (a b : Bool) → (a || b) ≡ false → a ≡ false
 or_left true b h = absurd cc
 or_left false b h = refl
 
-exists_back : {scripts : List ScriptView} {p q : List Entry} → IsAhead scripts p q → (c : ℕ) → exists q c ≡ true → exists p c ≡ true
+exists_back : {aim : Verdict} → {scripts : List ScriptView} {p q : List Entry} → IsAhead aim scripts p q → (c : ℕ) → exists q c ≡ true → exists p c ≡ true
 unfolding exists
 exists_back s c there = ap (is_in c) s.comps_same ∙ there
 
 -- ---- one more turn of p
 
 -- p and one more turn, where q represents p and is closed
-pub record AtTurn (scripts : List ScriptView) (Seen : List Entry → Type 0) (found : List Witness) (p q : List Entry) (e : Entry) : Type 0 where
+pub record AtTurn (aim : Verdict) (scripts : List ScriptView) (Seen : List Entry → Type 0) (found : List Witness) (p q : List Entry) (e : Entry) : Type 0 where
   pub some : 1 ≤ length scripts
   pub course : IsCourse scripts (e ∷ p)
-  pub closed : IsClosed scripts Seen found q
-  pub for : IsFor scripts q p
+  pub within : IsWithin aim (e ∷ p)
+  pub closed : IsClosed aim scripts Seen found q
+  pub for : IsFor aim scripts q p
   pub going : is_over p ≡ false
-  pub seen : SeenIsClosed scripts Seen found
+  pub seen : SeenIsClosed aim scripts Seen found
 
 -- and its caller continues, on this component
 pub record IsGoing (scripts : List ScriptView) (p q : List Entry) (e : Entry) (me : Comp) : Type 0 where
@@ -205,41 +210,48 @@ turn_in scripts p q e me g =
 fresh_stand : (past : List Entry) (e : Entry) (b : ℕ) → (e.caller.0 == b) ≡ false → stand past b ≡ unstarted → stand (e ∷ past) b ≡ after_other_by None e b unstarted
 fresh_stand past e b other un = rw (other, un) refl
 
-module _ {scripts : List ScriptView} {p q : List Entry} where
+module _ {aim : Verdict} {scripts : List ScriptView} {p q : List Entry} where
   -- a run that continues after q is not leaving
-  no_leaving : (e : Entry) → IsFor scripts q p → is_active q e.caller.0 ≡ true →
-      (c : ℕ) (n : IsEnding scripts p q c) → (e.caller.0 == n.run.0) ≡ true → IsLeaving scripts q n.run.0 (stand (e ∷ p) n.run.0)
+  no_leaving : (e : Entry) → IsFor aim scripts q p → is_active q e.caller.0 ≡ true →
+      (c : ℕ) (n : IsEnding aim scripts p q c) → (e.caller.0 == n.run.0) ≡ true → IsLeaving aim scripts q n.run.0 (stand (e ∷ p) n.run.0)
   no_leaving e f act c n k = let other : (e.caller.0 == n.run.0) ≡ false = not_ending_run f.ahead e.caller.0 act c n in absurd cc
 
   -- nor one that does not continue after p
   none_leaving : (e : Entry) → is_active p e.caller.0 ≡ false →
-      (c : ℕ) (n : IsEnding scripts p q c) → (e.caller.0 == n.run.0) ≡ true → IsLeaving scripts q n.run.0 (stand (e ∷ p) n.run.0)
+      (c : ℕ) (n : IsEnding aim scripts p q c) → (e.caller.0 == n.run.0) ≡ true → IsLeaving aim scripts q n.run.0 (stand (e ∷ p) n.run.0)
   none_leaving e off c n k =
       let same : is_active p e.caller.0 ≡ is_active p n.run.0 = ap (is_active p) (equal_if e.caller.0 n.run.0 k) in
       let on : is_active p n.run.0 ≡ true = ending_active c n in
       absurd cc
 
-module _ {scripts : List ScriptView} {Seen : List Entry → Type 0} {found : List Witness} {p q : List Entry} {e : Entry} where
-  told_stay : AtTurn scripts Seen found p q e → ends_case e ≡ false → IsFor scripts q (e ∷ p) → IsTold scripts Seen found (e ∷ p)
+module _ {aim : Verdict} {scripts : List ScriptView} {Seen : List Entry → Type 0} {found : List Witness} {p q : List Entry} {e : Entry} where
+  legal_next : AtTurn aim scripts Seen found p q e → IsLegal (length scripts) (e ∷ p)
+  legal_next h = course_legal scripts (e ∷ p) h.course
+
+  -- the verdict after p is what it was
+  still_better : AtTurn aim scripts Seen found p q e → overall (e ∷ p) ≡ overall p → level_of (overall (e ∷ p)) ≤ level_of (overall q)
+  still_better h same = let eq = ap level_of same in let l = h.for.ahead.no_better in omega (arith, eq, l)
+
+  told_stay : AtTurn aim scripts Seen found p q e → ends_case e ≡ false → IsFor aim scripts q (e ∷ p) → IsTold aim scripts Seen found (e ∷ p)
   told_stay h none f =
       let on : is_over (e ∷ p) ≡ false = rw (none, h.going) refl in
       record { over = λ o. absurd cc; going = λ o. (q, h.closed, f) }
 
-  told_stutter : AtTurn scripts Seen found p q e → ChangesNothing p e → IsFor scripts q (e ∷ p) → IsTold scripts Seen found (e ∷ p)
+  told_stutter : AtTurn aim scripts Seen found p q e → ChangesNothing p e → IsFor aim scripts q (e ∷ p) → IsTold aim scripts Seen found (e ∷ p)
   told_stutter h u f = told_stay h (or_left (ends_case e) _ (u.no_halt 0)) f
 
   -- a turn of q that p has too
-  told_both : AtTurn scripts Seen found p q e → (d : Entry) → IsTurn scripts q d → d.caller.0 < length scripts → goes_on d.reply ≡ true →
-      overall (e ∷ p) ≡ overall (d ∷ q) → ends_case e ≡ ends_case d → (is_over (e ∷ p) ≡ false → IsFor scripts (d ∷ q) (e ∷ p)) → IsTold scripts Seen found (e ∷ p)
-  told_both h d turn within on same ends f =
+  told_both : AtTurn aim scripts Seen found p q e → (d : Entry) → IsTurn scripts q d → d.caller.0 < length scripts → goes_on d.reply ≡ true →
+      level_of (overall (e ∷ p)) ≤ level_of (overall (d ∷ q)) → IsWithin aim (d ∷ q) → ends_case e ≡ ends_case d → (is_over (e ∷ p) ≡ false → IsFor aim scripts (d ∷ q) (e ∷ p)) → IsTold aim scripts Seen found (e ∷ p)
+  told_both h d turn within on better inside ends f =
       let c = h.closed.each d within turn on in
       let over_p : is_over (e ∷ p) ≡ ends_case e = rw h.going (or_no (ends_case e)) in
       let over_q : is_over (d ∷ q) ≡ ends_case d = rw h.closed.going (or_no (ends_case d)) in
       let over_same : is_over (e ∷ p) ≡ is_over (d ∷ q) = over_p ∙ (ends ∙ sym over_q) in
       record {
-        over = λ o. ap (is_found found) same ∙ c.over (sym over_same ∙ o);
+        over = λ o. (overall (d ∷ q), c.over (sym over_same ∙ o), better, inside);
         going = λ o.
-            let r = c.more (sym over_same ∙ o) (e ∷ p) h.course (f o) in
+            let r = c.more (sym over_same ∙ o) inside (e ∷ p) h.course (f o) in
             h.seen r.0 (e ∷ p) r.1 h.course r.2;
       }
     where
@@ -248,55 +260,57 @@ module _ {scripts : List ScriptView} {Seen : List Entry → Type 0} {found : Lis
       or_no false = refl
 
   -- an error of both
-  told_fault : AtTurn scripts Seen found p q e → (d : Entry) → IsTurn scripts q d → d.caller.0 ≡ e.caller.0 → e.caller.0 < length scripts → (x y : Fault) → e.reply ≡ R.Fault x → d.reply ≡ R.Fault y →
-      IsTold scripts Seen found (e ∷ p)
+  told_fault : AtTurn aim scripts Seen found p q e → (d : Entry) → IsTurn scripts q d → d.caller.0 ≡ e.caller.0 → e.caller.0 < length scripts → (x y : Fault) → e.reply ≡ R.Fault x → d.reply ≡ R.Fault y →
+      IsTold aim scripts Seen found (e ∷ p)
   told_fault h d turn callers within x y re rd =
       let lq : IsLegal (length scripts) (d ∷ q) = course_legal scripts (d ∷ q) (turn, h.closed.course) in
-      let vp : overall (e ∷ p) ≡ worse (overall p) V.Error = overall_next (length scripts) p e (course_legal scripts (e ∷ p) h.course) ∙ rw re refl in
-      let vq : overall (d ∷ q) ≡ worse (overall q) V.Error = overall_next (length scripts) q d lq ∙ rw rd refl in
+      let vp : overall (e ∷ p) ≡ V.Error = overall_next (length scripts) p e (legal_next h) ∙ (rw re refl ∙ error_is_worst (overall p)) in
+      let vq : overall (d ∷ q) ≡ V.Error = overall_next (length scripts) q d lq ∙ (rw rd refl ∙ error_is_worst (overall q)) in
+      let lp : level_of (overall (e ∷ p)) ≡ level_of V.Error = ap level_of vp in
+      let ld : level_of (overall (d ∷ q)) ≡ level_of V.Error = ap level_of vq in
+      let within_p : level_of (overall (e ∷ p)) ≤ level_of aim = h.within in
       let ends_e : ends_case e ≡ true = rw re refl in
       let ends_d : ends_case d ≡ true = rw rd refl in
       let over_e : is_over (e ∷ p) ≡ true = rw ends_e refl in
-      told_both h d turn (rw callers within) (rw rd refl) (vp ∙ (ap (λ w. worse w V.Error) h.for.ahead.overall_same ∙ sym vq)) (ends_e ∙ sym ends_d) (λ o. absurd cc)
+      told_both h d turn (rw callers within) (rw rd refl) (omega (arith, lp, ld)) (omega (arith, lp, ld, within_p)) (ends_e ∙ sym ends_d) (λ o. absurd cc)
 
   -- a Wait of p that is parked
-  told_parked : (me : Comp) → AtTurn scripts Seen found p q e → IsGoing scripts p q e me → (stand p e.caller.0).wake ≡ None → (k : Bool) (t : Target) → e.op ≡ O.Wait k t → e.reply ≡ R.Parked →
-      call_at scripts e.caller.0 (stand q e.caller.0) (stand q e.caller.0).comp (stand p e.caller.0).called ≡ e.op → IsTold scripts Seen found (e ∷ p)
+  told_parked : (me : Comp) → AtTurn aim scripts Seen found p q e → IsGoing scripts p q e me → (stand p e.caller.0).wake ≡ None → (k : Bool) (t : Target) → e.op ≡ O.Wait k t → e.reply ≡ R.Parked →
+      call_at scripts e.caller.0 (stand q e.caller.0) (stand q e.caller.0).comp (stand p e.caller.0).called ≡ e.op → IsTold aim scripts Seen found (e ∷ p)
   told_parked me h g none k t is r calls =
       let of : IsWakeOf e.op (O.Wake k t) = record { killed = k; target = t; waits = is; wakes = refl } in
       let u = unchanged_wait p e (O.Wake k t) of (rw r refl) in
-      told_stutter h u (stutter scripts p q e h.course h.closed.course h.for u (no_leaving e h.for g.in_q) (λ act.
+      told_stutter h u (stutter scripts p q e h.course h.closed.course h.for u (still_better h (wait_kept (length scripts) p e (O.Wake k t) (legal_next h) of (rw r refl))) (no_leaving e h.for g.in_q) (λ act.
       subst (λ s. IsFollowed scripts q e.caller.0 s (stand q e.caller.0)) (sym (stand_own p e e.caller.0 refl))
       (parked scripts q e.caller.0 (stand p e.caller.0) (stand q e.caller.0) e (O.Wake k t) g.followed none u.made
       (not_ending p e (stand p e.caller.0).comp me u g.stand_p g.on_p (rw r refl)) (rw is refl) (rw (is, r) refl) (record { killed = k; target = t; waits = calls ∙ is; wakes = refl }))))
 
   -- p makes a call that is no error after q
-  no_fault_back : AtTurn scripts Seen found p q e → fault (length scripts) q e.caller.0 e.op ≡ None → fault (length scripts) p e.caller.0 e.op ≡ None
+  no_fault_back : AtTurn aim scripts Seen found p q e → fault (length scripts) q e.caller.0 e.op ≡ None → fault (length scripts) p e.caller.0 e.op ≡ None
   no_fault_back h none =
       none_too (fault (length scripts) q e.caller.0 e.op) (fault (length scripts) p e.caller.0 e.op) (sym (fault_ahead h.for.ahead (length scripts) e.caller.0 e.op)) none
 
   -- a quiet call of p that q has made
-  told_behind_quiet : (me : Comp) → AtTurn scripts Seen found p q e → IsGoing scripts p q e me → (stand p e.caller.0).wake ≡ None → (stand p e.caller.0).called < (stand q e.caller.0).called →
-      fault (length scripts) q e.caller.0 e.op ≡ None → is_quiet (overall q) e.op ≡ true → IsTold scripts Seen found (e ∷ p)
+  told_behind_quiet : (me : Comp) → AtTurn aim scripts Seen found p q e → IsGoing scripts p q e me → (stand p e.caller.0).wake ≡ None → (stand p e.caller.0).called < (stand q e.caller.0).called →
+      fault (length scripts) q e.caller.0 e.op ≡ None → is_quiet (overall q) e.op ≡ true → IsTold aim scripts Seen found (e ∷ p)
   told_behind_quiet me h g none less no_fault_q quiet =
-      let quiet_p : is_quiet (overall p) e.op ≡ true = rw h.for.ahead.overall_same quiet in
       let no_fault = no_fault_back h no_fault_q in
       let is : e.reply ≡ plain_answer p e.caller.0 e.op = h.course.0.reply ∙ answer_plain (length scripts) p e.caller.0 e.op g.in_p no_fault in
-      let plain : is_fault e.reply ≡ false = ap is_fault is ∙ (quiet_reply (overall p) p e.caller.0 e.op me g.on_p quiet_p).1 in
+      let plain : is_fault e.reply ≡ false = ap is_fault is ∙ (quiet_reply (overall q) p e.caller.0 e.op me g.on_p quiet).1 in
       let goes : is_ended e.reply ≡ false = ap is_ended is ∙ plain_not_ended p e.caller.0 e.op me g.on_p in
-      let u = unchanged_quiet p e quiet_p plain in
-      told_stutter h u (stutter scripts p q e h.course h.closed.course h.for u (no_leaving e h.for g.in_q) (λ act.
+      let u = unchanged_quiet (overall q) p e quiet plain in
+      told_stutter h u (stutter scripts p q e h.course h.closed.course h.for u (quiet_within (overall q) (length scripts) p e (legal_next h) quiet plain h.for.ahead.no_better) (no_leaving e h.for g.in_q) (λ act.
       subst (λ s. IsFollowed scripts q e.caller.0 s (stand q e.caller.0)) (sym (stand_own p e e.caller.0 refl))
       (behind scripts q e.caller.0 (stand p e.caller.0) (stand q e.caller.0) e g.followed none less u.made
-      (not_ending p e (stand p e.caller.0).comp me u g.stand_p g.on_p goes) (quiet_no_wake (overall p) e.op quiet_p) (quiet_sets_no_wake (overall p) e.op e.reply quiet_p))))
+      (not_ending p e (stand p e.caller.0).comp me u g.stand_p g.on_p goes) (quiet_no_wake (overall q) e.op quiet) (quiet_sets_no_wake (overall q) e.op e.reply quiet))))
 
   -- a component that is killed after q is there after p
-  there_too : AtTurn scripts Seen found p q e → (c : ℕ) → IsGone q c → exists p c ≡ true
+  there_too : AtTurn aim scripts Seen found p q e → (c : ℕ) → IsGone q c → exists p c ≡ true
   there_too h c gone = exists_back h.for.ahead c gone.there
 
   -- a stop or kill of p that q has made, of what was killed then
-  told_behind_late : (me : Comp) → AtTurn scripts Seen found p q e → IsGoing scripts p q e me → (stand p e.caller.0).wake ≡ None → (stand p e.caller.0).called < (stand q e.caller.0).called →
-      fault (length scripts) q e.caller.0 e.op ≡ None → is_late q e.op ≡ true → IsTold scripts Seen found (e ∷ p)
+  told_behind_late : (me : Comp) → AtTurn aim scripts Seen found p q e → IsGoing scripts p q e me → (stand p e.caller.0).wake ≡ None → (stand p e.caller.0).called < (stand q e.caller.0).called →
+      fault (length scripts) q e.caller.0 e.op ≡ None → is_late q e.op ≡ true → IsTold aim scripts Seen found (e ∷ p)
   told_behind_late me h g none less no_fault_q late =
       let is : e.reply ≡ plain_answer p e.caller.0 e.op = h.course.0.reply ∙ answer_plain (length scripts) p e.caller.0 e.op g.in_p (no_fault_back h no_fault_q) in
       let l = late_for q e.op late in
@@ -310,8 +324,8 @@ module _ {scripts : List ScriptView} {Seen : List Entry → Type 0} {found : Lis
       (halt_not_ending one (stand p e.caller.0).comp me g.stand_p other) one.plain one.no_wake)))
 
   -- a wait of p that q has made, for what was killed then
-  told_behind_met : (me : Comp) → AtTurn scripts Seen found p q e → IsGoing scripts p q e me → (stand p e.caller.0).wake ≡ None → (stand p e.caller.0).called < (stand q e.caller.0).called →
-      call_at scripts e.caller.0 (stand q e.caller.0) (stand q e.caller.0).comp (stand p e.caller.0).called ≡ e.op → fault (length scripts) q e.caller.0 e.op ≡ None → is_met q e.op ≡ true → IsTold scripts Seen found (e ∷ p)
+  told_behind_met : (me : Comp) → AtTurn aim scripts Seen found p q e → IsGoing scripts p q e me → (stand p e.caller.0).wake ≡ None → (stand p e.caller.0).called < (stand q e.caller.0).called →
+      call_at scripts e.caller.0 (stand q e.caller.0) (stand q e.caller.0).comp (stand p e.caller.0).called ≡ e.op → fault (length scripts) q e.caller.0 e.op ≡ None → is_met q e.op ≡ true → IsTold aim scripts Seen found (e ∷ p)
   told_behind_met me h g none less call_q no_fault_q met = by_reply (met_or_parked q p e.caller.0 e.op met)
     where
       m : IsMetFor q e.op
@@ -320,36 +334,37 @@ module _ {scripts : List ScriptView} {Seen : List Entry → Type 0} {found : Lis
       is : e.reply ≡ plain_answer p e.caller.0 e.op
       is = h.course.0.reply ∙ answer_plain (length scripts) p e.caller.0 e.op g.in_p (no_fault_back h no_fault_q)
 
-      by_reply : (plain_answer p e.caller.0 e.op ≡ R.Matched) ⊎ (plain_answer p e.caller.0 e.op ≡ R.Parked) → IsTold scripts Seen found (e ∷ p)
+      by_reply : (plain_answer p e.caller.0 e.op ≡ R.Matched) ⊎ (plain_answer p e.caller.0 e.op ≡ R.Parked) → IsTold aim scripts Seen found (e ∷ p)
       by_reply (inr r) = told_parked me h g none m.for_kill (T.One m.comp) m.waits (is ∙ r) call_q
       by_reply (inl r) =
           let of : IsWakeOf e.op (O.Wake m.for_kill (T.One m.comp)) = record { killed = m.for_kill; target = T.One m.comp; waits = m.waits; wakes = refl } in
           let matched : e.reply ≡ R.Matched = is ∙ r in
           let u = unchanged_wait p e (O.Wake m.for_kill (T.One m.comp)) of (rw matched refl) in
-          told_stutter h u (stutter scripts p q e h.course h.closed.course h.for u (no_leaving e h.for g.in_q) (λ act.
+          told_stutter h u (stutter scripts p q e h.course h.closed.course h.for u (still_better h (wait_kept (length scripts) p e (O.Wake m.for_kill (T.One m.comp)) (legal_next h) of (rw matched refl))) (no_leaving e h.for g.in_q) (λ act.
           subst (λ s. IsFollowed scripts q e.caller.0 s (stand q e.caller.0)) (sym (stand_own p e e.caller.0 refl))
           (behind scripts q e.caller.0 (stand p e.caller.0) (stand q e.caller.0) e g.followed none less u.made
           (not_ending p e (stand p e.caller.0).comp me u g.stand_p g.on_p (rw matched refl)) (rw m.waits refl) (rw matched refl))))
 
   -- a call of p that q has made, and that changes nothing after q
-  told_behind : (me : Comp) → AtTurn scripts Seen found p q e → IsGoing scripts p q e me → (stand p e.caller.0).wake ≡ None → (stand p e.caller.0).called < (stand q e.caller.0).called →
-      call_at scripts e.caller.0 (stand q e.caller.0) (stand q e.caller.0).comp (stand p e.caller.0).called ≡ e.op → IsQuietAt (length scripts) q e.caller.0 e.op → IsTold scripts Seen found (e ∷ p)
+  told_behind : (me : Comp) → AtTurn aim scripts Seen found p q e → IsGoing scripts p q e me → (stand p e.caller.0).wake ≡ None → (stand p e.caller.0).called < (stand q e.caller.0).called →
+      call_at scripts e.caller.0 (stand q e.caller.0) (stand q e.caller.0).comp (stand p e.caller.0).called ≡ e.op → IsQuietAt (length scripts) q e.caller.0 e.op → IsTold aim scripts Seen found (e ∷ p)
   told_behind me h g none less call_q spent = by_kind (how_spent q e.op spent.quiet)
     where
-      by_kind : Spent q e.op → IsTold scripts Seen found (e ∷ p)
+      by_kind : Spent q e.op → IsTold aim scripts Seen found (e ∷ p)
       by_kind (inl quiet) = told_behind_quiet me h g none less spent.no_fault quiet
       by_kind (inr (inl late)) = told_behind_late me h g none less spent.no_fault late
       by_kind (inr (inr met)) = told_behind_met me h g none less call_q spent.no_fault met
 
-  told_on : (me : Comp) → AtTurn scripts Seen found p q e → IsGoing scripts p q e me → (stand p e.caller.0).called ≡ (stand q e.caller.0).called → is_wake e.op ≡ false →
-      IsTurn scripts q e → goes_on e.reply ≡ true → IsTold scripts Seen found (e ∷ p)
+  told_on : (me : Comp) → AtTurn aim scripts Seen found p q e → IsGoing scripts p q e me → (stand p e.caller.0).called ≡ (stand q e.caller.0).called → is_wake e.op ≡ false →
+      IsTurn scripts q e → goes_on e.reply ≡ true → IsTold aim scripts Seen found (e ∷ p)
   told_on me h g same wk turn on =
       let lp = course_legal scripts (e ∷ p) h.course in
       let cq : IsCourse scripts (e ∷ q) = (turn, h.closed.course) in
       let lq = course_legal scripts (e ∷ q) cq in
       let keeps = keeps_quiet (length scripts) q e lq in
       let ahead = ahead_step scripts p q e h.course.1 lp lq h.for.ahead g.in_q keeps in
-      told_both h e turn g.in_range on ahead.overall_same refl (λ o.
+      let inside : level_of (overall (e ∷ q)) ≤ level_of aim = rw (overall_next (length scripts) q e lq) (next_within (gives e.op e.reply) (overall p) (overall q) (level_of aim) (rw (← overall_next (length scripts) p e lp) h.within) h.closed.within) in
+      told_both h e turn g.in_range on ahead.no_better inside refl (λ o.
       both scripts p q e e h.course cq h.for refl ahead keeps
       (λ act.
       subst (λ s. IsFollowed scripts (e ∷ q) e.caller.0 s (stand (e ∷ q) e.caller.0)) (sym (stand_own p e e.caller.0 refl))
@@ -365,16 +380,13 @@ module _ {scripts : List ScriptView} {Seen : List Entry → Type 0} {found : Lis
       (λ c dead. died_before scripts p q e h.course.1 lp lq h.for.ahead g.in_q keeps c dead))
 
   -- a call of both that is not quiet
-  told_loud : (me : Comp) → AtTurn scripts Seen found p q e → IsGoing scripts p q e me → (stand p e.caller.0).wake ≡ None → (stand p e.caller.0).called ≡ (stand q e.caller.0).called →
+  told_loud : (me : Comp) → AtTurn aim scripts Seen found p q e → IsGoing scripts p q e me → (stand p e.caller.0).wake ≡ None → (stand p e.caller.0).called ≡ (stand q e.caller.0).called →
       call_at scripts e.caller.0 (stand q e.caller.0) (stand q e.caller.0).comp (stand q e.caller.0).called ≡ e.op → is_wake e.op ≡ false → is_spent q e.op ≡ false →
-      IsTold scripts Seen found (e ∷ p)
+      IsTold aim scripts Seen found (e ∷ p)
   told_loud me h g none same calls wk changes = by_reply e.reply refl
     where
       loud : is_quiet (overall q) e.op ≡ false
       loud = loud_not_quiet q e.op changes
-
-      loud_p : is_quiet (overall p) e.op ≡ false
-      loud_p = rw h.for.ahead.overall_same loud
 
       calls_plainly : is_plain_call e.op ≡ true
       calls_plainly = loud_is_plain (overall q) e.op wk loud
@@ -382,17 +394,17 @@ module _ {scripts : List ScriptView} {Seen : List Entry → Type 0} {found : Lis
       has_turn_q : turn scripts q e.caller.0 ≡ Some e.op
       has_turn_q = turn_in scripts p q e me g ∙ ap Some calls
 
-      by_parked : e.reply ≡ R.Parked → (o : Option Fault) → fault (length scripts) p e.caller.0 e.op ≡ o → IsTold scripts Seen found (e ∷ p)
+      by_parked : e.reply ≡ R.Parked → (o : Option Fault) → fault (length scripts) p e.caller.0 e.op ≡ o → IsTold aim scripts Seen found (e ∷ p)
       by_parked r (Some x) k =
           let f : e.reply ≡ R.Fault x = h.course.0.reply ∙ answer_fault (length scripts) p e.caller.0 e.op x g.in_p k in
           let no : is_fault R.Parked ≡ true = ap is_fault (sym r ∙ f) in
           absurd cc
       by_parked r None k =
           let plain : plain_answer p e.caller.0 e.op ≡ R.Parked = sym (answer_plain (length scripts) p e.caller.0 e.op g.in_p k) ∙ (sym h.course.0.reply ∙ r) in
-          let w = parks_wait (overall p) p e.caller.0 e.op wk loud_p plain in
+          let w = parks_wait (overall q) p e.caller.0 e.op wk loud plain in
           told_parked me h g none w.0 w.1 w.2 r (ap (call_at scripts e.caller.0 (stand q e.caller.0) (stand q e.caller.0).comp) same ∙ calls)
 
-      by_fault : (x : Fault) → e.reply ≡ R.Fault x → (o : Option Fault) → fault (length scripts) p e.caller.0 e.op ≡ o → IsTold scripts Seen found (e ∷ p)
+      by_fault : (x : Fault) → e.reply ≡ R.Fault x → (o : Option Fault) → fault (length scripts) p e.caller.0 e.op ≡ o → IsTold aim scripts Seen found (e ∷ p)
       by_fault x r (Some y) k =
           let z = some_too (fault (length scripts) p e.caller.0 e.op) (fault (length scripts) q e.caller.0 e.op) y (fault_ahead h.for.ahead (length scripts) e.caller.0 e.op) k in
           let d : Entry = record { caller = e.caller; op = e.op; reply = R.Fault z.0 } in
@@ -404,13 +416,13 @@ module _ {scripts : List ScriptView} {Seen : List Entry → Type 0} {found : Lis
           let yes : is_fault (plain_answer p e.caller.0 e.op) ≡ true = ap is_fault plain in
           absurd cc
 
-      on_both : goes_on e.reply ≡ true → is_fault e.reply ≡ false → IsTold scripts Seen found (e ∷ p)
+      on_both : goes_on e.reply ≡ true → is_fault e.reply ≡ false → IsTold aim scripts Seen found (e ∷ p)
       on_both on plain =
           let is : answer (length scripts) p e.caller.0 e.op ≡ answer (length scripts) q e.caller.0 e.op =
           answer_ahead h.for.ahead (length scripts) e.caller.0 e.op calls_plainly g.in_q (ap goes_on (sym h.course.0.reply) ∙ on) (ap is_fault (sym h.course.0.reply) ∙ plain) in
           told_on me h g same wk (record { turn = has_turn_q; reply = h.course.0.reply ∙ is; not_idle = h.course.0.not_idle }) on
 
-      by_reply : (r : Reply) → e.reply ≡ r → IsTold scripts Seen found (e ∷ p)
+      by_reply : (r : Reply) → e.reply ≡ r → IsTold aim scripts Seen found (e ∷ p)
       by_reply R.Ended r =
           let no : is_ended (answer (length scripts) p e.caller.0 e.op) ≡ false = not_ended (length scripts) p e.caller.0 e.op me g.in_p g.on_p in
           let yes : is_ended (answer (length scripts) p e.caller.0 e.op) ≡ true = ap is_ended (sym h.course.0.reply ∙ r) in
@@ -420,12 +432,12 @@ module _ {scripts : List ScriptView} {Seen : List Entry → Type 0} {found : Lis
       by_reply _ r = on_both (ap goes_on r) (ap is_fault r)
 
   -- a quiet call of both: an error, since q has made all others
-  told_quiet : (me : Comp) → AtTurn scripts Seen found p q e → IsGoing scripts p q e me →
+  told_quiet : (me : Comp) → AtTurn aim scripts Seen found p q e → IsGoing scripts p q e me →
       call_at scripts e.caller.0 (stand q e.caller.0) (stand q e.caller.0).comp (stand q e.caller.0).called ≡ e.op → is_wake e.op ≡ false → is_spent q e.op ≡ true →
-      IsTold scripts Seen found (e ∷ p)
+      IsTold aim scripts Seen found (e ∷ p)
   told_quiet me h g calls wk quiet = by_fault (fault (length scripts) q e.caller.0 e.op) refl
     where
-      by_fault : (o : Option Fault) → fault (length scripts) q e.caller.0 e.op ≡ o → IsTold scripts Seen found (e ∷ p)
+      by_fault : (o : Option Fault) → fault (length scripts) q e.caller.0 e.op ≡ o → IsTold aim scripts Seen found (e ∷ p)
       by_fault (Some x) k =
           let d : Entry = record { caller = e.caller; op = e.op; reply = R.Fault x } in
           let turn : IsTurn scripts q d = record { turn = turn_in scripts p q e me g ∙ ap Some calls; reply = sym (answer_fault (length scripts) q e.caller.0 e.op x g.in_q k); not_idle = refl } in
@@ -444,8 +456,8 @@ module _ {scripts : List ScriptView} {Seen : List Entry → Type 0} {found : Lis
           absurd cc
 
   -- a step, if no Wake is to come
-  told_place : (me : Comp) → AtTurn scripts Seen found p q e → IsGoing scripts p q e me → (stand p e.caller.0).wake ≡ None →
-      call_of me (stand p e.caller.0).bound (slice_get (steps_of scripts e.caller.0) (stand p e.caller.0).called) ≡ e.op → IsTold scripts Seen found (e ∷ p)
+  told_place : (me : Comp) → AtTurn aim scripts Seen found p q e → IsGoing scripts p q e me → (stand p e.caller.0).wake ≡ None →
+      call_of me (stand p e.caller.0).bound (slice_get (steps_of scripts e.caller.0) (stand p e.caller.0).called) ≡ e.op → IsTold aim scripts Seen found (e ∷ p)
   told_place me h g none calls = by_less (nat_lt (stand p e.caller.0).called (stand q e.caller.0).called) refl
     where
       before : IsBefore scripts q e.caller.0 (stand p e.caller.0) (stand q e.caller.0)
@@ -459,11 +471,11 @@ module _ {scripts : List ScriptView} {Seen : List Entry → Type 0} {found : Lis
       wk : is_wake e.op ≡ false
       wk = ap is_wake (sym calls) ∙ never_wake me (stand p e.caller.0).bound (slice_get (steps_of scripts e.caller.0) (stand p e.caller.0).called)
 
-      by_quiet : (stand p e.caller.0).called ≡ (stand q e.caller.0).called → (t : Bool) → is_spent q e.op ≡ t → IsTold scripts Seen found (e ∷ p)
+      by_quiet : (stand p e.caller.0).called ≡ (stand q e.caller.0).called → (t : Bool) → is_spent q e.op ≡ t → IsTold aim scripts Seen found (e ∷ p)
       by_quiet same true k = told_quiet me h g (ap (λ m. call_at scripts e.caller.0 (stand q e.caller.0) (stand q e.caller.0).comp m) (sym same) ∙ call_q) wk k
       by_quiet same false k = told_loud me h g none same (ap (λ m. call_at scripts e.caller.0 (stand q e.caller.0) (stand q e.caller.0).comp m) (sym same) ∙ call_q) wk k
 
-      by_less : (t : Bool) → nat_lt (stand p e.caller.0).called (stand q e.caller.0).called ≡ t → IsTold scripts Seen found (e ∷ p)
+      by_less : (t : Bool) → nat_lt (stand p e.caller.0).called (stand q e.caller.0).called ≡ t → IsTold aim scripts Seen found (e ∷ p)
       by_less true k =
           let less : (stand p e.caller.0).called < (stand q e.caller.0).called = grind (arith, nat_tests) in
           told_behind me h g none less call_q (subst (λ op. IsQuietAt (length scripts) q e.caller.0 op) call_q (before.between (stand p e.caller.0).called (omega arith) less))
@@ -547,11 +559,11 @@ met_awaited q op wake a of m h =
 place_if_parked : (s : Stand) (wake : Op) (place : ℕ) → s.wake ≡ Some wake → s.called ≡ suc place → place_of s ≤ place
 place_if_parked s wake place h more = rw h (omega (arith, more))
 
-module _ {scripts : List ScriptView} {p q : List Entry} where
+module _ {aim : Verdict} {scripts : List ScriptView} {p q : List Entry} where
   -- if p is stuck no run is leaving: the one whose component comes first by rank would continue
-  none_ending : IsCourse scripts p → (f : IsFor scripts q p) → is_stuck p ≡ true → (m c : ℕ) → IsEnding scripts p q c → f.order.rank c < m → ⊥
-  none_ending cp f stuck zero c n l = absurd (omega (arith, l))
-  none_ending cp f stuck (suc m) c n l = by_phase (none_ending cp f stuck m) (f.ahead.phases met.comp.0)
+  none_ending : IsCourse scripts p → (f : IsFor aim scripts q p) (o : AreOrdered scripts p q) → is_stuck p ≡ true → (m c : ℕ) → IsEnding aim scripts p q c → o.rank c < m → ⊥
+  none_ending cp f o stuck zero c n l = absurd (omega (arith, l))
+  none_ending cp f o stuck (suc m) c n l = by_phase (none_ending cp f o stuck m) (f.ahead.phases met.comp.0)
     where
       w : (a : Awaited) × (waiting p n.run.0 ≡ Some a) × (holds p a ≡ false)
       w = stuck_waits (length scripts) p n.run.0 (course_legal scripts p cp) stuck (ending_active c n)
@@ -568,10 +580,10 @@ module _ {scripts : List ScriptView} {p q : List Entry} where
       a_is : record { killed = met.for_kill; target = T.One met.comp } ≡ w.0
       a_is = met_awaited q (call_at scripts n.run.0 (stand p n.run.0) (stand p n.run.0).comp was.place) by.wake w.0 was.wake_of met by.for_it
 
-      lower : f.order.rank met.comp.0 < f.order.rank c
-      lower = (f.order.each c n.run.0 (ending_active c n) n.on n.ended was.place met.for_kill met.comp (place_if_parked (stand p n.run.0) by.wake was.place by.to_come was.one_more) met.waits).0
+      lower : o.rank met.comp.0 < o.rank c
+      lower = (o.each c n.run.0 (ending_active c n) n.on n.ended was.place met.for_kill met.comp (place_if_parked (stand p n.run.0) by.wake was.place by.to_come was.one_more) met.waits).0
 
-      by_phase : ((d : ℕ) → IsEnding scripts p q d → f.order.rank d < m → ⊥) → (phase p met.comp.0 ≡ phase q met.comp.0) ⊎ IsEnding scripts p q met.comp.0 → ⊥
+      by_phase : ((d : ℕ) → IsEnding aim scripts p q d → o.rank d < m → ⊥) → (phase p met.comp.0 ≡ phase q met.comp.0) ⊎ IsEnding aim scripts p q met.comp.0 → ⊥
       by_phase again (inl same) =
           let there : exists p met.comp.0 ≡ true = exists_back f.ahead met.comp.0 met.gone.there in
           let yes : holds p (record { killed = met.for_kill; target = T.One met.comp }) ≡ true = met_holds p met.for_kill met.comp (record { there = there; dead = same ∙ met.gone.dead }) in
@@ -579,21 +591,20 @@ module _ {scripts : List ScriptView} {p q : List Entry} where
           opposed _ yes no
       by_phase again (inr k) = let less = lower in again met.comp.0 k (omega (arith, less, l))
 
-  stuck_alike : IsCourse scripts p → IsFor scripts q p → is_stuck p ≡ true → IsAlike p q
-  stuck_alike cp f stuck = record {
+  stuck_alike : IsCourse scripts p → IsFor aim scripts q p → AreOrdered scripts p q → is_stuck p ≡ true → IsAlike p q
+  stuck_alike cp f o stuck = record {
     comps_same = f.ahead.comps_same;
     phase_same = λ c. by_phase c (f.ahead.phases c);
     kind_same = f.ahead.kind_same;
     comp_same = f.ahead.comp_same;
-    overall_same = f.ahead.overall_same;
   }
     where
-      by_phase : (c : ℕ) → (phase p c ≡ phase q c) ⊎ IsEnding scripts p q c → phase p c ≡ phase q c
+      by_phase : (c : ℕ) → (phase p c ≡ phase q c) ⊎ IsEnding aim scripts p q c → phase p c ≡ phase q c
       by_phase c (inl h) = h
-      by_phase c (inr n) = absurd (none_ending cp f stuck (suc (f.order.rank c)) c n (omega arith))
+      by_phase c (inr n) = absurd (none_ending cp f o stuck (suc (o.rank c)) c n (omega arith))
 
   -- and none can continue in q
-  none_goes_on : IsCourse scripts p → IsFor scripts q p → IsAlike p q → is_stuck p ≡ true → GoesOn scripts q → ⊥
+  none_goes_on : IsCourse scripts p → IsFor aim scripts q p → IsAlike p q → is_stuck p ≡ true → GoesOn scripts q → ⊥
   none_goes_on cp f alike stuck go = by_less (nat_lt at.place (stand q d.caller.0).called) refl
     where
       d : Entry
@@ -645,22 +656,30 @@ finish_reply : (n : ℕ) (past : List Entry) (b : ℕ) → is_active past b ≡ 
 unfolding answer fault all_exist
 finish_reply n past b act = rw act refl
 
+fault_of_set : (n : ℕ) (past : List Entry) (b : ℕ) (v : UserVerdict) → fault n past b (O.SetVerdict v) ≡ None
+unfolding fault all_exist
+fault_of_set n past b v = refl
+
 pub fault_of_wait : (n : ℕ) (past : List Entry) (b : ℕ) (k : Bool) (t : Target) → fault n past b (O.Wait k t) ≡ fault n past b (O.Wake k t)
 unfolding fault
 fault_of_wait n past b k t = refl
 
-module _ {scripts : List ScriptView} {Seen : List Entry → Type 0} {found : List Witness} {p q : List Entry} {e : Entry} where
-  told_stuck : AtTurn scripts Seen found p q e → is_stuck p ≡ true → e.reply ≡ R.Fault F.Stuck → IsTold scripts Seen found (e ∷ p)
+module _ {aim : Verdict} {scripts : List ScriptView} {Seen : List Entry → Type 0} {found : List Witness} {p q : List Entry} {e : Entry} where
+  told_stuck : AtTurn aim scripts Seen found p q e → is_stuck p ≡ true → e.reply ≡ R.Fault F.Stuck → IsTold aim scripts Seen found (e ∷ p)
   told_stuck h stuck r =
-      let found_error : is_found found V.Error ≡ true = ⊎_elim (λ x. x) (λ go. absurd (none_goes_on h.course.1 h.for (stuck_alike h.course.1 h.for stuck) stuck go)) h.closed.stuck in
       let v : overall (e ∷ p) ≡ V.Error = overall_next (length scripts) p e (course_legal scripts (e ∷ p) h.course) ∙ (rw r refl ∙ error_is_worst (overall p)) in
       let ends : ends_case e ≡ true = rw r refl in
       let over_e : is_over (e ∷ p) ≡ true = rw ends refl in
-      record { over = λ o. ap (is_found found) v ∙ found_error; going = λ o. absurd cc }
+      let worst : level_of (overall (e ∷ p)) ≡ level_of V.Error = ap level_of v in
+      let within : level_of (overall (e ∷ p)) ≤ level_of aim = h.within in
+      let found_error : is_found found V.Error ≡ true = ⊎_elim (λ x. x)
+      (λ other. ⊎_elim (λ go. ⊎_elim (λ better. absurd (omega (arith, worst, within, better)))
+      (λ o. absurd (none_goes_on h.course.1 h.for (stuck_alike h.course.1 h.for o stuck) stuck go)) h.for.order) (λ better. absurd (omega (arith, worst, within, better))) other) h.closed.stuck in
+      record { over = λ o. (V.Error, found_error, omega (arith, worst), omega (arith, worst, within)); going = λ o. absurd cc }
 
   -- a Wake that is answered Matched
-  told_woken : (me : Comp) → AtTurn scripts Seen found p q e → IsGoing scripts p q e me → (k : Bool) (t : Target) → e.op ≡ O.Wake k t → e.reply ≡ R.Matched → (stand p e.caller.0).called ≡ suc (stand q e.caller.0).called →
-      IsTurn scripts q (record { caller = e.caller; op = O.Wait k t; reply = R.Matched }) → IsTold scripts Seen found (e ∷ p)
+  told_woken : (me : Comp) → AtTurn aim scripts Seen found p q e → IsGoing scripts p q e me → (k : Bool) (t : Target) → e.op ≡ O.Wake k t → e.reply ≡ R.Matched → (stand p e.caller.0).called ≡ suc (stand q e.caller.0).called →
+      IsTurn scripts q (record { caller = e.caller; op = O.Wait k t; reply = R.Matched }) → IsTold aim scripts Seen found (e ∷ p)
   told_woken me h g k t is r one_more turn =
       let d : Entry = record { caller = e.caller; op = O.Wait k t; reply = R.Matched } in
       let of : IsWakeOf (O.Wait k t) e.op = record { killed = k; target = t; waits = refl; wakes = is } in
@@ -672,13 +691,16 @@ module _ {scripts : List ScriptView} {Seen : List Entry → Type 0} {found : Lis
       let ae = alike_unchanged (length scripts) p e (course_legal scripts (e ∷ p) h.course) ue in
       let ad = alike_unchanged (length scripts) q d lq ud in
       let keeps = keeps_quiet (length scripts) q d lq in
-      let later : IsAhead scripts p (d ∷ q) = ahead_after scripts p q (d ∷ q) h.for.ahead (alike_sym (d ∷ q) q ad) keeps in
+      let later : IsAhead aim scripts p (d ∷ q) = ahead_after scripts p q (d ∷ q) h.for.ahead (alike_sym (d ∷ q) q ad) keeps (overall_grows (length scripts) q d lq) in
       let goes : is_active (d ∷ q) e.caller.0 ≡ true = active_alike ad e.caller.0 ∙ g.in_q in
-      let ahead : IsAhead scripts (e ∷ p) (d ∷ q) =
-      ahead_turn scripts p (d ∷ q) e h.course.1 ae later (λ c n k. let other = not_ending_run later e.caller.0 goes c n in absurd cc) in
+      let ahead : IsAhead aim scripts (e ∷ p) (d ∷ q) =
+      ahead_turn scripts p (d ∷ q) e h.course.1 ae later (λ c n k. let other = not_ending_run later e.caller.0 goes c n in absurd cc)
+      (let was = still_better h (wake_kept (length scripts) p e (O.Wait k t) (legal_next h) of (rw r refl)) in let grows = overall_grows (length scripts) q d lq in omega (arith, was, grows)) in
+      let inside : level_of (overall (d ∷ q)) ≤ level_of aim =
+      let same = ap level_of (wait_kept (length scripts) q d (O.Wake k t) lq to refl) in let was = h.closed.within in omega (arith, same, was) in
       let ends_e : ends_case e ≡ false = or_left (ends_case e) _ (ue.no_halt 0) in
       let ends_d : ends_case d ≡ false = or_left (ends_case d) _ (ud.no_halt 0) in
-      told_both h d turn g.in_range refl ahead.overall_same (ends_e ∙ sym ends_d) (λ o.
+      told_both h d turn g.in_range refl ahead.no_better inside (ends_e ∙ sym ends_d) (λ o.
       both scripts p q e d h.course cq h.for refl ahead keeps
       (λ act.
       subst (λ s. IsFollowed scripts (d ∷ q) e.caller.0 s (stand (d ∷ q) e.caller.0)) (sym (stand_own p e e.caller.0 refl))
@@ -694,11 +716,11 @@ module _ {scripts : List ScriptView} {Seen : List Entry → Type 0} {found : Lis
       (λ c dead. inl (sym (ad.phase_same c) ∙ dead)))
 
   -- a Wake of what has not come
-  told_unmet : AtTurn scripts Seen found p q e → (k : Bool) (t : Target) → e.op ≡ O.Wake k t → e.reply ≡ wake_reply p e.caller.0 (record { killed = k; target = t }) →
-      holds p (record { killed = k; target = t }) ≡ false → IsTold scripts Seen found (e ∷ p)
+  told_unmet : AtTurn aim scripts Seen found p q e → (k : Bool) (t : Target) → e.op ≡ O.Wake k t → e.reply ≡ wake_reply p e.caller.0 (record { killed = k; target = t }) →
+      holds p (record { killed = k; target = t }) ≡ false → IsTold aim scripts Seen found (e ∷ p)
   told_unmet h k t op_is r unmet = by_stuck ((e.caller.0 == 0) && is_stuck p) refl
     where
-      by_stuck : (s : Bool) → ((e.caller.0 == 0) && is_stuck p) ≡ s → IsTold scripts Seen found (e ∷ p)
+      by_stuck : (s : Bool) → ((e.caller.0 == 0) && is_stuck p) ≡ s → IsTold aim scripts Seen found (e ∷ p)
       by_stuck true j =
           let is : e.reply ≡ R.Fault F.Stuck = r ∙ rw (unmet, j) refl in
           told_stuck h (and_right (e.caller.0 == 0) (is_stuck p) j) is
@@ -709,12 +731,12 @@ module _ {scripts : List ScriptView} {Seen : List Entry → Type 0} {found : Lis
           absurd cc
 
   -- the errors of a Wake are those of its Wait
-  wake_fault : AtTurn scripts Seen found p q e → (k : Bool) (t : Target) → is_some (fault (length scripts) p e.caller.0 (O.Wake k t)) ≡ is_some (fault (length scripts) q e.caller.0 (O.Wait k t))
+  wake_fault : AtTurn aim scripts Seen found p q e → (k : Bool) (t : Target) → is_some (fault (length scripts) p e.caller.0 (O.Wake k t)) ≡ is_some (fault (length scripts) q e.caller.0 (O.Wait k t))
   wake_fault h k t = fault_ahead h.for.ahead (length scripts) e.caller.0 (O.Wake k t) ∙ ap is_some (sym (fault_of_wait (length scripts) q e.caller.0 k t))
 
   -- a Wake of a Wait that q calls next
-  told_wake_here : (me : Comp) → AtTurn scripts Seen found p q e → IsGoing scripts p q e me → (k : Bool) (t : Target) → e.op ≡ O.Wake k t →
-      call_at scripts e.caller.0 (stand q e.caller.0) (stand q e.caller.0).comp (stand q e.caller.0).called ≡ O.Wait k t → (stand p e.caller.0).called ≡ suc (stand q e.caller.0).called → IsTold scripts Seen found (e ∷ p)
+  told_wake_here : (me : Comp) → AtTurn aim scripts Seen found p q e → IsGoing scripts p q e me → (k : Bool) (t : Target) → e.op ≡ O.Wake k t →
+      call_at scripts e.caller.0 (stand q e.caller.0) (stand q e.caller.0).comp (stand q e.caller.0).called ≡ O.Wait k t → (stand p e.caller.0).called ≡ suc (stand q e.caller.0).called → IsTold aim scripts Seen found (e ∷ p)
   told_wake_here me h g wk t op_is calls one_more = by_fault (fault (length scripts) p e.caller.0 (O.Wake wk t)) refl
     where
       turn_q : turn scripts q e.caller.0 ≡ Some (O.Wait wk t)
@@ -723,7 +745,7 @@ module _ {scripts : List ScriptView} {Seen : List Entry → Type 0} {found : Lis
       reply_p : e.reply ≡ answer (length scripts) p e.caller.0 (O.Wake wk t)
       reply_p = h.course.0.reply ∙ ap (answer (length scripts) p e.caller.0) op_is
 
-      by_holds : fault (length scripts) p e.caller.0 (O.Wake wk t) ≡ None → (s : Bool) → holds p (record { killed = wk; target = t }) ≡ s → IsTold scripts Seen found (e ∷ p)
+      by_holds : fault (length scripts) p e.caller.0 (O.Wake wk t) ≡ None → (s : Bool) → holds p (record { killed = wk; target = t }) ≡ s → IsTold aim scripts Seen found (e ∷ p)
       by_holds none true k =
           let r : e.reply ≡ R.Matched = reply_p ∙ (answer_plain (length scripts) p e.caller.0 (O.Wake wk t) g.in_p none ∙ rw k refl) in
           let there : holds q (record { killed = wk; target = t }) ≡ true = holds_ahead h.for.ahead (record { killed = wk; target = t }) k in
@@ -733,7 +755,7 @@ module _ {scripts : List ScriptView} {Seen : List Entry → Type 0} {found : Lis
           told_woken me h g wk t op_is r one_more (record { turn = turn_q; reply = sym rq; not_idle = refl })
       by_holds none false k = told_unmet h wk t op_is (reply_p ∙ answer_plain (length scripts) p e.caller.0 (O.Wake wk t) g.in_p none) k
 
-      by_fault : (o : Option Fault) → fault (length scripts) p e.caller.0 (O.Wake wk t) ≡ o → IsTold scripts Seen found (e ∷ p)
+      by_fault : (o : Option Fault) → fault (length scripts) p e.caller.0 (O.Wake wk t) ≡ o → IsTold aim scripts Seen found (e ∷ p)
       by_fault None k = by_holds k (holds p (record { killed = wk; target = t })) refl
       by_fault (Some x) k =
           let y = some_too (fault (length scripts) p e.caller.0 (O.Wake wk t)) (fault (length scripts) q e.caller.0 (O.Wait wk t)) x (wake_fault h wk t) k in
@@ -746,7 +768,7 @@ module _ {scripts : List ScriptView} {Seen : List Entry → Type 0} {found : Lis
           told_fault h d turn refl g.in_range x y.0 (reply_p ∙ answer_fault (length scripts) p e.caller.0 (O.Wake wk t) x g.in_p k) refl
 
   -- the answer to a Wake of a Wait that is no error after q
-  wake_answer : AtTurn scripts Seen found p q e → (k : Bool) (t : Target) → is_active p e.caller.0 ≡ true → e.op ≡ O.Wake k t → fault (length scripts) q e.caller.0 (O.Wait k t) ≡ None →
+  wake_answer : AtTurn aim scripts Seen found p q e → (k : Bool) (t : Target) → is_active p e.caller.0 ≡ true → e.op ≡ O.Wake k t → fault (length scripts) q e.caller.0 (O.Wait k t) ≡ None →
       e.reply ≡ wake_reply p e.caller.0 (record { killed = k; target = t })
   wake_answer h k t act op_is none =
       let none_p : fault (length scripts) p e.caller.0 (O.Wake k t) ≡ None =
@@ -754,8 +776,8 @@ module _ {scripts : List ScriptView} {Seen : List Entry → Type 0} {found : Lis
       h.course.0.reply ∙ (ap (answer (length scripts) p e.caller.0) op_is ∙ answer_plain (length scripts) p e.caller.0 (O.Wake k t) act none_p)
 
   -- a Wake of a Wait that q has made
-  told_wake_behind : (me : Comp) → AtTurn scripts Seen found p q e → IsGoing scripts p q e me → (wake : Op) → wake ≡ e.op → (at : IsParkedAt scripts q e.caller.0 (stand p e.caller.0) (stand q e.caller.0) wake) →
-      at.place < (stand q e.caller.0).called → IsTold scripts Seen found (e ∷ p)
+  told_wake_behind : (me : Comp) → AtTurn aim scripts Seen found p q e → IsGoing scripts p q e me → (wake : Op) → wake ≡ e.op → (at : IsParkedAt scripts q e.caller.0 (stand p e.caller.0) (stand q e.caller.0) wake) →
+      at.place < (stand q e.caller.0).called → IsTold aim scripts Seen found (e ∷ p)
   told_wake_behind me h g wake calls at less = by_holds (holds p (record { killed = at.wake_of.killed; target = at.wake_of.target })) refl
     where
       op_is : e.op ≡ O.Wake at.wake_of.killed at.wake_of.target
@@ -767,25 +789,25 @@ module _ {scripts : List ScriptView} {Seen : List Entry → Type 0} {found : Lis
       reply : e.reply ≡ wake_reply p e.caller.0 (record { killed = at.wake_of.killed; target = at.wake_of.target })
       reply = wake_answer h at.wake_of.killed at.wake_of.target g.in_p op_is quiet.no_fault
 
-      by_holds : (s : Bool) → holds p (record { killed = at.wake_of.killed; target = at.wake_of.target }) ≡ s → IsTold scripts Seen found (e ∷ p)
+      by_holds : (s : Bool) → holds p (record { killed = at.wake_of.killed; target = at.wake_of.target }) ≡ s → IsTold aim scripts Seen found (e ∷ p)
       by_holds false k = told_unmet h at.wake_of.killed at.wake_of.target op_is reply k
       by_holds true k =
           let r : e.reply ≡ R.Matched = reply ∙ rw k refl in
           let of : IsWakeOf (O.Wait at.wake_of.killed at.wake_of.target) e.op = record { killed = at.wake_of.killed; target = at.wake_of.target; waits = refl; wakes = op_is } in
           let u = unchanged_wake p e (O.Wait at.wake_of.killed at.wake_of.target) of (rw r refl) in
-          told_stutter h u (stutter scripts p q e h.course h.closed.course h.for u (no_leaving e h.for g.in_q) (λ act.
+          told_stutter h u (stutter scripts p q e h.course h.closed.course h.for u (still_better h (wake_kept (length scripts) p e (O.Wait at.wake_of.killed at.wake_of.target) (legal_next h) of (rw r refl))) (no_leaving e h.for g.in_q) (λ act.
           subst (λ s. IsFollowed scripts q e.caller.0 s (stand q e.caller.0)) (sym (stand_own p e e.caller.0 refl))
           (woken_behind scripts q e.caller.0 (stand p e.caller.0) (stand q e.caller.0) e wake g.followed at less u.made
           (not_ending p e (stand p e.caller.0).comp me u g.stand_p g.on_p (rw r refl)) (rw op_is refl) (loud_sets_no_wake e.op e.reply (rw r refl)))))
 
   -- a Wake
-  told_wake : (me : Comp) → AtTurn scripts Seen found p q e → IsGoing scripts p q e me → (wake : Op) → (stand p e.caller.0).wake ≡ Some wake → wake ≡ e.op → IsTold scripts Seen found (e ∷ p)
+  told_wake : (me : Comp) → AtTurn aim scripts Seen found p q e → IsGoing scripts p q e me → (wake : Op) → (stand p e.caller.0).wake ≡ Some wake → wake ≡ e.op → IsTold aim scripts Seen found (e ∷ p)
   told_wake me h g wake some calls = by_less (nat_lt at.place (stand q e.caller.0).called) refl
     where
       at : IsParkedAt scripts q e.caller.0 (stand p e.caller.0) (stand q e.caller.0) wake
       at = subst (λ o. MatchOption o (IsBefore scripts q e.caller.0 (stand p e.caller.0) (stand q e.caller.0)) (λ w. IsParkedAt scripts q e.caller.0 (stand p e.caller.0) (stand q e.caller.0) w)) some g.followed.place
 
-      by_less : (t : Bool) → nat_lt at.place (stand q e.caller.0).called ≡ t → IsTold scripts Seen found (e ∷ p)
+      by_less : (t : Bool) → nat_lt at.place (stand q e.caller.0).called ≡ t → IsTold aim scripts Seen found (e ∷ p)
       by_less true k = told_wake_behind me h g wake calls at (grind (arith, nat_tests))
       by_less false k =
           let fewer = at.fewer in
@@ -794,11 +816,11 @@ module _ {scripts : List ScriptView} {Seen : List Entry → Type 0} {found : Lis
           (ap (call_at scripts e.caller.0 (stand q e.caller.0) (stand q e.caller.0).comp) (sym same) ∙ at.wake_of.waits) (at.one_more ∙ ap suc same)
 
   -- a turn of a run that is leaving, and has ended after q
-  told_leaving : AtTurn scripts Seen found p q e → (c : ℕ) (n : IsEnding scripts p q c) → n.run.0 ≡ e.caller.0 → IsTold scripts Seen found (e ∷ p)
+  told_leaving : AtTurn aim scripts Seen found p q e → (c : ℕ) (n : IsEnding aim scripts p q c) → n.run.0 ≡ e.caller.0 → IsTold aim scripts Seen found (e ∷ p)
   told_leaving h c n own = by_wake (stand p e.caller.0).wake refl leaving.parked
     where
-      leaving : IsLeaving scripts q e.caller.0 (stand p e.caller.0)
-      leaving = subst (λ b. IsLeaving scripts q b (stand p b)) own n.leaving
+      leaving : IsLeaving aim scripts q e.caller.0 (stand p e.caller.0)
+      leaving = subst (λ b. IsLeaving aim scripts q b (stand p b)) own n.leaving
 
       active : is_active p e.caller.0 ≡ true
       active = subst (λ b. is_active p b ≡ true) own (ending_active c n)
@@ -823,33 +845,32 @@ module _ {scripts : List ScriptView} {Seen : List Entry → Type 0} {found : Lis
       goes_not : (act : is_active q e.caller.0 ≡ true) → IsFollowed scripts q e.caller.0 (stand (e ∷ p) e.caller.0) (stand q e.caller.0)
       goes_not act = absurd (opposed (is_active q e.caller.0) act off)
 
-      leaving_still : IsLeaving scripts q e.caller.0 (after_own e (stand p e.caller.0)) →
-          (d : ℕ) (m : IsEnding scripts p q d) → (e.caller.0 == m.run.0) ≡ true → IsLeaving scripts q m.run.0 (stand (e ∷ p) m.run.0)
+      leaving_still : IsLeaving aim scripts q e.caller.0 (after_own e (stand p e.caller.0)) →
+          (d : ℕ) (m : IsEnding aim scripts p q d) → (e.caller.0 == m.run.0) ≡ true → IsLeaving aim scripts q m.run.0 (stand (e ∷ p) m.run.0)
       leaving_still l d m k =
-          let later : IsLeaving scripts q e.caller.0 (stand (e ∷ p) e.caller.0) = subst (λ s. IsLeaving scripts q e.caller.0 s) (sym (stand_own p e e.caller.0 refl)) l in
-          subst (λ b. IsLeaving scripts q b (stand (e ∷ p) b)) (equal_if e.caller.0 m.run.0 k) later
+          let later : IsLeaving aim scripts q e.caller.0 (stand (e ∷ p) e.caller.0) = subst (λ s. IsLeaving aim scripts q e.caller.0 s) (sym (stand_own p e e.caller.0 refl)) l in
+          subst (λ b. IsLeaving aim scripts q b (stand (e ∷ p) b)) (equal_if e.caller.0 m.run.0 k) later
 
-      own_leaving : created e.op e.reply ≡ None → is_wake e.op ≡ false → wake_if e.op e.reply ≡ None →
-          (d : ℕ) (m : IsEnding scripts p q d) → (e.caller.0 == m.run.0) ≡ true → IsLeaving scripts q m.run.0 (stand (e ∷ p) m.run.0)
-      own_leaving made plain no_wake = leaving_still (leaving_on scripts q e.caller.0 (stand p e.caller.0) e leaving made plain no_wake)
+      own_leaving : (stand p e.caller.0).wake ≡ None → is_barred aim e.op ≡ false → created e.op e.reply ≡ None → is_wake e.op ≡ false → wake_if e.op e.reply ≡ None →
+          (d : ℕ) (m : IsEnding aim scripts p q d) → (e.caller.0 == m.run.0) ≡ true → IsLeaving aim scripts q m.run.0 (stand (e ∷ p) m.run.0)
+      own_leaving none free made plain no_wake = leaving_still (leaving_on scripts q e.caller.0 (stand p e.caller.0) e leaving made plain no_wake (ap (is_barred aim) (call none) ∙ free))
 
-      quiet_turn : fault (length scripts) q e.caller.0 e.op ≡ None → is_quiet (overall q) e.op ≡ true → IsTold scripts Seen found (e ∷ p)
-      quiet_turn none quiet =
-          let quiet_p : is_quiet (overall p) e.op ≡ true = rw h.for.ahead.overall_same quiet in
-          let plain : is_fault e.reply ≡ false = ap is_fault (answered none) ∙ (quiet_reply (overall p) p e.caller.0 e.op (record { 0 = c }) on quiet_p).1 in
-          let u = unchanged_quiet p e quiet_p plain in
-          told_stutter h u (stutter scripts p q e h.course h.closed.course h.for u
-          (own_leaving u.made (quiet_no_wake (overall p) e.op quiet_p) (quiet_sets_no_wake (overall p) e.op e.reply quiet_p)) goes_not)
+      quiet_turn : (stand p e.caller.0).wake ≡ None → fault (length scripts) q e.caller.0 e.op ≡ None → is_quiet (overall q) e.op ≡ true → IsTold aim scripts Seen found (e ∷ p)
+      quiet_turn no_wake none quiet =
+          let plain : is_fault e.reply ≡ false = ap is_fault (answered none) ∙ (quiet_reply (overall q) p e.caller.0 e.op (record { 0 = c }) on quiet).1 in
+          let u = unchanged_quiet (overall q) p e quiet plain in
+          told_stutter h u (stutter scripts p q e h.course h.closed.course h.for u (quiet_within (overall q) (length scripts) p e (legal_next h) quiet plain h.for.ahead.no_better)
+          (own_leaving no_wake (quiet_free (overall q) aim e.op h.closed.within quiet) u.made (quiet_no_wake (overall q) e.op quiet) (quiet_sets_no_wake (overall q) e.op e.reply quiet)) goes_not)
 
-      late_turn : fault (length scripts) q e.caller.0 e.op ≡ None → is_late q e.op ≡ true → IsTold scripts Seen found (e ∷ p)
-      late_turn none late =
+      late_turn : (stand p e.caller.0).wake ≡ None → fault (length scripts) q e.caller.0 e.op ≡ None → is_late q e.op ≡ true → IsTold aim scripts Seen found (e ∷ p)
+      late_turn no_wake none late =
           let l = late_for q e.op late in
           let one = late_halts q p e late (answered none ∙ late_reply q p e.caller.0 e.op late) in
           let lp = course_legal scripts (e ∷ p) h.course in
-          let ahead = ahead_late scripts p q e l.0.0 h.course.1 lp h.for.ahead one l.1.gone.dead (own_leaving one.made one.plain one.no_wake) (there_too h l.0.0 l.1.gone) in
+          let ahead = ahead_late scripts p q e l.0.0 h.course.1 lp h.for.ahead one l.1.gone.dead (own_leaving no_wake (late_free aim q e.op late) one.made one.plain one.no_wake) (there_too h l.0.0 l.1.gone) in
           told_stay h one.no_case (stay scripts p q e h.course h.closed.course h.for ahead one.made one.no_run goes_not)
 
-      met_turn : (stand p e.caller.0).wake ≡ None → IsQuietAt (length scripts) q e.caller.0 e.op → is_met q e.op ≡ true → IsTold scripts Seen found (e ∷ p)
+      met_turn : (stand p e.caller.0).wake ≡ None → IsQuietAt (length scripts) q e.caller.0 e.op → is_met q e.op ≡ true → IsTold aim scripts Seen found (e ∷ p)
       met_turn none quiet met = by_reply (met_or_parked q p e.caller.0 e.op met)
         where
           m : IsMetFor q e.op
@@ -858,28 +879,28 @@ module _ {scripts : List ScriptView} {Seen : List Entry → Type 0} {found : Lis
           of : IsWakeOf e.op (O.Wake m.for_kill (T.One m.comp))
           of = record { killed = m.for_kill; target = T.One m.comp; waits = m.waits; wakes = refl }
 
-          by_reply : (plain_answer p e.caller.0 e.op ≡ R.Matched) ⊎ (plain_answer p e.caller.0 e.op ≡ R.Parked) → IsTold scripts Seen found (e ∷ p)
+          by_reply : (plain_answer p e.caller.0 e.op ≡ R.Matched) ⊎ (plain_answer p e.caller.0 e.op ≡ R.Parked) → IsTold aim scripts Seen found (e ∷ p)
           by_reply (inl r) =
               let matched : e.reply ≡ R.Matched = answered quiet.no_fault ∙ r in
               let u = unchanged_wait p e (O.Wake m.for_kill (T.One m.comp)) of (rw matched refl) in
-              told_stutter h u (stutter scripts p q e h.course h.closed.course h.for u (own_leaving u.made (rw m.waits refl) (rw matched refl)) goes_not)
+              told_stutter h u (stutter scripts p q e h.course h.closed.course h.for u (still_better h (wait_kept (length scripts) p e (O.Wake m.for_kill (T.One m.comp)) (legal_next h) of (rw matched refl))) (own_leaving none (ap (is_barred aim) m.waits) u.made (rw m.waits refl) (rw matched refl)) goes_not)
           by_reply (inr r) =
               let waits : e.reply ≡ R.Parked = answered quiet.no_fault ∙ r in
               let u = unchanged_wait p e (O.Wake m.for_kill (T.One m.comp)) of (rw waits refl) in
-              told_stutter h u (stutter scripts p q e h.course h.closed.course h.for u
+              told_stutter h u (stutter scripts p q e h.course h.closed.course h.for u (still_better h (wait_kept (length scripts) p e (O.Wake m.for_kill (T.One m.comp)) (legal_next h) of (rw waits refl)))
               (leaving_still (leaving_parked scripts q e.caller.0 (stand p e.caller.0) e (O.Wake m.for_kill (T.One m.comp)) leaving u.made (rw m.waits refl) (wait_parks e.op e.reply m.for_kill (T.One m.comp) m.waits waits)
               (subst (λ op. IsWakeOf op (O.Wake m.for_kill (T.One m.comp))) (sym (call none)) of) (subst (λ op. IsQuietAt (length scripts) q e.caller.0 op) (sym (call none)) quiet)))
               goes_not)
 
-      spent_turn : (stand p e.caller.0).wake ≡ None → IsQuietAt (length scripts) q e.caller.0 e.op → IsTold scripts Seen found (e ∷ p)
+      spent_turn : (stand p e.caller.0).wake ≡ None → IsQuietAt (length scripts) q e.caller.0 e.op → IsTold aim scripts Seen found (e ∷ p)
       spent_turn none spent = by_kind (how_spent q e.op spent.quiet)
         where
-          by_kind : Spent q e.op → IsTold scripts Seen found (e ∷ p)
-          by_kind (inl quiet) = quiet_turn spent.no_fault quiet
-          by_kind (inr (inl late)) = late_turn spent.no_fault late
+          by_kind : Spent q e.op → IsTold aim scripts Seen found (e ∷ p)
+          by_kind (inl quiet) = quiet_turn none spent.no_fault quiet
+          by_kind (inr (inl late)) = late_turn none spent.no_fault late
           by_kind (inr (inr met)) = met_turn none spent met
 
-      woken_turn : (wake : Op) → (stand p e.caller.0).wake ≡ Some wake → WasParked scripts q e.caller.0 (stand p e.caller.0) wake → IsTold scripts Seen found (e ∷ p)
+      woken_turn : (wake : Op) → (stand p e.caller.0).wake ≡ Some wake → WasParked scripts q e.caller.0 (stand p e.caller.0) wake → IsTold aim scripts Seen found (e ∷ p)
       woken_turn wake some was = by_holds (holds p (record { killed = was.wake_of.killed; target = was.wake_of.target })) refl
         where
           calls : wake ≡ e.op
@@ -894,16 +915,16 @@ module _ {scripts : List ScriptView} {Seen : List Entry → Type 0} {found : Lis
           reply : e.reply ≡ wake_reply p e.caller.0 (record { killed = was.wake_of.killed; target = was.wake_of.target })
           reply = wake_answer h was.wake_of.killed was.wake_of.target active op_is quiet.no_fault
 
-          by_holds : (s : Bool) → holds p (record { killed = was.wake_of.killed; target = was.wake_of.target }) ≡ s → IsTold scripts Seen found (e ∷ p)
+          by_holds : (s : Bool) → holds p (record { killed = was.wake_of.killed; target = was.wake_of.target }) ≡ s → IsTold aim scripts Seen found (e ∷ p)
           by_holds false k = told_unmet h was.wake_of.killed was.wake_of.target op_is reply k
           by_holds true k =
               let r : e.reply ≡ R.Matched = reply ∙ rw k refl in
               let of : IsWakeOf (O.Wait was.wake_of.killed was.wake_of.target) e.op = record { killed = was.wake_of.killed; target = was.wake_of.target; waits = refl; wakes = op_is } in
               let u = unchanged_wake p e (O.Wait was.wake_of.killed was.wake_of.target) of (rw r refl) in
-              told_stutter h u (stutter scripts p q e h.course h.closed.course h.for u
+              told_stutter h u (stutter scripts p q e h.course h.closed.course h.for u (still_better h (wake_kept (length scripts) p e (O.Wait was.wake_of.killed was.wake_of.target) (legal_next h) of (rw r refl)))
               (leaving_still (leaving_woken scripts q e.caller.0 (stand p e.caller.0) e leaving u.made (rw op_is refl) (loud_sets_no_wake e.op e.reply (rw r refl)))) goes_not)
 
-      end_turn : e.op ≡ O.Finish → IsTold scripts Seen found (e ∷ p)
+      end_turn : e.op ≡ O.Finish → IsTold aim scripts Seen found (e ∷ p)
       end_turn op =
           let reply : e.reply ≡ R.Ok = h.course.0.reply ∙ (ap (answer (length scripts) p e.caller.0) op ∙ finish_reply (length scripts) p e.caller.0 active) in
           let ends : Ends p e (record { 0 = c }) = record {
@@ -918,16 +939,38 @@ module _ {scripts : List ScriptView} {Seen : List Entry → Type 0} {found : Lis
           let going : is_over (e ∷ p) ≡ false = rw (none, h.going) refl in
           record { over = λ o. absurd cc; going = λ o. (q, h.closed, after_end scripts p q e c h.course h.closed.course h.for n own ends) }
 
-      by_call : (stand p e.caller.0).wake ≡ None → IsLastAt (length scripts) q e.caller.0 e.op → IsTold scripts Seen found (e ∷ p)
+      by_call : (stand p e.caller.0).wake ≡ None → IsLastAt (length scripts) q e.caller.0 e.op → IsTold aim scripts Seen found (e ∷ p)
       by_call none (inl spent) = spent_turn none spent
       by_call none (inr op) = end_turn op
 
-      by_wake : (o : Option Op) → (stand p e.caller.0).wake ≡ o → MatchOption o (Unit {0}) (λ wake. WasParked scripts q e.caller.0 (stand p e.caller.0) wake) → IsTold scripts Seen found (e ∷ p)
-      by_wake None k was = by_call k (subst (λ op. IsLastAt (length scripts) q e.caller.0 op) (call k) (leaving.calls (stand p e.caller.0).called (omega arith)))
+      -- it sets no verdict worse than is looked for
+      no_setting : (v : UserVerdict) → e.op ≡ O.SetVerdict v → level_of aim < level_of (given v) → IsTold aim scripts Seen found (e ∷ p)
+      no_setting v sets more =
+          let reply : e.reply ≡ R.Ok = h.course.0.reply ∙ (ap (answer (length scripts) p e.caller.0) sets ∙ answer_plain (length scripts) p e.caller.0 (O.SetVerdict v) active (fault_of_set (length scripts) p e.caller.0 v)) in
+          let is : overall (e ∷ p) ≡ worse (overall p) (given v) = overall_next (length scripts) p e (legal_next h) ∙ rw (reply, sets) refl in
+          let level = ap level_of is in
+          let right = worse_right (overall p) (given v) in
+          let within = h.within in
+          absurd (omega (arith, level, right, within, more))
+
+      barred_turn : is_barred aim e.op ≡ true → IsTold aim scripts Seen found (e ∷ p)
+      barred_turn bars = let b = barred_sets aim e.op bars in no_setting b.verdict b.sets b.worse
+
+      by_bar : (stand p e.caller.0).wake ≡ None → IsLastAt (length scripts) q e.caller.0 (call_at scripts e.caller.0 (stand p e.caller.0) (stand p e.caller.0).comp (stand p e.caller.0).called) ⊎ IsBarredBefore aim scripts e.caller.0 (stand p e.caller.0) (stand p e.caller.0).called →
+          IsTold aim scripts Seen found (e ∷ p)
+      by_bar k (inl last) = by_call k (subst (λ op. IsLastAt (length scripts) q e.caller.0 op) (call k) last)
+      by_bar k (inr bar) =
+          let l = bar.later in
+          let m = bar.before in
+          let here : bar.place ≡ (stand p e.caller.0).called = omega (arith, l, m) in
+          barred_turn (sym (ap (λ x. is_barred aim (call_at scripts e.caller.0 (stand p e.caller.0) (stand p e.caller.0).comp x)) here ∙ ap (is_barred aim) (call k)) ∙ bar.bars)
+
+      by_wake : (o : Option Op) → (stand p e.caller.0).wake ≡ o → MatchOption o (Unit {0}) (λ wake. WasParked scripts q e.caller.0 (stand p e.caller.0) wake) → IsTold aim scripts Seen found (e ∷ p)
+      by_wake None k was = by_bar k (leaving.calls (stand p e.caller.0).called (omega arith))
       by_wake (Some wake) k was = woken_turn wake k was
 
   -- one more turn
-  told_step : AtTurn scripts Seen found p q e → IsTold scripts Seen found (e ∷ p)
+  told_step : AtTurn aim scripts Seen found p q e → IsTold aim scripts Seen found (e ∷ p)
   told_step h = by_active (is_active p e.caller.0) refl
     where
       going : is_active p e.caller.0 ≡ true → is_active q e.caller.0 ≡ true → (t : HasTurn (steps_of scripts e.caller.0) (stand p e.caller.0) e.op) → IsGoing scripts p q e t.me
@@ -947,58 +990,61 @@ module _ {scripts : List ScriptView} {Seen : List Entry → Type 0} {found : Lis
             in_range = run_in_range (length scripts) p e.caller.0 t.me h.some (course_legal scripts p h.course.1) on_p;
           }
 
-      by_wake : (t : HasTurn (steps_of scripts e.caller.0) (stand p e.caller.0) e.op) → IsGoing scripts p q e t.me → (o : Option Op) → (stand p e.caller.0).wake ≡ o → IsTold scripts Seen found (e ∷ p)
+      by_wake : (t : HasTurn (steps_of scripts e.caller.0) (stand p e.caller.0) e.op) → IsGoing scripts p q e t.me → (o : Option Op) → (stand p e.caller.0).wake ≡ o → IsTold aim scripts Seen found (e ∷ p)
       by_wake t g None k =
           told_place t.me h g k (ap (λ o. unwrap_or o (call_of t.me (stand p e.caller.0).bound (slice_get (steps_of scripts e.caller.0) (stand p e.caller.0).called))) (sym k) ∙ t.calls)
       by_wake t g (Some wake) k =
           told_wake t.me h g wake k (ap (λ o. unwrap_or o (call_of t.me (stand p e.caller.0).bound (slice_get (steps_of scripts e.caller.0) (stand p e.caller.0).called))) (sym k) ∙ t.calls)
 
-      by_active : (t : Bool) → is_active p e.caller.0 ≡ t → IsTold scripts Seen found (e ∷ p)
+      by_active : (t : Bool) → is_active p e.caller.0 ≡ t → IsTold aim scripts Seen found (e ∷ p)
       by_active true k = by_q (active_forth h.for.ahead e.caller.0 k)
         where
-          by_q : (is_active q e.caller.0 ≡ true) ⊎ ((c : ℕ) × (n : IsEnding scripts p q c) × (n.run.0 ≡ e.caller.0)) → IsTold scripts Seen found (e ∷ p)
+          by_q : (is_active q e.caller.0 ≡ true) ⊎ ((c : ℕ) × (n : IsEnding aim scripts p q c) × (n.run.0 ≡ e.caller.0)) → IsTold aim scripts Seen found (e ∷ p)
           by_q (inl act) = let t = has_turn scripts p e.caller.0 e.op h.course.0.turn in by_wake t (going k act t) (stand p e.caller.0).wake refl
           by_q (inr n) = told_leaving h n.0 n.1 n.2
       by_active false k =
           let r : e.reply ≡ R.Ended = h.course.0.reply ∙ answer_inactive (length scripts) p e.caller.0 e.op k in
           let u = unchanged_ended p e r in
-          told_stutter h u (stutter scripts p q e h.course h.closed.course h.for u (none_leaving e k) (λ act. let on : is_active p e.caller.0 ≡ true = active_back h.for.ahead e.caller.0 act in absurd cc))
+          told_stutter h u (stutter scripts p q e h.course h.closed.course h.for u (still_better h (ended_kept (length scripts) p e (legal_next h) r)) (none_leaving e k) (λ act. let on : is_active p e.caller.0 ≡ true = active_back h.for.ahead e.caller.0 act in absurd cc))
 
 -- ---- all courses
 
-module _ (scripts : List ScriptView) (Seen : List Entry → Type 0) (found : List Witness) (some : 1 ≤ length scripts) (seen : SeenIsClosed scripts Seen found) (start : IsCovered scripts Seen []) where
-  for_opening : IsFor scripts [] []
-  for_opening = record { ahead = ahead_self scripts []; runs = λ b act. followed_self scripts [] b (stand [] b) refl; order = order_opening scripts [] }
+module _ (aim : Verdict) (scripts : List ScriptView) (Seen : List Entry → Type 0) (found : List Witness) (some : 1 ≤ length scripts) (seen : SeenIsClosed aim scripts Seen found) (start : IsCovered aim scripts Seen []) where
+  for_opening : IsFor aim scripts [] []
+  for_opening = record { ahead = ahead_self scripts []; runs = λ b act. followed_self scripts [] b (stand [] b) refl; order = inr (order_opening scripts []) }
 
-  told_opening : IsTold scripts Seen found []
+  told_opening : IsTold aim scripts Seen found []
   told_opening = record {
     over = λ o. absurd cc;
     going = λ o. let r = start [] tt for_opening in seen r.0 [] r.1 tt r.2;
   }
 
-  told_over : (p : List Entry) (e : Entry) → IsCourse scripts (e ∷ p) → IsTold scripts Seen found p → is_over p ≡ true → IsTold scripts Seen found (e ∷ p)
+  told_over : (p : List Entry) (e : Entry) → IsCourse scripts (e ∷ p) → IsTold aim scripts Seen found p → is_over p ≡ true → IsTold aim scripts Seen found (e ∷ p)
   told_over p e c t over =
       let r : e.reply ≡ R.Ended = c.0.reply ∙ (all_over (length scripts) p (course_legal scripts p c.1) over).ended e.caller.0 e.op in
-      let same = (alike_unchanged (length scripts) p e (course_legal scripts (e ∷ p) c) (unchanged_ended p e r)).overall_same in
+      let same = ap level_of (ended_kept (length scripts) p e (course_legal scripts (e ∷ p) c) r) in
+      let told = t.over over in
       let ends : ends_case e ≡ false = rw r refl in
       let over_e : is_over (e ∷ p) ≡ true = rw (ends, over) refl in
-      record { over = λ o. ap (is_found found) same ∙ t.over over; going = λ o. absurd cc }
+      record { over = λ o. let better = told.2 in (told.0, told.1, omega (arith, same, better), told.3); going = λ o. absurd cc }
 
-  told_going : (p : List Entry) (e : Entry) → IsCourse scripts (e ∷ p) → IsTold scripts Seen found p → is_over p ≡ false → IsTold scripts Seen found (e ∷ p)
-  told_going p e c t on =
+  told_going : (p : List Entry) (e : Entry) → IsCourse scripts (e ∷ p) → IsWithin aim (e ∷ p) → IsTold aim scripts Seen found p → is_over p ≡ false → IsTold aim scripts Seen found (e ∷ p)
+  told_going p e c within t on =
       let q = t.going on in
-      told_step (record { some = some; course = c; closed = q.1; for = q.2; going = on; seen = seen })
+      told_step (record { some = some; course = c; within = within; closed = q.1; for = q.2; going = on; seen = seen })
 
-  by_over : (p : List Entry) (e : Entry) → IsCourse scripts (e ∷ p) → IsTold scripts Seen found p → (t : Bool) → is_over p ≡ t → IsTold scripts Seen found (e ∷ p)
-  by_over p e c t true k = told_over p e c t k
-  by_over p e c t false k = told_going p e c t k
+  by_over : (p : List Entry) (e : Entry) → IsCourse scripts (e ∷ p) → IsWithin aim (e ∷ p) → IsTold aim scripts Seen found p → (t : Bool) → is_over p ≡ t → IsTold aim scripts Seen found (e ∷ p)
+  by_over p e c within t true k = told_over p e c t k
+  by_over p e c within t false k = told_going p e c within t k
 
-  told_course : (p : List Entry) → IsCourse scripts p → IsTold scripts Seen found p
-  told_course [] c = told_opening
-  told_course (e ∷ p) c = by_over p e c (told_course p c.1) (is_over p) refl
+  told_course : (p : List Entry) → IsCourse scripts p → IsWithin aim p → IsTold aim scripts Seen found p
+  told_course [] c within = told_opening
+  told_course (e ∷ p) c within =
+      let grows = overall_grows (length scripts) p e (course_legal scripts (e ∷ p) c) in
+      by_over p e c within (told_course p c.1 (omega (arith, grows, within))) (is_over p) refl
 
   -- a course in which no run has a call left is over
-  complete_over : (p q : List Entry) → IsCourse scripts p → IsComplete scripts p → IsClosed scripts Seen found q → IsFor scripts q p → ⊥
+  complete_over : (p q : List Entry) → IsCourse scripts p → IsComplete scripts p → IsClosed aim scripts Seen found q → IsFor aim scripts q p → ⊥
   complete_over p q c done closed f =
       let on = some_if q 0 closed.main in
       let fol = f.runs 0 closed.main in
@@ -1009,9 +1055,9 @@ module _ (scripts : List ScriptView) (Seen : List Entry → Type 0) (found : Lis
       let none : turn scripts p 0 ≡ None = done 0 some in
       absurd cc
 
-  pub complete_is_told : (p : List Entry) → IsCourse scripts p → IsComplete scripts p → is_found found (overall p) ≡ true
-  complete_is_told p c done = by_end (told_course p c) (is_over p) refl
+  pub complete_is_told : (p : List Entry) → IsCourse scripts p → IsComplete scripts p → IsWithin aim p → IsToldBy aim found (overall p)
+  complete_is_told p c done within = by_end (told_course p c within) (is_over p) refl
     where
-      by_end : IsTold scripts Seen found p → (t : Bool) → is_over p ≡ t → is_found found (overall p) ≡ true
+      by_end : IsTold aim scripts Seen found p → (t : Bool) → is_over p ≡ t → IsToldBy aim found (overall p)
       by_end t true k = t.over k
       by_end t false k = let q = t.going k in absurd (complete_over p q.0 c done q.1 q.2)

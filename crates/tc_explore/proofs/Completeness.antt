@@ -1,20 +1,22 @@
 -- If the states that a search has seen are closed, it has found the verdict of each complete course.
-use Rattle.std.proofs.Common.{◌≤◌, List, [], length, reverse, ap, ◌∙◌}
+use Rattle.std.proofs.Common.{◌≤◌, List, [], length, reverse, ap, ◌≡◌, subst, sym, arith}
 use Rattle.tc_step.specs.Steps.{ScriptView}
 use Rattle.tc_table.specs.Case.{Case, past_of}
 use Rattle.tc_explore.specs.declared.witness.Witness.{Witness}
-use Rattle.tc_explore.specs.Told.{is_found}
 use Rattle.tc_explore.specs.Inside.Simulation.{IsCovered}
-use Rattle.tc_explore.specs.Inside.Seen.{AreClosed, IsSeen}
-use Rattle.tc_explore.specs.Found.{AllFound}
+use Rattle.tc_explore.specs.Inside.Seen.{AreClosed, IsSeen, AllTold, IsToldBy}
 use Rattle.tc_explore.proofs.Sameness.{same_for}
 use Rattle.tc_explore.proofs.Closing.{SeenIsClosed, complete_is_told}
+use Rattle.tc_verdict.specs.declared.verdict.Verdict.{Verdict}
+use Rattle.tc_verdict.specs.Verdict.{level_of}
+use Rattle.tc_table.specs.Local.{overall}
 
-seen_closed : (scripts : List ScriptView) (states : List Case) (found : List Witness) → AreClosed scripts states found → SeenIsClosed scripts (IsSeen states) found
+seen_closed : {aim : Verdict} (scripts : List ScriptView) (states : List Case) (found : List Witness) → AreClosed aim scripts states found → SeenIsClosed aim scripts (IsSeen states) found
 seen_closed scripts states found closed r p seen course for =
     (past_of seen.1, closed seen.0 seen.1 seen.2, same_for scripts r (past_of seen.1) p seen.3 for)
 
-pub closed_is_complete : (scripts : List ScriptView) (states : List Case) (found : List Witness) → 1 ≤ length scripts → IsCovered scripts (IsSeen states) [] → AreClosed scripts states found → AllFound scripts found
-closed_is_complete scripts states found some start closed v gives =
-    ap (is_found found) gives.1.verdict
-    ∙ complete_is_told scripts (IsSeen states) found some (seen_closed scripts states found closed) start (reverse gives.0) gives.1.course gives.1.complete
+pub closed_is_complete : {aim : Verdict} (scripts : List ScriptView) (states : List Case) (found : List Witness) → 1 ≤ length scripts → IsCovered aim scripts (IsSeen states) [] → AreClosed aim scripts states found → AllTold aim scripts found
+closed_is_complete {aim} scripts states found some start closed v within gives =
+    let is : v ≡ overall (reverse gives.0) = gives.1.verdict in
+    subst (λ x. IsToldBy aim found x) (sym is)
+    (complete_is_told aim scripts (IsSeen states) found some (seen_closed scripts states found closed) start (reverse gives.0) gives.1.course gives.1.complete (let same = ap level_of is in omega (arith, same, within)))

@@ -23,16 +23,21 @@ use Rattle.tc_table.proofs.Lemmas.Sound.{plain_if}
 use Rattle.tc_table.proofs.Lemmas.Going.{halted_by_entry}
 use Rattle.tc_explore.specs.Course.{Stand, stand, goes_on, after_other_by, ends, IsTurn, IsCourse}
 use Rattle.tc_explore.specs.Inside.Going.{taken, IsOn, CannotGo}
-use Rattle.tc_explore.specs.Inside.Simulation.{is_spent, IsSilent}
+use Rattle.tc_explore.specs.Inside.Simulation.{is_spent, IsSilent, IsWithin}
 use Rattle.tc_explore.specs.Inside.Seen.{IsSame, HasNoWake, IsOpen, IsCalmAt, IsCalm, IsLoudAt, IsCalmAfter, IsState}
 use Rattle.tc_explore.proofs.Legality.{course_legal}
 use Rattle.tc_explore.proofs.Lemmas.Standings.{has_turn, stand_own, stand_other, stand_comp, stand_unstarted, wake_after_other}
-use Rattle.tc_explore.proofs.Simulation.{unchanged_quiet, unchanged_wait}
+use Rattle.tc_explore.proofs.Simulation.{unchanged_quiet, unchanged_wait, quiet_within, wait_kept}
 use Rattle.tc_explore.proofs.Leaving.{running_on}
-use Rattle.tc_explore.proofs.Late.{late_reply, late_halts, met_for}
+use Rattle.tc_explore.proofs.Late.{late_reply, late_halts, met_for, halt_overall}
 use Rattle.tc_explore.proofs.Places.{Spent, how_spent, kept_left, neither}
 use Rattle.tc_explore.proofs.Closing.{not_ended, answer_inactive, or_left, loud_sets_no_wake}
 use Rattle.tc_explore.proofs.Closed.{same_entry}
+use Rattle.tc_verdict.specs.declared.verdict.Verdict.{Verdict}
+use Rattle.tc_table.specs.Local.{overall, gives, local}
+use Rattle.tc_verdict.specs.Verdict.{level_of}
+use Rattle.tc_explore.proofs.Alike.{overall_next}
+use Rattle.tc_explore.proofs.Felling.{felling_halts}
 
 pub on_not_ended : (r : Reply) → goes_on r ≡ true → is_ended r ≡ false
 on_not_ended R.Ended h = absurd cc
@@ -50,22 +55,56 @@ no_wake_next past e on h b = by_test (e.caller.0 == b) refl
         ap (λ (s : Stand). s.wake) other ∙ (wake_after_other (stand past b).comp (started_on e b) e b (stand past b) refl ∙ h b)
 
 -- a call of which nobody can see that it was made ends no case
-silent_no_case : (scripts : List ScriptView) (q : List Entry) (e : Entry) → IsCourse scripts (e ∷ q) → is_fault e.reply ≡ false → is_ended e.reply ≡ false → IsSilent q e.caller.0 e.op → ends_case e ≡ false
-silent_no_case scripts q e cq plain goes (inl spent) = by_kind (how_spent q e.op spent)
+silent_no_case : {aim : Verdict} (scripts : List ScriptView) (q : List Entry) (e : Entry) → IsCourse scripts (e ∷ q) → is_fault e.reply ≡ false → is_ended e.reply ≡ false → IsSilent aim scripts q e.caller.0 e.op → ends_case e ≡ false
+silent_no_case {aim} scripts q e cq plain goes (inl spent) = by_kind (how_spent q e.op spent)
   where
     by_kind : Spent q e.op → ends_case e ≡ false
-    by_kind (inl quiet) = or_left (ends_case e) _ ((unchanged_quiet q e quiet plain).no_halt 0)
+    by_kind (inl quiet) = or_left (ends_case e) _ ((unchanged_quiet (overall q) q e quiet plain).no_halt 0)
     by_kind (inr (inl late)) =
         let is = plain_if (length scripts) q e.caller.0 e.op e.reply goes plain cq.0.reply in
         (late_halts q q e late (is.is ∙ late_reply q q e.caller.0 e.op late)).no_case
     by_kind (inr (inr met)) =
         let m = met_for q e.op met in
         or_left (ends_case e) _ ((unchanged_wait q e (O.Wake m.for_kill (T.One m.comp)) (record { killed = m.for_kill; target = T.One m.comp; waits = m.waits; wakes = refl }) plain).no_halt 0)
-silent_no_case scripts q e cq plain goes (inr end) = rw (end.finish, end.not_main, plain, goes) refl
+silent_no_case {aim} scripts q e cq plain goes (inr (inr (inr felling))) = (felling_halts scripts q e cq plain goes felling).no_case
+silent_no_case {aim} scripts q e cq plain goes (inr (inr (inl quiet))) = or_left (ends_case e) _ ((unchanged_quiet aim q e quiet plain).no_halt 0)
+silent_no_case {aim} scripts q e cq plain goes (inr (inl end)) = rw (end.finish, end.not_main, plain, goes) refl
+
+finish_gives : (op : Op) (r : Reply) → op ≡ O.Finish → is_fault r ≡ false → gives op r ≡ []
+finish_gives op R.Ok is plain = rw is refl
+finish_gives op (R.Fault x) is plain = absurd cc
+finish_gives op _ is plain = refl
+
+-- nor does it make the verdict worse than is looked for
+silent_within : {aim : Verdict} (scripts : List ScriptView) (q : List Entry) (e : Entry) → IsCourse scripts (e ∷ q) → is_fault e.reply ≡ false → is_ended e.reply ≡ false → IsSilent aim scripts q e.caller.0 e.op →
+    IsWithin aim q → IsWithin aim (e ∷ q)
+silent_within {aim} scripts q e cq plain goes (inl spent) within = by_kind (how_spent q e.op spent)
+  where
+    legal : IsLegal (length scripts) (e ∷ q)
+    legal = course_legal scripts (e ∷ q) cq
+
+    by_kind : Spent q e.op → IsWithin aim (e ∷ q)
+    by_kind (inl quiet) = let l = quiet_within (overall q) (length scripts) q e legal quiet plain (omega arith) in omega (arith, l, within)
+    by_kind (inr (inl late)) =
+        let is = plain_if (length scripts) q e.caller.0 e.op e.reply goes plain cq.0.reply in
+        let same = ap level_of (halt_overall (length scripts) legal (late_halts q q e late (is.is ∙ late_reply q q e.caller.0 e.op late))) in
+        omega (arith, same, within)
+    by_kind (inr (inr met)) =
+        let m = met_for q e.op met in
+        let same = ap level_of (wait_kept (length scripts) q e (O.Wake m.for_kill (T.One m.comp)) legal (record { killed = m.for_kill; target = T.One m.comp; waits = m.waits; wakes = refl }) plain) in
+        omega (arith, same, within)
+silent_within {aim} scripts q e cq plain goes (inr (inl end)) within =
+    let gift : gives e.op e.reply ≡ [] = finish_gives e.op e.reply end.finish plain in
+    let same : overall (e ∷ q) ≡ overall q = overall_next (length scripts) q e (course_legal scripts (e ∷ q) cq) ∙ rw gift refl in
+    let level = ap level_of same in
+    omega (arith, level, within)
+silent_within {aim} scripts q e cq plain goes (inr (inr (inr felling))) within =
+    let same = ap level_of (halt_overall (length scripts) (course_legal scripts (e ∷ q) cq) (felling_halts scripts q e cq plain goes felling)) in omega (arith, same, within)
+silent_within {aim} scripts q e cq plain goes (inr (inr (inl quiet))) within = quiet_within aim (length scripts) q e (course_legal scripts (e ∷ q) cq) quiet plain within
 
 module _ (scripts : List ScriptView) (t u : Case) (run : Run) (op : Op) where
-  pub open_silent : IsOpen scripts t → IsOn scripts u → IsTurn scripts (past_of t) (taken t.behaviours (past_of t) run op) → is_fault (answer t.behaviours (past_of t) run.0 op) ≡ false →
-      goes_on (answer t.behaviours (past_of t) run.0 op) ≡ true → IsSilent (past_of t) run.0 op → past_of u ≡ taken t.behaviours (past_of t) run op ∷ past_of t → IsOpen scripts u
+  pub open_silent : {aim : Verdict} → IsOpen scripts t → IsOn scripts u → IsTurn scripts (past_of t) (taken t.behaviours (past_of t) run op) → is_fault (answer t.behaviours (past_of t) run.0 op) ≡ false →
+      goes_on (answer t.behaviours (past_of t) run.0 op) ≡ true → IsSilent aim scripts (past_of t) run.0 op → past_of u ≡ taken t.behaviours (past_of t) run op ∷ past_of t → IsOpen scripts u
   open_silent o on turn plain goes silent is =
       let none : ends_case (taken t.behaviours (past_of t) run op) ≡ false =
       silent_no_case scripts (past_of t) (taken t.behaviours (past_of t) run op) (turn, o.on.course) plain (on_not_ended (answer t.behaviours (past_of t) run.0 op) goes) silent in
@@ -74,6 +113,13 @@ module _ (scripts : List ScriptView) (t u : Case) (run : Run) (op : Op) where
         going = ap is_over is ∙ rw (none, o.going) refl;
         no_wake = λ b. ap (λ x. (stand x b).wake) is ∙ no_wake_next (past_of t) (taken t.behaviours (past_of t) run op) goes o.no_wake b;
       }
+
+  -- the verdict is no worse then than is looked for
+  pub within_silent : {aim : Verdict} → IsOpen scripts t → IsTurn scripts (past_of t) (taken t.behaviours (past_of t) run op) → is_fault (answer t.behaviours (past_of t) run.0 op) ≡ false →
+      goes_on (answer t.behaviours (past_of t) run.0 op) ≡ true → IsSilent aim scripts (past_of t) run.0 op → past_of u ≡ taken t.behaviours (past_of t) run op ∷ past_of t → IsWithin aim (past_of t) → IsWithin aim (past_of u)
+  within_silent {aim} o turn plain goes silent is within =
+      subst (IsWithin aim) (sym is)
+      (silent_within scripts (past_of t) (taken t.behaviours (past_of t) run op) (turn, o.on.course) plain (on_not_ended (answer t.behaviours (past_of t) run.0 op) goes) silent within)
 
   -- a call that continues, after which the case is not over
   pub open_next : IsOpen scripts t → IsOn scripts u → goes_on (answer t.behaviours (past_of t) run.0 op) ≡ true → past_of u ≡ taken t.behaviours (past_of t) run op ∷ past_of t → is_over (past_of u) ≡ false →
@@ -90,10 +136,10 @@ open_opening scripts t on is = record { on = on; going = ap is_over is; no_wake 
 pub on_open : (scripts : List ScriptView) (t : Case) → IsOpen scripts t → IsOn scripts t
 on_open scripts t o = o.on
 
-pub open_state : (scripts : List ScriptView) (t : Case) → IsState scripts t → IsOpen scripts t
+pub open_state : {aim : Verdict} (scripts : List ScriptView) (t : Case) → IsState aim scripts t → IsOpen scripts t
 open_state scripts t s = s.opened
 
-pub on_state : (scripts : List ScriptView) (t : Case) → IsState scripts t → IsOn scripts t
+pub on_state : {aim : Verdict} (scripts : List ScriptView) (t : Case) → IsState aim scripts t → IsOn scripts t
 on_state scripts t s = s.opened.on
 
 pub open_same : (scripts : List ScriptView) (t u : Case) → u.behaviours ≡ t.behaviours → u.history ≡ t.history → IsOpen scripts t → IsOpen scripts u
@@ -106,21 +152,34 @@ open_same scripts t u n h o =
     }
 
 -- a copy of a state is one
-pub state_same : (scripts : List ScriptView) (t u : Case) → u.behaviours ≡ t.behaviours → u.history ≡ t.history → IsState scripts t → IsState scripts u
-state_same scripts t u n h s = record { opened = open_same scripts t u n h s.opened; calm = subst (IsCalm scripts) (sym (let past : past_of u ≡ past_of t = ap reverse h in past)) s.calm }
+pub state_same : {aim : Verdict} (scripts : List ScriptView) (t u : Case) → u.behaviours ≡ t.behaviours → u.history ≡ t.history → IsState aim scripts t → IsState aim scripts u
+state_same {aim} scripts t u n h s =
+    let past : past_of u ≡ past_of t = ap reverse h in
+    record { opened = open_same scripts t u n h s.opened; calm = subst (IsCalm scripts) (sym past) s.calm; within = subst (IsWithin aim) (sym past) s.within }
 
 pub same_self : (past : List Entry) → HasNoWake past → IsSame past past
 same_self past h = record {
-  alike = record { comps_same = refl; phase_same = λ c. refl; kind_same = λ c. refl; comp_same = λ b. refl; overall_same = refl };
+  alike = record { comps_same = refl; phase_same = λ c. refl; kind_same = λ c. refl; comp_same = λ b. refl };
+  overall_same = refl;
   stands = λ b act. (refl, h b);
 }
 
-pub state_self : (scripts : List ScriptView) (t : Case) → IsState scripts t → IsSame (past_of t) (past_of t)
+pub state_self : {aim : Verdict} (scripts : List ScriptView) (t : Case) → IsState aim scripts t → IsSame (past_of t) (past_of t)
 state_self scripts t s = same_self (past_of t) s.opened.no_wake
 
-pub ruleset keeping_rules = (on_open, open_state, on_state, open_same, state_same, state_self)
+pub within_state : {aim : Verdict} (scripts : List ScriptView) (t : Case) → IsState aim scripts t → IsWithin aim (past_of t)
+within_state scripts t s = s.within
 
-pub ruleset call_rules = (on_open, open_silent, on_not_ended)
+pub within_same : (aim : Verdict) (t u : Case) → u.history ≡ t.history → IsWithin aim (past_of t) → IsWithin aim (past_of u)
+within_same aim t u h l = let past : past_of u ≡ past_of t = ap reverse h in subst (IsWithin aim) (sym past) l
+
+pub within_opening : (aim : Verdict) (t : Case) → past_of t ≡ [] → IsWithin aim (past_of t)
+unfolding overall local
+within_opening aim t none = rw none (omega arith)
+
+pub ruleset keeping_rules = (on_open, open_state, on_state, open_same, state_same, state_self, within_state, within_same, within_opening)
+
+pub ruleset call_rules = (on_open, open_silent, within_silent, on_not_ended)
 
 -- ---- no call is left of which nobody can see that it was made
 
@@ -155,8 +214,8 @@ calm_more scripts t u v k h last = (last.0 ∙ h.0, λ b less. by_place b less (
 pub calm_all : (scripts : List ScriptView) (t v : Case) (k : ℕ) → length scripts ≤ k → AreCalmAfter scripts t v k → IsCalm scripts (past_of v)
 calm_all scripts t v k whole h b near = subst (λ p. IsCalmAt scripts p b) (sym h.0) (h.1 b (omega arith))
 
-pub state_of : (scripts : List ScriptView) (t : Case) → IsOpen scripts t → IsCalm scripts (past_of t) → IsState scripts t
-state_of scripts t o calm = record { opened = o; calm = calm }
+pub state_of : {aim : Verdict} (scripts : List ScriptView) (t : Case) → IsOpen scripts t → IsCalm scripts (past_of t) → IsWithin aim (past_of t) → IsState aim scripts t
+state_of scripts t o calm within = record { opened = o; calm = calm; within = within }
 
 pub ruleset calm_rules = (calm_then, state_of)
 

@@ -20,6 +20,7 @@ use Rattle.tc_explore.specs.Inside.Keys.{key_of}
 use Rattle.tc_explore.specs.Inside.Seen.{AreKept, AreKeyed, IsCountedTo, IsLonger, IsNoLess, IsState, IsWith}
 use Rattle.tc_explore.proofs.Keys.{AreApart, keys_apart}
 use Rattle.tc_explore.proofs.Reaching.{reaches, reached_set}
+use Rattle.tc_verdict.specs.declared.verdict.Verdict.{Verdict}
 
 -- ---- numbers of calls
 
@@ -110,17 +111,17 @@ keyed_none scripts met none no_key = rw (none, no_key) refl
 pub as_many_keys : (scripts : List ScriptView) (met : Met) → AreKeyed scripts met → length met.keys.keys ≡ length met.states.items
 as_many_keys scripts met keyed = sym (length-map met.keys.keys (λ k. k.items)) ∙ (ap length keyed ∙ length-map met.states.items (λ t. key_of (length scripts) (past_of t)))
 
-pub kept_none : (scripts : List ScriptView) (met : Met) (found : Findings) → met.states.items ≡ [] → AreKeyed scripts met → AreKept scripts met found
-kept_none scripts met found none keyed = record {
+pub kept_none : {aim : Verdict} (scripts : List ScriptView) (met : Met) (found : Findings) → met.states.items ≡ [] → AreKeyed scripts met → AreKept aim scripts met found
+kept_none {aim} scripts met found none keyed = record {
   few = let size : length met.states.items ≡ 0 = ap length none in omega (arith, size);
-  each = All-same (λ t. IsState scripts t) met.states.items [] none (All-nil (λ t. IsState scripts t));
+  each = All-same (λ t. IsState aim scripts t) met.states.items [] none (All-nil (λ t. IsState aim scripts t));
   keyed = keyed;
   counted = All-same (λ t. Covers found.reached.items (past_of t)) met.states.items [] none (All-nil (λ t. Covers found.reached.items (past_of t)));
 }
 
 -- more is counted
-pub kept_more : (scripts : List ScriptView) (met : Met) (f g : Findings) → IsNoLess f.reached.items g.reached.items → AreKept scripts met f → AreKept scripts met g
-kept_more scripts met f g more kept = record {
+pub kept_more : {aim : Verdict} (scripts : List ScriptView) (met : Met) (f g : Findings) → IsNoLess f.reached.items g.reached.items → AreKept aim scripts met f → AreKept aim scripts met g
+kept_more {aim} scripts met f g more kept = record {
   few = kept.few;
   each = kept.each;
   keyed = kept.keyed;
@@ -132,24 +133,24 @@ all_with P before after t (inl same) all one = All-same P after before same all
 all_with P before after t (inr more) all one = All-same P after (before ++ t ∷ []) more (All-push P before t all one)
 
 -- one state more, that is counted
-pub kept_with : (scripts : List ScriptView) (met after : Met) (f g : Findings) (t : Case) → AreKept scripts met f → IsNoLess f.reached.items g.reached.items → IsState scripts t → Covers g.reached.items (past_of t) →
-    IsWith met.states.items t after.states.items → AreKeyed scripts after → after.limit ≡ met.limit → length after.states.items ≤ met.limit → AreKept scripts after g
-kept_with scripts met after f g t kept more state covers with keyed limit within =
+pub kept_with : {aim : Verdict} (scripts : List ScriptView) (met after : Met) (f g : Findings) (t : Case) → AreKept aim scripts met f → IsNoLess f.reached.items g.reached.items → IsState aim scripts t → Covers g.reached.items (past_of t) →
+    IsWith met.states.items t after.states.items → AreKeyed scripts after → after.limit ≡ met.limit → length after.states.items ≤ met.limit → AreKept aim scripts after g
+kept_with {aim} scripts met after f g t kept more state covers with keyed limit within =
     let now = kept_more scripts met f g more kept in
     record {
       few = omega (arith, limit, within);
-      each = all_with (λ u. IsState scripts u) met.states.items after.states.items t with now.each state;
+      each = all_with (λ u. IsState aim scripts u) met.states.items after.states.items t with now.each state;
       keyed = keyed;
       counted = all_with (λ u. Covers g.reached.items (past_of u)) met.states.items after.states.items t with now.counted covers;
     }
 
-pub kept_keyed : (scripts : List ScriptView) (met : Met) (found : Findings) → AreKept scripts met found → AreKeyed scripts met
+pub kept_keyed : {aim : Verdict} (scripts : List ScriptView) (met : Met) (found : Findings) → AreKept aim scripts met found → AreKeyed scripts met
 kept_keyed scripts met found kept = kept.keyed
 
-pub kept_states : (scripts : List ScriptView) (met : Met) (found : Findings) → AreKept scripts met found → All (λ t. IsState scripts t) met.states.items
+pub kept_states : {aim : Verdict} (scripts : List ScriptView) (met : Met) (found : Findings) → AreKept aim scripts met found → All (λ t. IsState aim scripts t) met.states.items
 kept_states scripts met found kept = kept.each
 
-pub ruleset kept_rules = (kept_none, kept_more, kept_states, kept_keyed, longer_with, covered_more)
+pub ruleset kept_rules = (kept_none, kept_more, kept_states, kept_keyed, longer_with, covered_more, no_less_self, no_less_then)
 
 -- ---- what is told
 
@@ -188,10 +189,41 @@ courses_of scripts key met keyed distinct each = record {
 pub met_none : (scripts : List ScriptView) (reached : List ℕ) → AreMet scripts reached 0
 met_none scripts reached = record { courses = []; are = no_courses scripts; counted = All-nil (Covers reached) }
 
-pub met_of : (scripts : List ScriptView) (met : Met) (found : Findings) → AreKept scripts met found → IsDistinct (λ x y. pointwise nat_eq x.items y.items) met.keys.keys → AreMet scripts found.reached.items (length met.keys.keys)
-met_of scripts met found kept distinct = record {
+-- they are met still where more is counted
+pub met_more : (scripts : List ScriptView) (before after : List ℕ) (n : ℕ) → IsNoLess before after → AreMet scripts before n → AreMet scripts after n
+met_more scripts before after n more met = record {
+  courses = met.courses;
+  are = met.are;
+  counted = All-weaker (Covers before) (Covers after) (λ p. covers_more before after p more) met.courses met.counted;
+}
+
+-- the greater of two such numbers is one of them
+pub met_max : (scripts : List ScriptView) (before after : List ℕ) (m n k : ℕ) → k ≡ max m n → IsNoLess before after → AreMet scripts before m → AreMet scripts after n → AreMet scripts after k
+met_max scripts before after m n k most more one other = by_test (nat_le m n) refl
+  where
+    by_test : (t : Bool) → nat_le m n ≡ t → AreMet scripts after k
+    by_test true h = let is : n ≡ max m n = grind (arith, nat_tests) in subst (AreMet scripts after) (is ∙ sym most) other
+    by_test false h = let is : m ≡ max m n = grind (arith, nat_tests) in subst (AreMet scripts after) (is ∙ sym most) (met_more scripts before after m more one)
+
+-- it is at most what both are, and that where the second is
+pub most_within : (m n k limit : ℕ) → k ≡ max m n → m ≤ limit → n ≤ limit → k ≤ limit
+most_within m n k limit most one other = by_test (nat_le m n) refl
+  where
+    by_test : (t : Bool) → nat_le m n ≡ t → k ≤ limit
+    by_test true h = let is : n ≡ max m n = grind (arith, nat_tests) in omega (arith, is, most, other)
+    by_test false h = let is : m ≡ max m n = grind (arith, nat_tests) in omega (arith, is, most, one)
+
+pub most_full : (m n k limit : ℕ) → k ≡ max m n → m ≤ limit → n ≡ limit → k ≡ limit
+most_full m n k limit most one other = by_test (nat_le m n) refl
+  where
+    by_test : (t : Bool) → nat_le m n ≡ t → k ≡ limit
+    by_test true h = let is : n ≡ max m n = grind (arith, nat_tests) in most ∙ (sym is ∙ other)
+    by_test false h = let less : n < m = grind (arith, nat_tests) in absurd (omega (arith, less, one, other))
+
+pub met_of : {aim : Verdict} (scripts : List ScriptView) (met : Met) (found : Findings) → AreKept aim scripts met found → IsDistinct (λ x y. pointwise nat_eq x.items y.items) met.keys.keys → AreMet scripts found.reached.items (length met.keys.keys)
+met_of {aim} scripts met found kept distinct = record {
   courses = map past_of met.states.items;
   are = courses_of scripts (key_of (length scripts)) met kept.keyed distinct
-      (All-weaker (λ t. IsState scripts t) (λ t. IsCourse scripts (past_of t)) (λ t s. s.opened.on.course) met.states.items kept.each);
+      (All-weaker (λ t. IsState aim scripts t) (λ t. IsCourse scripts (past_of t)) (λ t s. s.opened.on.course) met.states.items kept.each);
   counted = All-map (Covers found.reached.items) past_of met.states.items kept.counted;
 }

@@ -27,6 +27,7 @@ use Rattle.tc_explore.proofs.Keeping.{active_stays}
 use Rattle.tc_explore.proofs.Legality.{course_legal}
 use Rattle.tc_explore.proofs.Lemmas.Standings.{run_in_range}
 use Rattle.tc_explore.proofs.Simulation.{some_if}
+use Rattle.tc_verdict.specs.declared.verdict.Verdict.{Verdict}
 
 -- ---- lists that begin alike
 
@@ -163,7 +164,6 @@ module _ (scripts : List ScriptView) (p q : List Entry) (some : 1 ≤ length scr
   -- are alike
   pub alike_by_key : IsAlike p q
   alike_by_key = alike_of scripts p q cp cq (record {
-    verdict = same_verdict (overall p) (overall q) k.verdict;
     count = k.count;
     phases = λ c near. same_phase (phase_if_any p c) (phase_if_any q c) (phases c near);
     kinds = λ c near. kind_same (is_alive_type p c) (is_alive_type q c) (kinds c near);
@@ -192,9 +192,10 @@ module _ (scripts : List ScriptView) (p q : List Entry) (some : 1 ≤ length scr
           let whole : stand_of s.comp s.bound s.called s.left s.wake ≡ stand_of r.comp r.bound r.called r.left r.wake = cc in whole
 
 -- two states of one key are the same
-pub same_by_key : (scripts : List ScriptView) (t u : Case) → 1 ≤ length scripts → IsState scripts t → IsState scripts u → key_of (length scripts) (past_of t) ≡ key_of (length scripts) (past_of u) → IsSame (past_of t) (past_of u)
+pub same_by_key : {aim : Verdict} (scripts : List ScriptView) (t u : Case) → 1 ≤ length scripts → IsState aim scripts t → IsState aim scripts u → key_of (length scripts) (past_of t) ≡ key_of (length scripts) (past_of u) → IsSame (past_of t) (past_of u)
 same_by_key scripts t u some st su h = record {
   alike = alike_by_key scripts (past_of t) (past_of u) some st.opened.on.course su.opened.on.course h;
+  overall_same = same_verdict (overall (past_of t)) (overall (past_of u)) (one_key (length scripts) (past_of t) (past_of u) h).verdict;
   stands = λ b act.
       let none : (stand (past_of t) b).wake ≡ None = st.opened.no_wake b in
       let no_wake : (stand (past_of u) b).wake ≡ None = su.opened.no_wake b in (
@@ -254,9 +255,9 @@ keys_apart items key (x ∷ ks) (t ∷ ts) h d (suc i) zero s r here there same 
     absurd (not_later items (λ u. key (past_of u)) (items x) ks ts i s others d.0 here (first ∙ ap key (ap past_of is ∙ sym same)))
 
 -- what a key that is known leads to
-pub seen_by_key : (scripts : List ScriptView) (met : Met) (t : Case) (k : List ℕ) → 1 ≤ length scripts → IsState scripts t → All (λ u. IsState scripts u) met.states.items → AreKeyed scripts met → k ≡ key_of (length scripts) (past_of t) →
+pub seen_by_key : {aim : Verdict} (scripts : List ScriptView) (met : Met) (t : Case) (k : List ℕ) → 1 ≤ length scripts → IsState aim scripts t → All (λ u. IsState aim scripts u) met.states.items → AreKeyed scripts met → k ≡ key_of (length scripts) (past_of t) →
     list_any (λ x. pointwise nat_eq k x.items) met.keys.keys ≡ true → IsSeen met.states.items (past_of t)
-seen_by_key scripts met t k some state states keyed is known =
+seen_by_key {aim} scripts met t k some state states keyed is known =
     let f = key_found (λ x. x.items) (λ u. key_of (length scripts) (past_of u)) k met.keys.keys met.states.items keyed known in
-    let there : IsState scripts f.1 = subst (IsState scripts) (get_or_from_slice_get met.states.items f.0 f.1 f.1 f.2) (states f.0 f.1 (slice_get_within met.states.items f.0 f.1 f.2)) in
+    let there : IsState aim scripts f.1 = subst (IsState aim scripts) (get_or_from_slice_get met.states.items f.0 f.1 f.1 f.2) (states f.0 f.1 (slice_get_within met.states.items f.0 f.1 f.2)) in
     (f.0, f.1, f.2, same_by_key scripts t f.1 some state there (sym is ∙ f.3))

@@ -17,7 +17,7 @@ use Rattle.tc_table.proofs.Lemmas.Over.{all_over}
 use Rattle.tc_explore.specs.Course.{Stand, stand, after_own, after_other_by, turn, turn_on, steps_of, is_idle, IsTurn, IsCourse, IsComplete}
 use Rattle.tc_explore.specs.Inside.Going.{taken, IsOn, CannotGo, IsStepped, HasSameLocals}
 use Rattle.tc_explore.proofs.Legality.{course_legal}
-use Rattle.tc_explore.proofs.Alike.{alike_unchanged, exists_same, local_next}
+use Rattle.tc_explore.proofs.Alike.{alike_unchanged, exists_same, local_next, overall_next}
 use Rattle.tc_explore.proofs.Simulation.{unchanged_ended}
 use Rattle.tc_explore.proofs.Lemmas.Standings.{has_turn, stand_own}
 
@@ -95,7 +95,7 @@ pub record IsOverAfter (scripts : List ScriptView) (p q : List Entry) (b : ℕ) 
 over_entry : (scripts : List ScriptView) (p : List Entry) (e : Entry) (b : ℕ) → IsCourse scripts p → is_over p ≡ true → e.caller.0 ≡ b → IsTurn scripts p e → IsOverAfter scripts p (e ∷ p) b
 over_entry scripts p e b course over own mine = record {
   over = rw (none, over) refl;
-  verdict = (alike_unchanged (length scripts) p e (course_legal scripts (e ∷ p) (mine, course)) (unchanged_ended p e r)).overall_same;
+  verdict = overall_next (length scripts) p e (course_legal scripts (e ∷ p) (mine, course)) ∙ rw r refl;
   locals = locals_ended (length scripts) p e (course_legal scripts (e ∷ p) (mine, course)) r;
   done = ap (turn scripts (e ∷ p)) (sym own) ∙ own_done scripts p e mine r;
   others = λ k had. by_caller k had (e.caller.0 == k) refl;

@@ -1,5 +1,5 @@
 -- What a stop or a kill of a component does that is killed already, and a wait for it.
-use Rattle.std.proofs.Common.{ℕ, ◌≡◌, ◌==◌, ◌&&◌, ◌||◌, ◌⊎◌, inl, inr, not, if◌then◌else◌, Bool, true, false, Option, Some, None, List, ◌∷◌, length, refl, ap, sym, subst, ◌∙◌}
+use Rattle.std.proofs.Common.{ℕ, ◌≡◌, ◌==◌, ◌&&◌, ◌||◌, ◌⊎◌, inl, inr, not, if◌then◌else◌, Bool, true, false, Option, Some, None, List, ◌∷◌, length, refl, ap, sym, subst, ◌∙◌, arith}
 use Rattle.tc_verdict.specs.declared.run.Run.{Run}
 use Rattle.tc_entry.specs.declared.comp.Comp.{Comp}
 use Rattle.tc_entry.specs.declared.entry.Entry.{Entry}
@@ -26,9 +26,11 @@ use Rattle.tc_table.proofs.Lemmas.Deciding.{self_equal, equal_if, ok_is}
 use Rattle.tc_table.proofs.Lemmas.Sound.{IsPlain, plain_if, no_special, startable}
 use Rattle.tc_table.proofs.Lemmas.Over.{stays}
 use Rattle.tc_explore.specs.Course.{stand, ends, is_wake, wake_if, IsCourse}
-use Rattle.tc_explore.specs.Inside.Simulation.{IsAlike, is_gone, is_late, is_met, IsLeaving, IsEnding, IsAhead}
+use Rattle.tc_explore.specs.Inside.Simulation.{IsAlike, is_gone, is_late, is_met, IsLeaving, IsEnding, IsAhead, is_barred}
 use Rattle.tc_explore.proofs.Alike.{phase_next, fresh, kind_kept, first_kept, kept_by, overall_next}
 use Rattle.tc_explore.proofs.Ahead.{leaving_other}
+use Rattle.tc_verdict.specs.Verdict.{level_of}
+use Rattle.tc_verdict.specs.declared.verdict.Verdict.{Verdict}
 
 -- ---- the component of the call
 
@@ -121,7 +123,7 @@ and_both : (a b : Bool) → (a && b) ≡ true → (a ≡ true) × (b ≡ true)
 and_both true b h = (refl, h)
 and_both false b h = absurd cc
 
-stop_halts : (past : List Entry) (e : Entry) (c : Comp) → (e.op ≡ O.Stop (G.One c)) ⊎ (e.op ≡ O.Kill (G.One c)) → e.reply ≡ R.Ok → (c.0 == 0) ≡ false → HaltsOne past e c.0
+pub stop_halts : (past : List Entry) (e : Entry) (c : Comp) → (e.op ≡ O.Stop (G.One c)) ⊎ (e.op ≡ O.Kill (G.One c)) → e.reply ≡ R.Ok → (c.0 == 0) ≡ false → HaltsOne past e c.0
 stop_halts past e c (inl op) reply other = record {
   no_case = rw (op, reply, other) refl;
   made = rw op refl;
@@ -166,7 +168,7 @@ late_for past (O.Stop G.All) h = absurd cc
 late_for past (O.Kill G.All) h = absurd cc
 late_for past _ h = absurd cc
 
-late_if : (past : List Entry) (op : Op) (c : Comp) → IsLateFor past op c → is_late past op ≡ true
+pub late_if : (past : List Entry) (op : Op) (c : Comp) → IsLateFor past op c → is_late past op ≡ true
 late_if past op c h = by_op h.halts_it
   where
     by_op : (op ≡ O.Stop (G.One c)) ⊎ (op ≡ O.Kill (G.One c)) → is_late past op ≡ true
@@ -195,6 +197,13 @@ late_reply q past b op h = by_op (late_for q op h).1.halts_it
 
 pub late_halts : (q past : List Entry) (e : Entry) (h : is_late q e.op ≡ true) → e.reply ≡ R.Ok → HaltsOne past e (late_for q e.op h).0.0
 late_halts q past e h reply = let l = late_for q e.op h in stop_halts past e l.0 l.1.halts_it reply l.1.other
+
+pub late_free : (aim : Verdict) (q : List Entry) (op : Op) → is_late q op ≡ true → is_barred aim op ≡ false
+late_free aim q op late = by_op (late_for q op late).1.halts_it
+  where
+    by_op : (op ≡ O.Stop (G.One (late_for q op late).0)) ⊎ (op ≡ O.Kill (G.One (late_for q op late).0)) → is_barred aim op ≡ false
+    by_op (inl is) = ap (is_barred aim) is
+    by_op (inr is) = ap (is_barred aim) is
 
 neither : (a b : Bool) → a ≡ false → b ≡ false → (a || b) ≡ false
 neither a b g h = rw (g, h) refl
@@ -225,7 +234,6 @@ module _ {past : List Entry} {e : Entry} {c : ℕ} where
     phase_same = λ d. by_test d (c == d) refl;
     kind_same = halt_kinds n legal h;
     comp_same = halt_runs h;
-    overall_same = halt_overall n legal h;
   }
     where
       by_test : (d : ℕ) (t : Bool) → (c == d) ≡ t → phase (e ∷ past) d ≡ phase past d
@@ -292,23 +300,23 @@ other_than_gone past b c me act on dead = by_test (c == me.0) refl
 
 -- ---- p stops what q has seen end
 
-module _ (scripts : List ScriptView) (p q : List Entry) (e : Entry) (c : ℕ) (cp : IsCourse scripts p) (lp : IsLegal (length scripts) (e ∷ p)) (s : IsAhead scripts p q) (h : HaltsOne p e c) (dead : phase q c ≡ P.Killed)
-    (own : (d : ℕ) (n : IsEnding scripts p q d) → (e.caller.0 == n.run.0) ≡ true → IsLeaving scripts q n.run.0 (stand (e ∷ p) n.run.0)) where
+module _ {aim : Verdict} (scripts : List ScriptView) (p q : List Entry) (e : Entry) (c : ℕ) (cp : IsCourse scripts p) (lp : IsLegal (length scripts) (e ∷ p)) (s : IsAhead aim scripts p q) (h : HaltsOne p e c) (dead : phase q c ≡ P.Killed)
+    (own : (d : ℕ) (n : IsEnding aim scripts p q d) → (e.caller.0 == n.run.0) ≡ true → IsLeaving aim scripts q n.run.0 (stand (e ∷ p) n.run.0)) where
   halted_now : (k : Bool) (run : Run) → next_phase k None true false (P.Running run) ≡ P.Killed
   halted_now true run = refl
   halted_now false run = refl
 
-  phase_here : (phase p c ≡ phase q c) ⊎ IsEnding scripts p q c → exists p c ≡ true → phase (e ∷ p) c ≡ phase q c
+  phase_here : (phase p c ≡ phase q c) ⊎ IsEnding aim scripts p q c → exists p c ≡ true → phase (e ∷ p) c ≡ phase q c
   phase_here (inl same) there = (gone_next (length scripts) p e c lp (record { there = there; dead = same ∙ dead })).dead ∙ sym dead
   phase_here (inr n) there =
       phase_next (length scripts) p e c lp
       ∙ (rw (there, h.no_start c, h.here (comp_of p e.caller.0), n.ordinary, n.running) (halted_now (kills e c) n.run) ∙ sym dead)
 
-  leaving_still : (d : ℕ) (n : IsEnding scripts p q d) (t : Bool) → (e.caller.0 == n.run.0) ≡ t → IsLeaving scripts q n.run.0 (stand (e ∷ p) n.run.0)
+  leaving_still : (d : ℕ) (n : IsEnding aim scripts p q d) (t : Bool) → (e.caller.0 == n.run.0) ≡ t → IsLeaving aim scripts q n.run.0 (stand (e ∷ p) n.run.0)
   leaving_still d n true k = own d n k
   leaving_still d n false k = leaving_other scripts p q e d n cp k
 
-  phase_there : (d : ℕ) → (c == d) ≡ false → (phase p d ≡ phase q d) ⊎ IsEnding scripts p q d → (phase (e ∷ p) d ≡ phase q d) ⊎ IsEnding scripts (e ∷ p) q d
+  phase_there : (d : ℕ) → (c == d) ≡ false → (phase p d ≡ phase q d) ⊎ IsEnding aim scripts p q d → (phase (e ∷ p) d ≡ phase q d) ⊎ IsEnding aim scripts (e ∷ p) q d
   phase_there d other (inl same) = inl (halt_elsewhere (length scripts) lp h d other ∙ same)
   phase_there d other (inr n) = inr (record {
     run = n.run;
@@ -320,15 +328,15 @@ module _ (scripts : List ScriptView) (p q : List Entry) (e : Entry) (c : ℕ) (c
     leaving = leaving_still d n (e.caller.0 == n.run.0) refl;
   })
 
-  pub ahead_late : exists p c ≡ true → IsAhead scripts (e ∷ p) q
+  pub ahead_late : exists p c ≡ true → IsAhead aim scripts (e ∷ p) q
   ahead_late there = record {
     comps_same = halt_comps h ∙ s.comps_same;
     phases = λ d. by_test d (c == d) refl;
     kind_same = λ d. halt_kinds (length scripts) lp h d ∙ s.kind_same d;
     comp_same = λ b. halt_runs h b ∙ s.comp_same b;
-    overall_same = halt_overall (length scripts) lp h ∙ s.overall_same;
+    no_better = let same = ap level_of (halt_overall (length scripts) lp h) in let l = s.no_better in omega (arith, same, l);
   }
     where
-      by_test : (d : ℕ) (t : Bool) → (c == d) ≡ t → (phase (e ∷ p) d ≡ phase q d) ⊎ IsEnding scripts (e ∷ p) q d
-      by_test d true k = subst (λ x. (phase (e ∷ p) x ≡ phase q x) ⊎ IsEnding scripts (e ∷ p) q x) (equal_if c d k) (inl (phase_here (s.phases c) there))
+      by_test : (d : ℕ) (t : Bool) → (c == d) ≡ t → (phase (e ∷ p) d ≡ phase q d) ⊎ IsEnding aim scripts (e ∷ p) q d
+      by_test d true k = subst (λ x. (phase (e ∷ p) x ≡ phase q x) ⊎ IsEnding aim scripts (e ∷ p) q x) (equal_if c d k) (inl (phase_here (s.phases c) there))
       by_test d false k = phase_there d k (s.phases d)

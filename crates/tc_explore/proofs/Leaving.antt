@@ -1,5 +1,5 @@
 -- What the end of a run does that nobody can see.
-use Rattle.std.proofs.Common.{ℕ, suc, ◌≡◌, ◌≤◌, ◌<◌, ◌==◌, ◌||◌, ◌⊎◌, inl, inr, nat_lt, not, if◌then◌else◌, Bool, true, false, Option, Some, None, is_some, MatchOption, List, ◌∷◌, length, slice_get, get_or, refl, ap, sym, subst, ◌∙◌, arith}
+use Rattle.std.proofs.Common.{ℕ, suc, ◌≡◌, ◌≤◌, ◌<◌, ◌==◌, ◌||◌, ◌⊎◌, inl, inr, nat_lt, not, if◌then◌else◌, Bool, true, false, Option, Some, None, is_some, MatchOption, List, ◌∷◌, length, slice_get, get_or, refl, ap, sym, subst, ◌∙◌, arith, ⊎_elim}
 use Rattle.std.proofs.lemmas.Bool.Decides.{nat_tests}
 use Rattle.std.proofs.lemmas.Option.{slice_get_within, slice_get-get_or}
 use Rattle.tc_entry.specs.declared.comp.Comp.{Comp}
@@ -25,7 +25,7 @@ use Rattle.tc_table.proofs.Lemmas.Over.{on_existing}
 use Rattle.tc_table.proofs.Lemmas.LawsOfHistories.{runs_if_active}
 use Rattle.tc_table.proofs.Lemmas.Going.{halted_by_entry, started_by_entry}
 use Rattle.tc_explore.specs.Course.{Stand, stand, call_of, steps_of, IsCourse}
-use Rattle.tc_explore.specs.Inside.Simulation.{is_gone, is_spent, IsQuietAt, IsWakeOf, call_at, IsBefore, IsParkedAt, IsFollowed, IsLastAt, WasParked, IsLeaving, IsEnding, place_of, place_by, IsOrdered, IsFor}
+use Rattle.tc_explore.specs.Inside.Simulation.{is_gone, is_spent, IsQuietAt, IsWakeOf, call_at, IsBefore, IsParkedAt, IsFollowed, IsLastAt, WasParked, IsLeaving, IsEnding, place_of, place_by, IsOrdered, IsFor, is_barred, IsBarredBefore, AreOrdered}
 use Rattle.tc_explore.proofs.Legality.{course_legal}
 use Rattle.tc_explore.proofs.Alike.{phase_next, kind_kept, first_kept, fresh, overall_next}
 use Rattle.tc_explore.proofs.Ahead.{KeepsQuiet, leaving_later, leaving_other, ended_inactive}
@@ -34,6 +34,9 @@ use Rattle.tc_explore.proofs.Simulation.{some_if, followed_later}
 use Rattle.tc_explore.proofs.Places.{keeps_quiet}
 use Rattle.tc_explore.proofs.Late.{gone_is}
 use Rattle.tc_explore.proofs.Ordered.{gone_after, order_stays}
+use Rattle.tc_verdict.specs.Verdict.{level_of}
+use Rattle.tc_verdict.specs.declared.verdict.Verdict.{Verdict}
+use Rattle.tc_entry.specs.declared.op.Target.{Target}
 
 -- the entry ends its caller, which is not the main run, on this component, which is not alive-type
 pub record Ends (past : List Entry) (e : Entry) (c : Comp) : Type 0 where
@@ -162,58 +165,89 @@ finish_behind scripts b t (Some me) j k l h =
     let last : slice_get (steps_of scripts b) j ≡ None = finish_last me t.bound (slice_get (steps_of scripts b) j) h in
     ap (call_of me t.bound) (none_behind (steps_of scripts b) j k l last)
 
--- a run that follows one whose end comes next is leaving
-followed_leaves : (scripts : List ScriptView) (q : List Entry) (b : ℕ) (s t : Stand) → IsFollowed scripts q b s t → call_at scripts b t t.comp t.called ≡ O.Finish → IsLeaving scripts q b s
-followed_leaves scripts q b s t f ends = by_wake s.wake refl f.place
+calls_as : (scripts : List ScriptView) (q : List Entry) (b : ℕ) (s t : Stand) → IsFollowed scripts q b s t → (k : ℕ) → call_at scripts b s s.comp k ≡ call_at scripts b t t.comp k
+calls_as scripts q b s t f k = ap (λ o. call_at scripts b s o k) f.comp ∙ same_call t.comp
   where
-    same_call : (o : Option Comp) (k : ℕ) → call_at scripts b s o k ≡ call_at scripts b t o k
-    same_call None k = refl
-    same_call (Some me) k = ap (λ bound. call_of me bound (slice_get (steps_of scripts b) k)) f.bound
+    same_call : (o : Option Comp) → call_at scripts b s o k ≡ call_at scripts b t o k
+    same_call None = refl
+    same_call (Some me) = ap (λ bound. call_of me bound (slice_get (steps_of scripts b) k)) f.bound
 
-    calls_as : (k : ℕ) → call_at scripts b s s.comp k ≡ call_at scripts b t t.comp k
-    calls_as k = ap (λ o. call_at scripts b s o k) f.comp ∙ same_call t.comp k
-
-    at : (k : ℕ) → (k < t.called → IsQuietAt (length scripts) q b (call_at scripts b t t.comp k)) → (less : Bool) → nat_lt k t.called ≡ less → IsLastAt (length scripts) q b (call_at scripts b s s.comp k)
-    at k h true less = subst (λ op. IsLastAt (length scripts) q b op) (sym (calls_as k)) (inl (h (grind (arith, nat_tests))))
-    at k h false less = subst (λ op. IsLastAt (length scripts) q b op) (sym (calls_as k)) (inr (finish_behind scripts b t t.comp t.called k (grind (arith, nat_tests)) ends))
+-- a run is leaving that follows one whose next call is no Wait, if the calls from there on are its end, or one is barred
+follows_leaving : {aim : Verdict} (scripts : List ScriptView) (q : List Entry) (b : ℕ) (s t : Stand) → IsFollowed scripts q b s t →
+    ((killed : Bool) (to : Target) → call_at scripts b t t.comp t.called ≡ O.Wait killed to → ⊥) →
+    ((k : ℕ) → t.called ≤ k → s.called ≤ k → IsLastAt (length scripts) q b (call_at scripts b s s.comp k) ⊎ IsBarredBefore aim scripts b s k) → IsLeaving aim scripts q b s
+follows_leaving {aim} scripts q b s t f no_wait last = by_wake s.wake refl f.place
+  where
+    at : (k : ℕ) → s.called ≤ k → (k < t.called → IsQuietAt (length scripts) q b (call_at scripts b t t.comp k)) → (less : Bool) → nat_lt k t.called ≡ less →
+        IsLastAt (length scripts) q b (call_at scripts b s s.comp k) ⊎ IsBarredBefore aim scripts b s k
+    at k l h true less = inl (subst (λ op. IsLastAt (length scripts) q b op) (sym (calls_as scripts q b s t f k)) (inl (h (grind (arith, nat_tests)))))
+    at k l h false less = last k (grind (arith, nat_tests)) l
 
     was : (wake : Op) (h : IsParkedAt scripts q b s t wake) → (less : Bool) → nat_lt h.place t.called ≡ less → WasParked scripts q b s wake
     was wake h true less = record {
       place = h.place;
       one_more = h.one_more;
-      wake_of = subst (λ op. IsWakeOf op wake) (sym (calls_as h.place)) h.wake_of;
-      quiet = subst (λ op. IsQuietAt (length scripts) q b op) (sym (calls_as h.place)) (h.between h.place (omega arith) (grind (arith, nat_tests)));
+      wake_of = subst (λ op. IsWakeOf op wake) (sym (calls_as scripts q b s t f h.place)) h.wake_of;
+      quiet = subst (λ op. IsQuietAt (length scripts) q b op) (sym (calls_as scripts q b s t f h.place)) (h.between h.place (omega arith) (grind (arith, nat_tests)));
     }
     was wake h false less =
         let fewer = h.fewer in
         let same : h.place ≡ t.called = grind (arith, nat_tests) in
-        let last : call_at scripts b t t.comp h.place ≡ O.Finish = ap (call_at scripts b t t.comp) same ∙ ends in
-        let waits : O.Finish ≡ O.Wait h.wake_of.killed h.wake_of.target = sym last ∙ h.wake_of.waits in
-        absurd cc
+        absurd (no_wait h.wake_of.killed h.wake_of.target (ap (call_at scripts b t t.comp) (sym same) ∙ h.wake_of.waits))
 
-    by_wake : (o : Option Op) → s.wake ≡ o → MatchOption o (IsBefore scripts q b s t) (λ wake. IsParkedAt scripts q b s t wake) → IsLeaving scripts q b s
+    by_wake : (o : Option Op) → s.wake ≡ o → MatchOption o (IsBefore scripts q b s t) (λ wake. IsParkedAt scripts q b s t wake) → IsLeaving aim scripts q b s
     by_wake None k h = record {
       parked = subst (λ o. MatchOption o (Unit {0}) (λ wake. WasParked scripts q b s wake)) (sym k) tt;
-      calls = λ j l. at j (h.between j l) (nat_lt j t.called) refl;
+      calls = λ j l. at j l (h.between j l) (nat_lt j t.called) refl;
     }
     by_wake (Some wake) k h = record {
       parked = subst (λ o. MatchOption o (Unit {0}) (λ w. WasParked scripts q b s w)) (sym k) (was wake h (nat_lt h.place t.called) refl);
-      calls = λ j l. let more = h.one_more in at j (h.between j (omega (arith, more, l))) (nat_lt j t.called) refl;
+      calls = λ j l. let more = h.one_more in at j l (h.between j (omega (arith, more, l))) (nat_lt j t.called) refl;
     }
 
--- from now on it has only quiet calls, and its end
-leaving_last : (scripts : List ScriptView) (q : List Entry) (b : ℕ) (s : Stand) → IsLeaving scripts q b s → (k : ℕ) → place_of s ≤ k → IsLastAt (length scripts) q b (call_at scripts b s s.comp k)
-leaving_last scripts q b s l k less = by_wake s.wake refl l.parked less
-  where
-    by_less : (place : ℕ) → s.called ≡ suc place → IsQuietAt (length scripts) q b (call_at scripts b s s.comp place) → place ≤ k → (t : Bool) → nat_lt place k ≡ t → IsLastAt (length scripts) q b (call_at scripts b s s.comp k)
-    by_less place more quiet near true j = l.calls k (grind (arith, nat_tests, more))
-    by_less place more quiet near false j =
-        let same : place ≡ k = grind (arith, nat_tests) in
-        inl (subst (λ x. IsQuietAt (length scripts) q b (call_at scripts b s s.comp x)) same quiet)
+-- a run that follows one whose end comes next is leaving
+followed_leaves : {aim : Verdict} (scripts : List ScriptView) (q : List Entry) (b : ℕ) (s t : Stand) → IsFollowed scripts q b s t → call_at scripts b t t.comp t.called ≡ O.Finish → IsLeaving aim scripts q b s
+followed_leaves scripts q b s t f ends =
+    follows_leaving scripts q b s t f (λ killed to waits. let no : O.Finish ≡ O.Wait killed to = sym ends ∙ waits in absurd cc)
+    (λ k near l. inl (subst (λ op. IsLastAt (length scripts) q b op) (sym (calls_as scripts q b s t f k)) (inr (finish_behind scripts b t t.comp t.called k near ends))))
 
-    by_wake : (o : Option Op) → s.wake ≡ o → MatchOption o (Unit {0}) (λ wake. WasParked scripts q b s wake) → place_by o s.called ≤ k → IsLastAt (length scripts) q b (call_at scripts b s s.comp k)
-    by_wake None j h near = l.calls k near
-    by_wake (Some wake) j h near = let more = h.one_more in by_less h.place h.one_more h.quiet (omega (arith, more, near)) (nat_lt h.place k) refl
+-- it has called no more steps
+no_further : (scripts : List ScriptView) (q : List Entry) (b : ℕ) (s t : Stand) → IsFollowed scripts q b s t → ((killed : Bool) (to : Target) → call_at scripts b t t.comp t.called ≡ O.Wait killed to → ⊥) → s.called ≤ t.called
+no_further scripts q b s t f no_wait = by_wake s.wake f.place
+  where
+    by_less : (wake : Op) (h : IsParkedAt scripts q b s t wake) → (less : Bool) → nat_lt h.place t.called ≡ less → s.called ≤ t.called
+    by_less wake h true less = let near : h.place < t.called = grind (arith, nat_tests) in let more = h.one_more in omega (arith, more, near)
+    by_less wake h false less =
+        let fewer = h.fewer in
+        let same : h.place ≡ t.called = grind (arith, nat_tests) in
+        absurd (no_wait h.wake_of.killed h.wake_of.target (ap (call_at scripts b t t.comp) (sym same) ∙ h.wake_of.waits))
+
+    by_wake : (o : Option Op) → MatchOption o (IsBefore scripts q b s t) (λ wake. IsParkedAt scripts q b s t wake) → s.called ≤ t.called
+    by_wake None h = h.fewer
+    by_wake (Some wake) h = by_less wake h (nat_lt h.place t.called) refl
+
+-- so is one that follows one that is barred
+pub barred_leaves : {aim : Verdict} (scripts : List ScriptView) (q : List Entry) (b : ℕ) (s t : Stand) → IsFollowed scripts q b s t → is_barred aim (call_at scripts b t t.comp t.called) ≡ true →
+    IsLeaving aim scripts q b s
+barred_leaves {aim} scripts q b s t f bars =
+    let no_wait : (killed : Bool) (to : Target) → call_at scripts b t t.comp t.called ≡ O.Wait killed to → ⊥ =
+    λ killed to waits. let no : is_barred aim (call_at scripts b t t.comp t.called) ≡ false = ap (is_barred aim) waits in absurd cc in
+    let fewer = no_further scripts q b s t f no_wait in
+    follows_leaving scripts q b s t f no_wait
+    (λ k near l. inr (record { place = t.called; later = fewer; before = near; bars = ap (is_barred aim) (calls_as scripts q b s t f t.called) ∙ bars }))
+
+-- from now on it has only quiet calls, and its end
+followed_last : (scripts : List ScriptView) (q : List Entry) (b : ℕ) (s t : Stand) → IsFollowed scripts q b s t → call_at scripts b t t.comp t.called ≡ O.Finish → (k : ℕ) → place_of s ≤ k →
+    IsLastAt (length scripts) q b (call_at scripts b s s.comp k)
+followed_last scripts q b s t f ends k less = by_wake s.wake less f.place
+  where
+    at : (k < t.called → IsQuietAt (length scripts) q b (call_at scripts b t t.comp k)) → (less : Bool) → nat_lt k t.called ≡ less → IsLastAt (length scripts) q b (call_at scripts b s s.comp k)
+    at h true less = subst (λ op. IsLastAt (length scripts) q b op) (sym (calls_as scripts q b s t f k)) (inl (h (grind (arith, nat_tests))))
+    at h false less = subst (λ op. IsLastAt (length scripts) q b op) (sym (calls_as scripts q b s t f k)) (inr (finish_behind scripts b t t.comp t.called k (grind (arith, nat_tests)) ends))
+
+    by_wake : (o : Option Op) → place_by o s.called ≤ k → MatchOption o (IsBefore scripts q b s t) (λ wake. IsParkedAt scripts q b s t wake) → IsLastAt (length scripts) q b (call_at scripts b s s.comp k)
+    by_wake None near h = at (h.between k near) (nat_lt k t.called) refl
+    by_wake (Some wake) near h = let more = h.one_more in at (h.between k (omega (arith, more, near))) (nat_lt k t.called) refl
 
 -- what it waits for is killed
 waits_for_gone : (n : ℕ) (q : List Entry) (b : ℕ) (op : Op) (killed : Bool) (t : Comp) → IsLastAt n q b op → op ≡ O.Wait killed (T.One t) → is_gone (phase_if_any q t.0) ≡ true
@@ -222,7 +256,7 @@ waits_for_gone n q b op killed t (inr ends) is = let no : O.Finish ≡ O.Wait ki
 
 -- ---- q makes the end of a run
 
-module _ (scripts : List ScriptView) (p q : List Entry) (e : Entry) (c : Comp) (cq : IsCourse scripts (e ∷ q)) (f : IsFor scripts q p) (h : Ends q e c) (act : is_active q e.caller.0 ≡ true)
+module _ {aim : Verdict} (scripts : List ScriptView) (p q : List Entry) (e : Entry) (c : Comp) (cq : IsCourse scripts (e ∷ q)) (f : IsFor aim scripts q p) (h : Ends q e c) (act : is_active q e.caller.0 ≡ true)
     (ends : call_at scripts e.caller.0 (stand q e.caller.0) (stand q e.caller.0).comp (stand q e.caller.0).called ≡ O.Finish) where
   lq : IsLegal (length scripts) (e ∷ q)
   lq = course_legal scripts (e ∷ q) cq
@@ -230,11 +264,11 @@ module _ (scripts : List ScriptView) (p q : List Entry) (e : Entry) (c : Comp) (
   keeps : KeepsQuiet (length scripts) q (e ∷ q)
   keeps = keeps_quiet (length scripts) q e lq
 
-  still_running : (phase p c.0 ≡ phase q c.0) ⊎ IsEnding scripts p q c.0 → phase p c.0 ≡ P.Running e.caller
+  still_running : (phase p c.0 ≡ phase q c.0) ⊎ IsEnding aim scripts p q c.0 → phase p c.0 ≡ P.Running e.caller
   still_running (inl same) = same ∙ h.runs
   still_running (inr n) = let no : P.Killed ≡ P.Running e.caller = sym n.ended ∙ h.runs in absurd cc
 
-  ending_here : IsEnding scripts p (e ∷ q) c.0
+  ending_here : IsEnding aim scripts p (e ∷ q) c.0
   ending_here = record {
     run = e.caller;
     running = still_running (f.ahead.phases c.0);
@@ -247,7 +281,7 @@ module _ (scripts : List ScriptView) (p q : List Entry) (e : Entry) (c : Comp) (
         (followed_leaves scripts q e.caller.0 (stand p e.caller.0) (stand q e.caller.0) (f.runs e.caller.0 act) ends);
   }
 
-  ending_elsewhere : (d : ℕ) → (c.0 == d) ≡ false → (phase p d ≡ phase q d) ⊎ IsEnding scripts p q d → (phase p d ≡ phase (e ∷ q) d) ⊎ IsEnding scripts p (e ∷ q) d
+  ending_elsewhere : (d : ℕ) → (c.0 == d) ≡ false → (phase p d ≡ phase q d) ⊎ IsEnding aim scripts p q d → (phase p d ≡ phase (e ∷ q) d) ⊎ IsEnding aim scripts p (e ∷ q) d
   ending_elsewhere d other (inl same) = inl (same ∙ sym (end_elsewhere (length scripts) lq h d other))
   ending_elsewhere d other (inr n) = inr (record {
     run = n.run;
@@ -260,16 +294,16 @@ module _ (scripts : List ScriptView) (p q : List Entry) (e : Entry) (c : Comp) (
   })
 
   -- the component comes after all others by rank
-  abbrev rank_by : Bool → ℕ → ℕ
-  rank_by true d = suc f.order.top
-  rank_by false d = f.order.rank d
+  abbrev rank_by : AreOrdered scripts p q → Bool → ℕ → ℕ
+  rank_by o true d = suc o.top
+  rank_by o false d = o.rank d
 
-  abbrev last_rank : ℕ → ℕ
-  last_rank d = rank_by (c.0 == d) d
+  abbrev last_rank : AreOrdered scripts p q → ℕ → ℕ
+  last_rank o d = rank_by o (c.0 == d) d
 
-  last_below : (d : ℕ) (t : Bool) → rank_by t d ≤ suc f.order.top
-  last_below d true = omega arith
-  last_below d false = let l = f.order.below d in omega (arith, l)
+  last_below : (o : AreOrdered scripts p q) (d : ℕ) (t : Bool) → rank_by o t d ≤ suc o.top
+  last_below o d true = omega arith
+  last_below o d false = let l = o.below d in omega (arith, l)
 
   other_gone : (t : Comp) → is_gone (phase_if_any q t.0) ≡ true → (c.0 == t.0) ≡ false
   other_gone t gone = by_test (c.0 == t.0) refl
@@ -281,25 +315,27 @@ module _ (scripts : List ScriptView) (p q : List Entry) (e : Entry) (c : Comp) (
           let no : P.Killed ≡ P.Running e.caller = sym dead ∙ h.runs in
           absurd cc
 
-  kept_rank : (t : Comp) → is_gone (phase_if_any q t.0) ≡ true → last_rank t.0 ≡ f.order.rank t.0
-  kept_rank t gone = ap (λ s. rank_by s t.0) (other_gone t gone)
+  kept_rank : (o : AreOrdered scripts p q) (t : Comp) → is_gone (phase_if_any q t.0) ≡ true → last_rank o t.0 ≡ o.rank t.0
+  kept_rank o t gone = ap (λ s. rank_by o s t.0) (other_gone t gone)
 
   -- what the run that ends waits for comes before it
-  ordered_here : (b : ℕ) → b ≡ e.caller.0 → IsOrdered scripts last_rank (e ∷ q) c.0 b (stand p b)
-  ordered_here b own = λ k killed t l call.
-      let leaves : IsLeaving scripts q b (stand p b) = subst (λ x. IsLeaving scripts q x (stand p x)) (sym own) (followed_leaves scripts q e.caller.0 (stand p e.caller.0) (stand q e.caller.0) (f.runs e.caller.0 act) ends) in
-      let gone = waits_for_gone (length scripts) q b (call_at scripts b (stand p b) (stand p b).comp k) killed t (leaving_last scripts q b (stand p b) leaves k l) call in
-      let here : last_rank c.0 ≡ suc f.order.top = ap (λ s. rank_by s c.0) (self_equal c.0) in
-      let there = kept_rank t gone in
-      let low = f.order.below t.0 in
+  ordered_here : (o : AreOrdered scripts p q) (b : ℕ) → b ≡ e.caller.0 → IsOrdered scripts (last_rank o) (e ∷ q) c.0 b (stand p b)
+  ordered_here o b own = λ k killed t l call.
+      let last : (j : ℕ) → place_of (stand p b) ≤ j → IsLastAt (length scripts) q b (call_at scripts b (stand p b) (stand p b).comp j) =
+      subst (λ x. (j : ℕ) → place_of (stand p x) ≤ j → IsLastAt (length scripts) q x (call_at scripts x (stand p x) (stand p x).comp j)) (sym own)
+      (followed_last scripts q e.caller.0 (stand p e.caller.0) (stand q e.caller.0) (f.runs e.caller.0 act) ends) in
+      let gone = waits_for_gone (length scripts) q b (call_at scripts b (stand p b) (stand p b).comp k) killed t (last k l) call in
+      let here : last_rank o c.0 ≡ suc o.top = ap (λ s. rank_by o s c.0) (self_equal c.0) in
+      let there = kept_rank o t gone in
+      let low = o.below t.0 in
       (omega (arith, here, there, low), gone_after (length scripts) q e lq t.0 gone)
 
   -- so does what others wait for
-  ordered_there : (d b : ℕ) → (c.0 == d) ≡ false → IsOrdered scripts f.order.rank q d b (stand p b) → IsOrdered scripts last_rank (e ∷ q) d b (stand p b)
-  ordered_there d b other o = λ k killed t l call.
-      let was = o k killed t l call in
-      let here : last_rank d ≡ f.order.rank d = ap (λ s. rank_by s d) other in
-      let there = kept_rank t was.1 in
+  ordered_there : (o : AreOrdered scripts p q) (d b : ℕ) → (c.0 == d) ≡ false → IsOrdered scripts o.rank q d b (stand p b) → IsOrdered scripts (last_rank o) (e ∷ q) d b (stand p b)
+  ordered_there o d b other ranked = λ k killed t l call.
+      let was = ranked k killed t l call in
+      let here : last_rank o d ≡ o.rank d = ap (λ s. rank_by o s d) other in
+      let there = kept_rank o t was.1 in
       let less = was.0 in
       (omega (arith, here, there, less), gone_after (length scripts) q e lq t.0 was.1)
 
@@ -309,24 +345,32 @@ module _ (scripts : List ScriptView) (p q : List Entry) (e : Entry) (c : Comp) (
       let runs : is_run_of b (phase p c.0) ≡ true = ap (is_active_on p b) (sym at) ∙ on in
       sym (equal_if e.caller.0 b (ap (is_run_of b) (sym (still_running (f.ahead.phases c.0))) ∙ runs))
 
-  ordered_by : (d b : ℕ) → is_active p b ≡ true → comp_of p b ≡ Some (record { 0 = d }) → phase (e ∷ q) d ≡ P.Killed → (t : Bool) → (c.0 == d) ≡ t → IsOrdered scripts last_rank (e ∷ q) d b (stand p b)
-  ordered_by d b on at dead true k =
+  ordered_by : (o : AreOrdered scripts p q) (d b : ℕ) → is_active p b ≡ true → comp_of p b ≡ Some (record { 0 = d }) → phase (e ∷ q) d ≡ P.Killed → (t : Bool) → (c.0 == d) ≡ t → IsOrdered scripts (last_rank o) (e ∷ q) d b (stand p b)
+  ordered_by o d b on at dead true k =
       let same : c.0 ≡ d = equal_if c.0 d k in
-      subst (λ x. IsOrdered scripts last_rank (e ∷ q) x b (stand p b)) same (ordered_here b (runs_here b on (at ∙ ap (λ (x : ℕ). Some (record { 0 = x })) (sym same))))
-  ordered_by d b on at dead false k = ordered_there d b k (f.order.each d b on at (sym (end_elsewhere (length scripts) lq h d k) ∙ dead))
+      subst (λ x. IsOrdered scripts (last_rank o) (e ∷ q) x b (stand p b)) same (ordered_here o b (runs_here b on (at ∙ ap (λ (x : ℕ). Some (record { 0 = x })) (sym same))))
+  ordered_by o d b on at dead false k = ordered_there o d b k (o.each d b on at (sym (end_elsewhere (length scripts) lq h d k) ∙ dead))
 
-  by_place : (d : ℕ) (t : Bool) → (c.0 == d) ≡ t → (phase p d ≡ phase (e ∷ q) d) ⊎ IsEnding scripts p (e ∷ q) d
-  by_place d true k = subst (λ x. (phase p x ≡ phase (e ∷ q) x) ⊎ IsEnding scripts p (e ∷ q) x) (equal_if c.0 d k) (inr ending_here)
+  lead_order : AreOrdered scripts p q → AreOrdered scripts p (e ∷ q)
+  lead_order o = record {
+    rank = last_rank o;
+    top = suc o.top;
+    below = λ d. last_below o d (c.0 == d);
+    each = λ d b on at dead. ordered_by o d b on at dead (c.0 == d) refl;
+  }
+
+  by_place : (d : ℕ) (t : Bool) → (c.0 == d) ≡ t → (phase p d ≡ phase (e ∷ q) d) ⊎ IsEnding aim scripts p (e ∷ q) d
+  by_place d true k = subst (λ x. (phase p x ≡ phase (e ∷ q) x) ⊎ IsEnding aim scripts p (e ∷ q) x) (equal_if c.0 d k) (inr ending_here)
   by_place d false k = ending_elsewhere d k (f.ahead.phases d)
 
-  pub lead_end : IsFor scripts (e ∷ q) p
+  pub lead_end : IsFor aim scripts (e ∷ q) p
   lead_end = record {
     ahead = record {
       comps_same = f.ahead.comps_same ∙ sym (end_comps h);
       phases = λ d. by_place d (c.0 == d) refl;
       kind_same = λ d. f.ahead.kind_same d ∙ sym (end_kinds (length scripts) lq h d);
       comp_same = λ b. f.ahead.comp_same b ∙ sym (end_runs h b);
-      overall_same = f.ahead.overall_same ∙ sym (end_overall (length scripts) lq h);
+      no_better = let same = ap level_of (end_overall (length scripts) lq h) in let l = f.ahead.no_better in omega (arith, same, l);
     };
     runs = λ b on.
         let was : is_active q b ≡ true = end_others (length scripts) lq h b on in
@@ -334,12 +378,7 @@ module _ (scripts : List ScriptView) (p q : List Entry) (e : Entry) (c : Comp) (
         let here : (stand q b).comp ≡ Some me.0 = stand_comp scripts q b cq.1 ∙ me.1 in
         subst (λ t. IsFollowed scripts (e ∷ q) b (stand p b) t) (sym (stand_other q e b me.0 (end_other (length scripts) lq h b on) here))
         (followed_later scripts q (e ∷ q) b (stand p b) (stand q b) keeps (f.runs b was));
-    order = record {
-      rank = last_rank;
-      top = suc f.order.top;
-      below = λ d. last_below d (c.0 == d);
-      each = λ d b on at dead. ordered_by d b on at dead (c.0 == d) refl;
-    };
+    order = ⊎_elim inl (λ o. inr (lead_order o)) f.order;
   }
 
 -- ---- p makes an end that q has made
@@ -347,12 +386,12 @@ module _ (scripts : List ScriptView) (p q : List Entry) (e : Entry) (c : Comp) (
 number_of : (x y : Comp) → Some x ≡ Some y → x.0 ≡ y.0
 number_of x y h = let same : x ≡ y = cc in ap (λ (z : Comp). z.0) same
 
-module _ (scripts : List ScriptView) (p q : List Entry) (e : Entry) (c : ℕ) (cp : IsCourse scripts (e ∷ p)) (cq : IsCourse scripts q) (f : IsFor scripts q p) (m : IsEnding scripts p q c) (own : m.run.0 ≡ e.caller.0)
+module _ {aim : Verdict} (scripts : List ScriptView) (p q : List Entry) (e : Entry) (c : ℕ) (cp : IsCourse scripts (e ∷ p)) (cq : IsCourse scripts q) (f : IsFor aim scripts q p) (m : IsEnding aim scripts p q c) (own : m.run.0 ≡ e.caller.0)
     (h : Ends p e (record { 0 = c })) where
   lp : IsLegal (length scripts) (e ∷ p)
   lp = course_legal scripts (e ∷ p) cp
 
-  other_run : (d : ℕ) (n : IsEnding scripts p q d) → (c == d) ≡ false → (e.caller.0 == n.run.0) ≡ false
+  other_run : (d : ℕ) (n : IsEnding aim scripts p q d) → (c == d) ≡ false → (e.caller.0 == n.run.0) ≡ false
   other_run d n other = by_test (e.caller.0 == n.run.0) refl
     where
       by_test : (t : Bool) → (e.caller.0 == n.run.0) ≡ t → t ≡ false
@@ -363,7 +402,7 @@ module _ (scripts : List ScriptView) (p q : List Entry) (e : Entry) (c : ℕ) (c
           let yes : (c == d) ≡ true = subst (λ x. (c == x) ≡ true) one (self_equal c) in
           absurd cc
 
-  ended_place : (d : ℕ) → (c == d) ≡ false → (phase p d ≡ phase q d) ⊎ IsEnding scripts p q d → (phase (e ∷ p) d ≡ phase q d) ⊎ IsEnding scripts (e ∷ p) q d
+  ended_place : (d : ℕ) → (c == d) ≡ false → (phase p d ≡ phase q d) ⊎ IsEnding aim scripts p q d → (phase (e ∷ p) d ≡ phase q d) ⊎ IsEnding aim scripts (e ∷ p) q d
   ended_place d other (inl same) = inl (end_elsewhere (length scripts) lp h d other ∙ same)
   ended_place d other (inr n) = inr (record {
     run = n.run;
@@ -375,24 +414,24 @@ module _ (scripts : List ScriptView) (p q : List Entry) (e : Entry) (c : ℕ) (c
     leaving = leaving_other scripts p q e d n cp.1 (other_run d n other);
   })
 
-  by_ended : (d : ℕ) (t : Bool) → (c == d) ≡ t → (phase (e ∷ p) d ≡ phase q d) ⊎ IsEnding scripts (e ∷ p) q d
-  by_ended d true k = subst (λ x. (phase (e ∷ p) x ≡ phase q x) ⊎ IsEnding scripts (e ∷ p) q x) (equal_if c d k) (inl (end_here (length scripts) lp h ∙ sym m.ended))
+  by_ended : (d : ℕ) (t : Bool) → (c == d) ≡ t → (phase (e ∷ p) d ≡ phase q d) ⊎ IsEnding aim scripts (e ∷ p) q d
+  by_ended d true k = subst (λ x. (phase (e ∷ p) x ≡ phase q x) ⊎ IsEnding aim scripts (e ∷ p) q x) (equal_if c d k) (inl (end_here (length scripts) lp h ∙ sym m.ended))
   by_ended d false k = ended_place d k (f.ahead.phases d)
 
-  pub after_end : IsFor scripts q (e ∷ p)
+  pub after_end : IsFor aim scripts q (e ∷ p)
   after_end = record {
     ahead = record {
       comps_same = end_comps h ∙ f.ahead.comps_same;
       phases = λ d. by_ended d (c == d) refl;
       kind_same = λ d. end_kinds (length scripts) lp h d ∙ f.ahead.kind_same d;
       comp_same = λ b. end_runs h b ∙ f.ahead.comp_same b;
-      overall_same = end_overall (length scripts) lp h ∙ f.ahead.overall_same;
+      no_better = let same = ap level_of (end_overall (length scripts) lp h) in let l = f.ahead.no_better in omega (arith, same, l);
     };
     runs = λ b on.
         let me = some_if q b on in
         let here : (stand p b).comp ≡ Some me.0 = stand_comp scripts p b cp.1 ∙ (f.ahead.comp_same b ∙ me.1) in
         subst (λ s. IsFollowed scripts q b s (stand q b)) (sym (stand_other p e b me.0 (not_active b on) here)) (f.runs b on);
-    order = order_stays scripts p q e cp f.order (ends_make_none h) (none_run h);
+    order = ⊎_elim inl (λ o. inr (order_stays scripts p q e cp o (ends_make_none h) (none_run h))) f.order;
   }
     where
       not_active : (b : ℕ) → is_active q b ≡ true → (e.caller.0 == b) ≡ false

@@ -1,9 +1,11 @@
 -- The lemmas of this crate.
 pub mod Lemmas
 pub mod Legality
+pub mod NextAim
 pub mod Alike
 pub mod Ahead
 pub mod Leaving
+pub mod Felling
 pub mod Simulation
 pub mod Places
 pub mod Closing

@@ -1,17 +1,22 @@
 -- Witnesses of which no verdict has two.
-use Rattle.std.proofs.Common.{ℕ, zero, suc, ◌≡◌, ◌==◌, ◌<◌, ◌≤◌, ◌||◌, Bool, true, false, nat_lt, List, [], ◌∷◌, ◌++◌, length, get_or, refl, ap, sym, ◌∙◌, arith, length-append}
+use Rattle.std.proofs.Common.{ℕ, zero, suc, ◌≡◌, ◌==◌, ◌<◌, ◌≤◌, ◌||◌, Bool, true, false, All, nat_lt, List, [], ◌∷◌, ◌++◌, length, reverse, get_or, refl, ap, sym, ◌∙◌, arith, length-append}
 use Rattle.std.proofs.lemmas.Bool.Decides.{nat_tests}
 use Rattle.std.proofs.lemmas.List.{get_or_append_left}
+use Rattle.std.specs.List.{IsDistinct}
+use Rattle.std.specs.List.Sorted.{IsPermutation}
 use Rattle.std.proofs.lemmas.List.Elements.{All-push}
+use Rattle.std.proofs.lemmas.List.Sorted.{All-permutation, list_any-IsPermutation}
+use Rattle.std.proofs.lemmas.Map.Keys.{IsDistinct-from_apart, apart_from_distinct, IsDistinct-IsPermutation}
 use Rattle.std.proofs.Math.Seq.{get_or-append_seam}
 use Rattle.tc_verdict.specs.declared.verdict.Verdict.{Verdict}
 use Rattle.tc_verdict.specs.Verdict.{level_of}
 use Rattle.tc_step.specs.Steps.{ScriptView}
-use Rattle.tc_table.proofs.Lemmas.Deciding.{self_equal}
+use Rattle.tc_table.proofs.Lemmas.Deciding.{equal_if, self_equal}
 use Rattle.tc_explore.specs.declared.witness.Witness.{Witness}
-use Rattle.tc_explore.specs.Found.{IsWitness, IsOnce}
+use Rattle.tc_explore.specs.Found.{IsWitness, IsOnce, AllFound, AreCovered, AreFromBest, Covers}
 use Rattle.tc_explore.specs.Inside.Going.{AreNoted}
 use Rattle.tc_explore.specs.Told.{is_found}
+use Rattle.tc_explore.proofs.Sameness.{same_verdict}
 
 or_yes : (t : Bool) → (t || true) ≡ true
 or_yes true = refl
@@ -69,5 +74,64 @@ once_none i j d near_i near_j same = absurd (omega arith)
 
 pub noted_none : (scripts : List ScriptView) → AreNoted scripts []
 noted_none scripts = record { sound = λ k d near. absurd (omega arith); once = once_none }
+
+-- ---- in another order
+
+has_same : Witness → Witness → Bool
+has_same x y = level_of x.verdict == level_of y.verdict
+
+flip_equal : (m n : ℕ) → (m == n) ≡ (n == m)
+flip_equal m n = by_tests (m == n) refl (n == m) refl
+  where
+    by_tests : (s : Bool) → (m == n) ≡ s → (t : Bool) → (n == m) ≡ t → (m == n) ≡ (n == m)
+    by_tests true a true b = a ∙ sym b
+    by_tests false a false b = a ∙ sym b
+    by_tests true a false b = let yes : (n == m) ≡ true = ap (λ x. n == x) (equal_if m n a) ∙ self_equal n in absurd cc
+    by_tests false a true b = let yes : (m == n) ≡ true = ap (λ x. m == x) (equal_if n m b) ∙ self_equal m in absurd cc
+
+apart_if_once : (found : List Witness) → IsOnce found → (i j : ℕ) (d : Witness) → i < j → j < length found → has_same (get_or found i d) (get_or found j d) ≡ false
+unfolding has_same
+apart_if_once found once i j d less near = by_test (level_of (get_or found i d).verdict == level_of (get_or found j d).verdict) refl
+  where
+    by_test : (t : Bool) → (level_of (get_or found i d).verdict == level_of (get_or found j d).verdict) ≡ t → (level_of (get_or found i d).verdict == level_of (get_or found j d).verdict) ≡ false
+    by_test false k = k
+    by_test true k =
+        let same = same_verdict (get_or found i d).verdict (get_or found j d).verdict (equal_if (level_of (get_or found i d).verdict) (level_of (get_or found j d).verdict) k) in
+        let is : i ≡ j = once i j d (omega (arith, less, near)) near same in
+        absurd (omega (arith, is, less))
+
+once_if_distinct : (found : List Witness) → IsDistinct has_same found → IsOnce found
+unfolding has_same
+once_if_distinct found distinct i j d near_i near_j same = by_places (nat_lt i j) refl (nat_lt j i) refl
+  where
+    never : (k l : ℕ) → k < l → l < length found → (get_or found k d).verdict ≡ (get_or found l d).verdict → i ≡ j
+    never k l less near one =
+        let off : (level_of (get_or found k d).verdict == level_of (get_or found l d).verdict) ≡ false = apart_from_distinct has_same found k l d distinct less near in
+        let on : (level_of (get_or found k d).verdict == level_of (get_or found l d).verdict) ≡ true = ap (λ v. level_of v == level_of (get_or found l d).verdict) one ∙ self_equal (level_of (get_or found l d).verdict) in
+        absurd cc
+
+    by_places : (s : Bool) → nat_lt i j ≡ s → (t : Bool) → nat_lt j i ≡ t → i ≡ j
+    by_places true a t b = never i j (grind (arith, nat_tests)) near_j same
+    by_places false a true b = never j i (grind (arith, nat_tests)) near_i (sym same)
+    by_places false a false b = grind (arith, nat_tests)
+
+flip_same : (x y : Witness) → has_same x y ≡ has_same y x
+unfolding has_same
+flip_same x y = flip_equal (level_of x.verdict) (level_of y.verdict)
+
+pub noted_moved : (scripts : List ScriptView) (before after : List Witness) → IsPermutation before after → AreNoted scripts before → AreNoted scripts after
+noted_moved scripts before after moved noted = record {
+  sound = All-permutation (λ w. IsWitness scripts w.history w.verdict) before after moved noted.sound;
+  once = once_if_distinct after (IsDistinct-IsPermutation has_same flip_same before after moved (IsDistinct-from_apart has_same before (apart_if_once before noted.once)));
+}
+
+pub covered_moved : (reached : List ℕ) (before after : List Witness) → IsPermutation before after → AreCovered reached before → AreCovered reached after
+covered_moved reached before after moved covered = All-permutation (λ w. Covers reached (reverse w.history)) before after moved covered
+
+pub all_found_moved : (scripts : List ScriptView) (before after : List Witness) → IsPermutation before after → AllFound scripts before → AllFound scripts after
+all_found_moved scripts before after moved all v gives = sym (list_any-IsPermutation (λ w. level_of w.verdict == level_of v) before after moved) ∙ all v gives
+
+pub best_none : AreFromBest []
+best_none i j d less near = absurd (omega arith)
 
 pub ruleset noting_rules = (noted_more, once_none, noted_none)

@@ -21,6 +21,7 @@ use Rattle.tc_explore.proofs.Alike.{any_phase_same, first_kept}
 use Rattle.tc_explore.proofs.Lemmas.Standings.{HasTurn, has_turn, never_wake, stand_own, stand_other, stand_comp}
 use Rattle.tc_explore.proofs.Late.{gone_is, gone_if, gone_next}
 use Rattle.tc_explore.proofs.Places.{kept_bound}
+use Rattle.tc_verdict.specs.declared.verdict.Verdict.{Verdict}
 
 -- ---- one run
 
@@ -120,8 +121,8 @@ pub order_opening : (scripts : List ScriptView) (p : List Entry) → AreOrdered 
 order_opening scripts p = record { rank = λ c. 0; top = 0; below = λ c. omega arith; each = λ c b act on dead. absurd (not_on_killed p b c act on dead) }
 
 -- after a turn of both
-pub order_both : (scripts : List ScriptView) (p q : List Entry) (d e : Entry) → IsCourse scripts (d ∷ p) → IsCourse scripts (e ∷ q) → IsAhead scripts p q → AreOrdered scripts p q → d.caller.0 ≡ e.caller.0 →
-    IsAhead scripts (d ∷ p) (e ∷ q) → ((c : ℕ) → phase (e ∷ q) c ≡ P.Killed → (phase q c ≡ P.Killed) ⊎ (phase (d ∷ p) c ≡ P.Killed)) → is_active q e.caller.0 ≡ true → AreOrdered scripts (d ∷ p) (e ∷ q)
+pub order_both : {aim : Verdict} (scripts : List ScriptView) (p q : List Entry) (d e : Entry) → IsCourse scripts (d ∷ p) → IsCourse scripts (e ∷ q) → IsAhead aim scripts p q → AreOrdered scripts p q → d.caller.0 ≡ e.caller.0 →
+    IsAhead aim scripts (d ∷ p) (e ∷ q) → ((c : ℕ) → phase (e ∷ q) c ≡ P.Killed → (phase q c ≡ P.Killed) ⊎ (phase (d ∷ p) c ≡ P.Killed)) → is_active q e.caller.0 ≡ true → AreOrdered scripts (d ∷ p) (e ∷ q)
 order_both scripts p q d e cp cq before order callers after dies acts = record {
   rank = order.rank;
   top = order.top;

@@ -44,6 +44,7 @@ use Rattle.tc_explore.proofs.Lemmas.Standings.{has_turn, turn_of, never_wake, st
 use Rattle.tc_explore.proofs.Closing.{not_ended, answer_plain, answer_fault, quiet_reply, parks_wait, fault_of_wait, error_is_worst}
 use Rattle.tc_explore.proofs.Keeping.{active_stays, main_goes, comp_main}
 use Rattle.tc_explore.proofs.LastCalls.{turn_by}
+use Rattle.tc_verdict.specs.declared.verdict.Verdict.{Verdict}
 
 -- ---- who is held
 
@@ -132,7 +133,7 @@ pub record AreParked (scripts : List ScriptView) (t u : Case) (k : ℕ) : Type 0
 
 pub parked_none : (scripts : List ScriptView) (t : Case) → AreParked scripts t t 0
 parked_none scripts t = record {
-  alike = record { comps_same = refl; phase_same = λ c. refl; kind_same = λ c. refl; comp_same = λ b. refl; overall_same = refl };
+  alike = record { comps_same = refl; phase_same = λ c. refl; kind_same = λ c. refl; comp_same = λ b. refl };
   parked = λ b less. absurd (omega arith);
   later = λ b less. refl;
   main = refl;
@@ -154,7 +155,6 @@ alike_then p q r a b = record {
   phase_same = λ c. a.phase_same c ∙ b.phase_same c;
   kind_same = λ c. a.kind_same c ∙ b.kind_same c;
   comp_same = λ c. a.comp_same c ∙ b.comp_same c;
-  overall_same = a.overall_same ∙ b.overall_same;
 }
 
 -- a call that does not continue is not carried out
@@ -415,8 +415,8 @@ stuck_end scripts t u v n some whole o on h step = by_step step
 
 -- ---- if none continues, and no error is found
 
-pub held_if : (scripts : List ScriptView) (states : List Case) (found : List Witness) (q : List Entry) → IsCourse scripts q → AreStill scripts q (length scripts) →
-    ((b : ℕ) → b < length scripts → IsRunClosed scripts states found q b) → is_found found V.Error ≡ false → AreHeld scripts q
+pub held_if : {aim : Verdict} (scripts : List ScriptView) (states : List Case) (found : List Witness) (q : List Entry) → IsCourse scripts q → AreStill scripts q (length scripts) →
+    ((b : ℕ) → b < length scripts → IsRunClosed aim scripts states found q b) → is_found found V.Error ≡ false → AreHeld scripts q
 held_if scripts states found q course still closed none b near e own mine = by_goes (goes_on e.reply) refl
   where
     by_reply : goes_on e.reply ≡ true → (r : Reply) → e.reply ≡ r → is_fault r ≡ true → ⊥

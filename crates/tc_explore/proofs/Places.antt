@@ -23,10 +23,12 @@ use Rattle.tc_table.specs.Inside.Step.{next_local}
 use Rattle.tc_table.proofs.Lemmas.Over.{stays}
 use Rattle.std.specs.Option.{option_to_list}
 use Rattle.tc_explore.specs.Course.{Stand, after_own, ends, is_wake, wake_for, wake_if}
-use Rattle.tc_explore.specs.Inside.Simulation.{is_quiet, is_late, is_met, is_spent, WasParked, IsQuietAt, call_at, IsWakeOf, IsBefore, IsParkedAt, IsFollowed, IsLastAt, IsLeaving}
-use Rattle.tc_explore.proofs.Alike.{ChangesNothing, overall_next}
+use Rattle.tc_explore.specs.Inside.Simulation.{is_quiet, is_late, is_met, is_spent, WasParked, IsQuietAt, call_at, IsWakeOf, IsBefore, IsParkedAt, IsFollowed, IsLastAt, IsLeaving, is_barred, IsBarredBefore}
+use Rattle.tc_explore.proofs.Alike.{ChangesNothing, overall_next, overall_grows}
 use Rattle.tc_explore.proofs.Ahead.{KeepsQuiet}
 use Rattle.tc_explore.proofs.Late.{late_next, late_special, met_next, met_special}
+use Rattle.tc_verdict.specs.declared.user_verdict.UserVerdict.{UserVerdict}
+use Rattle.tc_verdict.specs.UserVerdict.{given}
 
 or_no : (a : Bool) → (a || false) ≡ a
 or_no true = refl
@@ -161,12 +163,24 @@ ahead scripts q b s t e f quiet made stays_on plain no_wake = record {
       between = λ k l m. subst (λ op. IsQuietAt (length scripts) (e ∷ q) b op) (sym (same_call t.comp k)) (at_last k (h.between k l) m (nat_lt k t.called) refl);
     }
 
+-- what is barred stays so
+barred_later : {aim : Verdict} (scripts : List ScriptView) (q : List Entry) (b : ℕ) (s t : Stand) (k : ℕ) → ((o : Option Comp) (j : ℕ) → call_at scripts b t o j ≡ call_at scripts b s o j) → t.comp ≡ s.comp →
+    ((j : ℕ) → s.called ≤ j → is_barred aim (call_at scripts b s s.comp j) ≡ true → t.called ≤ j) →
+    IsLastAt (length scripts) q b (call_at scripts b s s.comp k) ⊎ IsBarredBefore aim scripts b s k → IsLastAt (length scripts) q b (call_at scripts b t t.comp k) ⊎ IsBarredBefore aim scripts b t k
+barred_later {aim} scripts q b s t k same on from (inl last) = inl (subst (λ op. IsLastAt (length scripts) q b op) (sym (ap (λ o. call_at scripts b t o k) on ∙ same s.comp k)) last)
+barred_later {aim} scripts q b s t k same on from (inr bar) = inr (record {
+  place = bar.place;
+  later = from bar.place bar.later bar.bars;
+  before = bar.before;
+  bars = ap (is_barred aim) (ap (λ o. call_at scripts b t o bar.place) on ∙ same s.comp bar.place) ∙ bar.bars;
+})
+
 -- a quiet call of a run that is leaving
-pub leaving_on : (scripts : List ScriptView) (q : List Entry) (b : ℕ) (s : Stand) (e : Entry) → IsLeaving scripts q b s →
-    created e.op e.reply ≡ None → is_wake e.op ≡ false → wake_if e.op e.reply ≡ None → IsLeaving scripts q b (after_own e s)
-leaving_on scripts q b s e l made plain no_wake = record {
+pub leaving_on : {aim : Verdict} (scripts : List ScriptView) (q : List Entry) (b : ℕ) (s : Stand) (e : Entry) → IsLeaving aim scripts q b s →
+    created e.op e.reply ≡ None → is_wake e.op ≡ false → wake_if e.op e.reply ≡ None → is_barred aim (call_at scripts b s s.comp s.called) ≡ false → IsLeaving aim scripts q b (after_own e s)
+leaving_on {aim} scripts q b s e l made plain no_wake free = record {
   parked = subst (λ o. MatchOption o (Unit {0}) (λ wake. WasParked scripts q b (after_own e s) wake)) (sym no_wake) tt;
-  calls = λ k m. subst (λ op. IsLastAt (length scripts) q b op) (sym (same_call s.comp k)) (l.calls k (omega (arith, called, m)));
+  calls = λ k m. barred_later scripts q b s (after_own e s) k same_call refl from_there (l.calls k (omega (arith, called, m)));
 }
   where
     same_bound : (after_own e s).bound ≡ s.bound
@@ -178,14 +192,24 @@ leaving_on scripts q b s e l made plain no_wake = record {
     same_call : (o : Option Comp) (k : ℕ) → call_at scripts b (after_own e s) o k ≡ call_at scripts b s o k
     same_call None k = refl
     same_call (Some me) k = rw same_bound refl
+
+    from_there : (j : ℕ) → s.called ≤ j → is_barred aim (call_at scripts b s s.comp j) ≡ true → (after_own e s).called ≤ j
+    from_there j l bars = by_test (nat_lt s.called j) refl
+      where
+        by_test : (t : Bool) → nat_lt s.called j ≡ t → (after_own e s).called ≤ j
+        by_test true k = let less : s.called < j = grind (arith, nat_tests) in omega (arith, called, less)
+        by_test false k =
+            let same : j ≡ s.called = grind (arith, nat_tests) in
+            let no : is_barred aim (call_at scripts b s s.comp j) ≡ false = ap (λ x. is_barred aim (call_at scripts b s s.comp x)) same ∙ free in
+            absurd cc
 
 -- a Wait of it that is parked
-pub leaving_parked : (scripts : List ScriptView) (q : List Entry) (b : ℕ) (s : Stand) (e : Entry) (wake : Op) → IsLeaving scripts q b s →
+pub leaving_parked : {aim : Verdict} (scripts : List ScriptView) (q : List Entry) (b : ℕ) (s : Stand) (e : Entry) (wake : Op) → IsLeaving aim scripts q b s →
     created e.op e.reply ≡ None → is_wake e.op ≡ false → wake_if e.op e.reply ≡ Some wake → IsWakeOf (call_at scripts b s s.comp s.called) wake →
-    IsQuietAt (length scripts) q b (call_at scripts b s s.comp s.called) → IsLeaving scripts q b (after_own e s)
-leaving_parked scripts q b s e wake l made plain to_come of quiet = record {
+    IsQuietAt (length scripts) q b (call_at scripts b s s.comp s.called) → IsLeaving aim scripts q b (after_own e s)
+leaving_parked {aim} scripts q b s e wake l made plain to_come of quiet = record {
   parked = subst (λ o. MatchOption o (Unit {0}) (λ w. WasParked scripts q b (after_own e s) w)) (sym to_come) was;
-  calls = λ k m. subst (λ op. IsLastAt (length scripts) q b op) (sym (same_call s.comp k)) (l.calls k (omega (arith, called, m)));
+  calls = λ k m. barred_later scripts q b s (after_own e s) k same_call refl from_there (l.calls k (omega (arith, called, m)));
 }
   where
     same_bound : (after_own e s).bound ≡ s.bound
@@ -197,6 +221,16 @@ leaving_parked scripts q b s e wake l made plain to_come of quiet = record {
     same_call : (o : Option Comp) (k : ℕ) → call_at scripts b (after_own e s) o k ≡ call_at scripts b s o k
     same_call None k = refl
     same_call (Some me) k = rw same_bound refl
+
+    from_there : (j : ℕ) → s.called ≤ j → is_barred aim (call_at scripts b s s.comp j) ≡ true → (after_own e s).called ≤ j
+    from_there j l bars = by_test (nat_lt s.called j) refl
+      where
+        by_test : (t : Bool) → nat_lt s.called j ≡ t → (after_own e s).called ≤ j
+        by_test true k = let less : s.called < j = grind (arith, nat_tests) in omega (arith, called, less)
+        by_test false k =
+            let same : j ≡ s.called = grind (arith, nat_tests) in
+            let no : is_barred aim (call_at scripts b s s.comp j) ≡ false = ap (λ x. is_barred aim (call_at scripts b s s.comp x)) same ∙ ap (is_barred aim) of.waits in
+            absurd cc
 
     was : WasParked scripts q b (after_own e s) wake
     was = record {
@@ -207,11 +241,11 @@ leaving_parked scripts q b s e wake l made plain to_come of quiet = record {
     }
 
 -- a Wake of it that is answered Matched
-pub leaving_woken : (scripts : List ScriptView) (q : List Entry) (b : ℕ) (s : Stand) (e : Entry) → IsLeaving scripts q b s →
-    created e.op e.reply ≡ None → is_wake e.op ≡ true → wake_if e.op e.reply ≡ None → IsLeaving scripts q b (after_own e s)
-leaving_woken scripts q b s e l made wakes none = record {
+pub leaving_woken : {aim : Verdict} (scripts : List ScriptView) (q : List Entry) (b : ℕ) (s : Stand) (e : Entry) → IsLeaving aim scripts q b s →
+    created e.op e.reply ≡ None → is_wake e.op ≡ true → wake_if e.op e.reply ≡ None → IsLeaving aim scripts q b (after_own e s)
+leaving_woken {aim} scripts q b s e l made wakes none = record {
   parked = subst (λ o. MatchOption o (Unit {0}) (λ w. WasParked scripts q b (after_own e s) w)) (sym none) tt;
-  calls = λ k m. subst (λ op. IsLastAt (length scripts) q b op) (sym (same_call s.comp k)) (l.calls k (omega (arith, called, m)));
+  calls = λ k m. barred_later scripts q b s (after_own e s) k same_call refl from_there (l.calls k (omega (arith, called, m)));
 }
   where
     same_bound : (after_own e s).bound ≡ s.bound
@@ -223,6 +257,9 @@ leaving_woken scripts q b s e l made wakes none = record {
     same_call : (o : Option Comp) (k : ℕ) → call_at scripts b (after_own e s) o k ≡ call_at scripts b s o k
     same_call None k = refl
     same_call (Some me) k = rw same_bound refl
+
+    from_there : (j : ℕ) → s.called ≤ j → is_barred aim (call_at scripts b s s.comp j) ≡ true → (after_own e s).called ≤ j
+    from_there j l bars = omega (arith, called, l)
 
 -- the same call of both, which is not parked
 pub together : (scripts : List ScriptView) (q r : List Entry) (b : ℕ) (s t : Stand) (e : Entry) → IsFollowed scripts q b s t → s.called ≡ t.called →
@@ -263,10 +300,6 @@ followed_self scripts q b s none =
 
 -- ---- quiet calls stay quiet after any entry
 
-no_better : (vs : List Verdict) (w : Verdict) → level_of w ≤ level_of (next_local vs w)
-no_better [] w = omega arith
-no_better (v ∷ vs) w = let l = no_better vs w in let m = worse_left (next_local vs w) v in omega arith
-
 quiet_then : (w x : Verdict) (op : Op) → level_of w ≤ level_of x → is_quiet w op ≡ true → is_quiet x op ≡ true
 quiet_then w x (O.SetVerdict v) l h = grind (arith, nat_tests)
 quiet_then w x O.GetVerdict l h = refl
@@ -302,7 +335,7 @@ still_no_fault n past e b w op quiet h =
     let p = no_fault_by (list_all (λ c. exists past c.0) (names op)) (asks_many op && not (b == 0)) (special_fault n past op) h in
     rw (still_exist past e (names op) p.0, p.1, never_special n (e ∷ past) w op quiet) refl
 
-still_no_fault_by : (n : ℕ) (past : List Entry) (e : Entry) (b : ℕ) (op : Op) → special_fault n (e ∷ past) op ≡ None → fault n past b op ≡ None → fault n (e ∷ past) b op ≡ None
+pub still_no_fault_by : (n : ℕ) (past : List Entry) (e : Entry) (b : ℕ) (op : Op) → special_fault n (e ∷ past) op ≡ None → fault n past b op ≡ None → fault n (e ∷ past) b op ≡ None
 unfolding fault all_exist
 still_no_fault_by n past e b op none h =
     let p = no_fault_by (list_all (λ c. exists past c.0) (names op)) (asks_many op && not (b == 0)) (special_fault n past op) h in
@@ -349,7 +382,7 @@ pub keeps_quiet : (n : ℕ) (past : List Entry) (e : Entry) → IsLegal n (e ∷
 keeps_quiet n past e legal b op h = by_kind (how_spent past op h.quiet)
   where
     grows : level_of (overall past) ≤ level_of (overall (e ∷ past))
-    grows = rw (overall_next n past e legal) (no_better (gives e.op e.reply) (overall past))
+    grows = overall_grows n past e legal
 
     by_kind : Spent past op → IsQuietAt n (e ∷ past) b op
     by_kind (inl quiet) = record {
@@ -364,3 +397,18 @@ keeps_quiet n past e legal b op h = by_kind (how_spent past op h.quiet)
       quiet = spent_met (e ∷ past) op (met_next n past e op legal met);
       no_fault = still_no_fault_by n past e b op (met_special n (e ∷ past) past op met) h.no_fault;
     }
+
+-- a call that sets a verdict worse than this one
+pub record IsSettingWorse (aim : Verdict) (op : Op) : Type 0 where
+  pub verdict : UserVerdict
+  pub sets : op ≡ O.SetVerdict verdict
+  pub worse : level_of aim < level_of (given verdict)
+
+pub barred_sets : (aim : Verdict) (op : Op) → is_barred aim op ≡ true → IsSettingWorse aim op
+barred_sets aim (O.SetVerdict v) h = record { verdict = v; sets = refl; worse = grind (arith, nat_tests) }
+barred_sets aim _ h = absurd cc
+
+-- what is no worse than is looked for is not barred
+pub quiet_free : (w aim : Verdict) (op : Op) → level_of w ≤ level_of aim → is_quiet w op ≡ true → is_barred aim op ≡ false
+quiet_free w aim (O.SetVerdict v) l h = grind (arith, nat_tests)
+quiet_free w aim _ l h = refl

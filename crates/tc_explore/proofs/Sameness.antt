@@ -1,5 +1,5 @@
 -- What two courses of which the same is known represent.
-use Rattle.std.proofs.Common.{ℕ, suc, ◌≡◌, ◌+◌, ◌<◌, ◌≤◌, ◌&&◌, nat_lt, nat_le, if◌then◌else◌, Bool, true, false, Option, Some, None, List, [], ◌∷◌, ◌++◌, length, refl, ap, sym, subst, ◌∙◌, arith}
+use Rattle.std.proofs.Common.{ℕ, suc, ◌≡◌, ◌+◌, ◌<◌, ◌≤◌, ◌&&◌, nat_lt, nat_le, if◌then◌else◌, Bool, true, false, Option, Some, None, List, [], ◌∷◌, ◌++◌, length, refl, ap, sym, subst, ◌∙◌, arith, ⊎_elim, inl, inr}
 use Rattle.std.proofs.lemmas.Bool.Decides.{nat_tests}
 use Rattle.tc_verdict.specs.declared.run.Run.{Run}
 use Rattle.tc_verdict.specs.declared.verdict.Verdict.{Verdict}
@@ -26,7 +26,7 @@ use Rattle.tc_explore.specs.Inside.Keys.{phase_code, comp_code}
 use Rattle.tc_explore.specs.Inside.Seen.{IsSame}
 use Rattle.tc_explore.proofs.Legality.{course_legal}
 use Rattle.tc_explore.proofs.Alike.{alike_sym, active_alike, fresh}
-use Rattle.tc_explore.proofs.Ahead.{ahead_after}
+use Rattle.tc_explore.proofs.Ahead.{ahead_after, KeepsQuiet}
 use Rattle.tc_explore.proofs.Lemmas.Standings.{stand_comp, run_in_range}
 use Rattle.tc_explore.proofs.Ordered.{order_alike}
 use Rattle.tc_explore.proofs.Simulation.{quiet_alike, followed_later}
@@ -70,7 +70,6 @@ some_same false x y h e = absurd cc
 
 -- after both each component that there is does the same and is of one kind, and each of n runs is on the same component
 pub record HasAlike (n : ℕ) (p q : List Entry) : Type 0 where
-  pub verdict : overall p ≡ overall q
   pub count : components p ≡ components q
   pub phases : (c : ℕ) → c < components p → phase_if_any p c ≡ phase_if_any q c
   pub kinds : (c : ℕ) → c < components p → is_alive_type p c ≡ is_alive_type q c
@@ -123,7 +122,6 @@ module _ (scripts : List ScriptView) (p q : List Entry) (cp : IsCourse scripts p
     phase_same = λ c. phases_by c (nat_lt c (components p)) refl;
     kind_same = λ c. kinds_by c (nat_lt c (components p)) refl;
     comp_same = λ b. comps_by b some (nat_lt b (length scripts)) refl;
-    overall_same = s.verdict;
   }
 
 -- ---- levels
@@ -156,15 +154,18 @@ same_verdict V.Error V.Inconc h = absurd (omega arith)
 same_verdict V.Error V.Fail h = absurd (omega arith)
 
 -- what represents a history, and is the same as another, so does that
-pub same_for : (scripts : List ScriptView) (q r p : List Entry) → IsSame q r → IsFor scripts q p → IsFor scripts r p
+pub same_for : {aim : Verdict} (scripts : List ScriptView) (q r p : List Entry) → IsSame q r → IsFor aim scripts q p → IsFor aim scripts r p
 same_for scripts q r p s f = record {
-  ahead = ahead_after scripts p q r f.ahead s.alike (quiet_alike (length scripts) q r (alike_sym q r s.alike));
+  ahead = ahead_after scripts p q r f.ahead s.alike keeps (let same = ap level_of s.overall_same in omega (arith, same));
   runs = λ b act.
       let was : is_active q b ≡ true = active_alike s.alike b ∙ act in
       subst (λ t. IsFollowed scripts r b (stand p b) t) (s.stands b was).0
-      (followed_later scripts q r b (stand p b) (stand q b) (quiet_alike (length scripts) q r (alike_sym q r s.alike)) (f.runs b was));
-  order = order_alike scripts p q r (alike_sym q r s.alike) f.order;
+      (followed_later scripts q r b (stand p b) (stand q b) keeps (f.runs b was));
+  order = ⊎_elim inl (λ o. inr (order_alike scripts p q r (alike_sym q r s.alike) o)) f.order;
 }
+  where
+    keeps : KeepsQuiet (length scripts) q r
+    keeps = quiet_alike (length scripts) q r (sym s.overall_same) (alike_sym q r s.alike)
 
 -- ---- numbers of phases and components
 

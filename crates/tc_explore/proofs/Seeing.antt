@@ -46,19 +46,19 @@ pub found_longer : (a b : List Witness) (v : Verdict) → IsLonger a b → is_fo
 found_longer a b v more h =
     ap (λ x. is_found x v) more.1 ∙ (list_any-append (λ w. level_of w.verdict == level_of v) a more.0 ∙ ap (λ t. t || is_found more.0 v) h)
 
-pub covered_longer : (scripts : List ScriptView) (a b : List Case) (q : List Entry) → IsLonger a b → IsCovered scripts (IsSeen a) q → IsCovered scripts (IsSeen b) q
+pub covered_longer : {aim : Verdict} (scripts : List ScriptView) (a b : List Case) (q : List Entry) → IsLonger a b → IsCovered aim scripts (IsSeen a) q → IsCovered aim scripts (IsSeen b) q
 covered_longer scripts a b q more cov = λ p cp f. let c = cov p cp f in (c.0, seen_longer a b c.0 more c.1, c.2)
 
 -- what a state of the list is on
-pub covered_by : (scripts : List ScriptView) (states : List Case) (t u : Case) → StandsOn scripts t u → IsSeen states (past_of u) → IsCovered scripts (IsSeen states) (past_of t)
+pub covered_by : {aim : Verdict} (scripts : List ScriptView) (states : List Case) (t u : Case) → StandsOn aim scripts t u → IsSeen states (past_of u) → IsCovered aim scripts (IsSeen states) (past_of t)
 covered_by scripts states t u stands seen = λ p cp f. (past_of u, seen, stands.stands p cp f)
 
-pub closed_for_longer : (scripts : List ScriptView) (a b : List Case) (f g : List Witness) (q : List Entry) (e : Entry) → IsLonger a b → IsLonger f g →
-    IsClosedFor scripts (IsSeen a) f q e → IsClosedFor scripts (IsSeen b) g q e
+pub closed_for_longer : {aim : Verdict} (scripts : List ScriptView) (a b : List Case) (f g : List Witness) (q : List Entry) (e : Entry) → IsLonger a b → IsLonger f g →
+    IsClosedFor aim scripts (IsSeen a) f q e → IsClosedFor aim scripts (IsSeen b) g q e
 closed_for_longer scripts a b f g q e states found c = record {
   loud = c.loud;
   over = λ h. found_longer f g _ found (c.over h);
-  more = λ h. covered_longer scripts a b (e ∷ q) states (c.more h);
+  more = λ h within. covered_longer scripts a b (e ∷ q) states (c.more h within);
 }
 
 pub ruleset seeing_rules = (seen_at, seen_last, longer_self, longer_by, All-push)

@@ -1,5 +1,5 @@
 -- A history that represents another still does after one more turn of either.
-use Rattle.std.proofs.Common.{ℕ, ◌≡◌, ◌==◌, ◌⊎◌, not, nat_lt, nat_le, Bool, true, false, Option, Some, None, MatchOption, List, ◌∷◌, length, refl, ap, sym, subst, ◌∙◌, arith}
+use Rattle.std.proofs.Common.{ℕ, ◌≡◌, ◌==◌, ◌⊎◌, not, nat_lt, nat_le, Bool, true, false, Option, Some, None, MatchOption, List, ◌∷◌, length, refl, ap, sym, subst, ◌∙◌, arith, ◌≤◌, ⊎_elim, inl, inr}
 use Rattle.std.proofs.lemmas.Bool.Decides.{nat_tests}
 use Rattle.tc_verdict.specs.declared.verdict.Verdict.{Verdict}
 use Rattle.tc_verdict.specs.Verdict.{worse, level_of}
@@ -16,7 +16,7 @@ use Rattle.tc_step.specs.Steps.{ScriptView}
 use Rattle.tc_table.specs.History.{comp_of, created, starts_run, started_on}
 use Rattle.tc_table.specs.Phases.{phase, start_in}
 use Rattle.tc_table.specs.Local.{overall, gives, setting}
-use Rattle.tc_table.specs.Answers.{is_active}
+use Rattle.tc_table.specs.Answers.{is_active, plain_answer}
 use Rattle.tc_table.specs.Laws.{halting_op}
 use Rattle.tc_table.specs.Inside.Step.{next_local}
 use Rattle.tc_table.proofs.Lemmas.Deciding.{equal_if, if_same, and_left}
@@ -25,10 +25,13 @@ use Rattle.tc_table.proofs.Lemmas.Kept.{inactive}
 use Rattle.tc_explore.specs.Course.{Stand, stand, IsCourse}
 use Rattle.tc_explore.specs.Inside.Simulation.{IsAlike, is_quiet, call_at, IsWakeOf, IsBefore, IsParkedAt, IsFollowed, IsLeaving, IsEnding, IsAhead, IsFor}
 use Rattle.tc_explore.proofs.Legality.{course_legal}
-use Rattle.tc_explore.proofs.Alike.{ChangesNothing, alike_sym, alike_unchanged, active_alike, fault_alike, late_alike, met_alike}
+use Rattle.tc_explore.proofs.Alike.{ChangesNothing, alike_sym, alike_unchanged, active_alike, fault_alike, late_alike, met_alike, overall_next, overall_grows, worse_most}
 use Rattle.tc_explore.proofs.Ahead.{KeepsQuiet, ahead_after, ahead_turn}
 use Rattle.tc_explore.proofs.Lemmas.Standings.{stand_other, stand_comp}
 use Rattle.tc_explore.proofs.Ordered.{order_stays, order_alike, order_both}
+use Rattle.tc_verdict.proofs.Lemmas.Order.{worse_right}
+use Rattle.tc_explore.proofs.Places.{keeps_quiet}
+use Rattle.tc_table.specs.Legal.{IsLegal}
 
 -- ---- entries that change nothing
 
@@ -61,13 +64,12 @@ starts_in_none : (e : Entry) (op : Op) (c : ℕ) → is_passive op ≡ true → 
 starts_in_none e (O.Start d run args) c h = absurd cc
 starts_in_none e _ c h = if_same (is_ok e.reply) None
 
-pub unchanged_passive : (past : List Entry) (e : Entry) → is_passive e.op ≡ true → is_fault e.reply ≡ false → next_local (gives e.op e.reply) (overall past) ≡ overall past → ChangesNothing past e
-unchanged_passive past e passive plain gain = record {
+pub unchanged_passive : (past : List Entry) (e : Entry) → is_passive e.op ≡ true → is_fault e.reply ≡ false → ChangesNothing past e
+unchanged_passive past e passive plain = record {
   made = made_never e.op e.reply passive;
   no_run = λ b. rw (starts_none e.op b passive) (if_same (is_ok e.reply) None);
   no_start = λ c. starts_in_none e e.op c passive;
   no_halt = λ c. others_halt_nothing _ e c (rw (passive_never_halts e.op passive, plain) refl);
-  no_gain = gain;
 }
 
 pub unchanged_ended : (past : List Entry) (e : Entry) → e.reply ≡ R.Ended → ChangesNothing past e
@@ -76,25 +78,45 @@ unchanged_ended past e r = record {
   no_run = λ b. rw r refl;
   no_start = λ c. rw r refl;
   no_halt = λ c. rw r refl;
-  no_gain = rw r refl;
 }
 
-no_worse : (w v : Verdict) → nat_le (level_of v) (level_of w) ≡ true → worse w v ≡ w
-no_worse w v h = let t : nat_lt (level_of w) (level_of v) ≡ false = grind (arith, nat_tests) in rw t refl
+pub ended_kept : (n : ℕ) (past : List Entry) (e : Entry) → IsLegal n (e ∷ past) → e.reply ≡ R.Ended → overall (e ∷ past) ≡ overall past
+ended_kept n past e legal r = overall_next n past e legal ∙ rw r refl
 
-set_gain : (w : Verdict) (op : Op) → is_quiet w op ≡ true → next_local (setting op) w ≡ w
-set_gain w (O.SetVerdict v) h = no_worse w (given v) h
-set_gain w O.GetVerdict h = refl
-set_gain w (O.Running t) h = refl
-set_gain w (O.Alive t) h = refl
-set_gain w (O.Done t) h = refl
-set_gain w (O.Killed t) h = refl
-set_gain w _ h = absurd cc
+-- a quiet call makes the verdict no worse than this one
+set_within : (w : Verdict) (op : Op) (x : Verdict) → is_quiet w op ≡ true → level_of x ≤ level_of w → level_of (next_local (setting op) x) ≤ level_of w
+set_within w (O.SetVerdict v) x h l = let m : level_of (given v) ≤ level_of w = grind (arith, nat_tests) in worse_most x (given v) (level_of w) l m
+set_within w O.GetVerdict x h l = l
+set_within w (O.Running t) x h l = l
+set_within w (O.Alive t) x h l = l
+set_within w (O.Done t) x h l = l
+set_within w (O.Killed t) x h l = l
+set_within w _ x h l = absurd cc
 
-quiet_gain : (w : Verdict) (op : Op) (r : Reply) → is_fault r ≡ false → is_quiet w op ≡ true → next_local (gives op r) w ≡ w
-quiet_gain w op R.Ok f h = set_gain w op h
-quiet_gain w op (R.Fault x) f h = absurd cc
-quiet_gain w op _ f h = refl
+gift_within : (w : Verdict) (op : Op) (r : Reply) (x : Verdict) → is_fault r ≡ false → is_quiet w op ≡ true → level_of x ≤ level_of w → level_of (next_local (gives op r) x) ≤ level_of w
+gift_within w op R.Ok x f h l = set_within w op x h l
+gift_within w op (R.Fault y) x f h l = absurd cc
+gift_within w op _ x f h l = l
+
+pub quiet_within : (w : Verdict) (n : ℕ) (past : List Entry) (e : Entry) → IsLegal n (e ∷ past) → is_quiet w e.op ≡ true → is_fault e.reply ≡ false → level_of (overall past) ≤ level_of w →
+    level_of (overall (e ∷ past)) ≤ level_of w
+quiet_within w n past e legal quiet plain l = rw (overall_next n past e legal) (gift_within w e.op e.reply (overall past) plain quiet l)
+
+made_by : (w x y : Verdict) (past : List Entry) (b : ℕ) (op : Op) (r : Reply) → is_quiet w op ≡ true → r ≡ plain_answer past b op → y ≡ next_local (gives op r) x → is_quiet y op ≡ true
+made_by w x y past b (O.SetVerdict v) r h is k =
+    let m : y ≡ worse x (given v) = k ∙ rw is refl in
+    let l : level_of (given v) ≤ level_of y = subst (λ z. level_of (given v) ≤ level_of z) (sym m) (worse_right x (given v)) in
+    grind (arith, nat_tests)
+made_by w x y past b O.GetVerdict r h is k = refl
+made_by w x y past b (O.Running t) r h is k = refl
+made_by w x y past b (O.Alive t) r h is k = refl
+made_by w x y past b (O.Done t) r h is k = refl
+made_by w x y past b (O.Killed t) r h is k = refl
+made_by w x y past b _ r h is k = absurd cc
+
+-- once it is made it sets no worse verdict
+pub quiet_made : (w : Verdict) (n : ℕ) (past : List Entry) (b : ℕ) (e : Entry) → IsLegal n (e ∷ past) → is_quiet w e.op ≡ true → e.reply ≡ plain_answer past b e.op → is_quiet (overall (e ∷ past)) e.op ≡ true
+quiet_made w n past b e legal quiet is = made_by w (overall past) (overall (e ∷ past)) past b e.op e.reply quiet is (overall_next n past e legal)
 
 quiet_passive : (w : Verdict) (op : Op) → is_quiet w op ≡ true → is_passive op ≡ true
 quiet_passive w (O.SetVerdict v) h = refl
@@ -105,9 +127,8 @@ quiet_passive w (O.Done t) h = refl
 quiet_passive w (O.Killed t) h = refl
 quiet_passive w _ h = absurd cc
 
-pub unchanged_quiet : (past : List Entry) (e : Entry) → is_quiet (overall past) e.op ≡ true → is_fault e.reply ≡ false → ChangesNothing past e
-unchanged_quiet past e quiet plain =
-    unchanged_passive past e (quiet_passive (overall past) e.op quiet) plain (quiet_gain (overall past) e.op e.reply plain quiet)
+pub unchanged_quiet : (w : Verdict) (past : List Entry) (e : Entry) → is_quiet w e.op ≡ true → is_fault e.reply ≡ false → ChangesNothing past e
+unchanged_quiet w past e quiet plain = unchanged_passive past e (quiet_passive w e.op quiet) plain
 
 waits_gain : (w : Verdict) (op wake : Op) (r : Reply) → IsWakeOf op wake → is_fault r ≡ false → (next_local (gives op r) w ≡ w) × (next_local (gives wake r) w ≡ w)
 waits_gain w op wake R.Ok h f = rw (h.waits, h.wakes) (refl, refl)
@@ -118,10 +139,16 @@ waits_passive : (op wake : Op) → IsWakeOf op wake → (is_passive op ≡ true)
 waits_passive op wake h = rw (h.waits, h.wakes) (refl, refl)
 
 pub unchanged_wait : (past : List Entry) (e : Entry) (wake : Op) → IsWakeOf e.op wake → is_fault e.reply ≡ false → ChangesNothing past e
-unchanged_wait past e wake h plain = unchanged_passive past e (waits_passive e.op wake h).0 plain (waits_gain (overall past) e.op wake e.reply h plain).0
+unchanged_wait past e wake h plain = unchanged_passive past e (waits_passive e.op wake h).0 plain
+
+pub wait_kept : (n : ℕ) (past : List Entry) (e : Entry) (wake : Op) → IsLegal n (e ∷ past) → IsWakeOf e.op wake → is_fault e.reply ≡ false → overall (e ∷ past) ≡ overall past
+wait_kept n past e wake legal h plain = overall_next n past e legal ∙ (waits_gain (overall past) e.op wake e.reply h plain).0
 
 pub unchanged_wake : (past : List Entry) (e : Entry) (wait : Op) → IsWakeOf wait e.op → is_fault e.reply ≡ false → ChangesNothing past e
-unchanged_wake past e wait h plain = unchanged_passive past e (waits_passive wait e.op h).1 plain (waits_gain (overall past) wait e.op e.reply h plain).1
+unchanged_wake past e wait h plain = unchanged_passive past e (waits_passive wait e.op h).1 plain
+
+pub wake_kept : (n : ℕ) (past : List Entry) (e : Entry) (wait : Op) → IsLegal n (e ∷ past) → IsWakeOf wait e.op → is_fault e.reply ≡ false → overall (e ∷ past) ≡ overall past
+wake_kept n past e wait legal h plain = overall_next n past e legal ∙ (waits_gain (overall past) wait e.op e.reply h plain).1
 
 -- ---- the other runs
 
@@ -145,19 +172,19 @@ followed_later scripts q r b s t keeps f = record { comp = f.comp; bound = f.bou
       between = λ k l m. keeps b (call_at scripts b t t.comp k) (h.between k l m);
     }
 
-pub quiet_alike : (n : ℕ) (q r : List Entry) → IsAlike r q → KeepsQuiet n q r
-quiet_alike n q r a b op h = record { quiet = rw (a.overall_same, late_alike a op, met_alike a op) h.quiet; no_fault = fault_alike a n b op ∙ h.no_fault }
+pub quiet_alike : (n : ℕ) (q r : List Entry) → overall r ≡ overall q → IsAlike r q → KeepsQuiet n q r
+quiet_alike n q r same a b op h = record { quiet = rw (same, late_alike a op, met_alike a op) h.quiet; no_fault = fault_alike a n b op ∙ h.no_fault }
 
 -- ---- a turn of one, or of both
 
 -- a turn of p, after which q is ahead, if its caller still is where q has it or before
-pub stay : (scripts : List ScriptView) (p q : List Entry) (e : Entry) → IsCourse scripts (e ∷ p) → IsCourse scripts q → IsFor scripts q p → IsAhead scripts (e ∷ p) q →
+pub stay : {aim : Verdict} (scripts : List ScriptView) (p q : List Entry) (e : Entry) → IsCourse scripts (e ∷ p) → IsCourse scripts q → IsFor aim scripts q p → IsAhead aim scripts (e ∷ p) q →
     created e.op e.reply ≡ None → ((b : ℕ) → started_on e b ≡ None) →
-    (is_active q e.caller.0 ≡ true → IsFollowed scripts q e.caller.0 (stand (e ∷ p) e.caller.0) (stand q e.caller.0)) → IsFor scripts q (e ∷ p)
+    (is_active q e.caller.0 ≡ true → IsFollowed scripts q e.caller.0 (stand (e ∷ p) e.caller.0) (stand q e.caller.0)) → IsFor aim scripts q (e ∷ p)
 stay scripts p q e cp cq f ahead made no_run own = record {
   ahead = ahead;
   runs = λ b act. by_test b act (e.caller.0 == b) refl;
-  order = order_stays scripts p q e cp f.order made no_run;
+  order = ⊎_elim inl (λ o. inr (order_stays scripts p q e cp o made no_run)) f.order;
 }
   where
     by_test : (b : ℕ) → is_active q b ≡ true → (t : Bool) → (e.caller.0 == b) ≡ t → IsFollowed scripts q b (stand (e ∷ p) b) (stand q b)
@@ -171,21 +198,27 @@ stay scripts p q e cp cq f ahead made no_run own = record {
         subst (λ s. IsFollowed scripts q b s (stand q b)) (sym (stand_other p e b on.0 k here)) fol
 
 -- a turn of p that changes nothing, if its caller still is where q has it or before
-pub stutter : (scripts : List ScriptView) (p q : List Entry) (e : Entry) → IsCourse scripts (e ∷ p) → IsCourse scripts q → IsFor scripts q p → ChangesNothing p e →
-    ((c : ℕ) (n : IsEnding scripts p q c) → (e.caller.0 == n.run.0) ≡ true → IsLeaving scripts q n.run.0 (stand (e ∷ p) n.run.0)) →
-    (is_active q e.caller.0 ≡ true → IsFollowed scripts q e.caller.0 (stand (e ∷ p) e.caller.0) (stand q e.caller.0)) → IsFor scripts q (e ∷ p)
-stutter scripts p q e cp cq f u leaves own =
-    stay scripts p q e cp cq f (ahead_turn scripts p q e cp.1 (alike_unchanged (length scripts) p e (course_legal scripts (e ∷ p) cp) u) f.ahead leaves) u.made u.no_run own
+pub stutter : {aim : Verdict} (scripts : List ScriptView) (p q : List Entry) (e : Entry) → IsCourse scripts (e ∷ p) → IsCourse scripts q → IsFor aim scripts q p → ChangesNothing p e → level_of (overall (e ∷ p)) ≤ level_of (overall q) →
+    ((c : ℕ) (n : IsEnding aim scripts p q c) → (e.caller.0 == n.run.0) ≡ true → IsLeaving aim scripts q n.run.0 (stand (e ∷ p) n.run.0)) →
+    (is_active q e.caller.0 ≡ true → IsFollowed scripts q e.caller.0 (stand (e ∷ p) e.caller.0) (stand q e.caller.0)) → IsFor aim scripts q (e ∷ p)
+stutter scripts p q e cp cq f u better leaves own =
+    stay scripts p q e cp cq f (ahead_turn scripts p q e cp.1 (alike_unchanged (length scripts) p e (course_legal scripts (e ∷ p) cp) u) f.ahead leaves better) u.made u.no_run own
 
 -- a turn of q that changes nothing
-pub lead : (scripts : List ScriptView) (p q : List Entry) (e : Entry) → IsCourse scripts p → IsCourse scripts (e ∷ q) → IsFor scripts q p → IsAlike (e ∷ q) q →
-    (is_active q e.caller.0 ≡ true → IsFollowed scripts (e ∷ q) e.caller.0 (stand p e.caller.0) (stand (e ∷ q) e.caller.0)) → IsFor scripts (e ∷ q) p
+pub lead : {aim : Verdict} (scripts : List ScriptView) (p q : List Entry) (e : Entry) → IsCourse scripts p → IsCourse scripts (e ∷ q) → IsFor aim scripts q p → IsAlike (e ∷ q) q →
+    (is_active q e.caller.0 ≡ true → IsFollowed scripts (e ∷ q) e.caller.0 (stand p e.caller.0) (stand (e ∷ q) e.caller.0)) → IsFor aim scripts (e ∷ q) p
 lead scripts p q e cp cq f after own = record {
-  ahead = ahead_after scripts p q (e ∷ q) f.ahead (alike_sym (e ∷ q) q after) (quiet_alike (length scripts) q (e ∷ q) after);
+  ahead = ahead_after scripts p q (e ∷ q) f.ahead (alike_sym (e ∷ q) q after) keeps (overall_grows (length scripts) q e lq);
   runs = λ b act. by_test b (sym (active_alike after b) ∙ act) (e.caller.0 == b) refl;
-  order = order_alike scripts p q (e ∷ q) after f.order;
+  order = ⊎_elim inl (λ o. inr (order_alike scripts p q (e ∷ q) after o)) f.order;
 }
   where
+    lq : IsLegal (length scripts) (e ∷ q)
+    lq = course_legal scripts (e ∷ q) cq
+
+    keeps : KeepsQuiet (length scripts) q (e ∷ q)
+    keeps = keeps_quiet (length scripts) q e lq
+
     by_test : (b : ℕ) → is_active q b ≡ true → (t : Bool) → (e.caller.0 == b) ≡ t → IsFollowed scripts (e ∷ q) b (stand p b) (stand (e ∷ q) b)
     by_test b act true k =
         let same : e.caller.0 ≡ b = equal_if e.caller.0 b k in
@@ -194,18 +227,18 @@ lead scripts p q e cp cq f after own = record {
         let on = some_if q b act in
         let here : (stand q b).comp ≡ Some on.0 = stand_comp scripts q b cq.1 ∙ on.1 in
         subst (λ t. IsFollowed scripts (e ∷ q) b (stand p b) t) (sym (stand_other q e b on.0 k here))
-        (followed_later scripts q (e ∷ q) b (stand p b) (stand q b) (quiet_alike (length scripts) q (e ∷ q) after) (f.runs b act))
+        (followed_later scripts q (e ∷ q) b (stand p b) (stand q b) keeps (f.runs b act))
 
 -- a turn of both
-pub both : (scripts : List ScriptView) (p q : List Entry) (d e : Entry) → IsCourse scripts (d ∷ p) → IsCourse scripts (e ∷ q) → IsFor scripts q p → d.caller.0 ≡ e.caller.0 →
-    IsAhead scripts (d ∷ p) (e ∷ q) → KeepsQuiet (length scripts) q (e ∷ q) →
+pub both : {aim : Verdict} (scripts : List ScriptView) (p q : List Entry) (d e : Entry) → IsCourse scripts (d ∷ p) → IsCourse scripts (e ∷ q) → IsFor aim scripts q p → d.caller.0 ≡ e.caller.0 →
+    IsAhead aim scripts (d ∷ p) (e ∷ q) → KeepsQuiet (length scripts) q (e ∷ q) →
     (is_active q e.caller.0 ≡ true → IsFollowed scripts (e ∷ q) e.caller.0 (stand (d ∷ p) e.caller.0) (stand (e ∷ q) e.caller.0)) →
     ((b : ℕ) → (e.caller.0 == b) ≡ false → comp_of q b ≡ None → is_active (e ∷ q) b ≡ true → IsFollowed scripts (e ∷ q) b (stand (d ∷ p) b) (stand (e ∷ q) b)) →
-    is_active q e.caller.0 ≡ true → ((c : ℕ) → phase (e ∷ q) c ≡ P.Killed → (phase q c ≡ P.Killed) ⊎ (phase (d ∷ p) c ≡ P.Killed)) → IsFor scripts (e ∷ q) (d ∷ p)
+    is_active q e.caller.0 ≡ true → ((c : ℕ) → phase (e ∷ q) c ≡ P.Killed → (phase q c ≡ P.Killed) ⊎ (phase (d ∷ p) c ≡ P.Killed)) → IsFor aim scripts (e ∷ q) (d ∷ p)
 both scripts p q d e cp cq f callers ahead keeps own fresh acts dies = record {
   ahead = ahead;
   runs = λ b act. by_test b act (e.caller.0 == b) refl;
-  order = order_both scripts p q d e cp cq f.ahead f.order callers ahead dies acts;
+  order = ⊎_elim inl (λ o. inr (order_both scripts p q d e cp cq f.ahead o callers ahead dies acts)) f.order;
 }
   where
     by_comp : (b : ℕ) → is_active (e ∷ q) b ≡ true → (e.caller.0 == b) ≡ false → (o : Option Comp) → comp_of q b ≡ o → IsFollowed scripts (e ∷ q) b (stand (d ∷ p) b) (stand (e ∷ q) b)

@@ -11,48 +11,55 @@ use Rattle.tc_table.specs.Answers.{is_active}
 use Rattle.tc_explore.specs.declared.witness.Witness.{Witness}
 use Rattle.tc_explore.specs.Told.{is_found}
 use Rattle.tc_explore.specs.Course.{stand, IsCourse}
-use Rattle.tc_explore.specs.Inside.Simulation.{IsCovered, GoesOn, IsClosed}
-use Rattle.tc_explore.specs.Inside.Seen.{IsClosedAt, AreClosed, IsSeen, IsLonger, StandsOn, IsRunClosed, IsState}
-use Rattle.tc_explore.specs.Found.{AllFound}
+use Rattle.tc_explore.specs.Inside.Simulation.{IsCovered, GoesOn, IsClosed, IsWithin}
+use Rattle.tc_explore.specs.Inside.Seen.{IsClosedAt, AreClosed, IsSeen, IsLonger, StandsOn, IsRunClosed, IsState, AllTold}
 use Rattle.tc_explore.proofs.Seeing.{seen_longer, found_longer, closed_for_longer, covered_by, get_more}
 use Rattle.tc_explore.proofs.Completeness.{closed_is_complete}
 use Rattle.tc_explore.proofs.Keeping.{active_stays, main_goes}
+use Rattle.tc_verdict.specs.declared.verdict.Verdict.{Verdict}
+use Rattle.tc_verdict.specs.Verdict.{level_of}
 
-closed_by : (scripts : List ScriptView) (states : List Case) (found : List Witness) (q : List Entry) → IsCourse scripts q → is_over q ≡ false → is_active q 0 ≡ true → (stand q 0).left ≡ false →
-    ((b : ℕ) → b < length scripts → IsRunClosed scripts states found q b) → (is_found found V.Error ≡ true) ⊎ GoesOn scripts q → IsClosed scripts (IsSeen states) found q
-closed_by scripts states found q course going main stays runs stuck = record {
+closed_by : {aim : Verdict} (scripts : List ScriptView) (states : List Case) (found : List Witness) (q : List Entry) → IsCourse scripts q → is_over q ≡ false → IsWithin aim q → is_active q 0 ≡ true → (stand q 0).left ≡ false →
+    ((b : ℕ) → b < length scripts → IsRunClosed aim scripts states found q b) → (is_found found V.Error ≡ true) ⊎ (GoesOn scripts q ⊎ (level_of aim < level_of V.Error)) → IsClosed aim scripts (IsSeen states) found q
+closed_by scripts states found q course going within main stays runs stuck = record {
   course = course;
   going = going;
+  within = within;
   main = main;
   main_stays = stays;
   each = λ e near t on. runs e.caller.0 near e refl t on;
   stuck = stuck;
 }
 
-closed_state : (scripts : List ScriptView) (states : List Case) (found : List Witness) (t : Case) → IsState scripts t → ((b : ℕ) → b < length scripts → IsRunClosed scripts states found (past_of t) b) →
-    (is_found found V.Error ≡ true) ⊎ GoesOn scripts (past_of t) → IsClosed scripts (IsSeen states) found (past_of t)
+closed_state : {aim : Verdict} (scripts : List ScriptView) (states : List Case) (found : List Witness) (t : Case) → IsState aim scripts t → ((b : ℕ) → b < length scripts → IsRunClosed aim scripts states found (past_of t) b) →
+    (is_found found V.Error ≡ true) ⊎ (GoesOn scripts (past_of t) ⊎ (level_of aim < level_of V.Error)) → IsClosed aim scripts (IsSeen states) found (past_of t)
 closed_state scripts states found t s runs stuck =
     let main = main_goes scripts (past_of t) s.opened.on.course s.opened.going in
-    closed_by scripts states found (past_of t) s.opened.on.course s.opened.going main (active_stays scripts (past_of t) 0 s.opened.on.course main) runs stuck
+    closed_by scripts states found (past_of t) s.opened.on.course s.opened.going s.within main (active_stays scripts (past_of t) 0 s.opened.on.course main) runs stuck
 
 -- a run continues
-pub closed_going : (scripts : List ScriptView) (states : List Case) (found : List Witness) (t : Case) → IsState scripts t → ((b : ℕ) → b < length scripts → IsRunClosed scripts states found (past_of t) b) →
-    GoesOn scripts (past_of t) → IsClosed scripts (IsSeen states) found (past_of t)
-closed_going scripts states found t s runs goes = closed_state scripts states found t s runs (inr goes)
+pub closed_going : {aim : Verdict} (scripts : List ScriptView) (states : List Case) (found : List Witness) (t : Case) → IsState aim scripts t → ((b : ℕ) → b < length scripts → IsRunClosed aim scripts states found (past_of t) b) →
+    GoesOn scripts (past_of t) → IsClosed aim scripts (IsSeen states) found (past_of t)
+closed_going scripts states found t s runs goes = closed_state scripts states found t s runs (inr (inl goes))
 
 -- none continues, and error is found
-pub closed_stuck : (scripts : List ScriptView) (states : List Case) (before found : List Witness) (t : Case) → IsState scripts t → ((b : ℕ) → b < length scripts → IsRunClosed scripts states before (past_of t) b) →
-    IsLonger before found → is_found found V.Error ≡ true → IsClosed scripts (IsSeen states) found (past_of t)
+pub closed_stuck : {aim : Verdict} (scripts : List ScriptView) (states : List Case) (before found : List Witness) (t : Case) → IsState aim scripts t → ((b : ℕ) → b < length scripts → IsRunClosed aim scripts states before (past_of t) b) →
+    IsLonger before found → is_found found V.Error ≡ true → IsClosed aim scripts (IsSeen states) found (past_of t)
 closed_stuck scripts states before found t s runs more error =
     closed_state scripts states found t s
     (λ b near e own turn goes. closed_for_longer scripts states states before found (past_of t) e ([], sym (append-nil states)) more (runs b near e own turn goes))
     (inl error)
 
-pub closed_error : (scripts : List ScriptView) (states : List Case) (found : List Witness) (t : Case) → IsState scripts t → ((b : ℕ) → b < length scripts → IsRunClosed scripts states found (past_of t) b) →
-    is_found found V.Error ≡ true → IsClosed scripts (IsSeen states) found (past_of t)
+pub closed_error : {aim : Verdict} (scripts : List ScriptView) (states : List Case) (found : List Witness) (t : Case) → IsState aim scripts t → ((b : ℕ) → b < length scripts → IsRunClosed aim scripts states found (past_of t) b) →
+    is_found found V.Error ≡ true → IsClosed aim scripts (IsSeen states) found (past_of t)
 closed_error scripts states found t s runs error = closed_state scripts states found t s runs (inl error)
 
-pub ruleset state_rules = (closed_going, closed_stuck, closed_error)
+-- none continues, and error is worse than is looked for
+pub closed_better : {aim : Verdict} (scripts : List ScriptView) (states : List Case) (found : List Witness) (t : Case) → IsState aim scripts t → ((b : ℕ) → b < length scripts → IsRunClosed aim scripts states found (past_of t) b) →
+    level_of aim < level_of V.Error → IsClosed aim scripts (IsSeen states) found (past_of t)
+closed_better scripts states found t s runs better = closed_state scripts states found t s runs (inr (inr better))
+
+pub ruleset state_rules = (closed_going, closed_stuck, closed_error, closed_better)
 
 -- ---- places
 
@@ -60,35 +67,36 @@ pub get_longer : (a b : List Case) (i : ℕ) (t : Case) → IsLonger a b → sli
 get_longer a b i t more h = ap (λ x. slice_get x i) more.1 ∙ get_more a more.0 i t h
 
 -- a copy of the state at a place is closed
-pub closed_at : (scripts : List ScriptView) (a b : List Case) (found : List Witness) (i : ℕ) (u v : Case) → IsLonger a b → i < length a → u.history ≡ v.history → v ≡ get_or a i v → IsClosed scripts (IsSeen b) found (past_of u) →
-    IsClosedAt scripts b found i
-closed_at scripts a b found i u v more near same at closed t here =
+pub closed_at : {aim : Verdict} (scripts : List ScriptView) (a b : List Case) (found : List Witness) (i : ℕ) (u v : Case) → IsLonger a b → i < length a → u.history ≡ v.history → v ≡ get_or a i v → IsClosed aim scripts (IsSeen b) found (past_of u) →
+    IsClosedAt aim scripts b found i
+closed_at {aim} scripts a b found i u v more near same at closed t here =
     let there : slice_get b i ≡ Some (get_or a i v) = get_longer a b i (get_or a i v) more (slice_get-get_or a i v near) in
     let some : Some t ≡ Some (get_or a i v) = sym here ∙ there in
     let is : t ≡ get_or a i v = cc in
     let past : past_of u ≡ past_of t = ap reverse (same ∙ ap (λ (x : Case). x.history) (at ∙ sym is)) in
-    subst (IsClosed scripts (IsSeen b) found) past closed
+    subst (IsClosed aim scripts (IsSeen b) found) past closed
 
-closed_longer : (scripts : List ScriptView) (a b : List Case) (f g : List Witness) (q : List Entry) → IsLonger a b → IsLonger f g → IsClosed scripts (IsSeen a) f q → IsClosed scripts (IsSeen b) g q
-closed_longer scripts a b f g q states found c = record {
+closed_longer : {aim : Verdict} (scripts : List ScriptView) (a b : List Case) (f g : List Witness) (q : List Entry) → IsLonger a b → IsLonger f g → IsClosed aim scripts (IsSeen a) f q → IsClosed aim scripts (IsSeen b) g q
+closed_longer {aim} scripts a b f g q states found c = record {
   course = c.course;
   going = c.going;
+  within = c.within;
   main = c.main;
   main_stays = c.main_stays;
   each = λ e near t on. closed_for_longer scripts a b f g q e states found (c.each e near t on);
   stuck = by_stuck c.stuck;
 }
   where
-    by_stuck : (is_found f V.Error ≡ true) ⊎ GoesOn scripts q → (is_found g V.Error ≡ true) ⊎ GoesOn scripts q
+    by_stuck : (is_found f V.Error ≡ true) ⊎ (GoesOn scripts q ⊎ (level_of aim < level_of V.Error)) → (is_found g V.Error ≡ true) ⊎ (GoesOn scripts q ⊎ (level_of aim < level_of V.Error))
     by_stuck (inl h) = inl (found_longer f g V.Error found h)
     by_stuck (inr h) = inr h
 
 -- that many, and one more
-pub closed_ats_more : (scripts : List ScriptView) (a b : List Case) (f g : List Witness) (n : ℕ) → IsLonger a b → IsLonger f g → n < length a → ((i : ℕ) → i < n → IsClosedAt scripts a f i) → IsClosedAt scripts b g n →
-    (i : ℕ) → i < n + 1 → IsClosedAt scripts b g i
-closed_ats_more scripts a b f g n states found within closed last i less = by_place (nat_lt i n) refl
+pub closed_ats_more : {aim : Verdict} (scripts : List ScriptView) (a b : List Case) (f g : List Witness) (n : ℕ) → IsLonger a b → IsLonger f g → n < length a → ((i : ℕ) → i < n → IsClosedAt aim scripts a f i) → IsClosedAt aim scripts b g n →
+    (i : ℕ) → i < n + 1 → IsClosedAt aim scripts b g i
+closed_ats_more {aim} scripts a b f g n states found within closed last i less = by_place (nat_lt i n) refl
   where
-    by_place : (t : Bool) → nat_lt i n ≡ t → IsClosedAt scripts b g i
+    by_place : (t : Bool) → nat_lt i n ≡ t → IsClosedAt aim scripts b g i
     by_place true h = λ t here.
         let near : i < n = grind (arith, nat_tests) in
         let inside : i < length a = omega arith in
@@ -97,16 +105,16 @@ closed_ats_more scripts a b f g n states found within closed last i less = by_pl
         let some : Some t ≡ Some (get_or a i t) = sym here ∙ there in
         let is : get_or a i t ≡ t = cc in
         closed_longer scripts a b f g (past_of t) states found (closed i near t (was ∙ ap Some is))
-    by_place false h = let same : n ≡ i = grind (arith, nat_tests) in subst (IsClosedAt scripts b g) same last
+    by_place false h = let same : n ≡ i = grind (arith, nat_tests) in subst (IsClosedAt aim scripts b g) same last
 
 -- all of them
-pub closed_ats_all : (scripts : List ScriptView) (a : List Case) (f : List Witness) (n : ℕ) → length a ≤ n → ((i : ℕ) → i < n → IsClosedAt scripts a f i) → AreClosed scripts a f
+pub closed_ats_all : {aim : Verdict} (scripts : List ScriptView) (a : List Case) (f : List Witness) (n : ℕ) → length a ≤ n → ((i : ℕ) → i < n → IsClosedAt aim scripts a f i) → AreClosed aim scripts a f
 closed_ats_all scripts a f n whole closed = λ i t here. let near = slice_get_within a i t here in closed i (omega arith) t here
 
 pub ruleset loop_rules = (closed_ats_more, closed_ats_all)
 
 -- the states that begin with what represents the opening are closed
-pub complete_by : (scripts : List ScriptView) (a b : List Case) (found : List Witness) (t u : Case) → 1 ≤ length scripts → past_of t ≡ [] → StandsOn scripts t u → IsSeen a (past_of u) → IsLonger a b → AreClosed scripts b found →
-    AllFound scripts found
-complete_by scripts a b found t u some is stands seen more closed =
-    closed_is_complete scripts b found some (subst (IsCovered scripts (IsSeen b)) is (covered_by scripts b t u stands (seen_longer a b (past_of u) more seen))) closed
+pub complete_by : {aim : Verdict} (scripts : List ScriptView) (a b : List Case) (found : List Witness) (t u : Case) → 1 ≤ length scripts → past_of t ≡ [] → StandsOn aim scripts t u → IsSeen a (past_of u) → IsLonger a b → AreClosed aim scripts b found →
+    AllTold aim scripts found
+complete_by {aim} scripts a b found t u some is stands seen more closed =
+    closed_is_complete scripts b found some (subst (IsCovered aim scripts (IsSeen b)) is (covered_by scripts b t u stands (seen_longer a b (past_of u) more seen))) closed

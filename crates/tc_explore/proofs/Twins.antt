@@ -39,7 +39,7 @@ use Rattle.tc_explore.proofs.Simulation.{some_if, unchanged_ended, unchanged_qui
 
 pub twin_self : (p : List Entry) → IsTwin p p
 twin_self p = record {
-  alike = record { comps_same = refl; phase_same = λ c. refl; kind_same = λ c. refl; comp_same = λ b. refl; overall_same = refl };
+  alike = record { comps_same = refl; phase_same = λ c. refl; kind_same = λ c. refl; comp_same = λ b. refl };
   locals = λ c. refl;
   stands = λ b act. refl;
 }
@@ -179,7 +179,6 @@ module _ (n : ℕ) (q p : List Entry) (e : Entry) (lq : IsLegal n (e ∷ q)) (lp
     phase_same = λ c. phase_next n q e c lq ∙ (rw (exists_same a c, a.comp_same e.caller.0, a.kind_same c, a.phase_same c) refl ∙ sym (phase_next n p e c lp));
     kind_same = λ c. rw (exists_same a c, a.kind_same c) refl;
     comp_same = λ b. ap (λ o. first_some o (started_on e b)) (a.comp_same b);
-    overall_same = overall_next n q e lq ∙ (ap (next_local (gives e.op e.reply)) a.overall_same ∙ sym (overall_next n p e lp));
   }
 
 -- of a run that continues after one more entry the same was known, or it was not started
@@ -273,10 +272,10 @@ asked scripts q p caller op x y cq cp question t = record {
     e = entry_of caller op (R.Answer y)
 
     after_q : IsAlike (d ∷ q) q
-    after_q = alike_unchanged (length scripts) q d (course_legal scripts (d ∷ q) cq) (unchanged_quiet q d (question_quiet (overall q) op question) refl)
+    after_q = alike_unchanged (length scripts) q d (course_legal scripts (d ∷ q) cq) (unchanged_quiet (overall q) q d (question_quiet (overall q) op question) refl)
 
     after_p : IsAlike (e ∷ p) p
-    after_p = alike_unchanged (length scripts) p e (course_legal scripts (e ∷ p) cp) (unchanged_quiet p e (question_quiet (overall p) op question) refl)
+    after_p = alike_unchanged (length scripts) p e (course_legal scripts (e ∷ p) cp) (unchanged_quiet (overall p) p e (question_quiet (overall p) op question) refl)
 
     by_caller : (b : ℕ) → is_active q b ≡ true → (s : Bool) → (caller.0 == b) ≡ s → stand (d ∷ q) b ≡ stand (e ∷ p) b
     by_caller b act true k =

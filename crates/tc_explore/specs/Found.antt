@@ -1,6 +1,8 @@
 -- What is found of a test case: the overall verdicts of its complete courses.
 use Rattle.std.specs.Prelude.{ℕ, ◌≡◌, ◌<◌, ◌≤◌, true, List, length, reverse, slice_index_or, All}
+use Rattle.std.specs.List.Sorted.{IsNonDecreasingBy}
 use Rattle.tc_verdict.specs.declared.verdict.Verdict.{Verdict}
+use Rattle.tc_verdict.specs.Verdict.{level_of}
 use Rattle.tc_entry.specs.declared.entry.Entry.{Entry}
 use Rattle.tc_step.specs.Steps.{ScriptView}
 use Rattle.tc_table.specs.Local.{overall}
@@ -31,6 +33,10 @@ AreWitnesses scripts found = All (λ w. IsWitness scripts w.history w.verdict) f
 abbrev pub IsOnce : List Witness → Type 0
 IsOnce found =
     (i j : ℕ) (d : Witness) → i < length found → j < length found → (slice_index_or found i d).verdict ≡ (slice_index_or found j d).verdict → i ≡ j
+
+-- they are in the order of their verdicts, the best first
+abbrev pub AreFromBest : List Witness → Type 0
+AreFromBest found = IsNonDecreasingBy (λ w. level_of w.verdict) found
 
 -- in some course run b carries out that many calls
 abbrev pub Reaches : List ScriptView → ℕ → ℕ → Type 0

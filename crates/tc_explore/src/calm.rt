@@ -1,4 +1,5 @@
-//! The calls of which nobody can see that they were made, and the making of them.
+//! The calls of which nobody can see that they were made, and the making of them. A search for verdicts up to one makes
+//! each setting up to that at once: if it is made later, or not at all, the verdict is no worse.
 ghost use Rattle.std.specs.Prelude.{◌≡◌, ◌≤◌, ◌<◌, true, false, IfOk, IsTrue, length};
 ghost use Rattle.tc_entry.specs.declared.limits.TheConstants.{BEHAVIOURS};
 ghost use Rattle.tc_entry.specs.Reply as reply;
@@ -6,13 +7,15 @@ ghost use Rattle.tc_table.specs.Case.{past_of};
 ghost use Rattle.tc_table.specs.Answers as answers;
 ghost use Rattle.tc_explore.specs.Course as courses;
 ghost use Rattle.tc_explore.specs.Inside.Simulation as moves;
+ghost use Rattle.tc_explore.specs.Inside.Going.{IsOn};
+ghost use Rattle.tc_explore.specs.Inside.Simulation.{IsWithin};
 ghost use Rattle.tc_explore.specs.Inside.Seen.{IsOpen, IsState, IsCalm, IsCalmAfter, IsLoudAt, StandsOn};
 
 use crate::course::Course;
 use crate::entries::has_gone_on;
 use crate::told::level;
 use crate::turns::next_call;
-use tc_entry::{Group, Op, Phase, Target};
+use tc_entry::{Comp, Group, Op, Phase, Target};
 use tc_step::{STEPS, Script};
 use tc_verdict::{NoMemory, Run, Verdict, from_user};
 
@@ -77,19 +80,80 @@ fn is_end(course: &Course, run: Run, op: &Op) -> bool
     }
 }
 
-// Whether nobody can see that a call was made: it changes nothing or is an end, and is no error.
+// Whether a call sets a verdict worse than this one.
+fn is_barred(aim: Verdict, op: &Op) -> bool
+    ensures { result ≡ moves.is_barred aim op.now }
+{
+    match op {
+        Op::SetVerdict(verdict) => level(aim) < level(from_user(*verdict)),
+        _ => false,
+    }
+}
+
+// Whether what a run calls next sets a verdict worse than this one.
+#[tactic(auto, using(crate::proofs::Searching::felling_rules))]
+fn is_run_barred(aim: Verdict, course: &Course, scripts: &[Script], run: Run) -> bool
+    requires on { IsOn scripts.now course.now }
+    ensures { IsTrue result → moves.IsBarredNow aim scripts.now (past_of course.now) run.0 }
+{
+    if usize::from(run.0) >= scripts.len() {
+        return false;
+    }
+    match course.turn(scripts, run) {
+        Some(op) => is_barred(aim, &op),
+        None => false,
+    }
+}
+
+// Whether another run is barred on a component that nothing can start again.
+#[tactic(auto, using(crate::proofs::Searching::felling_rules))]
+fn is_felled(aim: Verdict, course: &Course, scripts: &[Script], run: Run, comp: Comp) -> bool
+    requires on { IsOn scripts.now course.now }
+    ensures { IsTrue result → moves.IsFelled aim scripts.now (past_of course.now) run.0 comp }
+{
+    let Some(Phase::Running(other)) = course.phase_of(comp) else {
+        return false;
+    };
+    if comp.0 == 0 || other.0 == 0 || run.0 == other.0 || course.is_alive_type(comp.0) {
+        return false;
+    }
+    match course.comp_of(other) {
+        Some(on) => on.0 == comp.0 && is_run_barred(aim, course, scripts, other),
+        None => false,
+    }
+}
+
+// Whether a call stops or kills such a component.
+#[tactic(auto, using(crate::proofs::Searching::felling_rules))]
+fn is_felling(aim: Verdict, course: &Course, scripts: &[Script], run: Run, op: &Op) -> bool
+    requires on { IsOn scripts.now course.now }
+    ensures { IsTrue result → moves.IsFelling aim scripts.now (past_of course.now) run.0 op.now }
+{
+    match op {
+        Op::Stop(Group::One(comp)) => is_felled(aim, course, scripts, run, *comp),
+        Op::Kill(Group::One(comp)) => is_felled(aim, course, scripts, run, *comp),
+        _ => false,
+    }
+}
+
+// Whether nobody can see that a call was made: it changes nothing, is an end, sets a verdict up to this one, or stops
+// what could only set a worse one. It is no error.
 #[tactic(auto, using(crate::proofs::Searching::silent_rules))]
-fn is_silent(course: &Course, run: Run, op: &Op) -> bool
+fn is_silent(aim: Verdict, course: &Course, scripts: &[Script], run: Run, op: &Op) -> bool
+    requires on { IsOn scripts.now course.now }
     ensures plain { IsTrue result → reply.is_fault (answers.answer course.now.behaviours (past_of course.now) run.0 op.now) ≡ false }
     ensures going { IsTrue result → courses.goes_on (answers.answer course.now.behaviours (past_of course.now) run.0 op.now) ≡ true }
-    ensures silent { IsTrue result → moves.IsSilent (past_of course.now) run.0 op.now }
+    ensures silent { IsTrue result → moves.IsSilent aim scripts.now (past_of course.now) run.0 op.now }
     ensures calm { result ≡ false → IsLoudAt course.now.behaviours (past_of course.now) run.0 op.now }
 {
     let reply = course.would(run, op);
     if reply.is_fault() || !has_gone_on(reply) {
         return false;
     }
-    is_spent(course, op) || is_end(course, run, op)
+    is_spent(course, op)
+        || is_end(course, run, op)
+        || is_quiet_now(op, aim)
+        || is_felling(aim, course, scripts, run, op)
 }
 
 // A course, and whether it is longer than it was.
@@ -101,11 +165,18 @@ struct Advance {
 
 // The course with the next call of a run, if nobody can see that it was made.
 #[tactic(auto, using(crate::proofs::Searching::searching_rules, crate::proofs::Keeping::call_rules, crate::proofs::Lemmas::Turning::turn_rules))]
-fn with_silent_call(course: Course, scripts: &[Script], run: Run) -> Result<Advance, NoMemory>
+fn with_silent_call(
+    aim: Verdict,
+    course: Course,
+    scripts: &[Script],
+    run: Run,
+) -> Result<Advance, NoMemory>
     requires within { run.0 < length scripts.now }
     requires opened { IsOpen scripts.now course }
+    requires verdict { IsWithin aim (past_of course) }
+    ensures verdict { IfOk result (λ a. IsWithin aim (past_of a.course)) }
     ensures opened { IfOk result (λ a. IsOpen scripts.now a.course) }
-    ensures stands { IfOk result (λ a. StandsOn scripts.now course a.course) }
+    ensures stands { IfOk result (λ a. StandsOn aim scripts.now course a.course) }
     ensures calm { IfOk result (λ a. a.went_on ≡ false → IsCalmAfter scripts.now course a.course run.0) }
 {
     let Some(op) = next_call(&course, scripts, run) else {
@@ -114,7 +185,7 @@ fn with_silent_call(course: Course, scripts: &[Script], run: Run) -> Result<Adva
             went_on: false,
         });
     };
-    if !is_silent(&course, run, &op) {
+    if !is_silent(aim, &course, scripts, run, &op) {
         return Ok(Advance {
             course,
             went_on: false,
@@ -129,17 +200,24 @@ fn with_silent_call(course: Course, scripts: &[Script], run: Run) -> Result<Adva
 
 // The course with the next calls of a run of which nobody can see that they were made.
 #[tactic(auto, using(crate::proofs::Searching::searching_rules, crate::proofs::Keeping::calm_rules))]
-fn with_silent_calls(course: Course, scripts: &[Script], run: Run) -> Result<Advance, NoMemory>
+fn with_silent_calls(
+    aim: Verdict,
+    course: Course,
+    scripts: &[Script],
+    run: Run,
+) -> Result<Advance, NoMemory>
     requires within { run.0 < length scripts.now }
     requires opened { IsOpen scripts.now course }
+    requires verdict { IsWithin aim (past_of course) }
+    ensures verdict { IfOk result (λ a. IsWithin aim (past_of a.course)) }
     ensures opened { IfOk result (λ a. IsOpen scripts.now a.course) }
-    ensures stands { IfOk result (λ a. StandsOn scripts.now course a.course) }
+    ensures stands { IfOk result (λ a. StandsOn aim scripts.now course a.course) }
     ensures calm { IfOk result (λ a. a.went_on ≡ false → IsCalmAfter scripts.now course a.course run.0) }
 {
     let mut course = course;
     let mut went_on = false;
     for _ in 0..STEPS + 1 {
-        let advance = with_silent_call(course, scripts, run)?;
+        let advance = with_silent_call(aim, course, scripts, run)?;
         course = advance.course;
         if !advance.went_on {
             return Ok(Advance { course, went_on });
@@ -154,17 +232,19 @@ fn with_silent_calls(course: Course, scripts: &[Script], run: Run) -> Result<Adv
 
 // The course with such calls of all runs, one run after the other.
 #[tactic(auto, using(crate::proofs::Searching::searching_rules, crate::proofs::Keeping::calm_rules))]
-fn calmed_once(course: Course, scripts: &[Script]) -> Result<Advance, NoMemory>
+fn calmed_once(aim: Verdict, course: Course, scripts: &[Script]) -> Result<Advance, NoMemory>
     requires few { length scripts.now ≤ BEHAVIOURS }
     requires opened { IsOpen scripts.now course }
+    requires verdict { IsWithin aim (past_of course) }
+    ensures verdict { IfOk result (λ a. IsWithin aim (past_of a.course)) }
     ensures opened { IfOk result (λ a. IsOpen scripts.now a.course) }
-    ensures stands { IfOk result (λ a. StandsOn scripts.now course a.course) }
+    ensures stands { IfOk result (λ a. StandsOn aim scripts.now course a.course) }
     ensures calm { IfOk result (λ a. a.went_on ≡ false → IsCalm scripts.now (past_of a.course)) }
 {
     let mut course = course;
     let mut went_on = false;
     for run in 0..scripts.len() as u16 {
-        let advance = with_silent_calls(course, scripts, Run(run))?;
+        let advance = with_silent_calls(aim, course, scripts, Run(run))?;
         course = advance.course;
         went_on = went_on || advance.went_on;
     }
@@ -175,15 +255,16 @@ fn calmed_once(course: Course, scripts: &[Script]) -> Result<Advance, NoMemory>
 /// one of these, so it goes over the runs until none has such a call. Each turn but the last adds an entry, and no
 /// memory holds as many as there are turns.
 #[tactic(auto, using(crate::proofs::Searching::searching_rules, crate::proofs::Keeping::calm_rules))]
-pub(crate) fn calmed(course: Course, scripts: &[Script]) -> Result<Course, NoMemory>
+pub(crate) fn calmed(aim: Verdict, course: Course, scripts: &[Script]) -> Result<Course, NoMemory>
     requires few { length scripts.now ≤ BEHAVIOURS }
     requires opened { IsOpen scripts.now course }
-    ensures state { IfOk result (λ c. IsState scripts.now c) }
-    ensures stands { IfOk result (λ c. StandsOn scripts.now course c) }
+    requires verdict { IsWithin aim (past_of course) }
+    ensures state { IfOk result (λ c. IsState aim scripts.now c) }
+    ensures stands { IfOk result (λ c. StandsOn aim scripts.now course c) }
 {
     let mut course = course;
     for _ in 0..usize::MAX {
-        let advance = calmed_once(course, scripts)?;
+        let advance = calmed_once(aim, course, scripts)?;
         course = advance.course;
         if !advance.went_on {
             return Ok(course);

@@ -1,14 +1,14 @@
 //! The search for the overall verdicts of a test case.
 ghost use Rattle.std.specs.Prelude.{◌≡◌, ◌≤◌, [], IfOk, IfSome, OnOk, length};
 ghost use Rattle.tc_entry.specs.declared.limits.TheConstants.{BEHAVIOURS};
-ghost use Rattle.tc_explore.specs.Found.{AreWitnesses, AreLegal, AreCovered, AreMet, AreReached, IsOnce};
+ghost use Rattle.tc_explore.specs.Found.{AreWitnesses, AreLegal, AreFromBest, AreCovered, AreMet, AreReached, IsOnce};
 ghost use Rattle.tc_explore.specs.Course as courses;
 ghost use Rattle.tc_explore.specs.Course.{room_of, weight_of};
 ghost use Rattle.tc_explore.specs.Found.{AllFound};
 ghost use Rattle.tc_explore.specs.declared.explored.Ending.TheVariants.{Complete, Undecided};
 
+use crate::aims::search_verdicts;
 use crate::findings::no_findings;
-use crate::search::search_all;
 use crate::witness::Witness;
 use std::alloc::Global;
 use tc_entry::Sequence;
@@ -27,7 +27,7 @@ pub enum Ending {
 /// What a search has found.
 #[derive(Drop)]
 pub struct Explored {
-    /// A witness of each overall verdict that was found.
+    /// A witness of each overall verdict that was found, the best verdict first.
     pub found: Sequence<Witness>,
     /// For each run how many calls it carries out at most in the courses that were looked at: its steps, and after them
     /// the end of its behaviour.
@@ -84,6 +84,7 @@ pub fn explore(alloc: Global, scripts: &[Script], limit: usize) -> Result<Explor
     requires few { length scripts.now ≤ BEHAVIOURS }
     ensures sound { IfOk result (λ e. AreWitnesses scripts.now e.found) }
     ensures legal { IfOk result (λ e. AreLegal scripts.now e.found) }
+    ensures ordered { IfOk result (λ e. AreFromBest e.found) }
     ensures reached { IfOk result (λ e. AreReached scripts.now e.reached) }
     ensures covered { IfOk result (λ e. AreCovered e.reached e.found) }
     ensures met { IfOk result (λ e. AreMet scripts.now e.reached e.states) }
@@ -104,7 +105,7 @@ pub fn explore(alloc: Global, scripts: &[Script], limit: usize) -> Result<Explor
         });
     }
     let most = most_states(scripts, limit).ok_or(NoMemory)?;
-    let extent = search_all(alloc, scripts, most, &mut found)?;
+    let extent = search_verdicts(alloc, scripts, most, &mut found)?;
     Ok(Explored {
         found: Sequence::new(found.witnesses),
         reached: Sequence::new(found.reached),

@@ -2,11 +2,13 @@
 ghost use Rattle.std.specs.Prelude.{◌≡◌, ◌≤◌, [], IfOk, length};
 ghost use Rattle.tc_table.specs.Case.{past_of};
 ghost use Rattle.tc_entry.specs.declared.limits.TheConstants.{BEHAVIOURS};
-ghost use Rattle.tc_explore.specs.Found.{AreReached, Covers};
+ghost use Rattle.std.specs.List.Sorted.{IsPermutation};
+ghost use Rattle.tc_explore.specs.Found.{AreFromBest, AreReached, Covers};
 ghost use Rattle.tc_explore.specs.Inside.Going.{IsOn};
 ghost use Rattle.tc_explore.specs.Inside.Seen.{IsNoLess, IsNoted};
 
 use crate::course::Course;
+use crate::told::level;
 use crate::witness::Witness;
 use std::alloc::Global;
 use tc_step::Script;
@@ -28,6 +30,14 @@ pub(crate) fn no_findings(alloc: Global, scripts: &[Script]) -> Result<Findings,
     let witnesses = Vec::new(alloc);
     let reached = vec![in alloc; 0; scripts.len()]?;
     Ok(Findings { witnesses, reached })
+}
+
+/// Orders witnesses from the best verdict to the worst.
+pub(crate) fn order(witnesses: &mut Vec<Witness>)
+    ensures same { IsPermutation witnesses.old.items witnesses.new.items }
+    ensures ordered { AreFromBest witnesses.new.items }
+{
+    witnesses.sort_unstable_by_key(|witness| level(witness.verdict));
 }
 
 /// Takes in how many calls the runs of a course have carried out.

@@ -1,6 +1,7 @@
 //! The overall verdicts that the schedules of a scripted test case can give.
 #![tactic(auto)]
 
+mod aims;
 mod call;
 mod calm;
 mod components;

@@ -1,24 +1,24 @@
-//! The search. It follows the calls of all runs, and makes those at once of which nobody can see that they were made.
-//! If it comes to its end nothing is missed.
+//! The search for verdicts up to one. It follows the calls of all runs, makes those at once of which nobody can see that
+//! they were made, and goes no further where the verdict is worse. If it comes to its end nothing up to that is missed.
 ghost use Rattle.std.specs.Prelude.{◌≡◌, ◌≤◌, ◌<◌, [], ◌∷◌, true, false, IfOk, OnOk, All, length, slice_index_or};
 ghost use Rattle.tc_entry.specs.declared.limits.TheConstants.{BEHAVIOURS};
 ghost use Rattle.tc_table.specs.Case.{past_of};
 ghost use Rattle.tc_explore.specs.Inside.Going as going;
 ghost use Rattle.tc_explore.specs.Inside.Going.{IsOn, IsNext};
 ghost use Rattle.tc_explore.specs.Inside.Simulation as moves;
-ghost use Rattle.tc_explore.specs.Inside.Simulation.{IsClosed};
+ghost use Rattle.tc_explore.specs.Inside.Simulation.{IsClosed, IsWithin};
+ghost use Rattle.tc_verdict.specs.declared.verdict.Verdict.TheVariants.{Error};
 ghost use Rattle.tc_explore.specs.Found.{AreMet};
-ghost use Rattle.tc_explore.specs.Found.{AllFound};
 ghost use Rattle.tc_explore.specs.Course.{carried, goes_on};
 ghost use Rattle.tc_table.specs.Answers.{answer};
-ghost use Rattle.tc_explore.specs.Inside.Seen.{AreClosed, IsSeen, IsLonger, IsNoted, IsOpen, IsState, AreKept, AreKeyed, IsWith, IsFull, AreHeld, IsStillAt, AreStill, IsCallClosed, IsRunClosed, AreRunsClosed};
+ghost use Rattle.tc_explore.specs.Inside.Seen.{AreClosed, IsSeen, IsLonger, IsNoLess, IsNoted, IsOpen, IsState, AreKept, AreKeyed, IsWith, IsFull, AreHeld, IsStillAt, AreStill, AllTold, IsCallClosed, IsRunClosed, AreRunsClosed};
 
 use crate::calm::calmed;
 use crate::course::Course;
 use crate::entries::has_gone_on;
 use crate::findings::{Findings, reach};
 use crate::noted::{note, with_stuck};
-use crate::told::is_found;
+use crate::told::{is_found, level};
 use crate::turns::next_call;
 use indexmap::IndexSet;
 use std::alloc::Global;
@@ -44,11 +44,17 @@ pub(crate) struct Extent {
 // Takes in the state of a course, and returns whether it is among those that are seen: it is, unless as many as the
 // limit are met. No two of them have one key.
 #[tactic(auto, using(crate::proofs::Seeing::seeing_rules, crate::proofs::Keeping::keeping_rules))]
-fn place(alloc: Global, scripts: &[Script], course: Course, met: &mut Met) -> Result<bool, NoMemory>
+fn place(
+    aim: Verdict,
+    alloc: Global,
+    scripts: &[Script],
+    course: Course,
+    met: &mut Met,
+) -> Result<bool, NoMemory>
     requires some { 1 ≤ length scripts.now }
     requires few { length scripts.now ≤ BEHAVIOURS }
-    requires state { IsState scripts.now course }
-    requires states { All (λ t. IsState scripts.now t) met.old.states.items }
+    requires state { IsState aim scripts.now course }
+    requires states { All (λ t. IsState aim scripts.now t) met.old.states.items }
     requires keyed { AreKeyed scripts.now met.old }
     ensures with_it { OnOk result (IsWith met.old.states.items course met.new.states.items) }
     ensures keyed { OnOk result (AreKeyed scripts.now met.new) }
@@ -86,9 +92,10 @@ pub(crate) fn with_call(
     course.copied(alloc)?.with(run, op)
 }
 
-// Makes a call, and returns whether what it leads to is seen, or its verdict is found.
+// Makes a call, and returns whether what it leads to is seen, its verdict is found, or is worse than is looked for.
 #[tactic(auto, using(crate::proofs::Closed::closed_rules, crate::proofs::Seeing::seeing_rules, crate::proofs::Keeping::keeping_rules, crate::proofs::Keeping::open_next, crate::proofs::Kept::kept_rules))]
 fn after_call(
+    aim: Verdict,
     alloc: Global,
     scripts: &[Script],
     course: &Course,
@@ -102,14 +109,15 @@ fn after_call(
     requires opened { IsOpen scripts.now course.now }
     requires turn { IsNext scripts.now course.now run op }
     requires goes { goes_on (answer course.now.behaviours (past_of course.now) run.0 op) ≡ true }
-    requires kept { AreKept scripts.now met.old found.old }
+    requires kept { AreKept aim scripts.now met.old found.old }
     requires found { IsNoted scripts.now found.old }
-    ensures kept { OnOk result (AreKept scripts.now met.new found.new) }
+    ensures kept { OnOk result (AreKept aim scripts.now met.new found.new) }
     ensures more_states { OnOk result (IsLonger met.old.states.items met.new.states.items) }
     ensures found { OnOk result (IsNoted scripts.now found.new) }
     ensures more_found { OnOk result (IsLonger found.old.witnesses.items found.new.witnesses.items) }
+    ensures more { OnOk result (IsNoLess found.old.reached.items found.new.reached.items) }
     ensures limit { OnOk result (met.new.limit ≡ met.old.limit) }
-    ensures closed { IfOk result (λ is_closed. is_closed ≡ true → IsCallClosed scripts.now met.new found.new course.now run op) }
+    ensures closed { IfOk result (λ is_closed. is_closed ≡ true → IsCallClosed aim scripts.now met.new found.new course.now run op) }
     ensures full { IfOk result (λ is_closed. is_closed ≡ false → IsFull met.old) }
 {
     let next = with_call(alloc, scripts, course, run, op)?;
@@ -117,9 +125,12 @@ fn after_call(
         note(alloc, scripts, next, found)?;
         return Ok(true);
     }
-    let calm = calmed(next, scripts)?;
+    if level(next.verdict()) > level(aim) {
+        return Ok(true);
+    }
+    let calm = calmed(aim, next, scripts)?;
     reach(&mut found.reached, scripts, &calm);
-    let is_seen = place(alloc, scripts, calm, met)?;
+    let is_seen = place(aim, alloc, scripts, calm, met)?;
     Ok(is_seen)
 }
 
@@ -131,8 +142,9 @@ struct Tried {
 }
 
 // Makes the next call of a run.
-#[tactic(auto, using(crate::proofs::Closed::run_rules, crate::proofs::Seeing::seeing_rules, crate::proofs::Keeping::keeping_rules))]
+#[tactic(auto, using(crate::proofs::Closed::run_rules, crate::proofs::Seeing::seeing_rules, crate::proofs::Keeping::keeping_rules, crate::proofs::Kept::no_less_self))]
 fn try_run(
+    aim: Verdict,
     alloc: Global,
     scripts: &[Script],
     course: &Course,
@@ -142,15 +154,16 @@ fn try_run(
 ) -> Result<Tried, NoMemory>
     requires few { length scripts.now ≤ BEHAVIOURS }
     requires within { run.0 < length scripts.now }
-    requires state { IsState scripts.now course.now }
-    requires kept { AreKept scripts.now met.old found.old }
+    requires state { IsState aim scripts.now course.now }
+    requires kept { AreKept aim scripts.now met.old found.old }
     requires found { IsNoted scripts.now found.old }
-    ensures kept { OnOk result (AreKept scripts.now met.new found.new) }
+    ensures kept { OnOk result (AreKept aim scripts.now met.new found.new) }
     ensures more_states { OnOk result (IsLonger met.old.states.items met.new.states.items) }
     ensures found { OnOk result (IsNoted scripts.now found.new) }
     ensures more_found { OnOk result (IsLonger found.old.witnesses.items found.new.witnesses.items) }
+    ensures more { OnOk result (IsNoLess found.old.reached.items found.new.reached.items) }
     ensures limit { OnOk result (met.new.limit ≡ met.old.limit) }
-    ensures closed { IfOk result (λ t. t.is_closed ≡ true → IsRunClosed scripts.now met.new.states.items found.new.witnesses.items (past_of course.now) run.0) }
+    ensures closed { IfOk result (λ t. t.is_closed ≡ true → IsRunClosed aim scripts.now met.new.states.items found.new.witnesses.items (past_of course.now) run.0) }
     ensures full { IfOk result (λ t. t.is_closed ≡ false → IsFull met.old) }
     ensures goes_on { IfOk result (λ t. t.goes_on ≡ true → moves.GoesOn scripts.now (past_of course.now)) }
     ensures still { IfOk result (λ t. t.goes_on ≡ false → IsStillAt scripts.now (past_of course.now) run.0) }
@@ -168,7 +181,7 @@ fn try_run(
             goes_on: false,
         });
     }
-    let is_closed = after_call(alloc, scripts, course, run, op, met, found)?;
+    let is_closed = after_call(aim, alloc, scripts, course, run, op, met, found)?;
     Ok(Tried {
         is_closed,
         goes_on: !reply.is_fault(),
@@ -176,8 +189,9 @@ fn try_run(
 }
 
 // Makes the next call of each run.
-#[tactic(auto, using(crate::proofs::Closed::runs_rules, crate::proofs::Seeing::seeing_rules))]
+#[tactic(auto, using(crate::proofs::Closed::runs_rules, crate::proofs::Seeing::seeing_rules, crate::proofs::Kept::no_less_self))]
 fn try_runs(
+    aim: Verdict,
     alloc: Global,
     scripts: &[Script],
     course: &Course,
@@ -185,15 +199,16 @@ fn try_runs(
     found: &mut Findings,
 ) -> Result<Tried, NoMemory>
     requires few { length scripts.now ≤ BEHAVIOURS }
-    requires state { IsState scripts.now course.now }
-    requires kept { AreKept scripts.now met.old found.old }
+    requires state { IsState aim scripts.now course.now }
+    requires kept { AreKept aim scripts.now met.old found.old }
     requires found { IsNoted scripts.now found.old }
-    ensures kept { OnOk result (AreKept scripts.now met.new found.new) }
+    ensures kept { OnOk result (AreKept aim scripts.now met.new found.new) }
     ensures more_states { OnOk result (IsLonger met.old.states.items met.new.states.items) }
     ensures found { OnOk result (IsNoted scripts.now found.new) }
     ensures more_found { OnOk result (IsLonger found.old.witnesses.items found.new.witnesses.items) }
+    ensures more { OnOk result (IsNoLess found.old.reached.items found.new.reached.items) }
     ensures limit { OnOk result (met.new.limit ≡ met.old.limit) }
-    ensures closed { IfOk result (λ t. t.is_closed ≡ true → AreRunsClosed scripts.now met.new found.new course.now (length scripts.now)) }
+    ensures closed { IfOk result (λ t. t.is_closed ≡ true → AreRunsClosed aim scripts.now met.new found.new course.now (length scripts.now)) }
     ensures full { IfOk result (λ t. t.is_closed ≡ false → IsFull met.new) }
     ensures goes_on { IfOk result (λ t. t.goes_on ≡ true → moves.GoesOn scripts.now (past_of course.now)) }
     ensures still { IfOk result (λ t. t.goes_on ≡ false → AreStill scripts.now (past_of course.now) (length scripts.now)) }
@@ -201,17 +216,18 @@ fn try_runs(
     let mut is_closed = true;
     let mut goes_on = false;
     for run in 0..scripts.len() as u16 {
-        let tried = try_run(alloc, scripts, course, Run(run), met, found)?;
+        let tried = try_run(aim, alloc, scripts, course, Run(run), met, found)?;
         is_closed = is_closed && tried.is_closed;
         goes_on = goes_on || tried.goes_on;
     }
     Ok(Tried { is_closed, goes_on })
 }
 
-// Looks at the state of a course: makes the next call of each run, or ends the case if none continues. It returns
-// whether what comes after the state is seen, or found. It is, unless as many states as the limit are met.
+// Looks at the state of a course: makes the next call of each run, or ends the case if none continues and error is looked
+// for. It returns whether what comes after the state is seen, or found. It is, unless as many states as the limit are met.
 #[tactic(auto, using(crate::proofs::States::state_rules, crate::proofs::Closed::runs_rules, crate::proofs::Seeing::seeing_rules, crate::proofs::Keeping::keeping_rules, crate::proofs::Parking::held_if, crate::proofs::Kept::kept_rules))]
 fn expand_course(
+    aim: Verdict,
     alloc: Global,
     scripts: &[Script],
     course: &Course,
@@ -220,23 +236,27 @@ fn expand_course(
 ) -> Result<bool, NoMemory>
     requires some { 1 ≤ length scripts.now }
     requires few { length scripts.now ≤ BEHAVIOURS }
-    requires state { IsState scripts.now course.now }
-    requires kept { AreKept scripts.now met.old found.old }
+    requires state { IsState aim scripts.now course.now }
+    requires kept { AreKept aim scripts.now met.old found.old }
     requires found { IsNoted scripts.now found.old }
-    ensures kept { OnOk result (AreKept scripts.now met.new found.new) }
+    ensures kept { OnOk result (AreKept aim scripts.now met.new found.new) }
     ensures more_states { OnOk result (IsLonger met.old.states.items met.new.states.items) }
     ensures found { OnOk result (IsNoted scripts.now found.new) }
     ensures more_found { OnOk result (IsLonger found.old.witnesses.items found.new.witnesses.items) }
+    ensures more { OnOk result (IsNoLess found.old.reached.items found.new.reached.items) }
     ensures limit { OnOk result (met.new.limit ≡ met.old.limit) }
-    ensures closed { IfOk result (λ c. c ≡ true → IsClosed scripts.now (IsSeen met.new.states.items) found.new.witnesses.items (past_of course.now)) }
-    ensures stuck { IfOk result (λ c. c ≡ true → AreHeld scripts.now (past_of course.now) → carried (past_of course.now) 0 < slice_index_or found.new.reached.items 0 0) }
+    ensures closed { IfOk result (λ c. c ≡ true → IsClosed aim scripts.now (IsSeen met.new.states.items) found.new.witnesses.items (past_of course.now)) }
+    ensures stuck { IfOk result (λ c. c ≡ true → aim ≡ Error → AreHeld scripts.now (past_of course.now) → carried (past_of course.now) 0 < slice_index_or found.new.reached.items 0 0) }
     ensures full { IfOk result (λ is_closed. is_closed ≡ false → IsFull met.new) }
 {
-    let tried = try_runs(alloc, scripts, course, met, found)?;
+    let tried = try_runs(aim, alloc, scripts, course, met, found)?;
     if !tried.is_closed {
         return Ok(false);
     }
     if tried.goes_on {
+        return Ok(true);
+    }
+    if level(aim) < level(Verdict::Error) {
         return Ok(true);
     }
     let stuck = with_stuck(course.copied(alloc)?, scripts)?;
@@ -251,6 +271,7 @@ fn expand_course(
 // Looks at all states, and returns whether what comes after each is seen, or found.
 #[tactic(auto, using(crate::proofs::States::loop_rules, crate::proofs::Closed::longer_then, crate::proofs::Seeing::seeing_rules, crate::proofs::Keeping::keeping_rules, crate::proofs::Kept::kept_rules))]
 fn expand_all(
+    aim: Verdict,
     alloc: Global,
     scripts: &[Script],
     met: &mut Met,
@@ -258,13 +279,15 @@ fn expand_all(
 ) -> Result<bool, NoMemory>
     requires some { 1 ≤ length scripts.now }
     requires few { length scripts.now ≤ BEHAVIOURS }
-    requires kept { AreKept scripts.now met.old found.old }
+    requires kept { AreKept aim scripts.now met.old found.old }
     requires found { IsNoted scripts.now found.old }
     ensures more_states { OnOk result (IsLonger met.old.states.items met.new.states.items) }
     ensures found { OnOk result (IsNoted scripts.now found.new) }
-    ensures kept { OnOk result (AreKept scripts.now met.new found.new) }
+    ensures kept { OnOk result (AreKept aim scripts.now met.new found.new) }
+    ensures more_found { OnOk result (IsLonger found.old.witnesses.items found.new.witnesses.items) }
+    ensures more { OnOk result (IsNoLess found.old.reached.items found.new.reached.items) }
     ensures limit { OnOk result (met.new.limit ≡ met.old.limit) }
-    ensures closed { IfOk result (λ is_whole. is_whole ≡ true → AreClosed scripts.now met.new.states.items found.new.witnesses.items) }
+    ensures closed { IfOk result (λ is_whole. is_whole ≡ true → AreClosed aim scripts.now met.new.states.items found.new.witnesses.items) }
     ensures full { IfOk result (λ is_whole. is_whole ≡ false → IsFull met.new) }
 {
     let mut is_closed = true;
@@ -274,16 +297,17 @@ fn expand_all(
             return Ok(is_closed);
         }
         let course = met.states[at].copied(alloc)?;
-        let is_one_closed = expand_course(alloc, scripts, &course, met, found)?;
+        let is_one_closed = expand_course(aim, alloc, scripts, &course, met, found)?;
         is_closed = is_closed && is_one_closed;
     }
     Ok(is_closed)
 }
 
-/// Makes the calls of all runs from each state that is met, within a limit. It comes to its end unless it meets the limit, and
-/// then the verdict of each complete course is found.
+/// Makes the calls of all runs from each state that is met, within a limit. It comes to its end unless it meets the limit.
+/// Then for each complete course whose verdict is no worse than is looked for, a verdict is found that is as bad.
 #[tactic(auto, using(crate::proofs::States::complete_by, crate::proofs::Lemmas::Turning::turn_rules, crate::proofs::Seeing::seeing_rules, crate::proofs::Keeping::open_opening, crate::proofs::Kept::kept_rules))]
 pub(crate) fn search_all(
+    aim: Verdict,
     alloc: Global,
     scripts: &[Script],
     limit: usize,
@@ -293,8 +317,10 @@ pub(crate) fn search_all(
     requires few { length scripts.now ≤ BEHAVIOURS }
     requires found { IsNoted scripts.now found.old }
     ensures found { OnOk result (IsNoted scripts.now found.new) }
+    ensures more_found { OnOk result (IsLonger found.old.witnesses.items found.new.witnesses.items) }
+    ensures more { OnOk result (IsNoLess found.old.reached.items found.new.reached.items) }
     ensures met { IfOk result (λ e. AreMet scripts.now found.new.reached.items e.states) }
-    ensures complete { IfOk result (λ e. e.is_whole ≡ true → AllFound scripts.now found.new.witnesses.items) }
+    ensures complete { IfOk result (λ e. e.is_whole ≡ true → AllTold aim scripts.now found.new.witnesses.items) }
     ensures within { IfOk result (λ e. e.states ≤ limit) }
     ensures full { IfOk result (λ e. e.is_whole ≡ false → e.states ≡ limit) }
 {
@@ -304,10 +330,10 @@ pub(crate) fn search_all(
         limit,
     };
     let opening = Course::opening(alloc, scripts.len() as u16)?;
-    let calm = calmed(opening, scripts)?;
+    let calm = calmed(aim, opening, scripts)?;
     reach(&mut found.reached, scripts, &calm);
-    let is_placed = place(alloc, scripts, calm, &mut met)?;
-    let is_closed = expand_all(alloc, scripts, &mut met, found)?;
+    let is_placed = place(aim, alloc, scripts, calm, &mut met)?;
+    let is_closed = expand_all(aim, alloc, scripts, &mut met, found)?;
     let is_whole = is_placed && is_closed;
     Ok(Extent {
         states: met.keys.len(),

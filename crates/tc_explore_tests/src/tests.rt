@@ -367,7 +367,7 @@ fn a_search_ends_at_its_limit(rt: HostRuntime) -> Result<(), Fail> {
         (0, Ending::Undecided, Some(0)),
         (1, Ending::Undecided, Some(1)),
         (2, Ending::Undecided, Some(2)),
-        (3, Ending::Undecided, Some(3)),
+        (3, Ending::Complete, Some(3)),
     ];
     end_within(&rt, rt.alloc(), scripts.as_slice(), rows.as_slice())
 }
@@ -392,7 +392,7 @@ fn a_large_test_case_has_fewer_states(rt: HostRuntime) -> Result<(), Fail> {
         (24, Ending::Undecided, Some(0)),
         (25, Ending::Undecided, Some(1)),
         (74, Ending::Undecided, Some(2)),
-        (75, Ending::Undecided, Some(3)),
+        (75, Ending::Complete, Some(3)),
     ];
     end_within(&rt, rt.alloc(), scripts.as_slice(), rows.as_slice())
 }
@@ -540,13 +540,23 @@ fn race_is_told<R: Abort>(rt: &R, alloc: Global) -> Result<(), Fail> {
     let race = race(rt, alloc)?;
     let rows = [
         (MANY, "t none fail complete\n", 1),
-        (3, "t none undecided after 3 states\n", 3),
+        (2, "t undecided after 2 states\n", 3),
         (0, "t undecided after 0 states\n", 3),
     ];
     for (limit, line, status) in rows {
         tells(rt, alloc, race.as_slice(), limit, (line, status))?;
     }
     Ok(())
+}
+
+// The worst verdict is found first: the worker sets fail, and the search comes to its limit before it makes a component.
+fn worst_is_told<R: Abort>(rt: &R, alloc: Global) -> Result<(), Fail> {
+    let mut scripts = Vec::new(alloc);
+    add_leading(rt, alloc, &mut scripts, Step::GetVerdict)?;
+    let steps = vec![in alloc; Step::SetVerdict(UserVerdict::Fail), create(false)]?;
+    scripts.push(script(rt, steps))?;
+    let told = ("t fail undecided after 3 states\n", 3);
+    tells(rt, alloc, scripts.as_slice(), 3, told)
 }
 
 // Compares the histories of the witnesses of a test case t of one behaviour.
@@ -567,6 +577,7 @@ fn has_histories<R: Abort>(
 fn lines_and_statuses(rt: HostRuntime) -> Result<(), Fail> {
     let alloc = rt.alloc();
     race_is_told(&rt, alloc)?;
+    worst_is_told(&rt, alloc)?;
     let mut alone = Vec::new(alloc);
     add_setting(&rt, alloc, &mut alone, UserVerdict::Pass)?;
     let explored = search(&rt, alloc, alone.as_slice(), MANY)?;

@@ -1,6 +1,9 @@
 -- The states that a search has seen.
-use Rattle.std.specs.Prelude.{ℕ, ◌≡◌, ◌<◌, ◌≤◌, ◌⊎◌, true, None, Some, List, [], ◌∷◌, ◌++◌, false, length, map, slice_get, slice_index_or, All}
+use Rattle.std.specs.Prelude.{ℕ, ◌≡◌, ◌<◌, ◌≤◌, ◌⊎◌, ◌&&◌, nat_le, if◌then◌else◌, Bool, true, Option, None, Some, List, [], ◌∷◌, ◌++◌, false, length, map, slice_get, slice_index_or, All}
 use Rattle.tc_verdict.specs.declared.run.Run.{Run}
+use Rattle.tc_verdict.specs.declared.verdict.Verdict.{Verdict}
+use Rattle.tc_verdict.specs.declared.verdict.Verdict.TheVariants as V
+use Rattle.tc_verdict.specs.Verdict.{level_of}
 use Rattle.tc_entry.specs.declared.entry.Entry.{Entry}
 use Rattle.tc_entry.specs.declared.op.Op.{Op}
 use Rattle.tc_entry.specs.Reply.{is_fault}
@@ -12,16 +15,17 @@ use Rattle.tc_table.specs.Answers.{answer, is_active}
 use Rattle.tc_explore.specs.declared.witness.Witness.{Witness}
 use Rattle.tc_explore.specs.declared.findings.Findings.{Findings}
 use Rattle.tc_explore.specs.declared.search.Met.{Met}
-use Rattle.tc_explore.specs.Found.{AreReached, AreCovered, Covers}
+use Rattle.tc_explore.specs.Found.{AreReached, AreCovered, Covers, Gives}
 use Rattle.tc_explore.specs.Told.{is_found}
 use Rattle.tc_explore.specs.Course.{carried, stand, goes_on, IsTurn, IsCourse}
 use Rattle.tc_explore.specs.Inside.Going.{taken, IsOn, AreNoted}
 use Rattle.tc_explore.specs.Inside.Keys.{key_of}
-use Rattle.tc_explore.specs.Inside.Simulation.{IsAlike, is_spent, IsFor, IsCovered, IsClosedFor, IsClosed}
+use Rattle.tc_explore.specs.Inside.Simulation.{IsAlike, is_spent, IsWithin, IsFor, IsCovered, IsClosedFor, IsClosed}
 
 -- the same is known after both, and no run that continues has a Wake to come
 pub record IsSame (p q : List Entry) : Type 0 where
   pub alike : IsAlike p q
+  pub overall_same : overall p ≡ overall q
   pub stands : (b : ℕ) → is_active p b ≡ true → (stand p b ≡ stand q b) × ((stand q b).wake ≡ None)
 
 -- no run has a Wake to come
@@ -51,10 +55,11 @@ IsLoudAt n past b op = goes_on (answer n past b op) ≡ true → is_fault (answe
 abbrev pub IsCalmAfter : List ScriptView → Case → Case → ℕ → Type 0
 IsCalmAfter scripts before after b = (past_of after ≡ past_of before) × IsCalmAt scripts (past_of before) b
 
--- a state that a search keeps
-pub record IsState (scripts : List ScriptView) (t : Case) : Type 0 where
+-- a state that a search for verdicts up to this one keeps
+pub record IsState (aim : Verdict) (scripts : List ScriptView) (t : Case) : Type 0 where
   pub opened : IsOpen scripts t
   pub calm : IsCalm scripts (past_of t)
+  pub within : IsWithin aim (past_of t)
 
 -- as many states as the limit are met
 abbrev pub IsFull : Met → Type 0
@@ -65,9 +70,9 @@ abbrev pub AreKeyed : List ScriptView → Met → Type 0
 AreKeyed scripts met = map (λ k. k.items) met.keys.keys ≡ map (λ t. key_of (length scripts) (past_of t)) met.states.items
 
 -- the states that a search has met: at most its limit, and each run's calls in them are counted
-pub record AreKept (scripts : List ScriptView) (met : Met) (found : Findings) : Type 0 where
+pub record AreKept (aim : Verdict) (scripts : List ScriptView) (met : Met) (found : Findings) : Type 0 where
   pub few : length met.states.items ≤ met.limit
-  pub each : All (λ t. IsState scripts t) met.states.items
+  pub each : All (λ t. IsState aim scripts t) met.states.items
   pub keyed : AreKeyed scripts met
   pub counted : All (λ t. Covers found.reached.items (past_of t)) met.states.items
 
@@ -111,32 +116,57 @@ abbrev pub IsLonger : {A : Type 0} → List A → List A → Type 0
 IsLonger {A} before after = (more : List A) × (after ≡ before ++ more)
 
 -- the one continues the other, or is it, and whatever the other represents, it does
-pub record StandsOn (scripts : List ScriptView) (before after : Case) : Type 0 where
+pub record StandsOn (aim : Verdict) (scripts : List ScriptView) (before after : Case) : Type 0 where
   pub further : (more : List Entry) × (past_of after ≡ more ++ past_of before)
-  pub stands : (p : List Entry) → IsCourse scripts p → IsFor scripts (past_of before) p → IsFor scripts (past_of after) p
+  pub stands : (p : List Entry) → IsCourse scripts p → IsFor aim scripts (past_of before) p → IsFor aim scripts (past_of after) p
 
--- after this entry the verdict is found, or the state is seen
-pub record IsAfter (scripts : List ScriptView) (states : List Case) (found : List Witness) (q : List Entry) (e : Entry) : Type 0 where
+-- after this entry the verdict is found, or the state is seen, unless its verdict is worse than is looked for
+pub record IsAfter (aim : Verdict) (scripts : List ScriptView) (states : List Case) (found : List Witness) (q : List Entry) (e : Entry) : Type 0 where
   pub over : is_over (e ∷ q) ≡ true → is_found found (overall (e ∷ q)) ≡ true
-  pub more : is_over (e ∷ q) ≡ false → IsCovered scripts (IsSeen states) (e ∷ q)
+  pub more : is_over (e ∷ q) ≡ false → IsWithin aim (e ∷ q) → IsCovered aim scripts (IsSeen states) (e ∷ q)
 
 -- what each call of run b leads to is seen, or its verdict is found
-abbrev pub IsRunClosed : List ScriptView → List Case → List Witness → List Entry → ℕ → Type 0
-IsRunClosed scripts states found q b = (e : Entry) → e.caller.0 ≡ b → IsTurn scripts q e → goes_on e.reply ≡ true → IsClosedFor scripts (IsSeen states) found q e
+abbrev pub IsRunClosed : Verdict → List ScriptView → List Case → List Witness → List Entry → ℕ → Type 0
+IsRunClosed aim scripts states found q b = (e : Entry) → e.caller.0 ≡ b → IsTurn scripts q e → goes_on e.reply ≡ true → IsClosedFor aim scripts (IsSeen states) found q e
 
 -- after this call the verdict is found, or the state is seen
-abbrev pub IsCallClosed : List ScriptView → Met → Findings → Case → Run → Op → Type 0
-IsCallClosed scripts met found t run op =
-    IsAfter scripts met.states.items found.witnesses.items (past_of t) (taken t.behaviours (past_of t) run op)
+abbrev pub IsCallClosed : Verdict → List ScriptView → Met → Findings → Case → Run → Op → Type 0
+IsCallClosed aim scripts met found t run op =
+    IsAfter aim scripts met.states.items found.witnesses.items (past_of t) (taken t.behaviours (past_of t) run op)
 
 -- so it is after each call of n runs of a case
-abbrev pub AreRunsClosed : List ScriptView → Met → Findings → Case → ℕ → Type 0
-AreRunsClosed scripts met found t n = (b : ℕ) → b < n → IsRunClosed scripts met.states.items found.witnesses.items (past_of t) b
+abbrev pub AreRunsClosed : Verdict → List ScriptView → Met → Findings → Case → ℕ → Type 0
+AreRunsClosed aim scripts met found t n = (b : ℕ) → b < n → IsRunClosed aim scripts met.states.items found.witnesses.items (past_of t) b
 
 -- whatever comes after the state at this place is one of them, or its verdict is found
-abbrev pub IsClosedAt : List ScriptView → List Case → List Witness → ℕ → Type 0
-IsClosedAt scripts states found i = (t : Case) → slice_get states i ≡ Some t → IsClosed scripts (IsSeen states) found (past_of t)
+abbrev pub IsClosedAt : Verdict → List ScriptView → List Case → List Witness → ℕ → Type 0
+IsClosedAt aim scripts states found i = (t : Case) → slice_get states i ≡ Some t → IsClosed aim scripts (IsSeen states) found (past_of t)
 
 -- whatever comes after one of these states is one of them, or its verdict is found
-abbrev pub AreClosed : List ScriptView → List Case → List Witness → Type 0
-AreClosed scripts states found = (i : ℕ) → IsClosedAt scripts states found i
+abbrev pub AreClosed : Verdict → List ScriptView → List Case → List Witness → Type 0
+AreClosed aim scripts states found = (i : ℕ) → IsClosedAt aim scripts states found i
+
+-- a verdict that is found is as bad as that of the course, and no worse than is looked for
+abbrev pub IsToldBy : Verdict → List Witness → Verdict → Type 0
+IsToldBy aim found v = (w : Verdict) × (is_found found w ≡ true) × (level_of v ≤ level_of w) × (level_of w ≤ level_of aim)
+
+-- so it is of each complete course whose verdict is no worse than is looked for
+abbrev pub AllTold : Verdict → List ScriptView → List Witness → Type 0
+AllTold aim scripts found = (v : Verdict) → level_of v ≤ level_of aim → Gives scripts v → IsToldBy aim found v
+
+-- the verdict is no worse than is looked for, and found
+abbrev pub is_found_within : List Witness → Verdict → Verdict → Bool
+is_found_within found aim v = nat_le (level_of v) (level_of aim) && is_found found v
+
+-- the verdict next better than the worst of these, if there is one
+abbrev pub next_aim : List Witness → Verdict → Option Verdict
+next_aim found aim =
+    if is_found_within found aim V.Error then Some V.Fail
+    else if is_found_within found aim V.Fail then Some V.Inconc
+    else if is_found_within found aim V.Inconc then Some V.Pass
+    else if is_found_within found aim V.Pass then Some V.None
+    else None
+
+-- each verdict worse than this one that a course gives is found
+abbrev pub AreFoundAbove : Verdict → List ScriptView → List Witness → Type 0
+AreFoundAbove aim scripts found = (v : Verdict) → level_of aim < level_of v → Gives scripts v → is_found found v ≡ true

@@ -1,6 +1,6 @@
 -- A history represents others that differ from it only in calls that nobody can see were made: those that change
 -- nothing but their caller's place, and the ends of runs.
-use Rattle.std.specs.Prelude.{ℕ, suc, ◌≡◌, ◌==◌, ◌<◌, ◌≤◌, ◌-◌, ◌⊎◌, ◌&&◌, ◌||◌, not, nat_le, Bool, true, false, Option, Some, None, List, ◌∷◌, MatchOption, length, slice_get}
+use Rattle.std.specs.Prelude.{ℕ, suc, ◌≡◌, ◌==◌, ◌<◌, ◌≤◌, ◌-◌, ◌⊎◌, ◌&&◌, ◌||◌, not, nat_le, nat_lt, Bool, true, false, Option, Some, None, List, ◌∷◌, MatchOption, length, slice_get}
 use Rattle.tc_verdict.specs.declared.run.Run.{Run}
 use Rattle.tc_verdict.specs.declared.verdict.Verdict.{Verdict}
 use Rattle.tc_verdict.specs.declared.verdict.Verdict.TheVariants as V
@@ -23,16 +23,15 @@ use Rattle.tc_table.specs.Local.{overall}
 use Rattle.tc_table.specs.Faults.{fault}
 use Rattle.tc_table.specs.Answers.{is_active}
 use Rattle.tc_explore.specs.declared.witness.Witness.{Witness}
-use Rattle.tc_explore.specs.Course.{Stand, stand, goes_on, steps_of, call_of, IsTurn, IsCourse}
+use Rattle.tc_explore.specs.Course.{Stand, stand, goes_on, steps_of, call_of, turn, IsTurn, IsCourse}
 use Rattle.tc_explore.specs.Told.{is_found}
 
--- the same components in the same phases, the same runs on them, the same overall verdict
+-- the same components in the same phases, the same runs on them
 pub record IsAlike (p q : List Entry) : Type 0 where
   pub comps_same : comps p ≡ comps q
   pub phase_same : (c : ℕ) → phase p c ≡ phase q c
   pub kind_same : (c : ℕ) → is_alive_type p c ≡ is_alive_type q c
   pub comp_same : (b : ℕ) → comp_of p b ≡ comp_of q b
-  pub overall_same : overall p ≡ overall q
 
 -- the call asks a question, or sets a verdict that is no worse than this one
 abbrev pub is_quiet : Verdict → Op → Bool
@@ -113,28 +112,41 @@ pub record WasParked (scripts : List ScriptView) (q : List Entry) (b : ℕ) (s :
   pub wake_of : IsWakeOf (call_at scripts b s s.comp place) wake
   pub quiet : IsQuietAt (length scripts) q b (call_at scripts b s s.comp place)
 
--- a run that is known so has only quiet calls left, and its end
-pub record IsLeaving (scripts : List ScriptView) (q : List Entry) (b : ℕ) (s : Stand) : Type 0 where
+-- the call sets a verdict worse than this one
+abbrev pub is_barred : Verdict → Op → Bool
+is_barred aim (O.SetVerdict v) = nat_lt (level_of aim) (level_of (given v))
+is_barred aim op = false
+
+-- run b, which is known so, sets a verdict worse than this one before its k-th call or by it
+pub record IsBarredBefore (aim : Verdict) (scripts : List ScriptView) (b : ℕ) (s : Stand) (k : ℕ) : Type 0 where
+  pub place : ℕ
+  pub later : s.called ≤ place
+  pub before : place ≤ k
+  pub bars : is_barred aim (call_at scripts b s s.comp place) ≡ true
+
+-- a run that is known so has only quiet calls left, and its end or a setting that is worse than is looked for
+pub record IsLeaving (aim : Verdict) (scripts : List ScriptView) (q : List Entry) (b : ℕ) (s : Stand) : Type 0 where
   pub parked : MatchOption s.wake (Unit {0}) (λ wake. WasParked scripts q b s wake)
-  pub calls : (k : ℕ) → s.called ≤ k → IsLastAt (length scripts) q b (call_at scripts b s s.comp k)
+  pub calls : (k : ℕ) → s.called ≤ k → IsLastAt (length scripts) q b (call_at scripts b s s.comp k) ⊎ IsBarredBefore aim scripts b s k
 
 -- after p a run is leaving component c, which nothing can start again; after q it has ended
-pub record IsEnding (scripts : List ScriptView) (p q : List Entry) (c : ℕ) : Type 0 where
+pub record IsEnding (aim : Verdict) (scripts : List ScriptView) (p q : List Entry) (c : ℕ) : Type 0 where
   pub run : Run
   pub running : phase p c ≡ P.Running run
   pub ended : phase q c ≡ P.Killed
   pub not_main : (run.0 == 0) ≡ false
   pub on : comp_of p run.0 ≡ Some (record { 0 = c })
   pub ordinary : is_alive_type p c ≡ false
-  pub leaving : IsLeaving scripts q run.0 (stand p run.0)
+  pub leaving : IsLeaving aim scripts q run.0 (stand p run.0)
 
--- the same is known after both, except that runs which are leaving after p have ended after q
-pub record IsAhead (scripts : List ScriptView) (p q : List Entry) : Type 0 where
+-- the same is known after both, except that runs which are leaving after p have ended after q, and the verdict after p may be
+-- better
+pub record IsAhead (aim : Verdict) (scripts : List ScriptView) (p q : List Entry) : Type 0 where
   pub comps_same : comps p ≡ comps q
-  pub phases : (c : ℕ) → (phase p c ≡ phase q c) ⊎ IsEnding scripts p q c
+  pub phases : (c : ℕ) → (phase p c ≡ phase q c) ⊎ IsEnding aim scripts p q c
   pub kind_same : (c : ℕ) → is_alive_type p c ≡ is_alive_type q c
   pub comp_same : (b : ℕ) → comp_of p b ≡ comp_of q b
-  pub overall_same : overall p ≡ overall q
+  pub no_better : level_of (overall p) ≤ level_of (overall q)
 
 -- the first call that is still to be answered
 abbrev pub place_by : Option Op → ℕ → ℕ
@@ -164,19 +176,46 @@ pub record IsEnd (q : List Entry) (b : ℕ) (op : Op) : Type 0 where
   pub on : (stand q b).comp ≡ Some comp
   pub ordinary : is_alive_type q comp.0 ≡ false
 
--- nobody can see that run b made this call
-abbrev pub IsSilent : List Entry → ℕ → Op → Type 0
-IsSilent q b op = (is_spent q op ≡ true) ⊎ IsEnd q b op
+-- the verdict is no worse than this one
+abbrev pub IsWithin : Verdict → List Entry → Type 0
+IsWithin aim p = level_of (overall p) ≤ level_of aim
+
+-- run b calls next what sets a verdict worse than this one
+pub record IsBarredNow (aim : Verdict) (scripts : List ScriptView) (q : List Entry) (b : ℕ) : Type 0 where
+  pub op : Op
+  pub turns : turn scripts q b ≡ Some op
+  pub bars : is_barred aim op ≡ true
+
+-- another run than b, and than the main one, is barred on this component, which nothing can start again
+pub record IsFelled (aim : Verdict) (scripts : List ScriptView) (q : List Entry) (b : ℕ) (comp : Comp) : Type 0 where
+  pub not_main : (comp.0 == 0) ≡ false
+  pub run : Run
+  pub running : phase q comp.0 ≡ P.Running run
+  pub on : (stand q run.0).comp ≡ Some comp
+  pub other : (b == run.0) ≡ false
+  pub not_main_run : (run.0 == 0) ≡ false
+  pub ordinary : is_alive_type q comp.0 ≡ false
+  pub barred : IsBarredNow aim scripts q run.0
+
+-- the call of run b stops or kills such a component
+pub record IsFelling (aim : Verdict) (scripts : List ScriptView) (q : List Entry) (b : ℕ) (op : Op) : Type 0 where
+  pub comp : Comp
+  pub halts_it : (op ≡ O.Stop (G.One comp)) ⊎ (op ≡ O.Kill (G.One comp))
+  pub felled : IsFelled aim scripts q b comp
+
+-- nobody can see that run b made this call, except that the verdict may be worse then, but no worse than this one
+abbrev pub IsSilent : Verdict → List ScriptView → List Entry → ℕ → Op → Type 0
+IsSilent aim scripts q b op = (is_spent q op ≡ true) ⊎ (IsEnd q b op ⊎ ((is_quiet aim op ≡ true) ⊎ IsFelling aim scripts q b op))
 
 -- q represents p
-pub record IsFor (scripts : List ScriptView) (q p : List Entry) : Type 0 where
-  pub ahead : IsAhead scripts p q
+pub record IsFor (aim : Verdict) (scripts : List ScriptView) (q p : List Entry) : Type 0 where
+  pub ahead : IsAhead aim scripts p q
   pub runs : (b : ℕ) → is_active q b ≡ true → IsFollowed scripts q b (stand p b) (stand q b)
-  pub order : AreOrdered scripts p q
+  pub order : (level_of aim < level_of V.Error) ⊎ AreOrdered scripts p q
 
 -- each history that q represents has one of these that represents it
-abbrev pub IsCovered : List ScriptView → (List Entry → Type 0) → List Entry → Type 0
-IsCovered scripts Seen q = (p : List Entry) → IsCourse scripts p → IsFor scripts q p → (r : List Entry) × Seen r × IsFor scripts r p
+abbrev pub IsCovered : Verdict → List ScriptView → (List Entry → Type 0) → List Entry → Type 0
+IsCovered aim scripts Seen q = (p : List Entry) → IsCourse scripts p → IsFor aim scripts q p → (r : List Entry) × Seen r × IsFor aim scripts r p
 
 -- a call that continues and is no error
 pub record GoesOn (scripts : List ScriptView) (q : List Entry) : Type 0 where
@@ -185,17 +224,18 @@ pub record GoesOn (scripts : List ScriptView) (q : List Entry) : Type 0 where
   pub on : goes_on entry.reply ≡ true
   pub no_fault : is_fault entry.reply ≡ false
 
--- what each call of run b leads to is seen, or its verdict is found
-pub record IsClosedFor (scripts : List ScriptView) (Seen : List Entry → Type 0) (found : List Witness) (q : List Entry) (e : Entry) : Type 0 where
+-- what each call of run b leads to is seen, or its verdict is found, unless that is worse than is looked for
+pub record IsClosedFor (aim : Verdict) (scripts : List ScriptView) (Seen : List Entry → Type 0) (found : List Witness) (q : List Entry) (e : Entry) : Type 0 where
   pub loud : is_fault e.reply ≡ false → is_spent q e.op ≡ false
   pub over : is_over (e ∷ q) ≡ true → is_found found (overall (e ∷ q)) ≡ true
-  pub more : is_over (e ∷ q) ≡ false → IsCovered scripts Seen (e ∷ q)
+  pub more : is_over (e ∷ q) ≡ false → IsWithin aim (e ∷ q) → IsCovered aim scripts Seen (e ∷ q)
 
--- whatever comes after q is seen, or its verdict is found
-pub record IsClosed (scripts : List ScriptView) (Seen : List Entry → Type 0) (found : List Witness) (q : List Entry) : Type 0 where
+-- whatever comes after q is seen, or its verdict is found, unless that is worse than is looked for
+pub record IsClosed (aim : Verdict) (scripts : List ScriptView) (Seen : List Entry → Type 0) (found : List Witness) (q : List Entry) : Type 0 where
   pub course : IsCourse scripts q
   pub going : is_over q ≡ false
+  pub within : IsWithin aim q
   pub main : is_active q 0 ≡ true
   pub main_stays : (stand q 0).left ≡ false
-  pub each : (e : Entry) → e.caller.0 < length scripts → IsTurn scripts q e → goes_on e.reply ≡ true → IsClosedFor scripts Seen found q e
-  pub stuck : (is_found found V.Error ≡ true) ⊎ GoesOn scripts q
+  pub each : (e : Entry) → e.caller.0 < length scripts → IsTurn scripts q e → goes_on e.reply ≡ true → IsClosedFor aim scripts Seen found q e
+  pub stuck : (is_found found V.Error ≡ true) ⊎ (GoesOn scripts q ⊎ (level_of aim < level_of V.Error))

@@ -9,4 +9,5 @@ pub loop-preserved : goal.loop-preserved
 loop-preserved c = (
   c.in_ok-advance.ensures.opened,
   stands_then c.args.scripts.now c.args.course c.loop.course c.in_ok-advance.advance.course c.loop.invariant.1 c.in_ok-advance.ensures.stands,
+  c.in_ok-advance.ensures.verdict,
 )

@@ -18,4 +18,5 @@ loop-run-preserved c =
       is.opened,
       stands_then c.args.scripts.now c.args.course c.loop-run.course c.in_ok-advance.advance.course was.1 is.stands,
       calm,
+      is.verdict,
     )

@@ -5,7 +5,7 @@ use Rattle.tc_table.specs.Answers.{answer}
 use Rattle.tc_explore.specs.Course.{goes_on, IsTurn}
 use Rattle.tc_explore.specs.Inside.Going.{taken, IsOn}
 use Rattle.tc_explore.specs.Inside.Simulation.{IsSilent}
-use Rattle.tc_explore.proofs.Keeping.{on_not_ended, open_silent}
+use Rattle.tc_explore.proofs.Keeping.{on_not_ended, open_silent, within_silent}
 use Rattle.tc_explore.proofs.Searching.{lead_call}
 use Rattle.tc_explore.proofs.calm.with_silent_call.Goals as goal
 
@@ -15,7 +15,7 @@ returns-clause-stands c =
     let turn : IsTurn c.args.scripts.now (past_of t) (taken t.behaviours (past_of t) c.args.run c.in-Some.op) = search rules in
     let plain : is_fault (answer t.behaviours (past_of t) c.args.run.0 c.in-Some.op) ≡ false = search rules in
     let goes : goes_on (answer t.behaviours (past_of t) c.args.run.0 c.in-Some.op) ≡ true = search rules in
-    let silent : IsSilent (past_of t) c.args.run.0 c.in-Some.op = search rules in
+    let silent : IsSilent c.args.aim c.args.scripts.now (past_of t) c.args.run.0 c.in-Some.op = search rules in
     let added : past_of c.in_ok-course.course ≡ taken t.behaviours (past_of t) c.args.run c.in-Some.op ∷ past_of t = search rules in
     lead_call c.args.scripts.now t c.in_ok-course.course c.args.run c.in-Some.op c.requires.opened.on turn plain (on_not_ended (answer t.behaviours (past_of t) c.args.run.0 c.in-Some.op) goes) silent added
 
@@ -25,7 +25,17 @@ returns-clause-opened c =
     let turn : IsTurn c.args.scripts.now (past_of t) (taken t.behaviours (past_of t) c.args.run c.in-Some.op) = search rules in
     let plain : is_fault (answer t.behaviours (past_of t) c.args.run.0 c.in-Some.op) ≡ false = search rules in
     let goes : goes_on (answer t.behaviours (past_of t) c.args.run.0 c.in-Some.op) ≡ true = search rules in
-    let silent : IsSilent (past_of t) c.args.run.0 c.in-Some.op = search rules in
+    let silent : IsSilent c.args.aim c.args.scripts.now (past_of t) c.args.run.0 c.in-Some.op = search rules in
     let added : past_of c.in_ok-course.course ≡ taken t.behaviours (past_of t) c.args.run c.in-Some.op ∷ past_of t = search rules in
     let on : IsOn c.args.scripts.now c.in_ok-course.course = search rules in
     open_silent c.args.scripts.now t c.in_ok-course.course c.args.run c.in-Some.op c.requires.opened on turn plain goes silent added
+
+pub returns-clause-verdict : goal.returns-clause-verdict
+returns-clause-verdict c =
+    let t = c.args.course in
+    let turn : IsTurn c.args.scripts.now (past_of t) (taken t.behaviours (past_of t) c.args.run c.in-Some.op) = search rules in
+    let plain : is_fault (answer t.behaviours (past_of t) c.args.run.0 c.in-Some.op) ≡ false = search rules in
+    let goes : goes_on (answer t.behaviours (past_of t) c.args.run.0 c.in-Some.op) ≡ true = search rules in
+    let silent : IsSilent c.args.aim c.args.scripts.now (past_of t) c.args.run.0 c.in-Some.op = search rules in
+    let added : past_of c.in_ok-course.course ≡ taken t.behaviours (past_of t) c.args.run c.in-Some.op ∷ past_of t = search rules in
+    within_silent c.args.scripts.now t c.in_ok-course.course c.args.run c.in-Some.op c.requires.opened turn plain goes silent added c.requires.verdict

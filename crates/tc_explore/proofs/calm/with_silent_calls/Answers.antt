@@ -7,4 +7,5 @@ loop-preserved c =
       is.opened,
       stands_then c.args.scripts.now c.args.course c.loop.course c.in_ok-advance.advance.course c.loop.invariant.1 is.stands,
       λ h. absurd cc,
+      is.verdict,
     )

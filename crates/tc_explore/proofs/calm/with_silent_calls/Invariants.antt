@@ -2,9 +2,11 @@ use Rattle.std.proofs.Common.{◌≡◌, false}
 use Rattle.tc_table.specs.Case.{past_of}
 use Rattle.tc_explore.specs.Inside.Seen.{IsOpen, StandsOn}
 use Rattle.tc_explore.proofs.calm.with_silent_calls.Given as goal
+use Rattle.tc_explore.specs.Inside.Simulation.{IsWithin}
 
 abbrev pub invariant-loop : goal.invariant-loop
 invariant-loop l =
     IsOpen l.scripts l.course
-    × StandsOn l.scripts l.initial.course l.course
+    × StandsOn l.aim l.scripts l.initial.course l.course
     × (l.went_on ≡ false → past_of l.course ≡ past_of l.initial.course)
+    × IsWithin l.aim (past_of l.course)

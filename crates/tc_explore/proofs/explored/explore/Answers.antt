@@ -1,10 +1,12 @@
-use Rattle.std.proofs.Common.{◌∙◌, refl}
+use Rattle.std.proofs.Common.{◌∙◌, refl, sym, subst}
+use Rattle.tc_explore.specs.Found.{AreFromBest}
 use Rattle.tc_explore.proofs.Kept.{met_none}
+use Rattle.tc_explore.proofs.Noting.{best_none}
 use Rattle.tc_explore.proofs.Legality.{witnesses_legal}
 use Rattle.tc_explore.proofs.explored.explore.Goals as goal
 
 pub returns-clause-legal : goal.returns-clause-legal
-returns-clause-legal c = rw c.new-2.ensures (witnesses_legal c.args.scripts.now c.search_all.new.found.witnesses.items c.in_ok-extent.ensures.found.0.sound)
+returns-clause-legal c = rw c.new-2.ensures (witnesses_legal c.args.scripts.now c.search_verdicts.new.found.witnesses.items c.in_ok-extent.ensures.found.0.sound)
 
 pub returns-clause-sound : goal.returns-clause-sound
 returns-clause-sound c = rw c.new-2.ensures c.in_ok-extent.ensures.found.0.sound
@@ -23,3 +25,9 @@ returns-then-is_empty-clause-nothing c h = (refl, c.new.ensures ∙ c.in_ok-foun
 
 pub returns-then-is_empty-clause-met : goal.returns-then-is_empty-clause-met
 returns-then-is_empty-clause-met c = met_none c.args.scripts.now _
+
+pub returns-clause-ordered : goal.returns-clause-ordered
+returns-clause-ordered c = rw c.new-2.ensures c.in_ok-extent.ensures.ordered
+
+pub returns-then-is_empty-clause-ordered : goal.returns-then-is_empty-clause-ordered
+returns-then-is_empty-clause-ordered c = subst AreFromBest (sym (c.new.ensures ∙ c.in_ok-found.ensures.none)) best_none

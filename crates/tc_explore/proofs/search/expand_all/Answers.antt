@@ -1,5 +1,6 @@
 use Rattle.std.proofs.Common.{rules, ◌≡◌, ◌+◌, ◌<◌, ◌≤◌, ℕ, true, false, length, arith, ◌∙◌}
 use Rattle.tc_explore.specs.Inside.Seen.{IsClosedAt, IsFull}
+use Rattle.tc_explore.proofs.Kept.{no_less_then}
 use Rattle.tc_explore.proofs.Closed.{full_longer, longer_then}
 use Rattle.tc_explore.proofs.States.{closed_at, closed_ats_more, closed_ats_all}
 use Rattle.tc_explore.proofs.search.expand_all.Goals as goal
@@ -10,7 +11,7 @@ loop-at-preserved c =
     let was = c.loop-at.invariant in
     let is = c.in_ok-is_one_closed.ensures in
     let within : c.loop-at.at < length c.loop-at.met.states.items = search rules in
-    let closed : c.if-is_closed.is_closed ≡ true → (i : ℕ) → i < c.loop-at.at + 1 → IsClosedAt c.args.scripts.now c.expand_course.new.met.states.items c.expand_course.new.found.witnesses.items i =
+    let closed : c.if-is_closed.is_closed ≡ true → (i : ℕ) → i < c.loop-at.at + 1 → IsClosedAt c.args.aim c.args.scripts.now c.expand_course.new.met.states.items c.expand_course.new.found.witnesses.items i =
     elim c.if-is_closed.branch [
       | then-is_closed w ↦ λ h.
           let before : c.loop-at.is_closed ≡ true = search rules in
@@ -29,6 +30,7 @@ loop-at-preserved c =
       closed,
       is.limit ∙ was.5,
       full,
+      no_less_then c.args.found.now.reached.items c.loop-at.found.reached.items c.expand_course.new.found.reached.items was.7 is.more,
     )
 
 pub returns-clause-closed : goal.returns-clause-closed

@@ -1,11 +1,11 @@
-use Rattle.std.proofs.Common.{rules, ◌≡◌, ◌∙◌, ◌+◌, true, false, reverse, ap, sym, subst}
+use Rattle.std.proofs.Common.{rules, ◌≡◌, ◌<◌, ◌∙◌, ◌+◌, arith, true, false, reverse, ap, sym, subst}
 use Rattle.tc_verdict.specs.declared.verdict.Verdict.TheVariants as V
 use Rattle.tc_table.specs.Case.{past_of}
 use Rattle.tc_explore.specs.Course.{carried}
 use Rattle.tc_explore.specs.Told.{is_found}
 use Rattle.tc_explore.specs.Inside.Seen.{AreHeld}
 use Rattle.tc_explore.proofs.Parking.{held_if, never_held, reached_main}
-use Rattle.tc_explore.proofs.States.{closed_going, closed_stuck, closed_error}
+use Rattle.tc_explore.proofs.States.{closed_going, closed_stuck, closed_error, closed_better}
 use Rattle.tc_explore.proofs.search.expand_course.Goals as goal
 
 pub returns-then-tried-clause-closed : goal.returns-then-tried-clause-closed
@@ -13,6 +13,14 @@ returns-then-tried-clause-closed c h =
     let closed : c.in_ok-tried.tried.is_closed ≡ true = search rules in
     let goes : c.in_ok-tried.tried.goes_on ≡ true = search rules in
     closed_going c.args.scripts.now c.try_runs.new.met.states.items c.try_runs.new.found.witnesses.items c.args.course.now c.requires.state (c.in_ok-tried.ensures.closed closed) (c.in_ok-tried.ensures.goes_on goes)
+
+pub returns-then-level-clause-closed : goal.returns-then-level-clause-closed
+returns-then-level-clause-closed c h =
+    let closed : c.in_ok-tried.tried.is_closed ≡ true = search rules in
+    let low : c.level.result < c.level-2.result = search rules in
+    let aim = c.level.ensures.is in
+    let error = c.level-2.ensures.is in
+    closed_better c.args.scripts.now c.try_runs.new.met.states.items c.try_runs.new.found.witnesses.items c.args.course.now c.requires.state (c.in_ok-tried.ensures.closed closed) (omega (arith, low, aim, error))
 
 pub returns-then-is_found-clause-closed : goal.returns-then-is_found-clause-closed
 returns-then-is_found-clause-closed c h =
@@ -42,18 +50,18 @@ returns-clause-closed c h =
     closed_stuck c.args.scripts.now c.try_runs.new.met.states.items c.try_runs.new.found.witnesses.items c.note.new.found.witnesses.items c.args.course.now c.requires.state (c.in_ok-tried.ensures.closed closed) c.in_ok-note.ensures.more_found error
 
 pub returns-then-tried-clause-stuck : goal.returns-then-tried-clause-stuck
-returns-then-tried-clause-stuck c h held =
+returns-then-tried-clause-stuck c h is held =
     let goes : c.in_ok-tried.tried.goes_on ≡ true = search rules in
     absurd (never_held c.args.scripts.now (past_of c.args.course.now) c.requires.some c.requires.state.opened.on.course (c.in_ok-tried.ensures.goes_on goes) held)
 
 pub returns-then-is_found-clause-stuck : goal.returns-then-is_found-clause-stuck
-returns-then-is_found-clause-stuck c h held =
+returns-then-is_found-clause-stuck c h is held =
     let past : past_of c.in_ok-copied.field-0 ≡ past_of c.args.course.now = ap reverse c.in_ok-copied.ensures.entries in
     let main = c.in_ok-stuck.ensures.main (subst (AreHeld c.args.scripts.now) (sym past) held) in
     reached_main c.args.scripts.now c.reach.new.reached.items (past_of c.args.course.now) (past_of c.in_ok-stuck.stuck) c.requires.some c.reach.ensures.reached.as_many (main ∙ ap (λ x. carried x 0 + 1) past) c.reach.ensures.covers
 
 pub returns-clause-stuck : goal.returns-clause-stuck
-returns-clause-stuck c h held =
+returns-clause-stuck c h is held =
     let past : past_of c.in_ok-copied.field-0 ≡ past_of c.args.course.now = ap reverse c.in_ok-copied.ensures.entries in
     let main = c.in_ok-stuck.ensures.main (subst (AreHeld c.args.scripts.now) (sym past) held) in
     reached_main c.args.scripts.now c.note.new.found.reached.items (past_of c.args.course.now) (past_of c.in_ok-stuck.stuck) c.requires.some c.in_ok-note.ensures.found.1.as_many (main ∙ ap (λ x. carried x 0 + 1) past) c.in_ok-note.ensures.covers

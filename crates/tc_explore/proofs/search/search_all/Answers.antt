@@ -1,6 +1,7 @@
 use Rattle.std.proofs.Common.{rules, ◌≡◌, ◌≤◌, ◌∙◌, true, false, length, ap, arith}
 use Rattle.tc_explore.specs.declared.search.Met.{Met}
 use Rattle.tc_explore.proofs.Kept.{as_many_keys, kept_none, kept_with, keyed_none, met_of}
+use Rattle.tc_explore.proofs.Keeping.{within_opening}
 use Rattle.tc_explore.proofs.States.{complete_by}
 use Rattle.tc_explore.proofs.search.search_all.Goals as goal
 use Rattle.tc_explore.proofs.search.search_all.Goals.{then-is_placed, else-is_placed}
@@ -9,6 +10,9 @@ pub place-requires-clause-keyed : goal.place-requires-clause-keyed
 place-requires-clause-keyed c =
     let met : Met = record { states = c.new.result; keys = c.new-2.result; limit = c.args.limit } in
     keyed_none c.args.scripts.now met c.new.ensures.items c.new-2.ensures.empty
+
+pub calmed-requires-clause-verdict : goal.calmed-requires-clause-verdict
+calmed-requires-clause-verdict c = within_opening c.args.aim c.in_ok-opening.opening c.in_ok-opening.ensures.opening
 
 pub expand_all-requires-clause-kept : goal.expand_all-requires-clause-kept
 expand_all-requires-clause-kept c =

@@ -2,6 +2,7 @@ use Rattle.std.proofs.Common.{rules, ◌∙◌, ◌≡◌, ◌+◌, ◌<◌, ℕ
 use Rattle.tc_table.specs.Case.{past_of}
 use Rattle.tc_explore.specs.Inside.Seen.{IsRunClosed, IsFull, AreStill}
 use Rattle.tc_explore.specs.Inside.Simulation.{GoesOn}
+use Rattle.tc_explore.proofs.Kept.{no_less_then}
 use Rattle.tc_explore.proofs.Closed.{runs_more, still_more, full_longer, longer_then}
 use Rattle.tc_explore.proofs.search.try_runs.Goals as goal
 use Rattle.tc_explore.proofs.search.try_runs.Goals.{then-goes_on, else-goes_on, then-is_closed, else-is_closed}
@@ -10,7 +11,7 @@ pub loop-run-preserved : goal.loop-run-preserved
 loop-run-preserved c =
     let was = c.loop-run.invariant in
     let is = c.in_ok-tried.ensures in
-    let closed : c.if-is_closed.is_closed ≡ true → (b : ℕ) → b < c.loop-run.run + 1 → IsRunClosed c.args.scripts.now c.try_run.new.met.states.items c.try_run.new.found.witnesses.items (past_of c.args.course.now) b =
+    let closed : c.if-is_closed.is_closed ≡ true → (b : ℕ) → b < c.loop-run.run + 1 → IsRunClosed c.args.aim c.args.scripts.now c.try_run.new.met.states.items c.try_run.new.found.witnesses.items (past_of c.args.course.now) b =
     elim c.if-is_closed.branch [
       | then-is_closed w ↦ λ h.
           let before : c.loop-run.is_closed ≡ true = search rules in
@@ -39,4 +40,5 @@ loop-run-preserved c =
       is.limit ∙ was.6,
       full,
       still,
+      no_less_then c.args.found.now.reached.items c.loop-run.found.reached.items c.try_run.new.found.reached.items was.9 is.more,
     )

@@ -1,0 +1,190 @@
+-- What a stop or kill does that nobody can see: of a component whose run can only set a verdict worse than is looked for.
+use Rattle.std.proofs.Common.{ℕ, ◌≡◌, ◌<◌, ◌==◌, ◌⊎◌, inl, inr, not, nat_lt, if◌then◌else◌, Bool, true, false, Option, Some, None, List, ◌∷◌, length, slice_get, refl, ap, sym, subst, ◌∙◌, arith}
+use Rattle.tc_verdict.specs.declared.run.Run.{Run}
+use Rattle.tc_verdict.specs.declared.verdict.Verdict.{Verdict}
+use Rattle.tc_verdict.specs.declared.verdict.Verdict.TheVariants as V
+use Rattle.tc_verdict.specs.declared.user_verdict.UserVerdict.{UserVerdict}
+use Rattle.tc_verdict.specs.declared.user_verdict.UserVerdict.TheVariants as U
+use Rattle.tc_verdict.specs.UserVerdict.{given}
+use Rattle.tc_verdict.specs.Verdict.{level_of}
+use Rattle.tc_entry.specs.declared.comp.Comp.{Comp}
+use Rattle.tc_entry.specs.declared.entry.Entry.{Entry}
+use Rattle.tc_entry.specs.declared.op.Op.{Op}
+use Rattle.tc_entry.specs.declared.op.Op.TheVariants as O
+use Rattle.tc_entry.specs.declared.op.Group.TheVariants as G
+use Rattle.tc_entry.specs.declared.phase.Phase.{Phase}
+use Rattle.tc_entry.specs.declared.phase.Phase.TheVariants as P
+use Rattle.tc_entry.specs.declared.reply.Reply.TheVariants as R
+use Rattle.tc_entry.specs.Reply.{is_ended, is_fault}
+use Rattle.tc_step.specs.Steps.{ScriptView}
+use Rattle.tc_table.specs.History.{comp_of, exists, halts, kills, is_alive_type}
+use Rattle.tc_table.specs.Phases.{phase}
+use Rattle.tc_table.specs.Local.{overall}
+use Rattle.tc_table.specs.Answers.{plain_answer, is_active, is_active_on, is_run_of}
+use Rattle.tc_table.specs.Legal.{IsLegal}
+use Rattle.tc_table.specs.Inside.Step.{next_phase}
+use Rattle.tc_table.proofs.Lemmas.Deciding.{equal_if, self_equal}
+use Rattle.tc_table.proofs.Lemmas.Over.{on_existing, stays}
+use Rattle.tc_table.proofs.Lemmas.Sound.{plain_if}
+use Rattle.std.specs.Option.{unwrap_or}
+use Rattle.tc_explore.specs.Course.{stand, call_of, steps_of, turn, IsCourse, IsTurn}
+use Rattle.tc_explore.specs.Inside.Simulation.{is_barred, is_late, call_at, IsQuietAt, IsFollowed, IsEnding, IsFor, IsFelling}
+use Rattle.tc_explore.proofs.Legality.{course_legal}
+use Rattle.tc_explore.proofs.Alike.{phase_next}
+use Rattle.tc_explore.proofs.Ahead.{KeepsQuiet, leaving_later}
+use Rattle.tc_explore.proofs.Leaving.{barred_leaves}
+use Rattle.tc_explore.proofs.Late.{IsGone, HaltsOne, stop_halts, late_if, late_special, halt_elsewhere, halt_comps, halt_kinds, halt_runs, halt_overall, halt_not_ending, other_than_gone}
+use Rattle.tc_explore.proofs.Lemmas.Standings.{has_turn, stand_own, stand_other, stand_comp}
+use Rattle.tc_explore.proofs.Places.{keeps_quiet, ahead, barred_sets, spent_late, still_no_fault_by}
+use Rattle.tc_explore.proofs.Ordered.{was_active}
+use Rattle.tc_explore.proofs.Simulation.{some_if, followed_later}
+
+-- a run with no Wake to come calls its next step
+pub next_of : (scripts : List ScriptView) (q : List Entry) (b : ℕ) (op : Op) → (stand q b).wake ≡ None → turn scripts q b ≡ Some op → call_at scripts b (stand q b) (stand q b).comp (stand q b).called ≡ op
+next_of scripts q b op none turns =
+    let t = has_turn scripts q b op turns in
+    ap (λ o. call_at scripts b (stand q b) o (stand q b).called) t.on
+    ∙ (ap (λ o. unwrap_or o (call_of t.me (stand q b).bound (slice_get (steps_of scripts b) (stand q b).called))) (sym none) ∙ t.calls)
+
+-- a user sets no error
+below_error : (v : UserVerdict) → level_of (given v) < 4
+below_error U.None = omega arith
+below_error U.Pass = omega arith
+below_error U.Inconc = omega arith
+below_error U.Fail = omega arith
+
+running_active : (past : List Entry) (b : ℕ) (c : Comp) (run : Run) → comp_of past b ≡ Some c → phase past c.0 ≡ P.Running run → run.0 ≡ b → is_active past b ≡ true
+unfolding is_active
+running_active past b c run on runs same = ap (is_active_on past b) on ∙ (ap (is_run_of b) runs ∙ (ap (λ x. x == b) same ∙ self_equal b))
+
+halt_reply : (q : List Entry) (b : ℕ) (op : Op) (c : Comp) → (op ≡ O.Stop (G.One c)) ⊎ (op ≡ O.Kill (G.One c)) → plain_answer q b op ≡ R.Ok
+halt_reply q b op c (inl is) = ap (plain_answer q b) is
+halt_reply q b op c (inr is) = ap (plain_answer q b) is
+
+pub felling_halts : {aim : Verdict} (scripts : List ScriptView) (q : List Entry) (e : Entry) → IsCourse scripts (e ∷ q) → is_fault e.reply ≡ false → is_ended e.reply ≡ false → (h : IsFelling aim scripts q e.caller.0 e.op) → HaltsOne q e h.comp.0
+felling_halts scripts q e cq plain goes h =
+    let is = plain_if (length scripts) q e.caller.0 e.op e.reply goes plain cq.0.reply in
+    stop_halts q e h.comp h.halts_it (is.is ∙ halt_reply q e.caller.0 e.op h.comp h.halts_it) h.felled.not_main
+
+module _ {aim : Verdict} (scripts : List ScriptView) (p q : List Entry) (e : Entry) (cq : IsCourse scripts (e ∷ q)) (plain : is_fault e.reply ≡ false) (goes : is_ended e.reply ≡ false)
+    (h : IsFelling aim scripts q e.caller.0 e.op) (f : IsFor aim scripts q p) where
+  lq : IsLegal (length scripts) (e ∷ q)
+  lq = course_legal scripts (e ∷ q) cq
+
+  keeps : KeepsQuiet (length scripts) q (e ∷ q)
+  keeps = keeps_quiet (length scripts) q e lq
+
+  one : HaltsOne q e h.comp.0
+  one = felling_halts scripts q e cq plain goes h
+
+  on : comp_of q h.felled.run.0 ≡ Some h.comp
+  on = sym (stand_comp scripts q h.felled.run.0 cq.1) ∙ h.felled.on
+
+  there : exists q h.comp.0 ≡ true
+  there = on_existing (length scripts) q h.felled.run.0 h.comp lq.1 on
+
+  active : is_active q h.felled.run.0 ≡ true
+  active = running_active q h.felled.run.0 h.comp h.felled.run on h.felled.running refl
+
+  halted_now : (k : Bool) → next_phase k None true false (P.Running h.felled.run) ≡ P.Killed
+  halted_now true = refl
+  halted_now false = refl
+
+  dead : phase (e ∷ q) h.comp.0 ≡ P.Killed
+  dead = phase_next (length scripts) q e h.comp.0 lq ∙ rw (there, one.no_start h.comp.0, one.here (comp_of q e.caller.0), h.felled.ordinary, h.felled.running) (halted_now (kills e h.comp.0))
+
+  gone : IsGone (e ∷ q) h.comp.0
+  gone = record { there = stays q e h.comp.0 there; dead = dead }
+
+  still_running : (phase p h.comp.0 ≡ phase q h.comp.0) ⊎ IsEnding aim scripts p q h.comp.0 → phase p h.comp.0 ≡ P.Running h.felled.run
+  still_running (inl same) = same ∙ h.felled.running
+  still_running (inr n) = let no : P.Killed ≡ P.Running h.felled.run = sym n.ended ∙ h.felled.running in absurd cc
+
+  fol : IsFollowed scripts q h.felled.run.0 (stand p h.felled.run.0) (stand q h.felled.run.0)
+  fol = f.runs h.felled.run.0 active
+
+  ending_here : IsEnding aim scripts p (e ∷ q) h.comp.0
+  ending_here = record {
+    run = h.felled.run;
+    running = still_running (f.ahead.phases h.comp.0);
+    ended = dead;
+    not_main = h.felled.not_main_run;
+    on = f.ahead.comp_same h.felled.run.0 ∙ on;
+    ordinary = f.ahead.kind_same h.comp.0 ∙ h.felled.ordinary;
+    leaving =
+        leaving_later scripts q (e ∷ q) h.felled.run.0 (stand p h.felled.run.0) keeps
+        (barred_leaves scripts q h.felled.run.0 (stand p h.felled.run.0) (stand q h.felled.run.0) fol (ap (is_barred aim) (next_of scripts q h.felled.run.0 h.felled.barred.op fol.no_wake h.felled.barred.turns) ∙ h.felled.barred.bars));
+  }
+
+  ending_elsewhere : (d : ℕ) → (h.comp.0 == d) ≡ false → (phase p d ≡ phase q d) ⊎ IsEnding aim scripts p q d → (phase p d ≡ phase (e ∷ q) d) ⊎ IsEnding aim scripts p (e ∷ q) d
+  ending_elsewhere d other (inl same) = inl (same ∙ sym (halt_elsewhere (length scripts) lq one d other))
+  ending_elsewhere d other (inr n) = inr (record {
+    run = n.run;
+    running = n.running;
+    ended = halt_elsewhere (length scripts) lq one d other ∙ n.ended;
+    not_main = n.not_main;
+    on = n.on;
+    ordinary = n.ordinary;
+    leaving = leaving_later scripts q (e ∷ q) n.run.0 (stand p n.run.0) keeps n.leaving;
+  })
+
+  by_place : (d : ℕ) (t : Bool) → (h.comp.0 == d) ≡ t → (phase p d ≡ phase (e ∷ q) d) ⊎ IsEnding aim scripts p (e ∷ q) d
+  by_place d true k = subst (λ x. (phase p x ≡ phase (e ∷ q) x) ⊎ IsEnding aim scripts p (e ∷ q) x) (equal_if h.comp.0 d k) (inr ending_here)
+  by_place d false k = ending_elsewhere d k (f.ahead.phases d)
+
+  better : level_of aim < level_of V.Error
+  better = let s = barred_sets aim h.felled.barred.op h.felled.barred.bars in let worse = s.worse in let below = below_error s.verdict in omega (arith, worse, below)
+
+  -- its caller is on another component
+  caller_other : (me : Comp) → comp_of q e.caller.0 ≡ Some me → is_active q e.caller.0 ≡ true → (h.comp.0 == me.0) ≡ false
+  unfolding is_active
+  caller_other me at act = by_test (h.comp.0 == me.0) refl
+    where
+      by_test : (t : Bool) → (h.comp.0 == me.0) ≡ t → t ≡ false
+      by_test false k = refl
+      by_test true k =
+          let runs : is_run_of e.caller.0 (phase q me.0) ≡ true = ap (is_active_on q e.caller.0) (sym at) ∙ act in
+          let here : phase q me.0 ≡ P.Running h.felled.run = ap (phase q) (sym (equal_if h.comp.0 me.0 k)) ∙ h.felled.running in
+          let is : (h.felled.run.0 == e.caller.0) ≡ true = ap (is_run_of e.caller.0) (sym here) ∙ runs in
+          let same : h.felled.run.0 ≡ e.caller.0 = equal_if h.felled.run.0 e.caller.0 is in
+          let yes : (e.caller.0 == h.felled.run.0) ≡ true = ap (λ x. e.caller.0 == x) same ∙ self_equal e.caller.0 in
+          let no = h.felled.other in
+          absurd cc
+
+  runs_on : (b : ℕ) → is_active q b ≡ true → (t : Bool) → (e.caller.0 == b) ≡ t → IsFollowed scripts (e ∷ q) b (stand p b) (stand (e ∷ q) b)
+  runs_on b act true k =
+      let own : e.caller.0 ≡ b = equal_if e.caller.0 b k in
+      let is = plain_if (length scripts) q e.caller.0 e.op e.reply goes plain cq.0.reply in
+      let me = some_if q e.caller.0 is.active in
+      let mine = f.runs e.caller.0 is.active in
+      let here : (stand q e.caller.0).comp ≡ Some me.0 = stand_comp scripts q e.caller.0 cq.1 ∙ me.1 in
+      let call = next_of scripts q e.caller.0 e.op mine.no_wake cq.0.turn in
+      let late : is_late (e ∷ q) e.op ≡ true = late_if (e ∷ q) e.op h.comp (record { halts_it = h.halts_it; other = h.felled.not_main; gone = gone }) in
+      let now : IsQuietAt (length scripts) (e ∷ q) e.caller.0 e.op = record {
+        quiet = spent_late (e ∷ q) e.op late;
+        no_fault = still_no_fault_by (length scripts) q e e.caller.0 e.op (late_special (length scripts) (e ∷ q) (e ∷ q) e.op late) is.no_fault;
+      } in
+      subst (λ x. IsFollowed scripts (e ∷ q) x (stand p x) (stand (e ∷ q) x)) own
+      (subst (λ s. IsFollowed scripts (e ∷ q) e.caller.0 (stand p e.caller.0) s) (sym (stand_own q e e.caller.0 refl))
+      (ahead scripts q e.caller.0 (stand p e.caller.0) (stand q e.caller.0) e
+      (followed_later scripts q (e ∷ q) e.caller.0 (stand p e.caller.0) (stand q e.caller.0) keeps mine)
+      (subst (λ op. IsQuietAt (length scripts) (e ∷ q) e.caller.0 op) (sym call) now)
+      one.made (halt_not_ending one (stand q e.caller.0).comp me.0 here (caller_other me.0 me.1 is.active)) one.plain one.no_wake))
+  runs_on b act false k =
+      let me = some_if q b act in
+      let here : (stand q b).comp ≡ Some me.0 = stand_comp scripts q b cq.1 ∙ me.1 in
+      subst (λ t. IsFollowed scripts (e ∷ q) b (stand p b) t) (sym (stand_other q e b me.0 k here))
+      (followed_later scripts q (e ∷ q) b (stand p b) (stand q b) keeps (f.runs b act))
+
+  pub lead_felling : IsFor aim scripts (e ∷ q) p
+  lead_felling = record {
+    ahead = record {
+      comps_same = f.ahead.comps_same ∙ sym (halt_comps one);
+      phases = λ d. by_place d (h.comp.0 == d) refl;
+      kind_same = λ d. f.ahead.kind_same d ∙ sym (halt_kinds (length scripts) lq one d);
+      comp_same = λ b. f.ahead.comp_same b ∙ sym (halt_runs one b);
+      no_better = let same = ap level_of (halt_overall (length scripts) lq one) in let l = f.ahead.no_better in omega (arith, same, l);
+    };
+    runs = λ b act. runs_on b (was_active (length scripts) q e lq one.no_run b act) (e.caller.0 == b) refl;
+    order = inl better;
+  }

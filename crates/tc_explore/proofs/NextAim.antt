@@ -1,0 +1,123 @@
+-- Searches for verdicts, each up to a better one: what they have found together.
+use Rattle.std.proofs.Common.{ℕ, suc, ◌≡◌, ◌<◌, ◌≤◌, ◌&&◌, nat_lt, nat_le, if◌then◌else◌, Bool, true, false, Option, Some, None, List, refl, ap, sym, subst, ◌∙◌, arith}
+use Rattle.std.proofs.lemmas.Bool.Decides.{nat_tests}
+use Rattle.tc_verdict.specs.declared.verdict.Verdict.{Verdict}
+use Rattle.tc_verdict.specs.declared.verdict.Verdict.TheVariants as V
+use Rattle.tc_verdict.specs.Verdict.{level_of}
+use Rattle.tc_step.specs.Steps.{ScriptView}
+use Rattle.tc_explore.specs.declared.witness.Witness.{Witness}
+use Rattle.tc_explore.specs.Told.{is_found}
+use Rattle.tc_explore.specs.Found.{Gives, AllFound}
+use Rattle.tc_explore.specs.Inside.Seen.{IsLonger, IsToldBy, AllTold, is_found_within, next_aim, AreFoundAbove}
+use Rattle.tc_explore.proofs.Sameness.{same_verdict}
+use Rattle.tc_explore.proofs.Seeing.{found_longer}
+
+-- if a verdict as bad is found of one that is worse than this one, if there is one, it is found itself
+abbrev IsDecided : List Witness → Verdict → Option Verdict → Type 0
+IsDecided found aim (Some a) = (v : Verdict) → level_of a < level_of v → IsToldBy aim found v → is_found found v ≡ true
+IsDecided found aim None = (v : Verdict) → IsToldBy aim found v → is_found found v ≡ true
+
+-- no verdict from this level on is found within
+abbrev IsNoneFrom : List Witness → Verdict → ℕ → Type 0
+IsNoneFrom found aim n = (w : Verdict) → n ≤ level_of w → is_found_within found aim w ≡ false
+
+within_if : (found : List Witness) (aim w : Verdict) → is_found found w ≡ true → level_of w ≤ level_of aim → is_found_within found aim w ≡ true
+within_if found aim w h l = let near : nat_le (level_of w) (level_of aim) ≡ true = grind (arith, nat_tests) in rw (near, h) refl
+
+and_right : (a b : Bool) → (a && b) ≡ true → b ≡ true
+and_right true b h = h
+and_right false b h = absurd cc
+
+-- a verdict of which one as bad is found is no worse than the worst of these
+told_below : (found : List Witness) (aim v : Verdict) (n : ℕ) → IsNoneFrom found aim (suc n) → IsToldBy aim found v → level_of v ≤ n
+told_below found aim v n none told = by_test (nat_le (suc n) (level_of told.0)) refl
+  where
+    by_test : (t : Bool) → nat_le (suc n) (level_of told.0) ≡ t → level_of v ≤ n
+    by_test true k =
+        let off : is_found_within found aim told.0 ≡ false = none told.0 (grind (arith, nat_tests)) in
+        let on : is_found_within found aim told.0 ≡ true = within_if found aim told.0 told.1 told.3 in
+        absurd cc
+    by_test false k = let less = told.2 in let low : level_of told.0 ≤ n = grind (arith, nat_tests) in omega (arith, less, low)
+
+decided_if : (found : List Witness) (aim m a : Verdict) (rest : Option Verdict) → level_of m ≡ suc (level_of a) → IsNoneFrom found aim (suc (level_of m)) →
+    (IsNoneFrom found aim (level_of m) → IsDecided found aim rest) → IsDecided found aim (if is_found_within found aim m then Some a else rest)
+decided_if found aim m a rest next none later = by_test (is_found_within found aim m) refl
+  where
+    still : (w : Verdict) → level_of m ≤ level_of w → is_found_within found aim m ≡ false → (t : Bool) → nat_lt (level_of m) (level_of w) ≡ t → is_found_within found aim w ≡ false
+    still w l k true j = none w (grind (arith, nat_tests))
+    still w l k false j =
+        let same : level_of w ≡ level_of m = grind (arith, nat_tests) in
+        ap (is_found_within found aim) (same_verdict w m same) ∙ k
+
+    by_test : (t : Bool) → is_found_within found aim m ≡ t → IsDecided found aim (if t then Some a else rest)
+    by_test true k = λ v less told.
+        let low = told_below found aim v (level_of m) none told in
+        let same : level_of v ≡ level_of m = omega (arith, less, low, next) in
+        ap (is_found found) (same_verdict v m same) ∙ and_right (nat_le (level_of m) (level_of aim)) (is_found found m) k
+    by_test false k = later (λ w l. still w l k (nat_lt (level_of m) (level_of w)) refl)
+
+at_most_error : (w : Verdict) → level_of w ≤ 4
+at_most_error V.None = omega arith
+at_most_error V.Pass = omega arith
+at_most_error V.Inconc = omega arith
+at_most_error V.Fail = omega arith
+at_most_error V.Error = omega arith
+
+abbrev from_pass : List Witness → Verdict → Option Verdict
+from_pass found aim = if is_found_within found aim V.Pass then Some V.None else None
+
+abbrev from_inconc : List Witness → Verdict → Option Verdict
+from_inconc found aim = if is_found_within found aim V.Inconc then Some V.Pass else from_pass found aim
+
+abbrev from_fail : List Witness → Verdict → Option Verdict
+from_fail found aim = if is_found_within found aim V.Fail then Some V.Inconc else from_inconc found aim
+
+decided : (found : List Witness) (aim : Verdict) → IsDecided found aim (next_aim found aim)
+decided found aim =
+    decided_if found aim V.Error V.Fail (from_fail found aim) refl (λ w l. let most = at_most_error w in absurd (omega (arith, l, most)))
+    (λ error. decided_if found aim V.Fail V.Inconc (from_inconc found aim) refl error
+    (λ fail. decided_if found aim V.Inconc V.Pass (from_pass found aim) refl fail
+    (λ inconc. decided_if found aim V.Pass V.None None refl inconc
+    (λ pass. λ v told. only_none pass v told (told_below found aim v 0 pass told)))))
+  where
+    only_none : IsNoneFrom found aim 1 → (v : Verdict) → IsToldBy aim found v → level_of v ≤ 0 → is_found found v ≡ true
+    only_none pass v told low = by_test (nat_le 1 (level_of told.0)) refl
+      where
+        by_test : (t : Bool) → nat_le 1 (level_of told.0) ≡ t → is_found found v ≡ true
+        by_test true k =
+            let off : is_found_within found aim told.0 ≡ false = pass told.0 (grind (arith, nat_tests)) in
+            let on : is_found_within found aim told.0 ≡ true = within_if found aim told.0 told.1 told.3 in
+            absurd cc
+        by_test false k = let same : level_of v ≡ level_of told.0 = grind (arith, nat_tests) in ap (is_found found) (same_verdict v told.0 same) ∙ told.1
+
+-- what was found stays so
+above_longer : (scripts : List ScriptView) (f g : List Witness) (aim : Verdict) → IsLonger f g → AreFoundAbove aim scripts f → AreFoundAbove aim scripts g
+above_longer scripts f g aim more above v worse gives = found_longer f g v more (above v worse gives)
+
+-- one search more
+pub above_next : (scripts : List ScriptView) (f g : List Witness) (aim a : Verdict) → IsLonger f g → AreFoundAbove aim scripts f → AllTold aim scripts g → Some a ≡ next_aim g aim → AreFoundAbove a scripts g
+above_next scripts f g aim a more above told is v worse gives = by_test (nat_lt (level_of aim) (level_of v)) refl
+  where
+    here : IsDecided g aim (Some a)
+    here = subst (IsDecided g aim) (sym is) (decided g aim)
+
+    by_test : (t : Bool) → nat_lt (level_of aim) (level_of v) ≡ t → is_found g v ≡ true
+    by_test true k = above_longer scripts f g aim more above v (grind (arith, nat_tests)) gives
+    by_test false k = here v worse (told v (grind (arith, nat_tests)) gives)
+
+-- the last search
+pub above_all : (scripts : List ScriptView) (f g : List Witness) (aim : Verdict) → IsLonger f g → AreFoundAbove aim scripts f → AllTold aim scripts g → None ≡ next_aim g aim → AllFound scripts g
+above_all scripts f g aim more above told is v gives = by_test (nat_lt (level_of aim) (level_of v)) refl
+  where
+    here : IsDecided g aim None
+    here = subst (IsDecided g aim) (sym is) (decided g aim)
+
+    by_test : (t : Bool) → nat_lt (level_of aim) (level_of v) ≡ t → is_found g v ≡ true
+    by_test true k = above_longer scripts f g aim more above v (grind (arith, nat_tests)) gives
+    by_test false k = here v (told v (grind (arith, nat_tests)) gives)
+
+-- no verdict is worse than error
+pub above_error : (scripts : List ScriptView) (found : List Witness) → AreFoundAbove V.Error scripts found
+above_error scripts found v worse gives = let most = at_most_error v in absurd (omega (arith, worse, most))
+
+pub ruleset aim_rules = (above_error)

@@ -1,0 +1,11 @@
+use Rattle.std.proofs.Common.{◌≤◌}
+use Rattle.tc_explore.specs.Found.{AreMet}
+use Rattle.tc_explore.specs.Inside.Seen.{IsNoted, AreFoundAbove}
+use Rattle.tc_explore.proofs.aims.search_by_aims.Given as goal
+
+abbrev pub invariant-loop : goal.invariant-loop
+invariant-loop l =
+    IsNoted l.scripts l.found
+    × AreFoundAbove l.aim l.scripts l.found.witnesses.items
+    × AreMet l.scripts l.found.reached.items l.states
+    × (l.states ≤ l.limit)

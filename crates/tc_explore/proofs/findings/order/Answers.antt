@@ -1,0 +1,8 @@
+use Rattle.std.proofs.Common.{rules}
+use Rattle.std.proofs.lemmas.List.Sorted.{IsNonDecreasingBy-from_sort_by_key}
+use Rattle.tc_verdict.specs.Verdict.{level_of}
+use Rattle.tc_explore.specs.declared.witness.Witness.{Witness}
+use Rattle.tc_explore.proofs.findings.order.Goals as goal
+
+pub returns-clause-ordered : goal.returns-clause-ordered
+returns-clause-ordered c = IsNonDecreasingBy-from_sort_by_key (λ (w : Witness). level_of w.verdict) _ c.sort_unstable_by_key.ensures.sorted (λ a r q k. search rules)

@@ -1,0 +1,106 @@
+//! The searches for the verdicts of a test case, each up to a better verdict than the last.
+ghost use Rattle.std.specs.Prelude.{◌≡◌, ◌≤◌, true, false, IfOk, length};
+ghost use Rattle.tc_entry.specs.declared.limits.TheConstants.{BEHAVIOURS};
+ghost use Rattle.tc_explore.specs.Found.{AllFound, AreFromBest, AreMet};
+ghost use Rattle.tc_explore.specs.Inside.Seen as seen;
+ghost use Rattle.tc_explore.specs.Inside.Seen.{IsNoted};
+
+use crate::findings::{Findings, order};
+use crate::search::{Extent, search_all};
+use crate::told::{is_found, level};
+use crate::witness::Witness;
+use std::alloc::Global;
+use tc_step::Script;
+use tc_verdict::{NoMemory, Verdict};
+
+// Whether a verdict is no worse than another, and found.
+fn is_found_within(found: &[Witness], aim: Verdict, verdict: Verdict) -> bool
+    ensures { result ≡ seen.is_found_within found.now aim verdict }
+{
+    level(verdict) <= level(aim) && is_found(found, verdict)
+}
+
+// The verdict next better than the worst that is found and no worse than this one, if there is one.
+fn next_aim(found: &[Witness], aim: Verdict) -> Option<Verdict>
+    ensures { result ≡ seen.next_aim found.now aim }
+{
+    if is_found_within(found, aim, Verdict::Error) {
+        return Some(Verdict::Fail);
+    }
+    if is_found_within(found, aim, Verdict::Fail) {
+        return Some(Verdict::Inconc);
+    }
+    if is_found_within(found, aim, Verdict::Inconc) {
+        return Some(Verdict::Pass);
+    }
+    if is_found_within(found, aim, Verdict::Pass) {
+        return Some(Verdict::None);
+    }
+    None
+}
+
+// Looks for all verdicts, then for those up to the one that is next better than the worst that was found, and so on. Each
+// search keeps that many states at most, and the most that one kept are returned. If the last one comes to its end, the
+// verdict of each complete course is found. There are five verdicts, so no sixth search is made.
+#[tactic(auto, using(crate::proofs::NextAim::aim_rules, crate::proofs::Kept::met_none))]
+fn search_by_aims(
+    alloc: Global,
+    scripts: &[Script],
+    limit: usize,
+    found: &mut Findings,
+) -> Result<Extent, NoMemory>
+    requires some { 1 ≤ length scripts.now }
+    requires few { length scripts.now ≤ BEHAVIOURS }
+    requires found { IsNoted scripts.now found.old }
+    ensures found { IfOk result (λ e. IsNoted scripts.now found.new) }
+    ensures met { IfOk result (λ e. AreMet scripts.now found.new.reached.items e.states) }
+    ensures complete { IfOk result (λ e. e.is_whole ≡ true → AllFound scripts.now found.new.witnesses.items) }
+    ensures within { IfOk result (λ e. e.states ≤ limit) }
+    ensures full { IfOk result (λ e. e.is_whole ≡ false → e.states ≡ limit) }
+{
+    let mut aim = Verdict::Error;
+    let mut states = 0;
+    for _ in 0..5 {
+        let extent = search_all(aim, alloc, scripts, limit, found)?;
+        states = states.max(extent.states);
+        if !extent.is_whole {
+            return Ok(Extent {
+                states,
+                is_whole: false,
+            });
+        }
+        match next_aim(&found.witnesses, aim) {
+            None => {
+                return Ok(Extent {
+                    states,
+                    is_whole: true,
+                });
+            }
+            Some(better) => aim = better,
+        }
+    }
+    Err(NoMemory)
+}
+
+/// Looks for the verdicts of all complete courses by searches that keep that many states at most each, and returns the most
+/// that one kept. The witnesses that are found are in the order of their verdicts.
+pub(crate) fn search_verdicts(
+    alloc: Global,
+    scripts: &[Script],
+    limit: usize,
+    found: &mut Findings,
+) -> Result<Extent, NoMemory>
+    requires some { 1 ≤ length scripts.now }
+    requires few { length scripts.now ≤ BEHAVIOURS }
+    requires found { IsNoted scripts.now found.old }
+    ensures found { IfOk result (λ e. IsNoted scripts.now found.new) }
+    ensures ordered { IfOk result (λ e. AreFromBest found.new.witnesses.items) }
+    ensures met { IfOk result (λ e. AreMet scripts.now found.new.reached.items e.states) }
+    ensures complete { IfOk result (λ e. e.is_whole ≡ true → AllFound scripts.now found.new.witnesses.items) }
+    ensures within { IfOk result (λ e. e.states ≤ limit) }
+    ensures full { IfOk result (λ e. e.is_whole ≡ false → e.states ≡ limit) }
+{
+    let extent = search_by_aims(alloc, scripts, limit, found)?;
+    order(&mut found.witnesses);
+    Ok(extent)
+}
