@@ -4,7 +4,7 @@ ghost use Rattle.tc_entry.specs.declared.limits.TheConstants.{BEHAVIOURS};
 
 use std::alloc::Global;
 use tc_book::Closed;
-use tc_entry::{BEHAVIOURS, Comp, Entry, Op, Reply, Run, UserVerdict, Verdict};
+use tc_entry::{Args, BEHAVIOURS, Comp, Entry, Op, Reply, Run, UserVerdict, Verdict};
 use tc_table::replay_check;
 use tc_verdict::overwrite;
 
@@ -39,7 +39,7 @@ fn is_counted(
 }
 
 /// Whether each setting that was replied Ok is counted in the local verdict of its component.
-pub(crate) fn are_counted(history: &[Entry], locals: &[Verdict]) -> bool {
+fn are_counted(history: &[Entry], locals: &[Verdict]) -> bool {
     let mut comps = [Comp(0); BEHAVIOURS];
     for entry in history {
         match (&entry.op, entry.reply) {
@@ -78,4 +78,27 @@ pub(crate) fn complaint(alloc: Global, behaviours: u16, closed: &Closed) -> Opti
         return Some("it has too few entries");
     }
     None
+}
+
+/// An entry of a run that was replied Ok.
+fn entry(caller: u16, op: Op) -> Entry {
+    Entry {
+        caller: Run(caller),
+        op,
+        reply: Reply::Ok,
+    }
+}
+
+/// Whether a setting that a report lost is seen, and none of those that it has.
+pub(crate) fn sees_lost_settings() -> bool {
+    let start = Op::Start {
+        comp: Comp(1),
+        run: Run(2),
+        args: Args::new(),
+    };
+    let setting = Op::SetVerdict(UserVerdict::Inconc);
+    let history = [entry(0, start), entry(2, setting)];
+    !are_counted(&history, &[Verdict::Fail, Verdict::Pass])
+        & are_counted(&history, &[Verdict::Fail, Verdict::Inconc])
+        & are_counted(&history, &[Verdict::Fail, Verdict::Fail])
 }

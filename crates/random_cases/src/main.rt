@@ -9,16 +9,22 @@ mod lead;
 mod met;
 mod random;
 mod task;
-#[cfg(test)]
-mod tests;
 
 use crate::cases::run_cases;
-use crate::task::read_task;
+use crate::judge::sees_lost_settings;
+use crate::task::{read_task, reads_tasks};
 use std::alloc::Global;
 use std::process::ExitCode;
 use std::sync::Wait;
 use std::thread::Threads;
 use std::{env, io};
+
+/// Prints whether a lost setting is seen, and whether the words of tasks are read; answers whether both are so.
+fn tell_own<R: Print>(rt: &R, alloc: Global) -> io::Result<bool> {
+    let (sees, reads) = (sees_lost_settings(), reads_tasks(alloc)?);
+    println!(rt; "lost settings are seen: {sees}\ntasks are read: {reads}")?;
+    Ok(sees && reads)
+}
 
 /// The status: 0 if all is well, 1 if a report is not as it should be or too little was met, 3 if the arguments ask for
 /// nothing.
@@ -31,8 +37,9 @@ fn run<R: Threads + Wait + Print + Eprint + Copy + Send + 'static>(
         eprintln!(rt; "usage: random_cases [CASES [SEED]]")?;
         return Ok(3);
     };
+    let is_well = tell_own(rt, alloc)?;
     match run_cases(rt, alloc, task) {
-        Ok(met) => Ok(if met.tell(rt, task.cases)? { 0 } else { 1 }),
+        Ok(met) => Ok(u8::from(!(met.tell(rt, task.cases)? && is_well))),
         Err(refusal) => {
             println!(rt;
                 "case {} of seed {}: {}",

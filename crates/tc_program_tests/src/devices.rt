@@ -203,37 +203,41 @@ fn give_each<R: Abort>(rt: &R, alloc: Global, results: &Results, form: &Form, st
     }
 }
 
-#[test]
-fn failing_devices(rt: HostRuntime) -> Result<(), Fail> {
+/// Gives the results in each form, with each write failing in turn.
+fn give_all<R: Abort>(rt: &R, alloc: Global, results: &Results) {
+    let text =
+        "testcase b\nrun 0 main on 0\n  finish -> ok\nlocal 0 none\nverdict none\ncases 1 none 1 pass 0 inconc 0 fail 0 error 0\naborted at a: no thread\n";
+    give_each(rt, alloc, results, &Form::Text, text);
+    let csv = "testcase,components,none,pass,inconc,fail,error,verdict\nb,1,1,0,0,0,0,none\n";
+    give_each(rt, alloc, results, &Form::Csv, csv);
+    let history = "history 2 b 1\n0 finish -> ok\nend none\n";
+    give_each(rt, alloc, results, &Form::History, history);
+    let evidence = "evidence 1 b 1\nbehaviour 0 main\n0 finish -> ok\nend none\n";
+    give_each(rt, alloc, results, &Form::Evidence, evidence);
+    let junit = "<?xml version=\"1.0\" encoding=\"UTF-8\"?>\n";
+    give_each(rt, alloc, results, &Form::Junit(None), junit);
+}
+
+/// Fails each read and each write of each task in turn; how many there were.
+fn fail_tasks<R: Abort + Threads + Wait + Clock + Copy + Send + 'static>(
+    rt: &R,
+    alloc: Global,
+) -> Result<usize, Fail> {
     let mut failed = 0usize;
     for row in TASKS.lines() {
         let (given, status) = row.split_once(" => ").ok_or("a status")?;
         let status = status.parse::<u8>()?;
-        failed = failed.saturating_add(fail_task(&rt, rt.alloc(), given, status)?);
+        failed = failed.saturating_add(fail_task(rt, alloc, given, status)?);
     }
+    Ok(failed)
+}
+
+#[test]
+fn failing_devices(rt: HostRuntime) -> Result<(), Fail> {
+    let failed = fail_tasks(&rt, rt.alloc())?;
     holds(&rt, "more than 1000 failed", failed > 1_000);
     let results = aborted(rt.alloc())?;
-    for (form, starts) in [
-        (
-            Form::Text,
-            "testcase b\nrun 0 main on 0\n  finish -> ok\nlocal 0 none\nverdict none\ncases 1 none 1 pass 0 inconc 0 fail 0 error 0\naborted at a: no thread\n",
-        ),
-        (
-            Form::Csv,
-            "testcase,components,none,pass,inconc,fail,error,verdict\nb,1,1,0,0,0,0,none\n",
-        ),
-        (Form::History, "history 2 b 1\n0 finish -> ok\nend none\n"),
-        (
-            Form::Evidence,
-            "evidence 1 b 1\nbehaviour 0 main\n0 finish -> ok\nend none\n",
-        ),
-        (
-            Form::Junit(None),
-            "<?xml version=\"1.0\" encoding=\"UTF-8\"?>\n",
-        ),
-    ] {
-        give_each(&rt, rt.alloc(), &results, &form, starts);
-    }
+    give_all(&rt, rt.alloc(), &results);
     Ok(())
 }
 

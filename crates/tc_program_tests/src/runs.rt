@@ -127,13 +127,13 @@ fn components_with_names(rt: HostRuntime) -> Result<(), Fail> {
 
 #[test]
 fn lines_that_are_served(rt: HostRuntime) -> Result<(), Fail> {
-    for row in [
-        "ttrun serve < case t 1;0 setverdict fail;0 finish;end; => evidence 1 t 1;0 setverdict fail -> ok;0 finish -> ok;end fail;1",
-        "ttrun serve < case t 1;fly;0 fly;0 finish;end; => evidence 1 t 1;0 ! bad line;0 finish -> ok;end none;3ttrun: line 2: bad line;",
-        "ttrun serve < case t 1;0 stopcase; => evidence 1 t 1;0 stopcase -> ok;end error;2ttrun: the input ended inside a test case;",
-        "ttrun serve < case t 1;0 finish;end;0 finish;case u 1; => evidence 1 t 1;0 finish -> ok;end none;3ttrun: line 4: no test case is open;",
-        "ttrun serve <  => 0",
-    ] {
+    let rows = "\
+ttrun serve < case t 1;0 setverdict fail;0 finish;end; => evidence 1 t 1;0 setverdict fail -> ok;0 finish -> ok;end fail;1
+ttrun serve < case t 1;fly;0 fly;0 finish;end; => evidence 1 t 1;0 ! bad line;0 finish -> ok;end none;3ttrun: line 2: bad line;
+ttrun serve < case t 1;0 stopcase; => evidence 1 t 1;0 stopcase -> ok;end error;2ttrun: the input ended inside a test case;
+ttrun serve < case t 1;0 finish;end;0 finish;case u 1; => evidence 1 t 1;0 finish -> ok;end none;3ttrun: line 4: no test case is open;
+ttrun serve <  => 0";
+    for row in rows.lines() {
         is_row(&rt, rt.alloc(), row)?;
     }
     Ok(())
@@ -173,20 +173,25 @@ fn are_legal<R: Abort>(rt: &R, text: &str) {
     is(rt, text, lines.next(), None);
 }
 
+/// Checks how the blocks of the stored run begin that a task writes, and that they are legal.
+fn are_written<R: Abort + Threads + Wait + Clock + Copy + Send + 'static>(
+    rt: &R,
+    alloc: Global,
+    line: &str,
+    start: &str,
+) -> Result<(), Fail> {
+    let input = in_lines(alloc, STORED)?;
+    let blocks = written(rt, alloc, line, input.as_slice())?;
+    holds(rt, start, blocks.as_slice().starts_with(start.as_bytes()));
+    let checked = written(rt, alloc, "ttrun check", blocks.as_slice())?;
+    are_legal(rt, str::from_utf8(checked.as_slice())?);
+    Ok(())
+}
+
 #[test]
 fn blocks_of_the_stored_run(rt: HostRuntime) -> Result<(), Fail> {
-    let input = in_lines(rt.alloc(), STORED)?;
-    for (line, start) in [
-        ("ttrun run --history", "history 2 t_pass 2\n0 create "),
-        (
-            "ttrun run --evidence",
-            "evidence 1 t_pass 2\nbehaviour 0 main\nbehaviour 1 worker\n0 create ",
-        ),
-    ] {
-        let blocks = written(&rt, rt.alloc(), line, input.as_slice())?;
-        holds(&rt, start, blocks.as_slice().starts_with(start.as_bytes()));
-        let checked = written(&rt, rt.alloc(), "ttrun check", blocks.as_slice())?;
-        are_legal(&rt, str::from_utf8(checked.as_slice())?);
-    }
-    Ok(())
+    let history = "history 2 t_pass 2\n0 create ";
+    are_written(&rt, rt.alloc(), "ttrun run --history", history)?;
+    let evidence = "evidence 1 t_pass 2\nbehaviour 0 main\nbehaviour 1 worker\n0 create ";
+    are_written(&rt, rt.alloc(), "ttrun run --evidence", evidence)
 }

@@ -343,23 +343,15 @@ fn is_told<R: Abort>(rt: &R, alloc: Global, fault: &RunFault, text: &str) -> Res
 
 #[test]
 fn lines_of_faults(rt: HostRuntime) -> Result<(), Fail> {
-    for (fault, text) in [
-        (RunFault::TooLong, "input too long"),
-        (RunFault::Read, "read fault"),
-        (RunFault::Write, "write fault"),
-        (RunFault::NoMemory, "no memory"),
-        (
-            RunFault::StopOn,
-            "--stop-on takes none, pass, inconc, fail or error",
-        ),
-        (
-            RunFault::Only,
-            "--only takes the name of one of the test cases",
-        ),
-    ] {
-        is_told(&rt, rt.alloc(), &fault, text)?;
-    }
-    Ok(())
+    let alloc = rt.alloc();
+    is_told(&rt, alloc, &RunFault::TooLong, "input too long")?;
+    is_told(&rt, alloc, &RunFault::Read, "read fault")?;
+    is_told(&rt, alloc, &RunFault::Write, "write fault")?;
+    is_told(&rt, alloc, &RunFault::NoMemory, "no memory")?;
+    let stop = "--stop-on takes none, pass, inconc, fail or error";
+    is_told(&rt, alloc, &RunFault::StopOn, stop)?;
+    let only = "--only takes the name of one of the test cases";
+    is_told(&rt, alloc, &RunFault::Only, only)
 }
 
 /// How many inputs were answered, and how many were refused.

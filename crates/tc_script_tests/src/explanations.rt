@@ -1,5 +1,7 @@
 //! Explanations, by text. The calls of the library are in small functions without clauses, so that the proof of a test
 //! carries none of the library's.
+use crate::checks::{holds, is};
+use crate::scripts::in_lines;
 use std::alloc::Global;
 use std::process::Abort;
 use std::str;
@@ -57,208 +59,193 @@ fn the_nearest_keyword(rt: HostRuntime) -> Result<(), Fail> {
     )
 }
 
-/// The place in this line is printed, and what would be understood there.
-fn expect_form(
-    rt: &impl Abort,
-    alloc: Global,
-    line: &str,
-    place: &str,
-    wanted: &str,
-) -> Result<(), Fail> {
-    let told = format!(in alloc; "  line: `{line}`\n  {place}\n  understood there: {wanted}\n")?;
-    expect(rt, alloc, line.as_bytes(), 1, BAD_LINE, told.as_str())
+/// The text before a line, how the line is refused, and what is printed about that text.
+#[derive(Clone, Copy)]
+struct Before {
+    head: &'static str,
+    refusal: Refusal,
+    told: &'static str,
 }
 
-// What is understood at a place, as it is printed.
-const END: &str = "the end of the call";
+const SCRIPT: Before = Before {
+    head: "",
+    refusal: BAD_LINE,
+    told: "",
+};
 
-const PARAMETERS: &str = "a parameter, or the end of the line";
+const MOVES: Before = Before {
+    head: "behaviours 1\n",
+    refusal: Refusal::Moves(TextKind::Move),
+    told: "",
+};
 
-const KIND: &str = "alive, named, or the end of the call";
+const HISTORY: Before = Before {
+    head: "history 1 a 1\n",
+    refusal: Refusal::Histories(TextKind::Entry),
+    told: "  a history began in line 1;",
+};
 
-const NAMING: &str = "named, or the end of the call";
+/// What is printed about a line after this text.
+fn told_after(alloc: Global, before: &Before, line: &str) -> Result<Vec<u8>, Fail> {
+    let text = format!(in alloc; "{}{line}\n", before.head)?;
+    let number = text.as_str().lines().count();
+    Ok(told_of(alloc, text.as_str().as_bytes(), number, before.refusal)?)
+}
 
-const STARTED: &str = "the behaviour that is started";
+/// What is wanted of it, with `;` for the end of a line.
+fn wanted_of(alloc: Global, before: &Before, line: &str, told: &str) -> Result<Vec<u8>, Fail> {
+    let wanted = format!(in alloc; "  line: `{line}`;  {told};{}", before.told)?;
+    in_lines(alloc, wanted.as_str())
+}
 
-const ARGUMENTS: &str = "a component, or the end of the call";
+/// Checks a row: a line, and what is printed after it.
+fn expect_row(rt: &impl Abort, alloc: Global, before: &Before, row: &str) -> Result<(), Fail> {
+    let (line, told) = row.split_once(" => ").ok_or("a row")?;
+    let wanted = wanted_of(alloc, before, line, told)?;
+    let found = told_after(alloc, before, line)?;
+    is(rt, row, found.as_slice(), wanted.as_slice());
+    Ok(())
+}
 
-const GROUP: &str = "all or a component";
-
-const TARGET: &str = "any, all or a component";
-
-const STATUS: &str = "done or killed";
-
-const VERDICT: &str = "none, pass, inconc or fail";
-
-const OVERALL: &str = "none, pass, inconc, fail or error";
-
-const LINE_END: &str = "the end of the line";
+fn expect_rows(rt: &impl Abort, alloc: Global, before: &Before, rows: &str) -> Result<(), Fail> {
+    for row in rows.lines() {
+        expect_row(rt, alloc, before, row)?;
+    }
+    Ok(())
+}
 
 // The words of a line, and what is understood after them.
-const SCRIPT_PLACES: [(&str, &str); 37] = [
-    ("testcase", "the name of a test case"),
-    ("testcase t", END),
-    ("behaviour", "the name of a behaviour"),
-    ("behaviour b", PARAMETERS),
-    ("behaviour b p", PARAMETERS),
-    ("end", END),
-    ("create", "the name of a component"),
-    ("create p", KIND),
-    ("create p alive", NAMING),
-    ("create p named", "a name"),
-    ("create p alive named", "a name"),
-    ("create p named l", END),
-    ("start", "a component"),
-    ("start mtc", STARTED),
-    ("start mtc b", ARGUMENTS),
-    ("start mtc b self", ARGUMENTS),
-    ("stop", GROUP),
-    ("stop all", END),
-    ("stop p", END),
-    ("kill", GROUP),
-    ("stopcase", END),
-    ("running", TARGET),
-    ("alive", TARGET),
-    ("done", TARGET),
-    ("killed", TARGET),
-    ("done any", END),
-    ("done all", END),
-    ("done p", END),
-    ("wait", STATUS),
-    ("wait done", TARGET),
-    ("wait killed", TARGET),
-    ("setverdict", VERDICT),
-    ("setverdict none", END),
-    ("setverdict pass", END),
-    ("setverdict inconc", END),
-    ("setverdict fail", END),
-    ("getverdict", END),
-];
+const SCRIPT_PLACES: &str = "\
+testcase => the name of a test case
+testcase t => the end of the call
+behaviour => the name of a behaviour
+behaviour b => a parameter, or the end of the line
+behaviour b p => a parameter, or the end of the line
+end => the end of the call
+create => the name of a component
+create p => alive, named, or the end of the call
+create p alive => named, or the end of the call
+create p named => a name
+create p alive named => a name
+create p named l => the end of the call
+start => a component
+start mtc => the behaviour that is started
+start mtc b => a component, or the end of the call
+start mtc b self => a component, or the end of the call
+stop => all or a component
+stop all => the end of the call
+stop p => the end of the call
+kill => all or a component
+stopcase => the end of the call
+running => any, all or a component
+alive => any, all or a component
+done => any, all or a component
+killed => any, all or a component
+done any => the end of the call
+done all => the end of the call
+done p => the end of the call
+wait => done or killed
+wait done => any, all or a component
+wait killed => any, all or a component
+setverdict => none, pass, inconc or fail
+setverdict none => the end of the call
+setverdict pass => the end of the call
+setverdict inconc => the end of the call
+setverdict fail => the end of the call
+getverdict => the end of the call";
 
-const MOVE_PLACES: [(&str, &str); 22] = [
-    ("0 create", KIND),
-    ("0 create alive", NAMING),
-    ("0 create named", "a name"),
-    ("0 create named l", END),
-    ("0 start", "a component"),
-    ("0 start 1", STARTED),
-    ("0 start 1 1", ARGUMENTS),
-    ("0 start 1 1 0", ARGUMENTS),
-    ("0 stop", GROUP),
-    ("0 stop all", END),
-    ("0 stop 1", END),
-    ("0 kill", GROUP),
-    ("0 stopcase", END),
-    ("0 running", TARGET),
-    ("0 alive", TARGET),
-    ("0 done", TARGET),
-    ("0 killed", TARGET),
-    ("0 wait", STATUS),
-    ("0 setverdict", VERDICT),
-    ("0 getverdict", END),
-    ("0 wake", STATUS),
-    ("0 finish", END),
-];
+const MOVE_PLACES: &str = "\
+0 create => alive, named, or the end of the call
+0 create alive => named, or the end of the call
+0 create named => a name
+0 create named l => the end of the call
+0 start => a component
+0 start 1 => the behaviour that is started
+0 start 1 1 => a component, or the end of the call
+0 start 1 1 0 => a component, or the end of the call
+0 stop => all or a component
+0 stop all => the end of the call
+0 stop 1 => the end of the call
+0 kill => all or a component
+0 stopcase => the end of the call
+0 running => any, all or a component
+0 alive => any, all or a component
+0 done => any, all or a component
+0 killed => any, all or a component
+0 wait => done or killed
+0 setverdict => none, pass, inconc or fail
+0 getverdict => the end of the call
+0 wake => done or killed
+0 finish => the end of the call";
 
-const ENTRY_PLACES: [(&str, &str); 28] = [
-    ("0 create -> made", "the number of a component"),
-    ("0 create -> made 1", LINE_END),
-    ("0 create alive -> ok", LINE_END),
-    ("0 start 1 1 -> ok", LINE_END),
-    ("0 create -> ok", LINE_END),
-    ("0 create -> true", LINE_END),
-    ("0 create -> false", LINE_END),
-    ("0 create -> none", LINE_END),
-    ("0 create -> pass", LINE_END),
-    ("0 create -> inconc", LINE_END),
-    ("0 create -> fail", LINE_END),
-    ("0 create -> matched", LINE_END),
-    ("0 create -> parked", LINE_END),
-    ("0 create -> ended", LINE_END),
-    ("0 stop 1 -> error no-component", LINE_END),
-    ("0 stop 1 -> error not-main", LINE_END),
-    ("0 stop 1 -> error start-main", LINE_END),
-    ("0 stop 1 -> error already-running", LINE_END),
-    ("0 stop 1 -> error not-startable", LINE_END),
-    ("0 stop 1 -> error no-behaviour", LINE_END),
-    ("0 stop 1 -> error too-many", LINE_END),
-    ("0 stop 1 -> error stuck", LINE_END),
-    ("end", OVERALL),
-    ("end none", LINE_END),
-    ("end pass", LINE_END),
-    ("end inconc", LINE_END),
-    ("end fail", LINE_END),
-    ("end error", LINE_END),
-];
+const ENTRY_PLACES: &str = "\
+0 create -> made => the number of a component
+0 create -> made 1 => the end of the line
+0 create alive -> ok => the end of the line
+0 start 1 1 -> ok => the end of the line
+0 create -> ok => the end of the line
+0 create -> true => the end of the line
+0 create -> false => the end of the line
+0 create -> none => the end of the line
+0 create -> pass => the end of the line
+0 create -> inconc => the end of the line
+0 create -> fail => the end of the line
+0 create -> matched => the end of the line
+0 create -> parked => the end of the line
+0 create -> ended => the end of the line
+0 stop 1 -> error no-component => the end of the line
+0 stop 1 -> error not-main => the end of the line
+0 stop 1 -> error start-main => the end of the line
+0 stop 1 -> error already-running => the end of the line
+0 stop 1 -> error not-startable => the end of the line
+0 stop 1 -> error no-behaviour => the end of the line
+0 stop 1 -> error too-many => the end of the line
+0 stop 1 -> error stuck => the end of the line
+end => none, pass, inconc, fail or error
+end none => the end of the line
+end pass => the end of the line
+end inconc => the end of the line
+end fail => the end of the line
+end error => the end of the line";
 
-/// After these words of a line, which follows this head, a word that may be nowhere is printed, and what is understood
-/// there.
-fn expect_places(
-    rt: &impl Abort,
-    alloc: Global,
-    head: &str,
-    places: &[(&str, &str)],
-    refusal: Refusal,
-    open: &str,
-) -> Result<(), Fail> {
-    for (words, wanted) in places {
-        let text = format!(in alloc; "{head}{words} -\n")?;
+/// After the words of each of these rows a word that may be nowhere is printed, and what is understood there.
+fn expect_places(rt: &impl Abort, alloc: Global, before: &Before, rows: &str) -> Result<(), Fail> {
+    for row in rows.lines() {
+        let (words, wanted) = row.split_once(" => ").ok_or("a row")?;
         let column = words.len() + 2;
-        let told = format!(in alloc;
-            "  line: `{words} -`\n  column {column}: `-`\n  understood there: {wanted}\n{open}"
+        let row = format!(in alloc;
+            "{words} - => column {column}: `-`;  understood there: {wanted}"
         )?;
-        let line = if head.is_empty() { 1 } else { 2 };
-        expect(
-            rt,
-            alloc,
-            text.as_str().as_bytes(),
-            line,
-            refusal,
-            told.as_str(),
-        )?;
+        expect_row(rt, alloc, before, row.as_str())?;
     }
     Ok(())
 }
 
 #[test]
 fn places_of_scripts(rt: HostRuntime) -> Result<(), Fail> {
-    expect_places(&rt, rt.alloc(), "", &SCRIPT_PLACES, BAD_LINE, "")
+    expect_places(&rt, rt.alloc(), &SCRIPT, SCRIPT_PLACES)
 }
 
 #[test]
 fn places_of_moves(rt: HostRuntime) -> Result<(), Fail> {
-    let refusal = Refusal::Moves(TextKind::Move);
-    expect_places(&rt, rt.alloc(), "behaviours 1\n", &MOVE_PLACES, refusal, "")
+    expect_places(&rt, rt.alloc(), &MOVES, MOVE_PLACES)
 }
 
 #[test]
 fn places_of_histories(rt: HostRuntime) -> Result<(), Fail> {
-    let open = "  a history began in line 1\n";
-    let refusal = Refusal::Histories(TextKind::Entry);
-    expect_places(
-        &rt,
-        rt.alloc(),
-        "history 1 a 1\n",
-        &ENTRY_PLACES,
-        refusal,
-        open,
-    )
+    expect_places(&rt, rt.alloc(), &HISTORY, ENTRY_PLACES)
 }
 
 #[test]
 fn words_of_a_form(rt: HostRuntime) -> Result<(), Fail> {
-    let lines = [
-        ("create p named", "column 15: the end of the line", "a name"),
-        ("create p  other", "column 11: `other`", KIND),
-        ("start mtc", "column 10: the end of the line", STARTED),
-        ("start all b", "column 7: `all`", "a component"),
-        ("stop any", "column 6: `any`", GROUP),
-        ("setverdict unset", "column 12: `unset`", VERDICT),
-    ];
-    for (line, place, wanted) in lines {
-        expect_form(&rt, rt.alloc(), line, place, wanted)?;
-    }
-    Ok(())
+    let rows = "\
+create p named => column 15: the end of the line;  understood there: a name
+create p  other => column 11: `other`;  understood there: alive, named, or the end of the call
+start mtc => column 10: the end of the line;  understood there: the behaviour that is started
+start all b => column 7: `all`;  understood there: a component
+stop any => column 6: `any`;  understood there: all or a component
+setverdict unset => column 12: `unset`;  understood there: none, pass, inconc or fail";
+    expect_rows(&rt, rt.alloc(), &SCRIPT, rows)
 }
 
 #[test]
@@ -266,34 +253,70 @@ fn rules_that_a_line_breaks(rt: HostRuntime) -> Result<(), Fail> {
     let rules = [
         (
             ScriptKind::TooMany,
-            "one more than there may be\n  a behaviour has at most 1000 steps",
+            "end => one more than there may be;  a behaviour has at most 1000 steps",
         ),
         (
             ScriptKind::Twice,
-            "a name is given once: to a test case of the script, a behaviour of the test case, a component of the behaviour",
+            "end => a name is given once: to a test case of the script, a behaviour of the test case, a component of the behaviour",
         ),
         (
             ScriptKind::NoReference,
-            "a component is named by a parameter, or by a create above",
+            "end => a component is named by a parameter, or by a create above",
         ),
         (
             ScriptKind::UnknownBehaviour,
-            "a start names a behaviour of its test case",
+            "end => a start names a behaviour of its test case",
         ),
         (
             ScriptKind::MainParameters,
-            "the first behaviour of a test case is started by nobody, who could give it arguments",
+            "end => the first behaviour of a test case is started by nobody, who could give it arguments",
         ),
         (
             ScriptKind::Arguments,
-            "a start gives as many arguments as the behaviour has parameters",
+            "end => a start gives as many arguments as the behaviour has parameters",
         ),
-        (ScriptKind::Cut, "the line is understood"),
+        (ScriptKind::Cut, "end => the line is understood"),
     ];
     for (kind, rule) in rules {
-        let told = format!(in rt.alloc(); "  line: `end`\n  {rule}\n")?;
-        let refusal = Refusal::Script(kind);
-        expect(&rt, rt.alloc(), b"end", 1, refusal, told.as_str())?;
+        let before = Before {
+            refusal: Refusal::Script(kind),
+            ..SCRIPT
+        };
+        expect_row(&rt, rt.alloc(), &before, rule)?;
+    }
+    Ok(())
+}
+
+/// Checks that a line and the beginning of its rule are printed, and no third line.
+fn begins_so(
+    rt: &impl Abort,
+    alloc: Global,
+    kind: ScriptKind,
+    line: &str,
+    rule: &str,
+) -> Result<(), Fail> {
+    let told = told_of(alloc, line.as_bytes(), 1, Refusal::Script(kind))?;
+    let head = format!(in alloc; "  line: `{line}`\n  {rule}")?;
+    holds(
+        rt,
+        line,
+        told.as_slice().starts_with(head.as_str().as_bytes()),
+    );
+    let ends = told.as_slice().iter().filter(|byte| **byte == b'\n');
+    is(rt, line, ends.count(), 2);
+    Ok(())
+}
+
+/// The same of each of these lines.
+fn begin_so(
+    rt: &impl Abort,
+    alloc: Global,
+    kind: ScriptKind,
+    lines: &str,
+    rule: &str,
+) -> Result<(), Fail> {
+    for line in lines.lines() {
+        begins_so(rt, alloc, kind, line, rule)?;
     }
     Ok(())
 }
@@ -301,33 +324,14 @@ fn rules_that_a_line_breaks(rt: HostRuntime) -> Result<(), Fail> {
 // Lines that break no rule of names, by the kinds that no reader finds in them.
 #[test]
 fn rules_that_a_line_keeps(rt: HostRuntime) -> Result<(), Fail> {
-    let lines = [
-        (ScriptKind::Twice, "create p", "a name is given once: "),
+    let places = "start mtc w self\nstop all\nwait done any\nother p";
+    let rules = [
         (
             ScriptKind::Twice,
-            "behaviour b c d",
+            "create p\nbehaviour b c d",
             "a name is given once: ",
         ),
-        (
-            ScriptKind::NoReference,
-            "start mtc w self",
-            "a component is named by ",
-        ),
-        (
-            ScriptKind::NoReference,
-            "stop all",
-            "a component is named by ",
-        ),
-        (
-            ScriptKind::NoReference,
-            "wait done any",
-            "a component is named by ",
-        ),
-        (
-            ScriptKind::NoReference,
-            "other p",
-            "a component is named by ",
-        ),
+        (ScriptKind::NoReference, places, "a component is named by "),
         (
             ScriptKind::UnknownBehaviour,
             "start p",
@@ -335,12 +339,7 @@ fn rules_that_a_line_keeps(rt: HostRuntime) -> Result<(), Fail> {
         ),
         (
             ScriptKind::Arguments,
-            "start p w",
-            "a start gives as many arguments",
-        ),
-        (
-            ScriptKind::Arguments,
-            "start p",
+            "start p w\nstart p",
             "a start gives as many arguments",
         ),
         (
@@ -351,19 +350,8 @@ fn rules_that_a_line_keeps(rt: HostRuntime) -> Result<(), Fail> {
         (ScriptKind::BadLine, "getverdict", "the line is understood"),
         (ScriptKind::BadName, "create p", "the line is understood"),
     ];
-    for (kind, line, rule) in lines {
-        let told = told_of(rt.alloc(), line.as_bytes(), 1, Refusal::Script(kind))?;
-        let head = format!(in rt.alloc(); "  line: `{line}`\n  {rule}")?;
-        assert!(&rt;
-            told.as_slice().starts_with(head.as_str().as_bytes()),
-            "{line}"
-        );
-        let ends = told
-            .as_slice()
-            .iter()
-            .filter(|byte| **byte == b'\n')
-            .count();
-        assert_eq!(&rt; ends, 2, "{line}");
+    for (kind, lines, rule) in rules {
+        begin_so(&rt, rt.alloc(), kind, lines, rule)?;
     }
     Ok(())
 }
@@ -461,231 +449,110 @@ fn what_is_open(rt: HostRuntime) -> Result<(), Fail> {
     )
 }
 
-#[test]
-fn texts_of_another_kind(rt: HostRuntime) -> Result<(), Fail> {
-    let history = b"history 1 a 1\nend none\n";
-    let script = b"# x\n\ntestcase t\n";
-    let moves = b"behaviours 1\n";
-    let sources: [&[u8]; 3] = [b"module M {\n", b"// x\n", b"testcase t() runs on M {\n"];
-    let script_told = "  the text looks like a script, which ttrun run reads\n";
-    let history_told = "  the text looks like histories, which ttrun check and ttrun report read\n";
-    let moves_told = "  the text looks like a list of moves, which ttrun replay reads\n";
-    let source_told = "  the text looks like TTCN-3, which ttrun does not read\n";
-    let given: [(&[u8], Refusal, &str); 7] = [
-        (history, BAD_LINE, history_told),
-        (moves, BAD_LINE, moves_told),
-        (sources[0], BAD_LINE, source_told),
-        (sources[1], BAD_LINE, source_told),
-        (sources[2], BAD_LINE, source_told),
-        (script, Refusal::Histories(TextKind::FirstLine), script_told),
-        (script, Refusal::Moves(TextKind::FirstLine), script_told),
-    ];
-    for (text, refusal, told) in given {
-        let found = told_of(rt.alloc(), text, 1, refusal)?;
-        assert!(&rt; found.as_slice().starts_with(told.as_bytes()), "{told}");
+/// Checks what a text looks like, with `;` for the end of a line.
+fn looks_like(rt: &impl Abort, alloc: Global, refusal: Refusal, row: &str) -> Result<(), Fail> {
+    let (text, kind) = row.split_once(" => ").ok_or("a row")?;
+    let text = in_lines(alloc, text)?;
+    let found = told_of(alloc, text.as_slice(), 1, refusal)?;
+    let told = found.as_slice().strip_prefix(b"  the text looks like ");
+    let rest = told.ok_or("a text of another kind")?;
+    holds(rt, row, rest.starts_with(kind.as_bytes()));
+    Ok(())
+}
+
+fn look_like(rt: &impl Abort, alloc: Global, refusal: Refusal, rows: &str) -> Result<(), Fail> {
+    for row in rows.lines() {
+        looks_like(rt, alloc, refusal, row)?;
     }
     Ok(())
 }
 
-const ZERO: &str = "  a number begins with 0 only if it is 0\n";
-
-const FOUR: &str = "a start has at most 4 arguments";
+#[test]
+fn texts_of_another_kind(rt: HostRuntime) -> Result<(), Fail> {
+    let rows = "\
+history 1 a 1;end none; => histories, which ttrun check and ttrun report read
+behaviours 1; => a list of moves, which ttrun replay reads
+module M {; => TTCN-3, which ttrun does not read
+// x; => TTCN-3, which ttrun does not read
+testcase t() runs on M {; => TTCN-3, which ttrun does not read";
+    look_like(&rt, rt.alloc(), BAD_LINE, rows)?;
+    let script = "# x;;testcase t; => a script, which ttrun run reads";
+    let histories = Refusal::Histories(TextKind::FirstLine);
+    look_like(&rt, rt.alloc(), histories, script)?;
+    look_like(&rt, rt.alloc(), Refusal::Moves(TextKind::FirstLine), script)
+}
 
 #[test]
 fn lines_of_moves(rt: HostRuntime) -> Result<(), Fail> {
-    let lines = [
-        ("0  finish", "column 3: a space too many", ""),
-        ("0 finish ", "column 9: a space too many", ""),
-        (
-            "x finish",
-            "column 1: `x`",
-            "  understood there: the number of a run\n",
-        ),
-        (
-            "0 finsh",
-            "column 3: `finsh`",
-            "  understood there: create start stop kill stopcase running alive done killed wait setverdict getverdict wake finish\n  nearest: finish\n",
-        ),
-        (
-            "0 start 1",
-            "column 10: the end of the line",
-            "  understood there: the behaviour that is started\n",
-        ),
-        (
-            "0 stop p",
-            "column 8: `p`",
-            "  understood there: all or a component\n",
-        ),
-        ("0 stop 01", "column 8: `01`", ZERO),
-        ("00 create", "column 1: `00`", ZERO),
-        ("00 create alive", "column 1: `00`", ZERO),
-        ("0 start 1 1 0 0 0 0 0", FOUR, ""),
-    ];
-    for (line, place, wanted) in lines {
-        let text = format!(in rt.alloc(); "behaviours 1\n{line}\n")?;
-        let told = format!(in rt.alloc(); "  line: `{line}`\n  {place}\n{wanted}")?;
-        let refusal = Refusal::Moves(TextKind::Move);
-        expect(
-            &rt,
-            rt.alloc(),
-            text.as_str().as_bytes(),
-            2,
-            refusal,
-            told.as_str(),
-        )?;
-    }
-    Ok(())
-}
-
-// What is printed about a line of a history.
-fn expect_entry(
-    rt: &impl Abort,
-    alloc: Global,
-    line: &str,
-    place: &str,
-    wanted: &str,
-) -> Result<(), Fail> {
-    let text = format!(in alloc; "history 1 a 1\n{line}\n")?;
-    let told = format!(in alloc;
-        "  line: `{line}`\n  {place}\n{wanted}  a history began in line 1\n"
-    )?;
-    let refusal = Refusal::Histories(TextKind::Entry);
-    expect(
-        rt,
-        alloc,
-        text.as_str().as_bytes(),
-        2,
-        refusal,
-        told.as_str(),
-    )
+    let rows = "\
+0  finish => column 3: a space too many
+0 finish  => column 9: a space too many
+x finish => column 1: `x`;  understood there: the number of a run
+0 finsh => column 3: `finsh`;  understood there: create start stop kill stopcase running alive done killed wait setverdict getverdict wake finish;  nearest: finish
+0 start 1 => column 10: the end of the line;  understood there: the behaviour that is started
+0 stop p => column 8: `p`;  understood there: all or a component
+0 stop 01 => column 8: `01`;  a number begins with 0 only if it is 0
+00 create => column 1: `00`;  a number begins with 0 only if it is 0
+00 create alive => column 1: `00`;  a number begins with 0 only if it is 0
+0 start 1 1 0 0 0 0 0 => a start has at most 4 arguments";
+    expect_rows(&rt, rt.alloc(), &MOVES, rows)
 }
 
 #[test]
 fn lines_of_histories(rt: HostRuntime) -> Result<(), Fail> {
-    let lines = [
-        (
-            "0 finish",
-            "column 9: the end of the line",
-            "-> and a reply",
-        ),
-        (
-            "0 create",
-            "column 9: the end of the line",
-            "-> and a reply",
-        ),
-        (
-            "0 create alive",
-            "column 15: the end of the line",
-            "-> and a reply",
-        ),
-        (
-            "0 start 1 1",
-            "column 12: the end of the line",
-            "-> and a reply",
-        ),
-        ("0 finish ok", "column 10: `ok`", "-> and a reply"),
-        ("0 finish - > ok", "column 10: `-`", "-> and a reply"),
-        (
-            "0 create ok",
-            "column 10: `ok`",
-            "alive, named, or the end of the call",
-        ),
-        (
-            "x finish -> ok",
-            "column 1: `x`",
-            "the number of a run, or end",
-        ),
-        (
-            "end other",
-            "column 5: `other`",
-            "none, pass, inconc, fail or error",
-        ),
-        ("end pass 1", "column 10: `1`", "the end of the line"),
-    ];
-    for (line, place, what) in lines {
-        let wanted = format!(in rt.alloc(); "  understood there: {what}\n")?;
-        expect_entry(&rt, rt.alloc(), line, place, wanted.as_str())?;
-    }
-    Ok(())
+    let rows = "\
+0 finish => column 9: the end of the line;  understood there: -> and a reply
+0 create => column 9: the end of the line;  understood there: -> and a reply
+0 create alive => column 15: the end of the line;  understood there: -> and a reply
+0 start 1 1 => column 12: the end of the line;  understood there: -> and a reply
+0 finish ok => column 10: `ok`;  understood there: -> and a reply
+0 finish - > ok => column 10: `-`;  understood there: -> and a reply
+0 create ok => column 10: `ok`;  understood there: alive, named, or the end of the call
+x finish -> ok => column 1: `x`;  understood there: the number of a run, or end
+end other => column 5: `other`;  understood there: none, pass, inconc, fail or error
+end pass 1 => column 10: `1`;  understood there: the end of the line";
+    expect_rows(&rt, rt.alloc(), &HISTORY, rows)
 }
 
 #[test]
 fn replies_of_histories(rt: HostRuntime) -> Result<(), Fail> {
-    let replies =
-        "  understood there: made ok true false none pass inconc fail error matched parked ended\n";
-    let faults =
-        "  understood there: no-component not-main start-main already-running not-startable no-behaviour too-many stuck, or the end of the line\n";
-    let number = "  understood there: the number of a component\n";
-    let end = "  understood there: the end of the line\n";
-    let lines = [
-        ("0 finish ->", "column 12: the end of the line", replies, ""),
-        (
-            "0 create -> mad 1",
-            "column 13: `mad`",
-            replies,
-            "  nearest: made\n",
-        ),
-        (
-            "0 wait done 1 -> matchd",
-            "column 18: `matchd`",
-            replies,
-            "  nearest: matched\n",
-        ),
-        (
-            "0 create -> made",
-            "column 17: the end of the line",
-            number,
-            "",
-        ),
-        ("0 create -> made p", "column 18: `p`", number, ""),
-        ("0 create -> made 1 2", "column 20: `2`", end, ""),
-        ("0 finish -> ok now", "column 16: `now`", end, ""),
-        ("0 finish -> ok -> ok", "column 16: `->`", end, ""),
-        (
-            "0 stop 1 -> error no-componant",
-            "column 19: `no-componant`",
-            faults,
-            "  nearest: no-component\n",
-        ),
-        ("0 stop 1 -> error stuck 1", "column 25: `1`", end, ""),
-    ];
-    for (line, place, wanted, near) in lines {
-        let both = format!(in rt.alloc(); "{wanted}{near}")?;
-        expect_entry(&rt, rt.alloc(), line, place, both.as_str())?;
-    }
-    Ok(())
+    let rows = "\
+0 finish -> => column 12: the end of the line;  understood there: made ok true false none pass inconc fail error matched parked ended
+0 create -> mad 1 => column 13: `mad`;  understood there: made ok true false none pass inconc fail error matched parked ended;  nearest: made
+0 wait done 1 -> matchd => column 18: `matchd`;  understood there: made ok true false none pass inconc fail error matched parked ended;  nearest: matched
+0 create -> made => column 17: the end of the line;  understood there: the number of a component
+0 create -> made p => column 18: `p`;  understood there: the number of a component
+0 create -> made 1 2 => column 20: `2`;  understood there: the end of the line
+0 finish -> ok now => column 16: `now`;  understood there: the end of the line
+0 finish -> ok -> ok => column 16: `->`;  understood there: the end of the line
+0 stop 1 -> error no-componant => column 19: `no-componant`;  understood there: no-component not-main start-main already-running not-startable no-behaviour too-many stuck, or the end of the line;  nearest: no-component
+0 stop 1 -> error stuck 1 => column 25: `1`;  understood there: the end of the line";
+    expect_rows(&rt, rt.alloc(), &HISTORY, rows)
 }
 
 #[test]
 fn entries_of_words_that_may_stand(rt: HostRuntime) -> Result<(), Fail> {
-    let format = "a history of format 1 names no component";
-    let most = "  the number is at most 65535\n";
-    let lines = [
-        ("0 create -> made 01", "column 18: `01`", ZERO),
-        ("65536 finish -> ok", "column 1: `65536`", most),
-        ("0 start 1 1 0 0 0 0 0 -> error too-many", FOUR, ""),
-        ("0 create named p -> made 1", format, ""),
-        ("0 create alive named p -> error", format, ""),
-        ("0 finish -> ok", "the line is understood", ""),
-        ("0 start 1 1 0 0 0 0 -> ok", "the line is understood", ""),
-    ];
-    for (line, place, rule) in lines {
-        expect_entry(&rt, rt.alloc(), line, place, rule)?;
-    }
-    Ok(())
+    let rows = "\
+0 create -> made 01 => column 18: `01`;  a number begins with 0 only if it is 0
+65536 finish -> ok => column 1: `65536`;  the number is at most 65535
+0 start 1 1 0 0 0 0 0 -> error too-many => a start has at most 4 arguments
+0 create named p -> made 1 => a history of format 1 names no component
+0 create alive named p -> error => a history of format 1 names no component
+0 finish -> ok => the line is understood
+0 start 1 1 0 0 0 0 -> ok => the line is understood";
+    expect_rows(&rt, rt.alloc(), &HISTORY, rows)
 }
 
 #[test]
 fn long_lines_are_cut(rt: HostRuntime) -> Result<(), Fail> {
-    let mut line = b"create ".to_vec(rt.alloc())?;
-    for _ in 0..70 {
-        line.push(b'1')?;
-    }
-    let found = told_of(rt.alloc(), line.as_slice(), 1, BAD_LINE)?;
-    let told =
-        "  line: `create 11111111111111111111111111111111111111111111111111111`..\n  column 8: `111111111111111111111111111111111111111111111111111111111111`..\n  understood there: the name of a component\n";
-    assert_eq!(&rt; found.as_slice(), told.as_bytes());
-    Ok(())
+    expect(
+        &rt,
+        rt.alloc(),
+        b"create 1111111111111111111111111111111111111111111111111111111111111111111111",
+        1,
+        BAD_LINE,
+        "  line: `create 11111111111111111111111111111111111111111111111111111`..\n  column 8: `111111111111111111111111111111111111111111111111111111111111`..\n  understood there: the name of a component\n",
+    )
 }
 
 #[test]
@@ -694,44 +561,49 @@ fn moves_of_the_words_that_are_no_keywords(rt: HostRuntime) {
     assert!(&rt; is_move(b"0 wake done all"));
 }
 
-/// The line of the words that are understood instead of the last of this entry of a history.
-fn understood_in(alloc: Global, entry: &str) -> Result<String, Fail> {
-    let text = format!(in alloc; "history 1 a 1\n{entry}\n")?;
-    let refusal = Refusal::Histories(TextKind::Entry);
-    let told = told_of(alloc, text.as_str().as_bytes(), 2, refusal)?;
-    let told = str::from_utf8(told.as_slice()).map_err(|_| "a text")?;
-    let mut found = None;
-    for line in told.lines() {
-        found = found.or(line.strip_prefix("  understood there: "));
+/// The words that are understood, by what is printed.
+fn words_in(told: &[u8]) -> Result<&str, Fail> {
+    let told = str::from_utf8(told).map_err(|_| "a text")?;
+    let (_, rest) = told.split_once("  understood there: ").ok_or("words")?;
+    let (words, _) = rest.split_once('\n').ok_or("a line")?;
+    Ok(
+        words
+            .strip_suffix(", or the end of the line")
+            .unwrap_or(words),
+    )
+}
+
+/// Checks that this word is that of a reply after this head.
+fn makes_reply(rt: &impl Abort, alloc: Global, head: &str, word: &str) -> Result<(), Fail> {
+    let number = if word == "made" { " 1" } else { "" };
+    let text = format!(in alloc; "{head}{word}{number}")?;
+    holds(rt, word, is_reply(text.as_str().as_bytes()));
+    Ok(())
+}
+
+/// The same of as many words as are understood instead of the last of this entry of a history.
+fn make_replies(
+    rt: &impl Abort,
+    alloc: Global,
+    entry: &str,
+    head: &str,
+    count: usize,
+) -> Result<(), Fail> {
+    let told = told_after(alloc, &HISTORY, entry)?;
+    let words = words_in(told.as_slice())?;
+    is(rt, entry, words.split(' ').count(), count);
+    for word in words.split(' ') {
+        makes_reply(rt, alloc, head, word)?;
     }
-    Ok(found.ok_or("words")?.to_string(alloc)?)
+    Ok(())
 }
 
 #[test]
 fn replies_of_the_words_that_begin_one(rt: HostRuntime) -> Result<(), Fail> {
-    let words = understood_in(rt.alloc(), "0 finish ->")?;
-    for word in words.as_str().split(' ') {
-        let text = match word {
-            "made" => "made 1",
-            word => word,
-        };
-        assert!(&rt; is_reply(text.as_bytes()), "{text}");
-    }
-    assert_eq!(&rt; words.as_str().split(' ').count(), 12);
-    Ok(())
+    make_replies(&rt, rt.alloc(), "0 finish ->", "", 12)
 }
 
 #[test]
 fn replies_of_the_words_that_name_a_fault(rt: HostRuntime) -> Result<(), Fail> {
-    let words = understood_in(rt.alloc(), "0 finish -> error x")?;
-    let faults = words
-        .as_str()
-        .strip_suffix(", or the end of the line")
-        .ok_or("an end")?;
-    for word in faults.split(' ') {
-        let text = format!(in rt.alloc(); "error {word}")?;
-        assert!(&rt; is_reply(text.as_str().as_bytes()), "{word}");
-    }
-    assert_eq!(&rt; faults.split(' ').count(), 8);
-    Ok(())
+    make_replies(&rt, rt.alloc(), "0 finish -> error x", "error ", 8)
 }
