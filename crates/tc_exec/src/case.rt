@@ -12,7 +12,7 @@ ghost use Rattle.tc_case.specs.declared.refusal.CaseError.TheVariants.{NoBehavio
 use crate::callable::Callable;
 use crate::gate::{Everyone, Gate};
 use crate::gathered::Gathered;
-use crate::handed::act;
+use crate::handed::{act, pass_by};
 use crate::job::Job;
 use crate::worker::{Worker, join_workers, make_workers};
 use std::alloc::Global;
@@ -91,18 +91,18 @@ fn gather<R: Threads + Wait, B: Callable>(
 }
 
 /// Ends a case of which no behaviour was called: leaves the pass of run 0, so that no run can be started any more, and joins all workers
-/// that were made.
+/// that were made. What each left is gathered.
 fn dismiss<R: Threads + Wait, B: Callable>(
     rt: &R,
     pass: Pass,
     workers: Vec<Worker<B>>,
     gathered: Gathered,
 ) -> Gathered
-    requires room { vec_len gathered.lefts + vec_len workers ≤ vec_capacity gathered.lefts }
-    ensures all { vec_len result.lefts ≡ vec_len gathered.lefts + vec_len workers }
+    requires room { vec_len gathered.lefts + vec_len workers < vec_capacity gathered.lefts }
+    ensures all { vec_len result.lefts ≡ vec_len gathered.lefts + vec_len workers + 1 }
 {
     let mut gathered = gathered;
-    pass.leave(rt);
+    gathered.take(pass_by(rt, pass));
     join_workers(rt, workers, &mut gathered);
     gathered
 }

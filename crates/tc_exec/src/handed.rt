@@ -1,13 +1,13 @@
 //! What a run hands back to the executor.
 ghost use Rattle.std.specs.Prelude.{◌≡◌};
-ghost use Rattle.tc_exec.specs.Workers.{WasCalled, IsWorked};
+ghost use Rattle.tc_exec.specs.Workers.{HasLeft, WasCalled, IsWorked};
 
 use crate::callable::Callable;
 use crate::job::{Back, Ending};
 use std::sync::Wait;
 use tc_book::{Left, Pass, Ticket};
 
-/// What a run left, and why its behaviour came back. Only `act` and `work` make one.
+/// What a run left, and why its behaviour came back. Only `act`, `work` and `pass_by` make one.
 #[derive(Drop)]
 pub(crate) struct Handed {
     left: Left,
@@ -31,6 +31,16 @@ pub(crate) fn act<R: Wait, B: Callable>(rt: &R, behaviour: B, pass: Pass) -> Han
     Handed {
         left: pass.leave(rt),
         ending,
+    }
+}
+
+/// Leaves a pass with which no behaviour is called.
+pub(crate) fn pass_by<R: Wait>(rt: &R, pass: Pass) -> Handed
+    ensures { HasLeft pass result.left }
+{
+    Handed {
+        left: pass.leave(rt),
+        ending: Ending::Returned,
     }
 }
 
