@@ -25,7 +25,7 @@ NO_ANSWER = re.compile(r"(?m)^note: (src/\S+?):(\d+):\d+: it is not proved that"
 OPEN = re.compile(r"(?m)^fn \w+::(\S+): .*`search` did not prove (.*)$")
 ANSWER = re.compile(r"(?m)^\./proofs/(\S+)/(?:Answers|Invariants|Proof)\.antt:\d+:\d+: error: (.*)$")
 # An answer that names what an edit has taken away: that says little of the contract.
-NAMED = re.compile(r"has no field|is not in scope|has no `|can be named from here|was not admitted|`goal\.[^`]*`: module")
+NAMED = re.compile(r"has no field|\(nearest: |is not in scope|has no `|can be named from here|was not admitted|`goal\.[^`]*`: module")
 HEAD = re.compile(r" *(?:pub(?:\(crate\))? )?fn (\w+)")
 
 
