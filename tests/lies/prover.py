@@ -175,11 +175,16 @@ def judged(room: str, crate: str, names: List[str], rt: List[str]) -> Iterator[T
         together = rounds.pop()
         told, unread, unproved = shown_together(room, crate, together, rt)
         if JUDGED.search(told):
-            yield from ((*verdict_on(it, told, unproved), it.name) for it in together)
+            verdicts = [(*verdict_on(it, told, unproved), it) for it in together]
+            # Goals of a function may not have been tried, as one that it calls is not proved: what is not refused is shown without the others.
+            again = [edit for refused, _, edit in verdicts if not refused]
+            again = again if len(again) < len(together) else []
+            yield from ((refused, words, edit.name) for refused, words, edit in verdicts if edit not in again)
         else:
-            bad = [it for it in together if it.functions & unread] or together
-            alone += bad
-            rounds += [rest] if (rest := [it for it in together if it not in bad]) else []
+            again = [it for it in together if not it.functions & unread]
+            again = again if len(again) < len(together) else []
+            alone += [it for it in together if it not in again]
+        rounds += [again] if again else []
     if alone:
         yield from shown_alone(room, crate, alone, rt)
 
