@@ -4,11 +4,12 @@
 usage: tests/lies/run.py [--by prover|tests] [--only WORD] [--jobs N] [--rt COMMAND]
 
 It is no part of the gate. The prover is shown the lies of tests/lies/edits/CRATE, in the form of the edits of
-crates/CRATE/must-fail: each must be refused by a clause, which its line names. It takes a proof of each crate that has some,
-and 10 to 60 seconds for each lie. The tests are shown those of lies.py. The program is built without a proof once for each of
-them, and once as it is, which takes about a minute each. Some of tests/program that need only a plain standard input, and some
-rows of tests/serve, are run by `rt try --cases`, with those that a lie names: at least one must fail. If a lie names a crate of
-tests, `rt try --test` runs that one's tests in their place. The last line is 'N passed, M failed'.
+crates/CRATE/must-fail: each must be refused by a clause, and its line names the goal. Lies in different functions are shown at
+once, so a crate takes one to ten minutes over what `rt check` kept of it. The tests are shown those of lies.py. The program is
+built without a proof once for each of them, and once as it is, which takes about a minute each. Some of tests/program that need
+only a plain standard input, and some rows of tests/serve, are run by `rt try --cases`, with those that a lie names: at least one
+must fail. If a lie names a crate of tests, `rt try --test` runs that one's tests in their place. The last line is 'N passed, M
+failed'.
 """
 from __future__ import annotations
 
