@@ -1,5 +1,5 @@
 -- What the steps of a script call, and the pass that comes of it.
-use Rattle.std.specs.Prelude.{ℕ, ◌≡◌, ◌++◌, ◌∷◌, [], Bool, false, List}
+use Rattle.std.specs.Prelude.{◌≡◌, ◌++◌, ◌∷◌, [], Bool, false, List}
 use Rattle.tc_entry.specs.declared.comp.Comp.{Comp}
 use Rattle.tc_entry.specs.declared.entry.Entry.{Entry}
 use Rattle.tc_entry.specs.declared.reply.Reply.{Reply}

@@ -1,5 +1,5 @@
 -- What is open before a line of a text.
-use Rattle.std.specs.Prelude.{ℕ, suc, nat_le, Bool, true, false, if◌then◌else◌, Option, Some, None, List, [], ◌∷◌, codes}
+use Rattle.std.specs.Prelude.{ℕ, suc, nat_le, true, false, if◌then◌else◌, Option, Some, None, List, [], ◌∷◌, codes}
 use Rattle.tc_line.specs.declared.line.Keyword.{Keyword}
 use Rattle.tc_line.specs.declared.line.Keyword.TheVariants as K
 use Rattle.tc_line.specs.Text.{words}

@@ -1,5 +1,5 @@
 use Rattle.std.proofs.Common.{rules, ◌≡◌, false, true, IsTrue, reverse}
-use Rattle.tc_book.specs.Closing.{all_started, IsWhole}
+use Rattle.tc_book.specs.Closing.{all_started}
 use Rattle.tc_book.specs.Inside.{KnowsParts}
 use Rattle.tc_book.proofs.Reporting.{whole_logged}
 use Rattle.tc_book.proofs.Wholeness.{whole_by, whole_parts}
