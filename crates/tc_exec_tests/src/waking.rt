@@ -37,9 +37,9 @@ fn is_set_soon<R: Clock>(rt: &R, flag: &AtomicBool) -> bool {
     false
 }
 
-/// Lets the other threads come to their waits.
+/// Lets the other threads come to their waits, on a loaded machine too.
 fn pause<R: Clock>(rt: &R) {
-    thread::sleep(rt, Duration::from_millis(50));
+    thread::sleep(rt, Duration::from_millis(300));
 }
 
 fn pause_long<R: Clock>(rt: &R) {
