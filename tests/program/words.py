@@ -488,8 +488,10 @@ def of_explore() -> List[Case]:
     found.append(Case("a_component_of_two_names_has_none", ("explore", "--locals"), NAMED_BY_ORDER,
                       b"t fail complete\n  local 3: none or fail\n  local 4: none or fail\n"))
     found.append(Case("no_local_verdict_differs", ("explore", "--locals"), PLAIN, b"t pass complete\n"))
-    found.append(Case("local_verdicts_of_half_a_search", ("explore", "--locals", "--states", "3"), KILLED,
-                      b"t undecided after 3 states\n  local verdicts undecided after 3 states\n", status=3))
+    found.append(Case("local_verdicts_of_half_a_search", ("explore", "--locals", "--states", "2"), KILLED,
+                      b"t undecided after 2 states\n  local verdicts undecided after 2 states\n", status=3))
+    found.append(Case("only_the_search_for_local_verdicts_ends_early", ("explore", "--locals", "--states", "3"), KILLED,
+                      b"t fail complete\n  local verdicts undecided after 3 states\n"))
     for form in ((), ("--history",), ("--details",), ("--locals",)):
         name = "_".join(it.strip("-") for it in ("explore", *form))
         for device, redirect in (("full", ">/dev/full"), ("closed", ">&-")):
