@@ -12,7 +12,7 @@ from judged import Judgement
 # How many scripts are drawn, and the fewest choices, of each kind, that they have to reach.
 SCRIPTS = 12
 FEWEST = {"choices": 100, "empty choices": 5, "names": 40, "shards": 40, "names and shards": 15, "unknown names": 4, "live": 20, "stars": 30,
-          "stars that take some": 15}
+          "stars that take some": 10}
 
 ONLY = b"ttrun: --only takes the name of one of the test cases\n"
 STATUS = {"none": 0, "pass": 0, "inconc": 1, "fail": 1, "error": 2}
