@@ -25,7 +25,7 @@ use Rattle.tc_table.specs.Waiting.{holds}
 use Rattle.tc_table.specs.Faults.{fault, names, all_exist, asks_many, special_fault, start_fault, components}
 use Rattle.tc_table.specs.Answers.{answer, plain_answer, is_active, is_active_on, is_run_of}
 use Rattle.tc_table.specs.Legal.{IsLegal}
-use Rattle.tc_table.specs.Inside.Step.{next_phase, next_local}
+use Rattle.tc_table.specs.Inside.Step.{next_phase}
 use Rattle.tc_table.proofs.Lemmas.Deciding.{self_equal, equal_if}
 use Rattle.tc_table.proofs.Lemmas.Keeping.{all_exist_same}
 use Rattle.tc_table.proofs.Lemmas.Over.{on_existing}

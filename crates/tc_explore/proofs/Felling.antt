@@ -1,5 +1,5 @@
 -- What a stop or kill does that nobody can see: of a component whose run can only set a verdict worse than is looked for.
-use Rattle.std.proofs.Common.{ℕ, ◌≡◌, ◌<◌, ◌==◌, ◌⊎◌, inl, inr, not, nat_lt, if◌then◌else◌, Bool, true, false, Option, Some, None, List, ◌∷◌, length, slice_get, refl, ap, sym, subst, ◌∙◌, arith}
+use Rattle.std.proofs.Common.{ℕ, ◌≡◌, ◌<◌, ◌==◌, ◌⊎◌, inl, inr, Bool, true, false, Some, None, List, ◌∷◌, length, slice_get, refl, ap, sym, subst, ◌∙◌, arith}
 use Rattle.tc_verdict.specs.declared.run.Run.{Run}
 use Rattle.tc_verdict.specs.declared.verdict.Verdict.{Verdict}
 use Rattle.tc_verdict.specs.declared.verdict.Verdict.TheVariants as V
@@ -12,14 +12,12 @@ use Rattle.tc_entry.specs.declared.entry.Entry.{Entry}
 use Rattle.tc_entry.specs.declared.op.Op.{Op}
 use Rattle.tc_entry.specs.declared.op.Op.TheVariants as O
 use Rattle.tc_entry.specs.declared.op.Group.TheVariants as G
-use Rattle.tc_entry.specs.declared.phase.Phase.{Phase}
 use Rattle.tc_entry.specs.declared.phase.Phase.TheVariants as P
 use Rattle.tc_entry.specs.declared.reply.Reply.TheVariants as R
 use Rattle.tc_entry.specs.Reply.{is_ended, is_fault}
 use Rattle.tc_step.specs.Steps.{ScriptView}
-use Rattle.tc_table.specs.History.{comp_of, exists, halts, kills, is_alive_type}
+use Rattle.tc_table.specs.History.{comp_of, exists, kills}
 use Rattle.tc_table.specs.Phases.{phase}
-use Rattle.tc_table.specs.Local.{overall}
 use Rattle.tc_table.specs.Answers.{plain_answer, is_active, is_active_on, is_run_of}
 use Rattle.tc_table.specs.Legal.{IsLegal}
 use Rattle.tc_table.specs.Inside.Step.{next_phase}
@@ -27,13 +25,13 @@ use Rattle.tc_table.proofs.Lemmas.Deciding.{equal_if, self_equal}
 use Rattle.tc_table.proofs.Lemmas.Over.{on_existing, stays}
 use Rattle.tc_table.proofs.Lemmas.Sound.{plain_if}
 use Rattle.std.specs.Option.{unwrap_or}
-use Rattle.tc_explore.specs.Course.{stand, call_of, steps_of, turn, IsCourse, IsTurn}
+use Rattle.tc_explore.specs.Course.{stand, call_of, steps_of, turn, IsCourse}
 use Rattle.tc_explore.specs.Inside.Simulation.{is_barred, is_late, call_at, IsQuietAt, IsFollowed, IsEnding, IsFor, IsFelling}
 use Rattle.tc_explore.proofs.Legality.{course_legal}
 use Rattle.tc_explore.proofs.Alike.{phase_next}
 use Rattle.tc_explore.proofs.Ahead.{KeepsQuiet, leaving_later}
 use Rattle.tc_explore.proofs.Leaving.{barred_leaves}
-use Rattle.tc_explore.proofs.Late.{IsGone, HaltsOne, stop_halts, late_if, late_special, halt_elsewhere, halt_comps, halt_kinds, halt_runs, halt_overall, halt_not_ending, other_than_gone}
+use Rattle.tc_explore.proofs.Late.{IsGone, HaltsOne, stop_halts, late_if, late_special, halt_elsewhere, halt_comps, halt_kinds, halt_runs, halt_overall, halt_not_ending}
 use Rattle.tc_explore.proofs.Lemmas.Standings.{has_turn, stand_own, stand_other, stand_comp}
 use Rattle.tc_explore.proofs.Places.{keeps_quiet, ahead, barred_sets, spent_late, still_no_fault_by}
 use Rattle.tc_explore.proofs.Ordered.{was_active}

@@ -3,7 +3,6 @@ use Rattle.std.proofs.Common.{ℕ, suc, ◌≡◌, ◌+◌, ◌<◌, ◌≤◌, 
 use Rattle.std.proofs.lemmas.Bool.Decides.{nat_tests}
 use Rattle.tc_verdict.specs.declared.verdict.Verdict.{Verdict}
 use Rattle.tc_verdict.specs.Verdict.{level_of}
-use Rattle.tc_verdict.proofs.Lemmas.Order.{worse_left}
 use Rattle.std.specs.List.{list_all}
 use Rattle.tc_entry.specs.declared.comp.Comp.{Comp}
 use Rattle.tc_entry.specs.declared.entry.Entry.{Entry}
@@ -16,15 +15,14 @@ use Rattle.tc_entry.specs.declared.reply.Fault.TheVariants as F
 use Rattle.tc_entry.specs.Reply.{is_ended}
 use Rattle.tc_step.specs.Steps.{ScriptView}
 use Rattle.tc_table.specs.History.{ends_pass, comp_of, created, halts, exists}
-use Rattle.tc_table.specs.Local.{overall, gives}
+use Rattle.tc_table.specs.Local.{overall}
 use Rattle.tc_table.specs.Faults.{fault, all_exist, names, asks_many, special_fault}
 use Rattle.tc_table.specs.Legal.{IsLegal}
-use Rattle.tc_table.specs.Inside.Step.{next_local}
 use Rattle.tc_table.proofs.Lemmas.Over.{stays}
 use Rattle.std.specs.Option.{option_to_list}
 use Rattle.tc_explore.specs.Course.{Stand, after_own, ends, is_wake, wake_for, wake_if}
 use Rattle.tc_explore.specs.Inside.Simulation.{is_quiet, is_late, is_met, is_spent, WasParked, IsQuietAt, call_at, IsWakeOf, IsBefore, IsParkedAt, IsFollowed, IsLastAt, IsLeaving, is_barred, IsBarredBefore}
-use Rattle.tc_explore.proofs.Alike.{ChangesNothing, overall_next, overall_grows}
+use Rattle.tc_explore.proofs.Alike.{ChangesNothing, overall_grows}
 use Rattle.tc_explore.proofs.Ahead.{KeepsQuiet}
 use Rattle.tc_explore.proofs.Late.{late_next, late_special, met_next, met_special}
 use Rattle.tc_verdict.specs.declared.user_verdict.UserVerdict.{UserVerdict}

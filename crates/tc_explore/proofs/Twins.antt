@@ -21,14 +21,13 @@ use Rattle.tc_table.specs.Waiting.{awaited, parks, waiting, waits_in_vain, is_st
 use Rattle.tc_table.specs.Faults.{fault}
 use Rattle.tc_table.specs.Answers.{answer, plain_answer, wake_reply, local_reply, is_active, is_run_of}
 use Rattle.tc_table.specs.Legal.{IsLegal}
-use Rattle.tc_table.specs.Inside.Step.{next_local}
 use Rattle.tc_table.proofs.Lemmas.Deciding.{self_equal, equal_if, and_left}
 use Rattle.tc_table.proofs.Lemmas.Going.{halted_by_entry, last_on_it}
 use Rattle.tc_explore.specs.Course.{Stand, stand, next, after_own, after_other_by, ends, wake_if, turn, IsTurn, IsCourse}
 use Rattle.tc_explore.specs.Inside.Simulation.{IsAlike, is_quiet}
 use Rattle.tc_explore.specs.Inside.Twins.{IsTwin}
 use Rattle.tc_explore.proofs.Legality.{course_legal}
-use Rattle.tc_explore.proofs.Alike.{alike_sym, alike_unchanged, active_alike, fault_alike, holds_alike, exists_same, components_same, phase_next, local_next, overall_next}
+use Rattle.tc_explore.proofs.Alike.{alike_sym, alike_unchanged, active_alike, fault_alike, holds_alike, exists_same, components_same, phase_next, local_next}
 use Rattle.tc_explore.proofs.Closing.{answer_fault, answer_plain, answer_inactive}
 use Rattle.tc_explore.proofs.LastCalls.{local_kept, turn_by}
 use Rattle.tc_explore.proofs.Lemmas.Standings.{stand_own, stand_other, stand_comp, stand_unstarted, wake_after_other}
