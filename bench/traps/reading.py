@@ -3,7 +3,7 @@
 
 usage: bench/traps/reading.py PROGRAM
 
-valgrind counts them. The status is 1 if one takes more than half as much again as the script of steps.
+valgrind counts them. The status is 1 if one takes more than a tenth more than the script of steps.
 """
 import re
 import subprocess
@@ -14,7 +14,7 @@ from make import padded
 
 HERE = Path(__file__).parent
 STEPS = 'steps'
-MOST = 1.5
+MOST = 1.1
 
 
 def instructions(program, text):
