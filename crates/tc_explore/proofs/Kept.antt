@@ -1,5 +1,6 @@
 -- The states that a search keeps, and how many calls it counts.
-use Rattle.std.proofs.Common.{ℕ, zero, suc, ◌≡◌, ◌+◌, ◌==◌, ◌<◌, ◌≤◌, inl, inr, max, Bool, true, false, nat_eq, nat_le, All, Option, Some, None, List, [], ◌∷◌, ◌++◌, length, map, reverse, slice_get, get_or, set, refl, ap, sym, subst, ◌∙◌, arith, append-nil}
+use Rattle.std.proofs.Common.{ℕ, zero, suc, ◌≡◌, ◌+◌, ◌==◌, ◌<◌, ◌≤◌, inl, inr, max, Bool, true, false, nat_eq, nat_le, All, Option, Some, None, List, [], ◌∷◌, ◌++◌, length, map, reverse, slice_get, get_or, set, refl, rules, nat_cmp, ap, sym, subst, ◌∙◌, arith, append-nil}
+use Rattle.std.specs.Ordering.{ord_max}
 use Rattle.std.specs.Cmp.Lexicographic.{pointwise}
 use Rattle.std.specs.List.{IsDistinct}
 use Rattle.std.proofs.lemmas.Bool.Decides.{nat_tests}
@@ -196,6 +197,10 @@ met_more scripts before after n more met = record {
   are = met.are;
   counted = All-weaker (Covers before) (Covers after) (λ p. covers_more before after p more) met.courses met.counted;
 }
+
+-- the answer is the greater of two numbers
+pub most_of : (m n k : ℕ) → k ≡ ord_max nat_cmp m n → k ≡ max m n
+most_of m n k is = search rules
 
 -- the greater of two such numbers is one of them
 pub met_max : (scripts : List ScriptView) (before after : List ℕ) (m n k : ℕ) → k ≡ max m n → IsNoLess before after → AreMet scripts before m → AreMet scripts after n → AreMet scripts after k

@@ -90,6 +90,30 @@ decided found aim =
             absurd cc
         by_test false k = let same : level_of v ≡ level_of told.0 = grind (arith, nat_tests) in ap (is_found found) (same_verdict v told.0 same) ∙ told.1
 
+abbrev verdict_of : Option Verdict → Verdict
+verdict_of (Some v) = v
+verdict_of None = V.None
+
+lower_if : (found : List Witness) (aim m b a : Verdict) (rest : Option Verdict) → level_of m ≡ suc (level_of b) → (Some a ≡ rest → level_of a < level_of aim)
+    → Some a ≡ (if is_found_within found aim m then Some b else rest) → level_of a < level_of aim
+lower_if found aim m b a rest next later is = by_test (nat_le (level_of m) (level_of aim)) (is_found found m) refl is
+  where
+    by_test : (s t : Bool) → nat_le (level_of m) (level_of aim) ≡ s → Some a ≡ (if s && t then Some b else rest) → level_of a < level_of aim
+    by_test true true k e =
+        let near : level_of m ≤ level_of aim = grind (arith, nat_tests) in
+        let same : level_of a ≡ level_of b = ap (λ o. level_of (verdict_of o)) e in
+        omega (arith, near, same, next)
+    by_test true false k e = later e
+    by_test false t k e = later e
+
+-- the next aim is a better verdict
+pub lower : (found : List Witness) (aim a : Verdict) → Some a ≡ next_aim found aim → level_of a < level_of aim
+lower found aim a =
+    lower_if found aim V.Error V.Fail a (from_fail found aim) refl
+    (lower_if found aim V.Fail V.Inconc a (from_inconc found aim) refl
+    (lower_if found aim V.Inconc V.Pass a (from_pass found aim) refl
+    (lower_if found aim V.Pass V.None a None refl (λ e. absurd cc))))
+
 -- what was found stays so
 above_longer : (scripts : List ScriptView) (f g : List Witness) (aim : Verdict) → IsLonger f g → AreFoundAbove aim scripts f → AreFoundAbove aim scripts g
 above_longer scripts f g aim more above v worse gives = found_longer f g v more (above v worse gives)

@@ -41,7 +41,7 @@ fn next_aim(found: &[Witness], aim: Verdict) -> Option<Verdict>
 
 // Looks for all verdicts, then for those up to the one that is next better than the worst that was found, and so on. Each
 // search keeps that many states at most, and the most that one kept are returned. If the last one comes to its end, the
-// verdict of each complete course is found. There are five verdicts, so no sixth search is made.
+// verdict of each complete course is found.
 #[tactic(auto, using(crate::proofs::NextAim::aim_rules, crate::proofs::Kept::met_none))]
 fn search_by_aims(
     alloc: Global,
@@ -60,7 +60,7 @@ fn search_by_aims(
 {
     let mut aim = Verdict::Error;
     let mut states = 0;
-    for _ in 0..5 {
+    loop {
         let extent = search_all(aim, alloc, scripts, limit, found)?;
         states = states.max(extent.states);
         if !extent.is_whole {
@@ -79,7 +79,6 @@ fn search_by_aims(
             Some(better) => aim = better,
         }
     }
-    Err(NoMemory)
 }
 
 /// Looks for the verdicts of all complete courses by searches that keep that many states at most each, and returns the most
