@@ -28,7 +28,7 @@ REFUSALS = {"NoMemory", "AllocError", "AllocFailed", "Error"}
 TELLING = {"Results", "CampaignEnd", "Back", "Outcome", "Ending"}
 # What holds an allocator, of the toolchain's library.
 HOLDERS = {"Global", "Vec", "Box", "Arc", "String", "Mutex", "IndexMap"}
-HEAD = re.compile(r"^( *)(pub )?(?:const |unsafe )*fn (\w+)\s*(?=[<(])")
+HEAD = re.compile(r"^( *)(pub )?(?:const |unsafe |extern \"C\" )*fn (\w+)\s*(?=[<(])")
 TYPE = re.compile(r"(?ms)^(pub )?(struct|enum|trait) (\w+)(.*?)^[};]")
 IMPL = re.compile(r"^(?:unsafe )?(?:impl|pub trait|trait)\b")
 USE = re.compile(r"(?ms)^pub use ([^;]*);")
@@ -64,7 +64,7 @@ def text_of(path: str) -> str:
 
 def libraries() -> List[str]:
     """The libraries, without the crates of tests."""
-    names = re.findall(r"(?m)^(\w+):", text_of("crates.txt"))
+    names = re.findall(r"(?m)^(\w+)(?: staticlib)?:", text_of("crates.txt"))
     return [it for it in names if not it.endswith("_tests") and text_of(f"crates/{it}/src/lib.rt")]
 
 
@@ -95,38 +95,46 @@ def reachable(crate: str, modules: List[str]) -> Iterator[Tuple[str, str]]:
         yield from reachable(crate, [*modules, name])
 
 
-def heads(text: str) -> Iterator[Tuple[str, bool, bool, str, str]]:
-    """Each function of a file: what it is of, whether that is an impl of a trait, whether it is public, its name and its head."""
-    owner, of_trait, lines = "", False, text.split("\n")
+def offered_by(crate: str) -> Tuple[Dict[str, Set[str]], Set[str]]:
+    """What a library offers: the names of each file, `*` for all of it; and all names, with the types and traits of such a file."""
+    offered: Dict[str, Set[str]] = defaultdict(set)
+    for file, name in reachable(crate, []):
+        offered[file].add(name)
+    names = {name for all_of in offered.values() for name in all_of}
+    return offered, {it[2] for file, kinds in offered.items() if "*" in kinds for it in TYPE.findall(text_of(file)) if it[0]} | names
+
+
+def heads(text: str) -> Iterator[Tuple[str, str, bool, str, str]]:
+    """Each function of a file: what it is of, the trait that this is an impl of, or none, whether it is public, its name and its head."""
+    owner, trait, lines = "", "", text.split("\n")
     for at, line in enumerate(lines):
         block = IMPL.match(line)
         if block:
             words = re.sub(r"<[^<>]*>", "", re.sub(r"<[^<>]*>", "", " ".join(lines[at:at + 4]).partition("{")[0]))
             names = re.findall(r"\w+", words.split(" for ")[-1].partition("where")[0].partition(":")[0])
-            owner, of_trait = next(it for it in names if it not in ("impl", "pub", "trait", "unsafe")), " for " in words
+            owner = next(it for it in names if it not in ("impl", "pub", "trait", "unsafe"))
+            trait = re.findall(r"\w+", words.partition(" for ")[0])[-1] if " for " in words else ""
         elif line.startswith("}"):
-            owner, of_trait = "", False
+            owner, trait = "", ""
         found = HEAD.match(line)
         if found:
             rest = re.split(r"(?m)^\s+(?:requires|ensures)\b|\{\s*$|;\s*$", "\n".join(lines[at:at + 14]), maxsplit=1)[0]
-            yield owner if found[1] else "", of_trait, bool(found[2]), found[3], " ".join(rest.split())
+            yield owner if found[1] else "", trait, bool(found[2]), found[3], " ".join(rest.split())
 
 
 def surface() -> List[Call]:
-    """The public calls of all libraries, as they can be named from the root of each, but those of their traits, which are what their
-    implementors make of them, and their laws, which do nothing."""
+    """The public calls of all libraries, as they can be named from the root of each, and what public types make of the calls of their
+    traits; but their laws, which do nothing."""
     found: Dict[Call, None] = {}
-    for crate in libraries():
-        offered: Dict[str, Set[str]] = defaultdict(set)
-        for file, name in reachable(crate, []):
-            offered[file].add(name)
-        names = {name for all_of in offered.values() for name in all_of}
-        types = {it[2] for file, kinds in offered.items() if "*" in kinds for it in TYPE.findall(text_of(file)) if it[0]} | names
+    offers = {crate: offered_by(crate) for crate in libraries()}
+    every = {name for _, types in offers.values() for name in types}
+    for crate, (offered, types) in offers.items():
         for path in files_below(os.path.join(TOP, "crates", crate, "src"), ".rt"):
             file = os.path.relpath(path, TOP)
-            for owner, of_trait, is_public, name, head in heads(text_of(file)):
+            for owner, trait, is_public, name, head in heads(text_of(file)):
                 is_offered = bool({name, "*"} & offered[file]) if not owner else owner in types
-                if is_offered and is_public and not of_trait and not file.endswith("/laws.rt"):
+                is_call = is_offered and is_public if not trait else trait in every and owner in every
+                if is_call and not file.endswith("/laws.rt"):
                     found[Call(crate, owner, name, head)] = None
     return list(found)
 

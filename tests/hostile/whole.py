@@ -13,13 +13,13 @@ REFUSED_BY_THE_PROGRAM = ("explain", "html_page", "read_task", "read_cases_task"
                           "check", "take_script", "run_cases", "give", "fault_line", "abort_line", "Progress::end", "serve",
                           "run_case_with", "run_campaign_with", "choose", "read_evidence", "Block::history",
                           "explore_locals", "Locals::append_lines", "append_unknown", "explore", "Explored::append_line", "Explored::append_witnesses",
-                          "Explored::append_details", "is_course", "read_campaign")
+                          "Explored::append_details", "is_course", "read_campaign", "Script::run")
 # The tasks by which nothing else refuses these calls each growth: in the gate too each one is refused.
 EACH = ("--explain", "--html", "serve", "--live", "--progress", "--shard", "--script", "--failed", "--summary", "--suite", "--locals", "--details")
 # These can answer that memory ran out, and are refused none by themselves.
 UNREFUSED: Tuple[Exempt, ...] = (
     (("read_counted",), "read_input is this call over a reader that is counted"),
-    (("read_moves_into",), "read_moves is this call for a list"),
+    (("read_moves_into", "MoveList::begin", "MoveList::take"), "read_moves makes them for a list"),
     (("append_first_line", "append_line"), "write_evidence makes them"),
     (("append_parts",), "explain makes it"),
     (("read_line", "read_words"), "read_campaign makes them"),
@@ -32,6 +32,7 @@ UNREFUSED: Tuple[Exempt, ...] = (
     (("append_said", "append_refusal"), "serve makes them"),
     (("append_entry", "append_entries", "append_end"), "write_block makes them"),
     (("read_evidence_into",), "check and report make it"),
+    (("Sequence::start", "Sequence::take", "Sequence::close"), "read_evidence makes them"),
     (("append_whole_block",), "no program writes whole blocks of evidence"),
     (("answer_alone",), "it makes the calls of answer; tests/play takes the memory from it"),
     (("stop_word",), "it is handed no allocator: its one fault is that the word names no verdict"),
@@ -52,15 +53,20 @@ WITHOUT_ALLOCATOR = (
     "read_reply", "Reply::copy", "Reply::same", "Reply::is_ok", "Reply::is_ended", "Reply::is_fault", "Entry::copy", "Entry::same",
     "ends_case", "ends_pass", "created", "started_on", "is_alive_create", "OutFault::text", "CaseError::text", "CloseFault::text",
     "verdict_status", "MetRuns::none", "MetRuns::add_refused", "MetRuns::contains", "take_behaviours", "take_end_line",
-    "take_entry_line", "take_short_line", "counts", "is_met",
+    "take_entry_line", "take_short_line", "counts", "is_met", "Everyone::allow",
 )
 # These take no memory, and are not made with every growth refused by themselves.
 UNTRIED: Tuple[Exempt, ...] = (
     (WITHOUT_ALLOCATOR, "they are handed no allocator"),
     (("CountedReader::new", "CountedWriter::new", "NarrowWriter::new", "LiveWriter::new", "Progress::new", "Script::new", "ScriptJob::new",
       "Kept::into_results", "bare_summary"), "they put together what they are handed"),
-    (("Progress::begin",), "the sweeps of the whole program refuse its line: it has no answer for that, and Progress::end has"),
-    (("write_whole", "write_counted", "write_abort"), "the memory that their writer takes is the writer's"),
+    (("Progress::begin", "Progress::take", "LiveWriter::take"),
+     "the sweeps of the whole program refuse what they write: they have no answer for that, and the end of the run has"),
+    (("write_whole", "write_counted", "write_abort", "CountedReader::read", "CountedWriter::write"),
+     "the memory that their reader or writer takes is its own"),
+    (("Job::call", "ScriptJob::call"), "they make the calls of their behaviour"),
+    (("Kept::take", "Sequence::begin"), "run_campaign and read_evidence make them"),
+    (("tc_answer",), "it makes answer_alone, and has no answer but its text if memory runs out"),
     (("Words::record_of", "Words::follow"), "Book::word_of, Book::wake and Book::leave make them"),
     (("Campaign::take_first", "CaseScript::take_first", "Script::steps", "Script::parameters"), "run makes them, and each of its growths is refused"),
     (("Sentence::bytes", "MetRuns::add_line", "Words::carried_to", "Explored::status"), "they only look at what they are lent"),
