@@ -124,6 +124,8 @@ def sweep(refusing: Refusing, program: str, task: Task, what: str, behind: str, 
         plan = f"{what}:{number}{behind}"
         ran = refusing.run(words, task.given, plan)
         done.add(task, ample, ran, plan)
+        if what == "thread" and b"no memory" in ran.output + ran.errors:
+            done.faults.append(f"{plan}: memory is told of, and only threads are refused")
         if is_first and b"ttrun: aborted at " in ran.errors:
             done.faults += fault_of_the_first_abort(task, ran)
             is_first = False
