@@ -1,6 +1,5 @@
 -- The first line of a block.
 use Rattle.std.proofs.Common.{ℕ, ◌≡◌, ◌≢◌, ◌∙◌, Bool, true, false, List, [], ◌∷◌, ◌++◌, ap, sym, append_assoc, refl}
-use Rattle.std.specs.Prelude.{◌↔◌, not}
 use Rattle.std.specs.Fmt.{decimal}
 use Rattle.tc_text.specs.Lines.{lines_of}
 use Rattle.tc_text.specs.Reading.{EndsLine}
@@ -50,10 +49,6 @@ same_header k name n h kind named number =
     ap (λ (x : Kind). make x name n) kind ∙ (ap (λ (x : List ℕ). make h.kind x n) named ∙ ap (λ (x : ℕ). make h.kind h.name x) number)
 
 -- ---- which first lines a text may have
-
-pub no_evidence : (only_histories : Bool) (k : Kind) → k ≡ K.Evidence → (not only_histories ≡ true) ↔ (only_histories ≡ true → k ≢ K.Evidence)
-no_evidence false k same = (λ allowed only. absurd cc, λ may. refl)
-no_evidence true k same = (λ allowed. absurd cc, λ may. absurd (may refl same))
 
 pub is_first : (only_histories : Bool) (h : Header) → IsHeader h → (only_histories ≡ true → h.kind ≢ K.Evidence) → IsFirst only_histories h
 is_first false h header may = header

@@ -2,9 +2,6 @@
 use Rattle.std.proofs.Common.{ℕ, ◌≡◌, ◌≢◌, ◌∙◌, ◌+◌, ◌<◌, ◌≤◌, ◌^◌, List, [], ◌∷◌, ◌++◌, length, map, ap, sym, subst, refl, append_assoc, arith}
 use Rattle.std.proofs.lemmas.List.{append-nil, length-append, map-append}
 use Rattle.tc_verdict.specs.declared.verdict.Verdict.{Verdict}
-use Rattle.tc_text.specs.declared.fault.TextFault.{TextFault}
-use Rattle.tc_text.specs.declared.fault.TextFault.TheVariants as F
-use Rattle.tc_text.specs.declared.fault.TextKind.TheVariants as T
 use Rattle.tc_text.specs.Lines.{lines_of}
 use Rattle.tc_text.proofs.Lemmas.LinesOf.{some_line}
 use Rattle.tc_history.specs.Block.{end_text}
@@ -15,7 +12,7 @@ use Rattle.tc_evidence.specs.declared.line.Line.{Line}
 use Rattle.tc_evidence.specs.Line.{line_text}
 use Rattle.tc_evidence.specs.Block.{header_text}
 use Rattle.tc_evidence.specs.Text.{AreLines, IsBlock, IsLine, block_lines}
-use Rattle.tc_evidence.specs.Inside.{AreTaken, IsBadInside, IsBadStart, IsBlockFault, IsCutInside, IsInsideFault, IsNext, IsNone, IsTaken}
+use Rattle.tc_evidence.specs.Inside.{AreTaken, IsBadInside, IsBadStart, IsCutInside, IsNext, IsNone, IsTaken}
 use Rattle.tc_evidence.proofs.Notes.{line_no_end}
 
 -- the first line is no last line of a block
@@ -49,9 +46,6 @@ pub record SoFar (kind : Kind) (n : ℕ) (text : List ℕ) (inside : List Line) 
 
 pub none_yet : (kind : Kind) (n : ℕ) (text : List ℕ) → SoFar kind n text [] text
 none_yet kind n text = record { right = tt; lines = refl; only = λ ls w others right whole. record { tail = ls; parts = refl; spelled = whole; right = right }; room = omega arith }
-
-pub begins : (kind : Kind) (n : ℕ) (text : List ℕ) (inside : List Line) → inside ≡ [] → SoFar kind n text inside text
-begins kind n text inside none = rw none (none_yet kind n text)
 
 head_is : (x y : List ℕ) (xs ys : List (List ℕ)) → x ∷ xs ≡ y ∷ ys → x ≡ y
 head_is x y xs ys e = cc
@@ -190,11 +184,3 @@ is_taken may text rest after line h inside v lines header only less taken = reco
       let three = taken.only c.lines c.verdict others that.right that.lines in
       (same_block h line inside v c that.header_is (sym is.first) three.0 three.1, three.2);
 }
-
--- a fault after a first line
-pub bad_behind : (may : Header → Type 0) (text rest : List ℕ) (line : ℕ) (h : Header) (fault : TextFault) → lines_of text ≡ header_text h ∷ lines_of rest → may h → IsInsideFault h.kind h.behaviours rest (line + 1) fault → IsBlockFault may text line fault
-bad_behind may text rest line h (F.At at T.Early) lines header bad = record { header = h; behind = rest; header_is = header; lines = lines; bad = bad }
-bad_behind may text rest line h (F.At at T.Entry) lines header bad = record { header = h; behind = rest; header_is = header; lines = lines; bad = bad }
-bad_behind may text rest line h (F.At at T.FirstLine) lines header bad = absurd bad
-bad_behind may text rest line h (F.At at T.Move) lines header bad = bad
-bad_behind may text rest line h F.NoMemory lines header bad = tt
