@@ -1,5 +1,5 @@
 -- The first line of a block.
-use Rattle.std.proofs.Common.{ℕ, ◌≡◌, ◌≢◌, ◌∙◌, List, [], ◌∷◌, ◌++◌, ap, sym, append_assoc}
+use Rattle.std.proofs.Common.{ℕ, ◌≡◌, ◌≢◌, ◌∙◌, Bool, true, false, List, [], ◌∷◌, ◌++◌, ap, sym, append_assoc, refl}
 use Rattle.std.specs.Fmt.{decimal}
 use Rattle.tc_text.specs.Lines.{lines_of}
 use Rattle.tc_text.specs.Reading.{EndsLine}
@@ -9,6 +9,7 @@ use Rattle.tc_evidence.specs.declared.header.Kind.{Kind}
 use Rattle.tc_evidence.specs.declared.header.Kind.TheVariants as K
 use Rattle.tc_evidence.specs.Block.{header_text, kind_text}
 use Rattle.tc_evidence.specs.Text.{IsHeader}
+use Rattle.tc_evidence.specs.Inside.{IsFirst}
 use Rattle.tc_evidence.proofs.Lemmas.Bytes.{header_quiet, plain_no_lf, quiet_plain}
 
 header_assoc : (h : Header) (rest : List ℕ) → header_text h ++ rest ≡ kind_text h.kind ++ (h.name ++ (32 ∷ (decimal h.behaviours ++ rest)))
@@ -46,3 +47,17 @@ make k name n = record { kind = k; name = name; behaviours = n }
 pub same_header : (k : Kind) (name : List ℕ) (n : ℕ) (h : Header) → k ≡ h.kind → name ≡ h.name → n ≡ h.behaviours → ◌≡◌ {A = Header} (record { kind = k; name = name; behaviours = n }) h
 same_header k name n h kind named number =
     ap (λ (x : Kind). make x name n) kind ∙ (ap (λ (x : List ℕ). make h.kind x n) named ∙ ap (λ (x : ℕ). make h.kind h.name x) number)
+
+-- ---- which first lines a text may have
+
+pub is_first : (only_histories : Bool) (h : Header) → IsHeader h → (only_histories ≡ true → h.kind ≢ K.Evidence) → IsFirst only_histories h
+is_first false h header may = header
+is_first true h header may = (header, may refl)
+
+pub first_header : (only_histories : Bool) (h : Header) → IsFirst only_histories h → IsHeader h
+first_header false h first = first
+first_header true h first = first.0
+
+pub first_kind : (only_histories : Bool) (h : Header) → IsFirst only_histories h → only_histories ≡ true → h.kind ≢ K.Evidence
+first_kind false h first only = absurd cc
+first_kind true h first only = first.1

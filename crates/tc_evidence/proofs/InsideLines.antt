@@ -2,9 +2,6 @@
 use Rattle.std.proofs.Common.{ℕ, ◌≡◌, ◌≢◌, ◌∙◌, ◌+◌, ◌<◌, ◌≤◌, ◌^◌, List, [], ◌∷◌, ◌++◌, length, map, ap, sym, subst, refl, append_assoc, arith}
 use Rattle.std.proofs.lemmas.List.{append-nil, length-append, map-append}
 use Rattle.tc_verdict.specs.declared.verdict.Verdict.{Verdict}
-use Rattle.tc_text.specs.declared.fault.TextFault.{TextFault}
-use Rattle.tc_text.specs.declared.fault.TextFault.TheVariants as F
-use Rattle.tc_text.specs.declared.fault.TextKind.TheVariants as T
 use Rattle.tc_text.specs.Lines.{lines_of}
 use Rattle.tc_text.proofs.Lemmas.LinesOf.{some_line}
 use Rattle.tc_history.specs.Block.{end_text}
@@ -14,21 +11,21 @@ use Rattle.tc_evidence.specs.declared.header.Kind.{Kind}
 use Rattle.tc_evidence.specs.declared.line.Line.{Line}
 use Rattle.tc_evidence.specs.Line.{line_text}
 use Rattle.tc_evidence.specs.Block.{header_text}
-use Rattle.tc_evidence.specs.Text.{AreLines, IsBlock, IsHeader, IsLine, block_lines}
-use Rattle.tc_evidence.specs.Inside.{AreTaken, IsBadInside, IsBadStart, IsBlockFault, IsCutInside, IsInsideFault, IsNext, IsNone, IsTaken}
+use Rattle.tc_evidence.specs.Text.{AreLines, IsBlock, IsLine, block_lines}
+use Rattle.tc_evidence.specs.Inside.{AreTaken, IsBadInside, IsBadStart, IsCutInside, IsNext, IsNone, IsTaken}
 use Rattle.tc_evidence.proofs.Notes.{line_no_end}
 
 -- the first line is no last line of a block
 abbrev pub IsNoEndLine : List ℕ → Type 0
 IsNoEndLine text = (v : Verdict) (others : List (List ℕ)) → lines_of text ≡ end_text v ∷ others → ⊥
 
--- the first line is no first line of a block
-abbrev pub IsNoHeaderLine : List ℕ → Type 0
-IsNoHeaderLine text = (h : Header) (others : List (List ℕ)) → IsHeader h → lines_of text ≡ header_text h ∷ others → ⊥
+-- the first line is none that a block may have
+abbrev pub IsNoHeaderLine : (Header → Type 0) → List ℕ → Type 0
+IsNoHeaderLine may text = (h : Header) (others : List (List ℕ)) → may h → lines_of text ≡ header_text h ∷ others → ⊥
 
 -- what reading a first line shows: it is that of this block or verdict
-abbrev pub IsThatHeader : List ℕ → Header → List ℕ → Type 0
-IsThatHeader text h rest = (g : Header) (others : List (List ℕ)) → IsHeader g → lines_of text ≡ header_text g ∷ others → (h ≡ g) × (lines_of rest ≡ others)
+abbrev pub IsThatHeader : (Header → Type 0) → List ℕ → Header → List ℕ → Type 0
+IsThatHeader may text h rest = (g : Header) (others : List (List ℕ)) → may g → lines_of text ≡ header_text g ∷ others → (h ≡ g) × (lines_of rest ≡ others)
 
 abbrev pub IsThatEnd : List ℕ → Verdict → List ℕ → Type 0
 IsThatEnd text v rest = (w : Verdict) (others : List (List ℕ)) → lines_of text ≡ end_text w ∷ others → (v ≡ w) × (lines_of rest ≡ others)
@@ -49,9 +46,6 @@ pub record SoFar (kind : Kind) (n : ℕ) (text : List ℕ) (inside : List Line) 
 
 pub none_yet : (kind : Kind) (n : ℕ) (text : List ℕ) → SoFar kind n text [] text
 none_yet kind n text = record { right = tt; lines = refl; only = λ ls w others right whole. record { tail = ls; parts = refl; spelled = whole; right = right }; room = omega arith }
-
-pub begins : (kind : Kind) (n : ℕ) (text : List ℕ) (inside : List Line) → inside ≡ [] → SoFar kind n text inside text
-begins kind n text inside none = rw none (none_yet kind n text)
 
 head_is : (x y : List ℕ) (xs ys : List (List ℕ)) → x ∷ xs ≡ y ∷ ys → x ≡ y
 head_is x y xs ys e = cc
@@ -150,8 +144,8 @@ cut_inside kind n text first at inside rest so nothing number = record {
   number = number;
 }
 
-pub bad_start : (text : List ℕ) → text ≢ [] → IsNoHeaderLine text → IsBadStart text
-bad_start text some none =
+pub bad_start : (may : Header → Type 0) (text : List ℕ) → text ≢ [] → IsNoHeaderLine may text → IsBadStart may text
+bad_start may text some none =
     let line = some_line text some in
     record { bad_line = line.0; others = line.1.0; lines = line.1.1; bad = λ h header e. none h line.1.0 header (line.1.1 ∙ ap (λ l. l ∷ line.1.0) e) }
 
@@ -161,17 +155,14 @@ bad_start text some none =
 block_and : (b : Block) (others : List (List ℕ)) → block_lines b ++ others ≡ header_text b.header ∷ (map line_text b.lines ++ end_text b.verdict ∷ others)
 block_and b others = ap (λ l. header_text b.header ∷ l) (append_assoc (map line_text b.lines) (end_text b.verdict ∷ []) others)
 
-pub never_start : (text : List ℕ) (line : ℕ) → IsNoHeaderLine text → (c : Block) (others : List (List ℕ)) → IsBlock line c → lines_of text ≡ block_lines c ++ others → ⊥
-never_start text line none c others is whole = none c.header (map line_text c.lines ++ end_text c.verdict ∷ others) is.header (whole ∙ block_and c others)
-
 -- what a block that the text may begin with has inside
 pub record IsInside (h : Header) (rest : List ℕ) (c : Block) (others : List (List ℕ)) : Type 0 where
   pub header_is : h ≡ c.header
   pub right : AreLines h.kind h.behaviours [] c.lines
   pub lines : lines_of rest ≡ map line_text c.lines ++ end_text c.verdict ∷ others
 
-pub is_inside : (text rest : List ℕ) (line : ℕ) (h : Header) → IsThatHeader text h rest → (c : Block) (others : List (List ℕ)) → IsBlock line c → lines_of text ≡ block_lines c ++ others → IsInside h rest c others
-is_inside text rest line h only c others is whole =
+pub is_inside : (may : Header → Type 0) (text rest : List ℕ) (line : ℕ) (h : Header) → IsThatHeader may text h rest → (c : Block) (others : List (List ℕ)) → IsBlock may line c → lines_of text ≡ block_lines c ++ others → IsInside h rest c others
+is_inside may text rest line h only c others is whole =
     let that = only c.header (map line_text c.lines ++ end_text c.verdict ∷ others) is.header (whole ∙ block_and c others) in
     record { header_is = that.0; right = subst (λ (x : Header). AreLines x.kind x.behaviours [] c.lines) (sym that.0) is.inside; lines = that.1 }
 
@@ -182,22 +173,14 @@ same_block : (h : Header) (line : ℕ) (inside : List Line) (v : Verdict) (c : B
 same_block h line inside v c o p q r =
     ap (λ x. make x line inside v) o ∙ (ap (λ x. make c.header x inside v) p ∙ (ap (λ x. make c.header c.first_line x v) q ∙ ap (λ x. make c.header c.first_line c.lines x) r))
 
-pub is_taken : (text rest after : List ℕ) (line : ℕ) (h : Header) (inside : List Line) (v : Verdict) → lines_of text ≡ header_text h ∷ lines_of rest → IsHeader h → IsThatHeader text h rest → length rest < length text →
-    AreTaken h.kind h.behaviours rest inside v after → IsTaken text line (make h line inside v) after
-is_taken text rest after line h inside v lines header only less taken = record {
+pub is_taken : (may : Header → Type 0) (text rest after : List ℕ) (line : ℕ) (h : Header) (inside : List Line) (v : Verdict) → lines_of text ≡ header_text h ∷ lines_of rest → may h → IsThatHeader may text h rest → length rest < length text →
+    AreTaken h.kind h.behaviours rest inside v after → IsTaken may text line (make h line inside v) after
+is_taken may text rest after line h inside v lines header only less taken = record {
   fits = record { header = header; inside = taken.right; first = refl };
   lines = lines ∙ (ap (λ x. header_text h ∷ x) taken.lines ∙ sym (block_and (make h line inside v) (lines_of after)));
   room = let room = taken.room in omega (arith, room, less);
   only = λ c others is whole.
-      let that = is_inside text rest line h only c others is whole in
+      let that = is_inside may text rest line h only c others is whole in
       let three = taken.only c.lines c.verdict others that.right that.lines in
       (same_block h line inside v c that.header_is (sym is.first) three.0 three.1, three.2);
 }
-
--- a fault after a first line
-pub bad_behind : (text rest : List ℕ) (line : ℕ) (h : Header) (fault : TextFault) → lines_of text ≡ header_text h ∷ lines_of rest → IsHeader h → IsInsideFault h.kind h.behaviours rest (line + 1) fault → IsBlockFault text line fault
-bad_behind text rest line h (F.At at T.Early) lines header bad = record { header = h; behind = rest; header_is = header; lines = lines; bad = bad }
-bad_behind text rest line h (F.At at T.Entry) lines header bad = record { header = h; behind = rest; header_is = header; lines = lines; bad = bad }
-bad_behind text rest line h (F.At at T.FirstLine) lines header bad = absurd bad
-bad_behind text rest line h (F.At at T.Move) lines header bad = bad
-bad_behind text rest line h F.NoMemory lines header bad = tt

@@ -201,10 +201,3 @@ line_of_note n before text none (Some r) is = record { spelled = is.spelled; fit
     only_by (L.Entry e) others fits lines = absurd (none e others fits lines)
     only_by (L.Remark run sentence) others fits lines = is.only (L.Remark run sentence) others (tt, fits) lines
     only_by (L.Refused run sentence) others fits lines = is.only (L.Refused run sentence) others (tt, fits) lines
-
--- and in a history nothing
-pub history_none : (kind : Kind) (n : ℕ) (before : List Line) (text : List ℕ) → (kind ≡ K.Evidence → ⊥) → IsNoEntryLine (format_of kind) text → IsNone (IsLine kind n before) text
-history_none kind n before text other none (L.Named run name) others fits lines = other fits.evidence
-history_none kind n before text other none (L.Entry e) others fits lines = none e others fits lines
-history_none kind n before text other none (L.Remark run sentence) others fits lines = other fits.evidence
-history_none kind n before text other none (L.Refused run sentence) others fits lines = other fits.evidence

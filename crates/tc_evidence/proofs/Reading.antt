@@ -13,7 +13,7 @@ use Rattle.tc_evidence.specs.declared.line.Line.{Line}
 use Rattle.tc_evidence.specs.declared.met.MetRuns.{MetRuns}
 use Rattle.tc_evidence.specs.Met.{AreMet}
 use Rattle.tc_evidence.specs.Block.{header_text}
-use Rattle.tc_evidence.specs.Text.{AreEvidence, IsBlock, IsEvidenceFault, IsHeader, block_lines}
+use Rattle.tc_evidence.specs.Text.{IsBlock, IsFault, IsTextOf, block_lines}
 use Rattle.tc_evidence.specs.Inside.{AreTakenBy, IsBlockFault, IsLineTakenBy, IsTakenBy}
 use Rattle.tc_evidence.proofs.InsideLines.{IsNoEndLine, IsThatEnd, IsThatHeader, SoFar, goes_on, is_taken, none_yet, taken}
 use Rattle.tc_evidence.proofs.Meeting.{met_after}
@@ -60,15 +60,15 @@ open_ended opens kind n text first rest after line met before value v small so e
 }
 
 -- a block is read whole, with its first line
-pub is_taken_by : {O H : Type 0} (opens : ℕ → Header → List Line → O → Type 0) (stands : List Block → H → Type 0) (text rest after : List ℕ) (first line : ℕ) (h : Header) (v : Verdict) (begun value : O) (before made : H) →
-    lines_of text ≡ header_text h ∷ lines_of rest → IsHeader h → IsThatHeader text h rest → length rest < length text → opens first h [] begun → AreTakenBy opens h.kind h.behaviours rest (first + 1) begun value line v after →
+pub is_taken_by : {O H : Type 0} (opens : ℕ → Header → List Line → O → Type 0) (stands : List Block → H → Type 0) (may : Header → Type 0) (text rest after : List ℕ) (first line : ℕ) (h : Header) (v : Verdict) (begun value : O) (before made : H) →
+    lines_of text ≡ header_text h ∷ lines_of rest → may h → IsThatHeader may text h rest → length rest < length text → opens first h [] begun → AreTakenBy opens h.kind h.behaviours rest (first + 1) begun value line v after →
     ((blocks : List Block) (b : Block) → line ≡ b.first_line + length b.lines + 1 → v ≡ b.verdict → opens b.first_line b.header b.lines value → stands blocks before → stands (blocks ++ b ∷ []) made) →
-    IsTakenBy stands text first before made (line + 1) after
-is_taken_by opens stands text rest after first line h v begun value before made lines header only less opened so closes =
+    IsTakenBy stands may text first before made (line + 1) after
+is_taken_by opens stands may text rest after first line h v begun value before made lines header only less opened so closes =
     let number = so.number in
     record {
       block = block;
-      taken = is_taken text rest after first h so.inside v lines header only less so.taken;
+      taken = is_taken may text rest after first h so.inside v lines header only less so.taken;
       next_is = omega (arith, number);
       made = λ blocks stood. closes blocks block (omega (arith, number)) refl (so.opened first h refl opened) stood;
     }
@@ -79,36 +79,36 @@ is_taken_by opens stands text rest after first line h v begun value before made 
 -- ---- one block after the other
 
 -- some blocks are read, and the value is what they make
-pub record IsMadeSoFar {H : Type 0} (stands : List Block → H → Type 0) (text rest : List ℕ) (line : ℕ) (value : H) : Type 0 where
+pub record IsMadeSoFar {H : Type 0} (stands : List Block → H → Type 0) (may : Header → Type 0) (text rest : List ℕ) (line : ℕ) (value : H) : Type 0 where
   pub blocks : List Block
-  pub read : AreRead text blocks rest line
+  pub read : AreRead may text blocks rest line
   pub made : stands blocks value
 
-pub made_none : {H : Type 0} (stands : List Block → H → Type 0) (text : List ℕ) (value : H) → stands [] value → IsMadeSoFar stands text text 1 value
-made_none stands text value made = record { blocks = []; read = none_read text [] refl; made = made }
+pub made_none : {H : Type 0} (stands : List Block → H → Type 0) (may : Header → Type 0) (text : List ℕ) (value : H) → stands [] value → IsMadeSoFar stands may text text 1 value
+made_none stands may text value made = record { blocks = []; read = none_read may text [] refl; made = made }
 
-pub made_more : {H : Type 0} (stands : List Block → H → Type 0) (text rest behind : List ℕ) (line next : ℕ) (value value' : H) → IsMadeSoFar stands text rest line value → IsTakenBy stands rest line value value' next behind →
-    IsMadeSoFar stands text behind next value'
-made_more stands text rest behind line next value value' so one = record {
+pub made_more : {H : Type 0} (stands : List Block → H → Type 0) (may : Header → Type 0) (text rest behind : List ℕ) (line next : ℕ) (value value' : H) → IsMadeSoFar stands may text rest line value → IsTakenBy stands may rest line value value' next behind →
+    IsMadeSoFar stands may text behind next value'
+made_more stands may text rest behind line next value value' so one = record {
   blocks = so.blocks ++ one.block ∷ [];
-  read = one_read text so.blocks (so.blocks ++ one.block ∷ []) rest behind line next one.block so.read one.taken refl one.next_is;
+  read = one_read may text so.blocks (so.blocks ++ one.block ∷ []) rest behind line next one.block so.read one.taken refl one.next_is;
   made = one.made so.blocks so.made;
 }
 
-pub made_all : {H : Type 0} (stands : List Block → H → Type 0) (text rest : List ℕ) (line : ℕ) (value : H) → IsMadeSoFar stands text rest line value → rest ≡ [] → text ≢ [] → (blocks : List Block) × AreEvidence text blocks × stands blocks value
-made_all stands text rest line value so none some = (so.blocks, all_read text so.blocks rest line so.read none some, so.made)
+pub made_all : {H : Type 0} (stands : List Block → H → Type 0) (may : Header → Type 0) (text rest : List ℕ) (line : ℕ) (value : H) → IsMadeSoFar stands may text rest line value → rest ≡ [] → text ≢ [] → (blocks : List Block) × IsTextOf may text blocks × stands blocks value
+made_all stands may text rest line value so none some = (so.blocks, all_read may text so.blocks rest line so.read none some, so.made)
 
-pub made_only : {H : Type 0} (stands : List Block → H → Type 0) (text rest : List ℕ) (line : ℕ) (value : H) → IsMadeSoFar stands text rest line value → rest ≡ [] → (all : List Block) → AreEvidence text all → stands all value
-made_only stands text rest line value so none all is =
-    let same = all_only text so.blocks rest line so.read none all is in
+pub made_only : {H : Type 0} (stands : List Block → H → Type 0) (may : Header → Type 0) (text rest : List ℕ) (line : ℕ) (value : H) → IsMadeSoFar stands may text rest line value → rest ≡ [] → (all : List Block) → IsTextOf may text all → stands all value
+made_only stands may text rest line value so none all is =
+    let same = all_only may text so.blocks rest line so.read none all is in
     let made = so.made in
     rw same at made
 
 -- a fault of the block that should come next is the first fault of the text
-pub made_bad : {H : Type 0} (stands : List Block → H → Type 0) (text rest : List ℕ) (line : ℕ) (value : H) (fault : TextFault) → IsMadeSoFar stands text rest line value → IsBlockFault rest line fault → IsEvidenceFault text fault
-made_bad stands text rest line value fault so bad = first_fault text so.blocks rest line fault so.read bad
+pub made_bad : {H : Type 0} (stands : List Block → H → Type 0) (may : Header → Type 0) (text rest : List ℕ) (line : ℕ) (value : H) (fault : TextFault) → IsMadeSoFar stands may text rest line value → IsBlockFault may rest line fault → IsFault may text fault
+made_bad stands may text rest line value fault so bad = first_fault may text so.blocks rest line fault so.read bad
 
 -- if the text spells blocks, only NoMemory comes instead of the next
-pub made_refused : {H : Type 0} (stands : List Block → H → Type 0) (text rest : List ℕ) (line : ℕ) (value : H) (fault : TextFault) → IsMadeSoFar stands text rest line value → rest ≢ [] →
-    ((c : Block) (others : List (List ℕ)) → IsBlock line c → lines_of rest ≡ block_lines c ++ others → fault ≡ F.NoMemory) → (all : List Block) → AreEvidence text all → fault ≡ F.NoMemory
-made_refused stands text rest line value fault so some only all is = refused_only text so.blocks rest line fault so.read some only all is
+pub made_refused : {H : Type 0} (stands : List Block → H → Type 0) (may : Header → Type 0) (text rest : List ℕ) (line : ℕ) (value : H) (fault : TextFault) → IsMadeSoFar stands may text rest line value → rest ≢ [] →
+    ((c : Block) (others : List (List ℕ)) → IsBlock may line c → lines_of rest ≡ block_lines c ++ others → fault ≡ F.NoMemory) → (all : List Block) → IsTextOf may text all → fault ≡ F.NoMemory
+made_refused stands may text rest line value fault so some only all is = refused_only may text so.blocks rest line fault so.read some only all is

@@ -23,6 +23,7 @@ use Rattle.tc_evidence.specs.Met.{AreMet}
 use Rattle.tc_evidence.specs.Block.{header_text}
 use Rattle.tc_evidence.specs.Sentence.{IsSentence}
 use Rattle.tc_evidence.specs.Text.{AreLines, IsBlock, IsHeader, IsLine, block_lines}
+use Rattle.tc_evidence.specs.Histories.{IsHistoryHeader}
 
 -- no byte but those from 32 to 126
 abbrev pub ArePlain : List ℕ → Type 0
@@ -127,40 +128,45 @@ IsInsideFault kind n text first (F.At line T.FirstLine) = ⊥
 IsInsideFault kind n text first (F.At line T.Move) = ⊥
 IsInsideFault kind n text first F.NoMemory = Unit {0}
 
--- the first line of the text is no first line of a block
-pub record IsBadStart (text : List ℕ) : Type 0 where
+-- the first lines that the blocks of a text may have: if it has histories only, theirs
+abbrev pub IsFirst : Bool → (Header → Type 0)
+IsFirst false = IsHeader
+IsFirst true = IsHistoryHeader
+
+-- the first line of the text is none that a block may have
+pub record IsBadStart (may : Header → Type 0) (text : List ℕ) : Type 0 where
   pub bad_line : List ℕ
   pub others : List (List ℕ)
   pub lines : lines_of text ≡ bad_line ∷ others
-  pub bad : (h : Header) → IsHeader h → bad_line ≢ header_text h
+  pub bad : (h : Header) → may h → bad_line ≢ header_text h
 
 -- a first line, and after it a fault
-pub record IsBadBehind (text : List ℕ) (first : ℕ) (fault : TextFault) : Type 0 where
+pub record IsBadBehind (may : Header → Type 0) (text : List ℕ) (first : ℕ) (fault : TextFault) : Type 0 where
   pub header : Header
   pub behind : List ℕ
-  pub header_is : IsHeader header
+  pub header_is : may header
   pub lines : lines_of text ≡ header_text header ∷ lines_of behind
   pub bad : IsInsideFault header.kind header.behaviours behind (first + 1) fault
 
 -- the first fault of a text that should begin with a block, whose first line has this number
-abbrev pub IsBlockFault : List ℕ → ℕ → TextFault → Type 0
-IsBlockFault text first (F.At line T.FirstLine) = IsBadStart text × (line ≡ first)
-IsBlockFault text first (F.At line T.Early) = IsBadBehind text first (F.At line T.Early)
-IsBlockFault text first (F.At line T.Entry) = IsBadBehind text first (F.At line T.Entry)
-IsBlockFault text first (F.At line T.Move) = ⊥
-IsBlockFault text first F.NoMemory = Unit {0}
+abbrev pub IsBlockFault : (Header → Type 0) → List ℕ → ℕ → TextFault → Type 0
+IsBlockFault may text first (F.At line T.FirstLine) = IsBadStart may text × (line ≡ first)
+IsBlockFault may text first (F.At line T.Early) = IsBadBehind may text first (F.At line T.Early)
+IsBlockFault may text first (F.At line T.Entry) = IsBadBehind may text first (F.At line T.Entry)
+IsBlockFault may text first (F.At line T.Move) = ⊥
+IsBlockFault may text first F.NoMemory = Unit {0}
 
 -- the text begins with this block, whose first line has this number, and the rest begins with the next line
-pub record IsTaken (text : List ℕ) (first : ℕ) (b : Block) (rest : List ℕ) : Type 0 where
-  pub fits : IsBlock first b
+pub record IsTaken (may : Header → Type 0) (text : List ℕ) (first : ℕ) (b : Block) (rest : List ℕ) : Type 0 where
+  pub fits : IsBlock may first b
   pub lines : lines_of text ≡ block_lines b ++ lines_of rest
   pub room : length b.lines + 2 + length rest ≤ length text
   -- and it begins with no other block
-  pub only : (c : Block) (others : List (List ℕ)) → IsBlock first c → lines_of text ≡ block_lines c ++ others → (b ≡ c) × (lines_of rest ≡ others)
+  pub only : (c : Block) (others : List (List ℕ)) → IsBlock may first c → lines_of text ≡ block_lines c ++ others → (b ≡ c) × (lines_of rest ≡ others)
 
 -- the text begins with a block, with it the value before becomes the one after, and the line after it has this number
-pub record IsTakenBy {H : Type 0} (stands : List Block → H → Type 0) (text : List ℕ) (first : ℕ) (before after : H) (next : ℕ) (rest : List ℕ) : Type 0 where
+pub record IsTakenBy {H : Type 0} (stands : List Block → H → Type 0) (may : Header → Type 0) (text : List ℕ) (first : ℕ) (before after : H) (next : ℕ) (rest : List ℕ) : Type 0 where
   pub block : Block
-  pub taken : IsTaken text first block rest
+  pub taken : IsTaken may text first block rest
   pub next_is : next ≡ first + (length block.lines + 2)
   pub made : (blocks : List Block) → stands blocks before → stands (blocks ++ block ∷ []) after

@@ -1,18 +1,16 @@
 -- Laws of evidence: what it says next to a history, and what bytes it has.
-use Rattle.std.specs.Prelude.{ℕ, ◌≡◌, ◌↔◌, ◌==◌, ◌||◌, ◌&&◌, not, Bool, true, List, [], ◌∷◌, ◌++◌, if◌then◌else◌, map, reverse}
+use Rattle.std.specs.Prelude.{ℕ, ◌≡◌, ◌↔◌, ◌==◌, ◌||◌, ◌&&◌, not, Bool, true, List, [], ◌∷◌, ◌++◌, reverse}
 use Rattle.std.specs.List.{list_all}
 use Rattle.tc_verdict.specs.declared.verdict.Verdict.{Verdict}
 use Rattle.tc_entry.specs.Limits.{IsBehaviours}
 use Rattle.tc_table.specs.Local.{overall}
 use Rattle.tc_table.specs.Legal.{IsLegal}
 use Rattle.tc_text.specs.Shown.{is_plain}
-use Rattle.tc_history.specs.declared.read.Block.{Block as History}
+use Rattle.tc_history.specs.declared.block.Block.{Block as History}
 use Rattle.tc_history.specs.Block.{end_text}
-use Rattle.tc_history.specs.Text.{AreHistories}
 use Rattle.tc_evidence.specs.declared.block.Block.{Block}
 use Rattle.tc_evidence.specs.declared.header.Header.{Header}
 use Rattle.tc_evidence.specs.declared.header.Kind.{Kind}
-use Rattle.tc_evidence.specs.declared.header.Kind.TheVariants as K
 use Rattle.tc_evidence.specs.declared.line.Line.{Line}
 use Rattle.tc_evidence.specs.declared.line.Line.TheVariants as L
 use Rattle.tc_evidence.specs.Line.{entries_of, entry_of, line_text}
@@ -47,23 +45,6 @@ pub record SaysNothing (n : ℕ) (before : List Line) (l : Line) (after : List L
 -- a name, a remark or a refused line says nothing to the component table, wherever it comes
 abbrev pub RemarksSayNothing : Type 0
 RemarksSayNothing = (n : ℕ) (before after : List Line) (l : Line) → entry_of l ≡ [] → SaysNothing n before l after
-
--- the kind of a history's block
-abbrev pub kind_of : ℕ → Kind
-kind_of f = if f == 1 then K.History1 else K.History2
-
--- the block that a history is
-abbrev pub of_history : History → Block
-of_history b = record {
-  header = record { kind = kind_of b.format; name = b.name; behaviours = b.behaviours };
-  first_line = b.first_line;
-  lines = map L.Entry b.entries;
-  verdict = b.verdict;
-}
-
--- a text of histories is read here as these histories
-abbrev pub HistoriesAreRead : Type 0
-HistoriesAreRead = (text : List ℕ) (histories : List History) → AreHistories text histories → AreEvidence text (map of_history histories)
 
 -- a byte that evidence may have: LF, or one from 32 to 126
 abbrev pub is_text_byte : ℕ → Bool

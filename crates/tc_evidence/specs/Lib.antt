@@ -6,4 +6,5 @@ pub mod Block
 pub mod Text
 pub mod Written
 pub mod Laws
+pub mod Histories
 pub mod Inside

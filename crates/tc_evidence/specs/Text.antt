@@ -57,9 +57,9 @@ pub record IsHeader (h : Header) : Type 0 where
   pub few : IsBehaviours h.behaviours
   pub kind_fits : IsFormat (format_of h.kind) h.behaviours
 
--- a block whose first line is the line of this number
-pub record IsBlock (line : ℕ) (b : Block) : Type 0 where
-  pub header : IsHeader b.header
+-- a block that begins in the line of this number, with a first line that it may have
+pub record IsBlock (may : Header → Type 0) (line : ℕ) (b : Block) : Type 0 where
+  pub header : may b.header
   pub inside : AreLines b.header.kind b.header.behaviours [] b.lines
   pub first : b.first_line ≡ line
 
@@ -76,60 +76,62 @@ abbrev pub all_lines : List Block → List (List ℕ)
 all_lines [] = []
 all_lines (b ∷ bs) = block_lines b ++ all_lines bs
 
--- blocks whose first one begins in the line of this number
-abbrev pub AreBlocks : ℕ → List Block → Type 0
-AreBlocks line [] = Unit {0}
-AreBlocks line (b ∷ bs) = IsBlock line b × AreBlocks (line + length (block_lines b)) bs
+-- blocks with first lines that they may have, whose first one begins in the line of this number
+abbrev pub AreBlocks : (Header → Type 0) → ℕ → List Block → Type 0
+AreBlocks may line [] = Unit {0}
+AreBlocks may line (b ∷ bs) = IsBlock may line b × AreBlocks may (line + length (block_lines b)) bs
 
--- the text is that of these blocks, and there is one
-pub record AreEvidence (text : List ℕ) (blocks : List Block) : Type 0 where
+-- the text is that of these blocks, with first lines that they may have, and there is one
+pub record IsTextOf (may : Header → Type 0) (text : List ℕ) (blocks : List Block) : Type 0 where
   pub some : blocks ≢ []
-  pub fits : AreBlocks 1 blocks
+  pub fits : AreBlocks may 1 blocks
   pub lines : lines_of text ≡ all_lines blocks
 
--- some blocks, and then, in the line of this number, no first line of a block
-pub record IsBadHeader (text : List ℕ) (line : ℕ) : Type 0 where
+-- the text is that of these blocks, of any kind, and there is one
+abbrev pub AreEvidence : List ℕ → List Block → Type 0
+AreEvidence text blocks = IsTextOf IsHeader text blocks
+
+-- some blocks, and then, in the line of this number, no first line that a block may have
+pub record IsBadHeader (may : Header → Type 0) (text : List ℕ) (line : ℕ) : Type 0 where
   pub blocks : List Block
   pub bad_line : List ℕ
   pub others : List (List ℕ)
-  pub fits : AreBlocks 1 blocks
+  pub fits : AreBlocks may 1 blocks
   pub lines : lines_of text ≡ all_lines blocks ++ bad_line ∷ others
   pub number : line ≡ length (all_lines blocks) + 1
-  pub bad : (h : Header) → IsHeader h → bad_line ≢ header_text h
+  pub bad : (h : Header) → may h → bad_line ≢ header_text h
 
--- some blocks, a first line and some lines inside, and then, in the line of this number, neither a line that may come nor the end of the block
-pub record IsBadLine (text : List ℕ) (line : ℕ) : Type 0 where
+-- some blocks, this first line and these lines inside, and then, from the line of this number on, the rest
+pub record Opens (may : Header → Type 0) (text : List ℕ) (h : Header) (inside : List Line) (line : ℕ) (rest : List (List ℕ)) : Type 0 where
   pub blocks : List Block
+  pub fits : AreBlocks may 1 blocks
+  pub header_is : may h
+  pub right : AreLines h.kind h.behaviours [] inside
+  pub lines : lines_of text ≡ all_lines blocks ++ (open_lines h inside ++ rest)
+  pub number : line ≡ length (all_lines blocks) + (length inside + 2)
+
+-- in the line of this number, inside a block, neither a line that may come nor the end of the block
+pub record IsBadLine (may : Header → Type 0) (text : List ℕ) (line : ℕ) : Type 0 where
   pub header : Header
   pub inside : List Line
   pub bad_line : List ℕ
   pub others : List (List ℕ)
-  pub fits : AreBlocks 1 blocks
-  pub header_is : IsHeader header
-  pub right : AreLines header.kind header.behaviours [] inside
-  pub lines : lines_of text ≡ all_lines blocks ++ (open_lines header inside ++ bad_line ∷ others)
-  pub number : line ≡ length (all_lines blocks) + (length inside + 2)
+  pub opens : Opens may text header inside line (bad_line ∷ others)
   pub no_line : (l : Line) → IsLine header.kind header.behaviours inside l → bad_line ≢ line_text l
   pub no_end : (v : Verdict) → bad_line ≢ end_text v
 
--- some blocks, a first line and some lines inside, and nothing more
-pub record IsOpen (text : List ℕ) : Type 0 where
-  pub blocks : List Block
-  pub header : Header
-  pub inside : List Line
-  pub fits : AreBlocks 1 blocks
-  pub header_is : IsHeader header
-  pub right : AreLines header.kind header.behaviours [] inside
-  pub lines : lines_of text ≡ all_lines blocks ++ open_lines header inside
-
--- the first fault of the text is of this kind and in this line
-abbrev pub IsEvidenceFaultAt : List ℕ → ℕ → TextKind → Type 0
-IsEvidenceFaultAt text line T.Early = ((lines_of text ≡ []) ⊎ IsOpen text) × (line ≡ length (lines_of text) + 1)
-IsEvidenceFaultAt text line T.FirstLine = IsBadHeader text line
-IsEvidenceFaultAt text line T.Entry = IsBadLine text line
-IsEvidenceFaultAt text line T.Move = ⊥
+-- the first fault of the text is of this kind and in this line; Early is in the line after the last
+abbrev pub IsFaultAt : (Header → Type 0) → List ℕ → ℕ → TextKind → Type 0
+IsFaultAt may text line T.Early = ((lines_of text ≡ []) × (line ≡ 1)) ⊎ ((h : Header) × (inside : List Line) × Opens may text h inside line [])
+IsFaultAt may text line T.FirstLine = IsBadHeader may text line
+IsFaultAt may text line T.Entry = IsBadLine may text line
+IsFaultAt may text line T.Move = ⊥
 
 -- what a fault says of the text; if memory runs out, nothing is said
+abbrev pub IsFault : (Header → Type 0) → List ℕ → TextFault → Type 0
+IsFault may text (F.At line kind) = IsFaultAt may text line kind
+IsFault may text F.NoMemory = Unit {0}
+
+-- the same of a text whose blocks may be of any kind
 abbrev pub IsEvidenceFault : List ℕ → TextFault → Type 0
-IsEvidenceFault text (F.At line kind) = IsEvidenceFaultAt text line kind
-IsEvidenceFault text F.NoMemory = Unit {0}
+IsEvidenceFault text fault = IsFault IsHeader text fault

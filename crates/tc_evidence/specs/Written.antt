@@ -3,7 +3,7 @@ use Rattle.std.specs.Prelude.{ℕ, ◌≢◌, List, []}
 use Rattle.std.specs.List.{flat_map}
 use Rattle.tc_evidence.specs.declared.block.Block.{Block}
 use Rattle.tc_evidence.specs.Block.{block_text}
-use Rattle.tc_evidence.specs.Text.{AreBlocks, AreEvidence}
+use Rattle.tc_evidence.specs.Text.{AreBlocks, AreEvidence, IsHeader}
 
 -- the text of a block
 abbrev pub text_of_block : Block → List ℕ
@@ -15,4 +15,4 @@ text_of_blocks blocks = flat_map text_of_block blocks
 
 -- what is written of blocks, one at least, is read as these blocks
 abbrev pub WrittenIsRead : Type 0
-WrittenIsRead = (blocks : List Block) → blocks ≢ [] → AreBlocks 1 blocks → AreEvidence (text_of_blocks blocks) blocks
+WrittenIsRead = (blocks : List Block) → blocks ≢ [] → AreBlocks IsHeader 1 blocks → AreEvidence (text_of_blocks blocks) blocks

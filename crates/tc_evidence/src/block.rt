@@ -1,5 +1,5 @@
 //! A block of a text.
-ghost use Rattle.std.specs.Prelude.{◌≡◌, IfOk, OnOk, ◌++◌};
+ghost use Rattle.std.specs.Prelude.{◌≡◌, IfOk, OnOk, ◌++◌, map};
 ghost use Rattle.tc_evidence.specs.Line.{entries_of};
 ghost use Rattle.tc_evidence.specs.Laws.{history_of};
 
@@ -52,4 +52,15 @@ impl Block {
             Err(error) => Err(error),
         }
     }
+}
+
+/// The history of each block.
+pub(crate) fn histories_of(alloc: Global, blocks: &[Block]) -> Result<Vec<History>, NoMemory>
+    ensures { IfOk result (λ histories. histories.items ≡ map history_of blocks.now) }
+{
+    let mut histories = Vec::new(alloc);
+    for block in blocks {
+        histories.push(block.history(alloc)?)?;
+    }
+    Ok(histories)
 }

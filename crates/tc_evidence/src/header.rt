@@ -1,12 +1,14 @@
 //! The first line of a block.
-ghost use Rattle.std.specs.Prelude.{◌≡◌, ◌<◌, ◌++◌, ◌∷◌, ℕ, List, length, IfSome};
+ghost use Rattle.std.specs.Prelude.{◌≡◌, ◌≢◌, ◌<◌, ◌↔◌, ◌++◌, ◌∷◌, ℕ, true, List, length, IfSome, IsTrue};
 ghost use Rattle.tc_text.specs.Lines.{lines_of};
 ghost use Rattle.tc_text.specs.Inside.{TakesLine};
 ghost use Rattle.tc_text.specs.Reading.{Takes};
 ghost use Rattle.tc_evidence.specs.declared.header.Header.{Header as AnyHeader};
 ghost use Rattle.tc_evidence.specs.declared.header.Kind.{Kind as AnyKind};
+ghost use Rattle.tc_evidence.specs.declared.header.Kind.TheVariants as kinds;
 ghost use Rattle.tc_evidence.specs.Block.{header_text, kind_text};
 ghost use Rattle.tc_evidence.specs.Text.{IsHeader, format_of};
+ghost use Rattle.tc_evidence.specs.Inside.{IsFirst};
 
 use tc_entry::Name;
 use tc_history::take_behaviours;
@@ -62,8 +64,8 @@ fn take_kind(text: &[u8]) -> Option<(Kind, &[u8])>
     }
 }
 
-/// What the first line says, if it is the first one of a block, and what follows that line.
-pub(crate) fn take_first_line(text: &[u8]) -> Option<(Header, &[u8])>
+// What the first line says, if it is the first one of a block, and what follows that line.
+fn take_header(text: &[u8]) -> Option<(Header, &[u8])>
     ensures spelled { IfSome result (λ r. lines_of text.now ≡ header_text r.0 ∷ lines_of r.1.now) }
     ensures fits { IfSome result (λ r. IsHeader r.0) }
     ensures less { IfSome result (λ r. length r.1.now < length text.now) }
@@ -83,4 +85,31 @@ pub(crate) fn take_first_line(text: &[u8]) -> Option<(Header, &[u8])>
         }
         None => None,
     }
+}
+
+// Whether a text may have a block of this kind, if it may have histories only.
+fn may_have(only_histories: bool, kind: Kind) -> bool
+    ensures { IsTrue result ↔ (only_histories ≡ true → kind ≢ kinds.Evidence) }
+{
+    match kind {
+        Kind::Evidence => !only_histories,
+        Kind::History1 | Kind::History2 => true,
+    }
+}
+
+/// What the first line says, if it is the first one of a block that a text may have, which may have histories only, and
+/// what follows that line.
+pub(crate) fn take_first_line(only_histories: bool, text: &[u8]) -> Option<(Header, &[u8])>
+    ensures spelled { IfSome result (λ r. lines_of text.now ≡ header_text r.0 ∷ lines_of r.1.now) }
+    ensures header { IfSome result (λ r. IsHeader r.0) }
+    ensures first { IfSome result (λ r. IsFirst only_histories r.0) }
+    ensures less { IfSome result (λ r. length r.1.now < length text.now) }
+    ensures only { (h : AnyHeader) (others : List (List ℕ)) → IsFirst only_histories h → lines_of text.now ≡ header_text h ∷ others
+        → TakesLine result h others }
+{
+    let (header, rest) = take_header(text)?;
+    if !may_have(only_histories, header.kind) {
+        return None;
+    }
+    Some((header, rest))
 }

@@ -1,5 +1,6 @@
 //! Laws of evidence: each function changes nothing, and its contract is the law.
 ghost use Rattle.tc_evidence.specs.Written as written;
+ghost use Rattle.tc_evidence.specs.Histories as histories;
 ghost use Rattle.tc_evidence.specs.Laws as laws;
 
 /// What is written of blocks is read as these blocks.
@@ -14,10 +15,10 @@ pub fn remarks_say_nothing()
     ensures { laws.RemarksSayNothing }
 {}
 
-/// A text of histories is read here as these histories.
+/// A text of histories is evidence with the same histories, and what is written of histories is read as these.
 #[tactic(auto, using(crate::proofs::Lemmas::Histories::histories_are_read))]
 pub fn histories_are_read()
-    ensures { laws.HistoriesAreRead }
+    ensures { histories.HistoriesAreRead }
 {}
 
 /// A text of evidence has LF and bytes from 32 to 126, and only remarks and refused lines have a `<`.

@@ -16,7 +16,7 @@ pub use block::Block;
 pub use header::{Header, Kind};
 pub use line::Line;
 pub use met::MetRuns;
-pub use read::{read_evidence, read_evidence_into};
+pub use read::{read_evidence, read_evidence_into, read_history};
 pub use sentence::{SENTENCE_BYTES, Sentence};
 pub use taking::{BegunBlock, TakesEvidence};
 pub use write::{append_first_line, append_line, append_said, append_whole_block};

@@ -2,15 +2,17 @@
 ghost use Rattle.std.specs.Prelude.{◌≡◌, ◌≢◌, ◌≤◌, ◌+◌, ◌++◌, ◌∷◌, ℕ, List, [], length, map, IfOk, IfErr, MatchOption, MatchResult};
 ghost use Rattle.tc_verdict.specs.declared.verdict.Verdict.{Verdict as AnyVerdict};
 ghost use Rattle.tc_text.specs.Lines.{lines_of};
+ghost use Rattle.tc_history.specs.declared.block.Block.{Block as AnyHistory};
 ghost use Rattle.tc_history.specs.Block.{end_text};
 ghost use Rattle.tc_evidence.specs.declared.block.Block.{Block as AnyBlock};
 ghost use Rattle.tc_evidence.specs.declared.line.Line.{Line as AnyLine};
 ghost use Rattle.tc_evidence.specs.Line.{line_text};
 ghost use Rattle.tc_evidence.specs.Met.{AreMet};
-ghost use Rattle.tc_evidence.specs.Text.{AreEvidence, AreLines, IsBlock, IsEvidenceFault, IsLine, block_lines, format_of};
-ghost use Rattle.tc_evidence.specs.Inside.{AreTakenBy, IsBlockFault, IsFound, IsInsideFault, IsLineTakenBy, IsNoEntryLine, IsNoLine, IsTakenBy};
+ghost use Rattle.tc_evidence.specs.Text.{AreEvidence, AreLines, IsBlock, IsEvidenceFault, IsFault, IsLine, IsTextOf, block_lines, format_of};
+ghost use Rattle.tc_evidence.specs.Histories.{AreHistories, IsHistoryFault};
+ghost use Rattle.tc_evidence.specs.Inside.{AreTakenBy, IsBlockFault, IsFirst, IsFound, IsInsideFault, IsLineTakenBy, IsNoEntryLine, IsNoLine, IsTakenBy};
 
-use crate::block::Block;
+use crate::block::{Block, histories_of};
 use crate::header::{Kind, take_first_line};
 use crate::line::Line;
 use crate::met::MetRuns;
@@ -18,7 +20,7 @@ use crate::note::take_note;
 use crate::taking::TakesEvidence;
 use std::alloc::Global;
 use tc_entry::{Entry, NoMemory, Sequence, Verdict};
-use tc_history::{take_end_line, take_entry_line, take_short_line};
+use tc_history::{Block as History, take_end_line, take_entry_line, take_short_line};
 use tc_text::{TextFault, TextKind};
 
 // The line that is no entry and may come inside such a block after lines that are about these runs, which the first line
@@ -132,21 +134,22 @@ fn take_lines<'a, H: TakesEvidence>(
 }
 
 // Takes the block that the text begins with, whose first line has this number; gives the number of the line after it, and
-// what is there.
+// what is there. The text may have histories only.
 fn take_block<'a, H: TakesEvidence>(
     alloc: Global,
+    only_histories: bool,
     made: &mut H,
     text: &'a [u8],
     first_line: usize,
 ) -> Result<(usize, &'a [u8]), TextFault>
     requires some { text.now ≢ [] }
     requires room { first_line + length text.now ≤ usize.MAX }
-    ensures taken { IfOk result (λ r. IsTakenBy H.stands text.now first_line made.old made.new r.0 r.1.now) }
-    ensures fault { IfErr result (λ e. IsBlockFault text.now first_line e) }
-    ensures only { (b : AnyBlock) (others : List (List ℕ)) → IsBlock first_line b → lines_of text.now ≡ block_lines b ++ others
+    ensures taken { IfOk result (λ r. IsTakenBy H.stands (IsFirst only_histories) text.now first_line made.old made.new r.0 r.1.now) }
+    ensures fault { IfErr result (λ e. IsBlockFault (IsFirst only_histories) text.now first_line e) }
+    ensures only { (b : AnyBlock) (others : List (List ℕ)) → IsBlock (IsFirst only_histories) first_line b → lines_of text.now ≡ block_lines b ++ others
         → IfErr result (λ e. e ≡ TextFault.NoMemory) }
 {
-    let Some((header, rest)) = take_first_line(text) else {
+    let Some((header, rest)) = take_first_line(only_histories, text) else {
         return Err(TextFault::at(first_line, TextKind::FirstLine));
     };
     let kind = header.kind;
@@ -164,6 +167,32 @@ fn take_block<'a, H: TakesEvidence>(
     Ok((line + 1, rest))
 }
 
+// What the blocks that the text spells make, otherwise the text's first fault; NoMemory may come instead. The text may
+// have histories only.
+fn read_into<H: TakesEvidence + Drop>(
+    alloc: Global,
+    only_histories: bool,
+    text: &[u8],
+) -> Result<H, TextFault>
+    ensures ok { IfOk result (λ made. (blocks : List AnyBlock) × IsTextOf (IsFirst only_histories) text.now blocks × H.stands blocks made) }
+    ensures fault { IfErr result (λ e. IsFault (IsFirst only_histories) text.now e) }
+    ensures only { (all : List AnyBlock) → IsTextOf (IsFirst only_histories) text.now all
+        → MatchResult result (λ made. H.stands all made) (λ e. e ≡ TextFault.NoMemory) }
+{
+    if text.is_empty() {
+        return Err(TextFault::at(1, TextKind::Early));
+    }
+    let mut made = H::begin(alloc);
+    let mut rest = text;
+    let mut line = 1;
+    while !rest.is_empty() {
+        let (next, behind) = take_block(alloc, only_histories, &mut made, rest, line)?;
+        line = next;
+        rest = behind;
+    }
+    Ok(made)
+}
+
 /// What the blocks that the text spells make, histories and evidence in any order, otherwise the text's first fault;
 /// NoMemory may come instead.
 pub fn read_evidence_into<H: TakesEvidence + Drop>(
@@ -175,18 +204,7 @@ pub fn read_evidence_into<H: TakesEvidence + Drop>(
     ensures only { (all : List AnyBlock) → AreEvidence text.now all
         → MatchResult result (λ made. H.stands all made) (λ e. e ≡ TextFault.NoMemory) }
 {
-    if text.is_empty() {
-        return Err(TextFault::at(1, TextKind::Early));
-    }
-    let mut made = H::begin(alloc);
-    let mut rest = text;
-    let mut line = 1;
-    while !rest.is_empty() {
-        let (next, behind) = take_block(alloc, &mut made, rest, line)?;
-        line = next;
-        rest = behind;
-    }
-    Ok(made)
+    read_into(alloc, false, text)
 }
 
 /// The blocks that the text spells, histories and evidence in any order, otherwise its first fault; NoMemory may come
@@ -198,4 +216,16 @@ pub fn read_evidence(alloc: Global, text: &[u8]) -> Result<Sequence<Block>, Text
         → MatchResult result (λ blocks. blocks ≡ all) (λ e. e ≡ TextFault.NoMemory) }
 {
     read_evidence_into(alloc, text)
+}
+
+/// The histories that the text spells, otherwise its first fault; the first line of evidence is one too. NoMemory may come
+/// instead.
+pub fn read_history(alloc: Global, text: &[u8]) -> Result<Vec<History>, TextFault>
+    ensures ok { IfOk result (λ found. AreHistories text.now found.items) }
+    ensures fault { IfErr result (λ e. IsHistoryFault text.now e) }
+    ensures only { (all : List AnyHistory) → AreHistories text.now all
+        → MatchResult result (λ found. found.items ≡ all) (λ e. e ≡ TextFault.NoMemory) }
+{
+    let blocks: Sequence<Block> = read_into(alloc, true, text)?;
+    Ok(histories_of(alloc, blocks.as_slice())?)
 }

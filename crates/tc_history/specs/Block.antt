@@ -7,15 +7,14 @@ use Rattle.tc_verdict.specs.Verdict.{name_of}
 use Rattle.tc_entry.specs.declared.entry.Entry.{Entry}
 use Rattle.tc_entry.specs.declared.reply.Reply.{Reply}
 use Rattle.tc_text.specs.Spelling.{move_text, reply_text}
-use Rattle.tc_history.specs.declared.header.Header.{Header}
 
 -- the words of a first line, which say its format: 1 or 2
 abbrev pub format_text : ℕ → List ℕ
 format_text f = if f == 1 then codes "history 1 " else codes "history 2 "
 
 -- the first line, without its LF: the format, the name of the case, and how many behaviours it has
-abbrev pub header_text : Header → List ℕ
-header_text h = format_text h.format ++ (h.name ++ (codes " " ++ decimal h.behaviours))
+abbrev pub header_text : ℕ → List ℕ → ℕ → List ℕ
+header_text f name n = format_text f ++ (name ++ (codes " " ++ decimal n))
 
 -- what follows the move of an entry
 abbrev pub outcome_text : Reply → List ℕ
@@ -35,4 +34,4 @@ entry_line e = entry_text e ++ (10 ∷ [])
 
 -- a first line, a line for each entry, and a last line
 abbrev pub block_text : ℕ → List ℕ → ℕ → List Entry → Verdict → List ℕ
-block_text f name n entries v = header_text (record { format = f; name = name; behaviours = n }) ++ (10 ∷ (flat_map entry_line entries ++ (end_text v ++ (10 ∷ []))))
+block_text f name n entries v = header_text f name n ++ (10 ∷ (flat_map entry_line entries ++ (end_text v ++ (10 ∷ []))))

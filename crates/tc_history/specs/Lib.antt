@@ -1,5 +1,3 @@
 -- The definitions that the contracts of this crate cite.
 pub mod Block
 pub mod Text
-pub mod Written
-pub mod Inside

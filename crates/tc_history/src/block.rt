@@ -1,17 +1,33 @@
-//! Writing the history of a test case.
+//! The history of a test case, and writing it.
 ghost use Rattle.std.specs.Prelude.{◌≡◌, ◌++◌, ◌∷◌, [], OnOk, OnErr};
 ghost use Rattle.std.specs.List.{flat_map};
 ghost use Rattle.std.specs.Io.{StartsWith};
-ghost use Rattle.tc_history.specs.Block.{block_text, end_text, entry_line};
-ghost use Rattle.tc_history.specs.Inside.{first_line};
+ghost use Rattle.tc_history.specs.Block.{block_text, end_text, entry_line, header_text};
 
-use tc_entry::{Entry, Name, NoMemory, Verdict};
+use tc_entry::{Entry, Name, NoMemory, Sequence, Verdict};
 use tc_text::{append_number, append_text, write_move, write_reply};
 use tc_verdict::name as name_of;
 
+/// The history of a test case, as a text gave it.
+#[derive(Drop)]
+pub struct Block {
+    /// The format of the block: 1, or 2, where components may have names.
+    pub format: u16,
+    /// The name of the test case.
+    pub name: Name,
+    /// How many behaviours it had.
+    pub behaviours: u16,
+    /// The number of the block's first line in the text, counted from 1.
+    pub first_line: usize,
+    /// The entries, the oldest first.
+    pub entries: Sequence<Entry>,
+    /// The overall verdict.
+    pub verdict: Verdict,
+}
+
 // Appends the first line, in format 2; if memory runs out, a part of it.
 fn append_header(out: &mut Vec<u8>, name: &Name, behaviours: u16) -> Result<(), NoMemory>
-    ensures ok { OnOk result (out.new.items ≡ out.old.items ++ first_line name.now behaviours) }
+    ensures ok { OnOk result (out.new.items ≡ out.old.items ++ (header_text 2 name.now behaviours ++ (10 ∷ []))) }
     ensures err { OnErr result (StartsWith out.new.items out.old.items) }
 {
     append_text(out, "history 2 ")?;

@@ -1,17 +1,10 @@
-//! Laws of histories and their texts: each function changes nothing, and its contract is the law.
+//! What the types of entries give: each function changes nothing, and its contract is the law.
 ghost use Rattle.std.specs.Prelude.{IfSome};
 ghost use Rattle.tc_entry.specs.Name.{IsName};
 ghost use Rattle.tc_text.specs.Spelling.{AreComps, IsComp, IsGroup, IsOp, IsReply, IsTarget};
 ghost use Rattle.tc_history.specs.Text.{AreEntries, IsEntry};
-ghost use Rattle.tc_history.specs.Written as laws;
 
 use tc_entry::{Comp, Entry, Group, Name, Op, Reply, Target};
-
-/// What is written of blocks is read as these blocks.
-#[tactic(auto, using(crate::proofs::Lemmas::WrittenBlocks::written_histories))]
-pub fn written_is_read()
-    ensures { laws.WrittenIsRead }
-{}
 
 fn comp_fits(comp: &Comp)
     ensures { IsComp comp.now }

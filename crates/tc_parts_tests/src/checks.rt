@@ -3,7 +3,8 @@
 use std::alloc::Global;
 use std::fmt::Debug;
 use std::process::Abort;
-use tc_history::{Block, read_history};
+use tc_evidence::read_history;
+use tc_history::Block;
 
 /// Ends the test unless what was found is what is wanted.
 pub(crate) fn is<R: Abort, T: PartialEq + Debug + Copy>(rt: &R, what: &str, found: T, wanted: T) {

@@ -17,7 +17,7 @@ use Rattle.tc_evidence.specs.declared.header.Kind.TheVariants as K
 use Rattle.tc_evidence.specs.declared.line.Line.{Line}
 use Rattle.tc_evidence.specs.declared.line.Line.TheVariants as L
 use Rattle.tc_evidence.specs.Line.{entries_of, is_about, is_met}
-use Rattle.tc_evidence.specs.Text.{AreBlocks, AreEvidence, AreLines, block_lines, format_of}
+use Rattle.tc_evidence.specs.Text.{AreBlocks, AreEvidence, AreLines, IsHeader, block_lines, format_of}
 use Rattle.tc_evidence.specs.Written.{text_of_blocks}
 use Rattle.tc_evidence.proofs.Lemmas.WrittenEvidence.{written_evidence}
 use Rattle.tc_case.specs.Report.{IsOneHistory}
@@ -49,7 +49,7 @@ texts_are : (kind : Kind) (line : ℕ) (fs : List Finished) → text_of_blocks (
 texts_are kind line [] = refl
 texts_are kind line (f ∷ fs) = ap (λ l. case_block kind f ++ l) (texts_are kind (after kind line f) fs)
 
-are_blocks : (kind : Kind) (line : ℕ) (fs : List Finished) → All (WasRun kind) fs → AreBlocks line (blocks_of kind line fs)
+are_blocks : (kind : Kind) (line : ℕ) (fs : List Finished) → All (WasRun kind) fs → AreBlocks IsHeader line (blocks_of kind line fs)
 are_blocks kind line [] all = tt
 are_blocks kind line (f ∷ fs) all =
     let this = All-head (WasRun kind) f fs all in

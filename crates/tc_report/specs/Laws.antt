@@ -2,7 +2,7 @@
 use Rattle.std.specs.Prelude.{◌≡◌, List, map}
 use Rattle.std.specs.List.{AllZip}
 use Rattle.tc_case.specs.Report.{IsOneHistory}
-use Rattle.tc_history.specs.declared.read.Block.{Block}
+use Rattle.tc_history.specs.declared.block.Block.{Block}
 use Rattle.tc_report.specs.declared.results.Finished.{Finished}
 use Rattle.tc_report.specs.declared.results.Results.{Results}
 use Rattle.tc_report.specs.Summary.{block_summary, case_summary}

@@ -4,7 +4,7 @@ use Rattle.tc_verdict.specs.declared.verdict.Verdict.{Verdict}
 use Rattle.tc_entry.specs.declared.entry.Entry.{Entry}
 use Rattle.tc_table.specs.History.{comps, is_over}
 use Rattle.tc_table.specs.Local.{local, overall}
-use Rattle.tc_history.specs.declared.read.Block.{Block}
+use Rattle.tc_history.specs.declared.block.Block.{Block}
 use Rattle.tc_report.specs.Cause.{cause_of}
 use Rattle.tc_report.specs.Names.{names_of}
 use Rattle.tc_report.specs.declared.results.CampaignEnd.{CampaignEnd}

@@ -30,7 +30,7 @@ use Rattle.tc_evidence.specs.declared.line.Line.TheVariants as L
 use Rattle.tc_evidence.specs.Block.{ended, header_text}
 use Rattle.tc_evidence.specs.Line.{entries_of, is_about, is_met}
 use Rattle.tc_evidence.specs.Sentence.{IsSentence}
-use Rattle.tc_evidence.specs.Text.{AreBlocks, AreLines, IsLine, block_lines}
+use Rattle.tc_evidence.specs.Text.{AreBlocks, AreLines, IsHeader, IsLine, block_lines}
 use Rattle.tc_evidence.specs.Written.{text_of_block, text_of_blocks}
 use Rattle.tc_evidence.proofs.Lemmas.WrittenEvidence.{written_evidence}
 use Rattle.tc_serve.specs.declared.refusal.Refusal.{Refusal}
@@ -243,7 +243,7 @@ blocks_text line (p ∷ ps) =
     ap (λ (l : List ℕ). l ++ text_of_blocks (blocks_of (line + length (block_lines (block_of line p))) ps)) (block_is line p)
     ∙ ap (λ (l : List ℕ). block p ++ l) (blocks_text (line + length (block_lines (block_of line p))) ps)
 
-are_blocks : (line : ℕ) (ps : List Played) → AllByRecursion IsEvident ps → AreBlocks line (blocks_of line ps)
+are_blocks : (line : ℕ) (ps : List Played) → AllByRecursion IsEvident ps → AreBlocks IsHeader line (blocks_of line ps)
 are_blocks line [] fit = tt
 are_blocks line (p ∷ ps) fit = (
   record { header = record { name_is = fit.0.name; few = fit.0.behaviours; kind_fits = inr refl }; inside = fit.0.lines; first = refl },

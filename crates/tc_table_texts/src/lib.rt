@@ -1,7 +1,8 @@
 //! The component table and its texts under one name.
 #![tactic(auto)]
 
-pub use tc_history::{Block, read_history};
+pub use tc_evidence::read_history;
+pub use tc_history::Block;
 pub use tc_stream::{InputFault, read_input};
 pub use tc_table::{
     Args, CheckFault, Comp, Entry, Fault, Group, Name, NoMemory, Op, Phase, Reply, Run, Table,

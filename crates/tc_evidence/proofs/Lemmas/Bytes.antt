@@ -244,7 +244,7 @@ block_plain b header inside = (
       (quiet_plain (end_text b.verdict) (end_quiet b.verdict), tt),
 )
 
-pub blocks_plain : (line : ℕ) (bs : List Block) → AreBlocks line bs → AllByRecursion AreAllPlain (all_lines bs)
+pub blocks_plain : (line : ℕ) (bs : List Block) → AreBlocks IsHeader line bs → AllByRecursion AreAllPlain (all_lines bs)
 blocks_plain line [] are = tt
 blocks_plain line (b ∷ bs) are =
     all-append (block_lines b) (all_lines bs) (block_plain b are.0.header are.0.inside) (blocks_plain (line + length (block_lines b)) bs are.1)

@@ -1,68 +1,55 @@
--- Histories are evidence that has entries only.
-use Rattle.std.proofs.Common.{ℕ, ◌≡◌, ◌≢◌, ◌∙◌, ◌+◌, inl, inr, List, [], ◌∷◌, ◌++◌, codes, length, map, ap, sym, subst, refl}
+-- Texts of histories are evidence, and are written as it.
+use Rattle.std.proofs.Common.{ℕ, ◌≡◌, ◌≢◌, ◌∙◌, ◌+◌, List, [], ◌∷◌, ◌++◌, codes, length, map, ap, sym, refl, append_assoc}
+use Rattle.std.specs.List.{flat_map}
 use Rattle.std.specs.Fmt.{decimal}
-use Rattle.tc_entry.specs.declared.entry.Entry.{Entry}
-use Rattle.tc_history.specs.declared.read.Block.{Block as History}
-use Rattle.tc_history.specs.Block.{end_text, entry_text, format_text}
-use Rattle.tc_history.specs.Text as told
+use Rattle.tc_text.specs.Lines.{lines_of}
+use Rattle.tc_history.specs.Block.{end_text, entry_line, format_text}
+use Rattle.tc_evidence.specs.declared.block.Block.{Block}
 use Rattle.tc_evidence.specs.declared.header.Kind.{Kind}
+use Rattle.tc_evidence.specs.declared.header.Kind.TheVariants as K
 use Rattle.tc_evidence.specs.declared.line.Line.{Line}
 use Rattle.tc_evidence.specs.declared.line.Line.TheVariants as L
-use Rattle.tc_evidence.specs.Line.{line_text}
-use Rattle.tc_evidence.specs.Block.{kind_text}
-use Rattle.tc_evidence.specs.Text.{AreBlocks, AreLines, IsBlock, all_lines, block_lines, format_of}
-use Rattle.tc_evidence.specs.Laws.{HistoriesAreRead, kind_of, of_history}
+use Rattle.tc_evidence.specs.Line.{entries_of, line_text}
+use Rattle.tc_evidence.specs.Block.{ended, header_text, kind_text}
+use Rattle.tc_evidence.specs.Text.{AreBlocks, AreLines, IsHeader, block_lines, format_of}
+use Rattle.tc_evidence.specs.Written.{text_of_block, text_of_blocks}
+use Rattle.tc_evidence.specs.Laws.{history_of}
+use Rattle.tc_evidence.specs.Histories.{HistoriesAreRead, IsHistoryHeader, text_of_histories, text_of_history}
+use Rattle.tc_evidence.proofs.Lemmas.WrittenEvidence.{written_lines}
 
--- the kind of a format has its words, its entries, and as many behaviours
-record IsKindOf (f n : ℕ) (k : Kind) : Type 0 where
-  words : kind_text k ≡ format_text f
-  format : format_of k ≡ f
-  few : told.IsFormat (format_of k) n
+kind_words : (k : Kind) → k ≢ K.Evidence → format_text (format_of k) ≡ kind_text k
+kind_words K.History1 other = refl
+kind_words K.History2 other = refl
+kind_words K.Evidence other = absurd (other refl)
 
-kind_is : (f n : ℕ) → told.IsFormat f n → IsKindOf f n (kind_of f)
-kind_is f n (inl one) = rw one.0 (record { words = refl; format = refl; few = inl (refl, one.1) })
-kind_is f n (inr two) = rw two (record { words = refl; format = refl; few = inr refl })
+-- a history has entries only
+entries_ended : (kind : Kind) (n : ℕ) (before ls : List Line) → kind ≢ K.Evidence → AreLines kind n before ls → flat_map entry_line (entries_of ls) ≡ flat_map (λ l. ended (line_text l)) ls
+entries_ended kind n before [] other are = refl
+entries_ended kind n before (L.Entry e ∷ ls) other are = ap (λ l. entry_line e ++ l) (entries_ended kind n (before ++ L.Entry e ∷ []) ls other are.1)
+entries_ended kind n before (L.Named run name ∷ ls) other are = absurd (other are.0.evidence)
+entries_ended kind n before (L.Remark run sentence ∷ ls) other are = absurd (other are.0.evidence)
+entries_ended kind n before (L.Refused run sentence ∷ ls) other are = absurd (other are.0.evidence)
 
-inside_lines : (es : List Entry) → map line_text (map L.Entry es) ≡ map entry_text es
-inside_lines [] = refl
-inside_lines (e ∷ es) = ap (λ l. entry_text e ∷ l) (inside_lines es)
+text_is : (b : Block) → b.header.kind ≢ K.Evidence → AreLines b.header.kind b.header.behaviours [] b.lines → text_of_history (history_of b) ≡ text_of_block b
+text_is b other are =
+    let behind = b.header.name ++ (codes " " ++ decimal b.header.behaviours) in
+    let last = ended (end_text b.verdict) in
+    ap (λ words. (words ++ behind) ++ (10 ∷ (flat_map entry_line (entries_of b.lines) ++ last))) (kind_words b.header.kind other)
+    ∙ (ap (λ inside. header_text b.header ++ (10 ∷ (inside ++ last))) (entries_ended b.header.kind b.header.behaviours [] b.lines other are)
+    ∙ sym (append_assoc (header_text b.header) (10 ∷ []) (flat_map (λ l. ended (line_text l)) b.lines ++ last)))
 
-abbrev first_of : List ℕ → History → List ℕ
-first_of words b = words ++ (b.name ++ (codes " " ++ decimal b.behaviours))
+texts_are : (line : ℕ) (bs : List Block) → AreBlocks IsHistoryHeader line bs → text_of_histories (map history_of bs) ≡ text_of_blocks bs
+texts_are line [] are = refl
+texts_are line (b ∷ bs) are =
+    ap (λ l. l ++ text_of_histories (map history_of bs)) (text_is b are.0.header.1 are.0.inside)
+    ∙ ap (λ l. text_of_block b ++ l) (texts_are (line + length (block_lines b)) bs are.1)
 
-lines_are : (b : History) → told.IsFormat b.format b.behaviours → block_lines (of_history b) ≡ told.block_lines b
-lines_are b format =
-    let kind = kind_is b.format b.behaviours format in
-    ap (λ words. first_of words b ∷ (map line_text (map L.Entry b.entries) ++ end_text b.verdict ∷ [])) kind.words
-    ∙ ap (λ lines. first_of (format_text b.format) b ∷ (lines ++ end_text b.verdict ∷ [])) (inside_lines b.entries)
-
-inside_are : (k : Kind) (f n : ℕ) (before : List Line) (es : List Entry) → format_of k ≡ f → told.AreEntries f es → AreLines k n before (map L.Entry es)
-inside_are k f n before [] same are = tt
-inside_are k f n before (e ∷ es) same are = (rw same are.0, inside_are k f n (before ++ L.Entry e ∷ []) es same are.1)
-
-block_is : (line : ℕ) (b : History) → told.IsBlock line b → IsBlock line (of_history b)
-block_is line b is =
-    let kind = kind_is b.format b.behaviours is.header.format in
-    record {
-      header = record { name_is = is.header.name_is; few = is.header.few; kind_fits = kind.few };
-      inside = inside_are (kind_of b.format) b.format b.behaviours [] b.entries kind.format is.entries;
-      first = is.first;
-    }
-
-all_are : (line : ℕ) (bs : List History) → told.AreBlocks line bs → (AreBlocks line (map of_history bs)) × (all_lines (map of_history bs) ≡ told.all_lines bs)
-all_are line [] are = (tt, refl)
-all_are line (b ∷ bs) are =
-    let same = lines_are b are.0.header.format in
-    let others = all_are (line + length (told.block_lines b)) bs are.1 in (
-      (block_is line b are.0, subst (λ (l : List (List ℕ)). AreBlocks (line + length l) (map of_history bs)) (sym same) others.0),
-      ap (λ l. l ++ all_lines (map of_history bs)) same ∙ ap (λ l. told.block_lines b ++ l) others.1,
-    )
-
-some_are : (bs : List History) → bs ≢ [] → map of_history bs ≢ []
-some_are [] some = λ e. some refl
-some_are (b ∷ bs) some = λ e. cc
+any_kind : (line : ℕ) (bs : List Block) → AreBlocks IsHistoryHeader line bs → AreBlocks IsHeader line bs
+any_kind line [] are = tt
+any_kind line (b ∷ bs) are = (record { header = are.0.header.0; inside = are.0.inside; first = are.0.first }, any_kind (line + length (block_lines b)) bs are.1)
 
 pub histories_are_read : HistoriesAreRead
-histories_are_read text histories are =
-    let both = all_are 1 histories are.fits in
-    record { some = some_are histories are.some; fits = both.0; lines = are.lines ∙ sym both.1 }
+histories_are_read = record {
+  evidence = λ text histories are. (are.0, record { some = are.1.some; fits = any_kind 1 are.0 are.1.fits; lines = are.1.lines }, are.2);
+  written = λ blocks some are. (blocks, record { some = some; fits = are; lines = ap lines_of (texts_are 1 blocks are) ∙ written_lines 1 blocks (any_kind 1 blocks are) }, refl);
+}

@@ -8,7 +8,7 @@ use Rattle.tc_evidence.specs.declared.block.Block.{Block}
 use Rattle.tc_evidence.specs.declared.line.Line.{Line}
 use Rattle.tc_evidence.specs.Line.{line_text}
 use Rattle.tc_evidence.specs.Block.{ended, header_text}
-use Rattle.tc_evidence.specs.Text.{AreBlocks, all_lines, block_lines}
+use Rattle.tc_evidence.specs.Text.{AreBlocks, IsHeader, all_lines, block_lines}
 use Rattle.tc_evidence.specs.Written.{WrittenIsRead, text_of_block, text_of_blocks}
 use Rattle.tc_evidence.proofs.Lemmas.Bytes.{AreAllPlain, blocks_plain, plain_no_lf}
 
@@ -42,7 +42,7 @@ blocks_ended (b ∷ bs) =
 
 -- ---- written and read again
 
-written_lines : (line : ℕ) (bs : List Block) → AreBlocks line bs → lines_of (text_of_blocks bs) ≡ all_lines bs
+pub written_lines : (line : ℕ) (bs : List Block) → AreBlocks IsHeader line bs → lines_of (text_of_blocks bs) ≡ all_lines bs
 written_lines line bs are = ap lines_of (blocks_ended bs) ∙ lines-ended_lines (all_lines bs) (all_no_lf (all_lines bs) (blocks_plain line bs are))
 
 -- the text of blocks is the text of these blocks

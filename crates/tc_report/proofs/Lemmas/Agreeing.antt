@@ -1,7 +1,7 @@
 -- The summaries of results and those of their histories are the same.
 use Rattle.std.proofs.Common.{◌≡◌, List, [], ◌∷◌, map, reverse, refl}
 use Rattle.std.specs.List.{AllZip}
-use Rattle.tc_history.specs.declared.read.Block.{Block}
+use Rattle.tc_history.specs.declared.block.Block.{Block}
 use Rattle.tc_report.specs.declared.results.CaseEnd.TheVariants as C
 use Rattle.tc_report.specs.declared.results.Finished.{Finished}
 use Rattle.tc_report.specs.Laws.{IsBlockOf, SummariesOfHistories}

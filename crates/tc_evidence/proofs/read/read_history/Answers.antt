@@ -1,0 +1,23 @@
+use Rattle.std.proofs.Common.{◌≡◌, ◌∙◌, map, ap, sym, rules}
+use Rattle.tc_text.specs.declared.fault.TextFault.TheVariants as F
+use Rattle.tc_evidence.specs.Histories.{IsHistoryFault}
+use Rattle.tc_evidence.specs.Laws.{history_of}
+use Rattle.tc_evidence.proofs.read.read_history.Goals as goal
+
+pub returns-in_err-blocks-clause-fault : goal.returns-in_err-blocks-clause-fault
+returns-in_err-blocks-clause-fault c =
+    let bad : IsHistoryFault c.args.text.now c.in_err-blocks.field-0.0 = c.in_err-blocks.ensures.fault in
+    search (rules, bad)
+
+pub returns-in_err-blocks-clause-only : goal.returns-in_err-blocks-clause-only
+returns-in_err-blocks-clause-only c all are =
+    let only : c.in_err-blocks.field-0.0 ≡ F.NoMemory = c.in_err-blocks.ensures.only are.0 are.1 in
+    search (rules, only)
+
+pub returns-clause-ok : goal.returns-clause-ok
+returns-clause-ok c =
+    let read = c.in_ok-blocks.ensures.ok in
+    (read.0, read.1, c.in_ok-histories_of.ensures ∙ ap (map history_of) (c.as_slice.ensures ∙ read.2))
+
+pub returns-clause-only : goal.returns-clause-only
+returns-clause-only c all are = c.in_ok-histories_of.ensures ∙ (ap (map history_of) (c.as_slice.ensures ∙ c.in_ok-blocks.ensures.only are.0 are.1) ∙ sym are.2)

@@ -1,2 +1,0 @@
--- The lemmas that other crates cite.
-pub mod WrittenBlocks
