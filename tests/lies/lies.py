@@ -507,6 +507,18 @@ pub fn append_entries(out: &mut Vec<u8>, entries: &[Entry]) -> Result<(), NoMemo
         Err(_) => Err(WriteFault),
 """),
     ), "tc_parts_tests"),
+    Lie("an_interrupted_flush_of_a_live_run_is_taken", (
+        ("""\
+    match writer.flush() {
+        Ok(()) => Ok(()),
+        Err(_) => Err(OutFault::Write),
+""", """\
+    match writer.flush() {
+        Ok(()) => Ok(()),
+        Err(fault) if matches!(fault.kind(), std::io::ErrorKind::Interrupted) => Ok(()),
+        Err(_) => Err(OutFault::Write),
+"""),
+    ), "tc_campaign_tests"),
     Lie("none_begins_after_the_255th", (
         ("""if let Some(name) = self.names.get(self.begun) {""", """if let Some(name) = self.names.get(..255).unwrap_or(self.names).get(self.begun) {"""),
     ), shown="progress_of_three_hundred"),
