@@ -10,7 +10,8 @@ use std::test::Fail;
 use tc_campaign::{CampaignEnd, LiveForm, LiveWriter, Observer, OutFault};
 use tc_stream::devices::{NarrowWriter, WriteFailure};
 
-/// Takes all bytes, and notes how many there were at each flush; the flush of this number fails, counted from 0.
+/// Takes all bytes, and notes how many there were at each flush; the flush of this number fails, counted from 0. A flush of an
+/// even number fails as one that was interrupted.
 #[derive(Drop)]
 struct Flushed {
     taken: Vec<u8>,
@@ -36,7 +37,11 @@ impl Write for Flushed {
 
     fn flush(&mut self) -> io::Result<()> {
         if self.flushes.len() == self.fails_at {
-            return Err(io::Error::from(io::ErrorKind::BrokenPipe));
+            return Err(io::Error::from(if self.fails_at % 2 == 0 {
+                io::ErrorKind::Interrupted
+            } else {
+                io::ErrorKind::BrokenPipe
+            }));
         }
         self.flushes.push(self.taken.len())?;
         Ok(())

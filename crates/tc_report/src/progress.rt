@@ -185,8 +185,9 @@ impl<'a, O: Observer, E: Write, C: Clock> Progress<'a, O, E, C> {
         ensures observer { result.observer.now ≡ observer.old }
         ensures writer { result.writer.now ≡ writer.old }
         ensures none { HasTold E.contents (E.contents writer.old) [] result }
+        ensures nothing_failed { result.failed.now.items ≡ [] }
     {
-        failed.truncate(0);
+        failed.clear();
         Progress {
             alloc,
             clock,
