@@ -124,7 +124,9 @@ def defined() -> Dict[Place, Definition]:
                 body = "\n".join(block)
                 cites = {place for word in WORD.findall(body) for place in imports.places(word, module)}
                 own = name[0].strip("◌")
-                it = Definition(crate, path, own, cites, len(block))
+                # (a comment between two cases of a definition does not end it)
+                begun = found.pop((module, own), Definition(crate, path, own, set(), 0))
+                it = Definition(crate, path, own, begun.cites | cites, begun.lines + len(block))
                 for key in (own, *constructors(block)):
                     found.setdefault((module, key), it)
     return found
