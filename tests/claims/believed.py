@@ -14,6 +14,9 @@ from typing import Dict, Iterator, List, NamedTuple, Set, Tuple
 TOP = os.path.dirname(os.path.dirname(os.path.dirname(os.path.abspath(__file__))))
 # Of these, what a case that was run reports, and the results of a campaign of cases.
 HEADLINE = (("tc_exec", "run_case"), ("tc_exec", "run_case_with"), ("tc_campaign", "run_campaign"), ("tc_campaign", "run_campaign_with"))
+# What a type keeps of the histories that it represents. Clauses only pass it on: a new state represents no entries, each call adds its
+# entry, and each answer is about every list that is represented. So they say the same whatever it is, and nobody has to believe it.
+PASSED_ON = {("tc_table.specs.Standing", "StandsFor")}
 USE = re.compile(r"^\s*(?:unfoldable )?(?:pub )?(?:ghost )?use (?:Rattle\.)?([\w.]+?)(?:\.\{([^}]*)\}|\.(\S+) as (\w+)| as (\w+));?\s*$")
 HEAD = re.compile(r"^(?:(?:abbrev|unfoldable|pub|record|data) )*")
 WORD = re.compile(r"[^\s(){}\[\],;:]+")
@@ -124,7 +127,9 @@ def defined() -> Dict[Place, Definition]:
                 body = "\n".join(block)
                 cites = {place for word in WORD.findall(body) for place in imports.places(word, module)}
                 own = name[0].strip("◌")
-                it = Definition(crate, path, own, cites, len(block))
+                # (a comment between two cases of a definition does not end it)
+                begun = found.pop((module, own), Definition(crate, path, own, set(), 0))
+                it = Definition(crate, path, own, begun.cites | cites, begun.lines + len(block))
                 for key in (own, *constructors(block)):
                     found.setdefault((module, key), it)
     return found
@@ -192,7 +197,7 @@ def rested_on(places: Set[Place], all_of: Dict[Place, Definition]) -> Set[Place]
         it = all_of.get(place)
         if it and (key := (module_of(it.file), it.name)) not in found:
             found.add(key)
-            left.extend(it.cites)
+            left.extend(it.cites if key not in PASSED_ON else ())
     return found
 
 

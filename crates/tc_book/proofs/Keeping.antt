@@ -1,5 +1,5 @@
 -- Rules for what a book keeps, at the opening and after one more entry.
-use Rattle.std.proofs.Common.{ℕ, ◌≡◌, ◌≤◌, ◌∙◌, sym, Option, None, List, [], ◌∷◌, ◌++◌, length, reverse, replicate}
+use Rattle.std.proofs.Common.{ℕ, ◌≡◌, ◌≤◌, ◌∙◌, sym, Option, None, List, [], ◌∷◌, ◌++◌, drop, length, reverse, replicate}
 use Rattle.std.proofs.lemmas.List.{reverse-append, length-replicate}
 use Rattle.tc_entry.specs.declared.limits.TheConstants.{BEHAVIOURS}
 use Rattle.tc_verdict.specs.declared.run.Run.{Run}
@@ -10,7 +10,7 @@ use Rattle.tc_entry.specs.declared.op.Op.{Op}
 use Rattle.tc_entry.specs.declared.reply.Reply.{Reply}
 use Rattle.tc_board.specs.declared.record.Record.{Record}
 use Rattle.tc_table.specs.Case.{Case, past_of}
-use Rattle.tc_words.specs.Words.{AreTold, earlier, carried_to, carried_to_newest}
+use Rattle.tc_words.specs.Words.{AreTold, carried_to, carried_to_newest}
 use Rattle.tc_book.specs.declared.places.Places.{Places}
 use Rattle.tc_book.specs.Inside.{IsKept, start_at}
 use Rattle.tc_book.specs.OpenCase.{opening_place}
@@ -46,7 +46,7 @@ entry caller op reply = record { caller = caller; op = op; reply = reply }
 
 -- the words before an entry follow from the entries before it
 pub told_before : (t t' : Case) (words : List Record) (caller : Run) (op : Op) (reply : Reply) → t'.behaviours ≡ t.behaviours → t'.history ≡ t.history ++ entry caller op reply ∷ [] →
-    AreTold t.behaviours (past_of t) words → AreTold t'.behaviours (earlier (past_of t')) words
+    AreTold t.behaviours (past_of t) words → AreTold t'.behaviours (drop 1 (past_of t')) words
 told_before t t' words caller op reply same added told = rw (same, added, reverse-append t.history (entry caller op reply ∷ [])) told
 
 pub carried_before : (t t' : Case) (words : List Record) (caller : Run) (op : Op) (reply : Reply) (u : UserVerdict) → t'.history ≡ t.history ++ entry caller op reply ∷ [] →

@@ -15,8 +15,8 @@ use Rattle.tc_case.specs.declared.run_log.RunLog.{RunLog}
 use Rattle.tc_case.specs.Merge.{is_other, merge, logged}
 use Rattle.tc_book.specs.Passes.{LeftState}
 use Rattle.tc_book.specs.Closing.{is_of_run, IsFitting, IsWhole}
-use Rattle.tc_case.specs.Parts.{part, log_on, log_if, logs_below}
-use Rattle.tc_book.specs.Inside.{start_at, comp_by, logs_from, KnowsStarts, KnowsParts}
+use Rattle.tc_case.specs.Parts.{part, log_if, logs_below}
+use Rattle.tc_book.specs.Inside.{start_at, comp_by, log_on, logs_from, KnowsStarts, KnowsParts}
 use Rattle.tc_book.proofs.Lemmas.PartOf.{comp_known}
 use Rattle.tc_case.specs.Report.{IsOneHistory}
 use Rattle.std.proofs.lemmas.List.{length-map, get_or_append_left}

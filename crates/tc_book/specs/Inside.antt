@@ -2,6 +2,7 @@
 pub mod Waiting
 use Rattle.std.specs.Prelude.{ℕ, zero, suc, ◌++◌, ◌∷◌, ◌≡◌, ◌+◌, ◌≤◌, ◌<◌, ◌==◌, Bool, if◌then◌else◌, option_map, Option, Some, None, List, [], length, map, filter, reverse, sum_by, slice_index_or, All, true, false, ◌||◌, not, is_some}
 use Rattle.std.specs.Borrow.{Bor}
+use Rattle.std.specs.Option.{option_map_or}
 use Rattle.tc_entry.specs.declared.limits.TheConstants.{BEHAVIOURS}
 use Rattle.tc_entry.specs.declared.comp.Comp.{Comp}
 use Rattle.tc_entry.specs.declared.entry.Entry.{Entry}
@@ -12,7 +13,7 @@ use Rattle.tc_entry.specs.declared.reply.Reply.TheVariants as R
 use Rattle.tc_case.specs.declared.run_log.RunLog.{RunLog}
 use Rattle.tc_book.specs.declared.places.Places.{Places}
 use Rattle.tc_table.specs.Legal.{IsLegal}
-use Rattle.tc_case.specs.Parts.{part, log_on, logs_below, is_by}
+use Rattle.tc_case.specs.Parts.{part, logs_below, is_by}
 use Rattle.tc_book.specs.Closing.{IsOneEach, IsWhole, run_log}
 use Rattle.tc_case.specs.Merge.{is_other, log_of, merge}
 use Rattle.tc_book.specs.OpenCase.{AreOthers, has_leave, has_wake, OpenCase, past_of, reply_to}
@@ -72,6 +73,10 @@ IsNotNext rests e =
 -- the hand of a run that has not met its word yet
 abbrev pub IsNewHand : HandView → ℕ → Type 0
 IsNewHand hand b = (hand.run ≡ b) × (hand.answers ≡ [])
+
+-- the log of run b with these entries, if it is on a component
+abbrev pub log_on : Option Comp → ℕ → List Entry → List RunLog
+log_on comp b entries = option_map_or (λ c. record { run = record { 0 = b }; comp = c; entries = entries } ∷ []) comp []
 
 -- the logs of the first n runs, by what each was started with and by these parts
 abbrev pub logs_from : List (Option (Comp × List Comp)) → List (List Entry) → ℕ → List RunLog

@@ -5,8 +5,8 @@ ghost use Rattle.tc_table.specs.History.{is_over};
 ghost use Rattle.tc_table.specs.Standing.{StandsFor};
 ghost use Rattle.tc_table.specs.Legal.{IsLegal};
 ghost use Rattle.tc_case.specs.Merge.{is_other, merge, logged};
-ghost use Rattle.tc_book.specs.Inside.{KnowsStarts, KnowsParts, logs_from};
-ghost use Rattle.tc_case.specs.Parts.{log_on, logs_below};
+ghost use Rattle.tc_book.specs.Inside.{KnowsStarts, KnowsParts, log_on, logs_from};
+ghost use Rattle.tc_case.specs.Parts.{logs_below};
 ghost use Rattle.tc_case.specs.Report.{IsOneHistory};
 
 use crate::starts::comp_of;

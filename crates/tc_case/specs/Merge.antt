@@ -1,6 +1,7 @@
 -- The merge of a history without verdict entries with the logs of its runs.
 -- `past` lists entries of the history, the newest first, and `log b` is the log of run b.
 use Rattle.std.specs.Prelude.{ℕ, zero, suc, ◌+◌, ◌==◌, ◌&&◌, not, max, if◌then◌else◌, Bool, true, false, Option, Some, None, List, [], ◌∷◌, ◌++◌, filter, length, reverse, sum_by}
+use Rattle.std.specs.Option.{option_map_or}
 use Rattle.tc_entry.specs.declared.entry.Entry.{Entry}
 use Rattle.tc_entry.specs.declared.op.Op.{Op}
 use Rattle.tc_entry.specs.declared.op.Op.TheVariants as O
@@ -52,14 +53,9 @@ abbrev pub after_others : ℕ → List Entry → List Entry
 after_others zero log = log
 after_others (suc k) log = after_other (after_others k log)
 
--- how many entries run b has
-abbrev pub count_of : List Entry → ℕ → ℕ
-count_of [] b = 0
-count_of (e ∷ past) b = if is_by b e then suc (count_of past b) else count_of past b
-
--- what follows the last entry of run b in its log
+-- what follows the last of these entries of run b in its log, which has as many other entries up to there
 abbrev pub follows : (ℕ → List Entry) → List Entry → ℕ → List Entry
-follows log past b = after_others (count_of past b) (log b)
+follows log past b = after_others (length (filter (is_by b) past)) (log b)
 
 -- the run that an operation starts
 abbrev pub run_of : Op → Option Run
@@ -70,17 +66,12 @@ run_of _ = None
 abbrev pub started : Entry → Option Run
 started e = if is_ok e.reply then run_of e.op else None
 
--- the verdict entries at the head of the log of this run, if there is one
-abbrev pub head_at_start : (ℕ → List Entry) → Option Run → List Entry
-head_at_start log (Some run) = head (log run.0)
-head_at_start log None = []
-
 -- At the opening come the verdict entries at the head of run 0's log. After each entry come first the verdict entries
 -- that follow it in its caller's log, and then those at the head of the log of the run that it starts.
 abbrev pub in_place : (ℕ → List Entry) → List Entry → List Entry
 in_place log [] = head (log 0)
 in_place log (e ∷ past) =
-    in_place log past ++ (e ∷ head (follows log (e ∷ past) e.caller.0) ++ head_at_start log (started e))
+    in_place log past ++ (e ∷ head (follows log (e ∷ past) e.caller.0) ++ option_map_or (λ run. head (log run.0)) (started e) [])
 
 -- the verdict entries replied Ended of the runs below n, in the order of their numbers
 unfoldable pub late : (ℕ → List Entry) → ℕ → List Entry

@@ -1,5 +1,6 @@
 -- The part of a history by one run, and the logs of all runs.
-use Rattle.std.specs.Prelude.{ℕ, zero, suc, ◌==◌, ◌++◌, ◌∷◌, [], Bool, Option, Some, None, List, filter, reverse}
+use Rattle.std.specs.Prelude.{ℕ, zero, suc, ◌==◌, ◌++◌, ◌∷◌, [], Bool, Option, List, filter, reverse}
+use Rattle.std.specs.Option.{option_map_or}
 use Rattle.tc_entry.specs.declared.comp.Comp.{Comp}
 use Rattle.tc_entry.specs.declared.entry.Entry.{Entry}
 use Rattle.tc_table.specs.History.{comp_of}
@@ -13,14 +14,9 @@ is_by b e = e.caller.0 == b
 unfoldable pub part : List Entry → ℕ → List Entry
 part history b = filter (is_by b) history
 
--- the log of run b with these entries, if it is on a component
-abbrev pub log_on : Option Comp → ℕ → List Entry → List RunLog
-log_on (Some c) b entries = record { run = record { 0 = b }; comp = c; entries = entries } ∷ []
-log_on None b entries = []
-
 -- the log of run b, if it was started: its component, and its part of the history
 abbrev pub log_if : Option Comp → List Entry → ℕ → List RunLog
-log_if comp history b = log_on comp b (part history b)
+log_if comp history b = option_map_or (λ c. record { run = record { 0 = b }; comp = c; entries = part history b } ∷ []) comp []
 
 -- the logs of the runs below n that were started, in the order of their numbers
 abbrev pub logs_below : List Entry → ℕ → List RunLog

@@ -1,5 +1,6 @@
 -- The lemmas of this crate.
 pub mod Lists
 pub mod Gates
+pub mod Leaving
 pub mod Lemmas
 pub mod Reporting

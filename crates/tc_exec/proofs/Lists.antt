@@ -1,6 +1,5 @@
 -- Lists of which the first goes over to another list.
-use Rattle.std.proofs.Common.{◌≡◌, List, [], ◌∷◌, ◌++◌, length, map, refl, sym, ap, ◌∙◌, arith}
-use Rattle.std.proofs.lemmas.List.{append-nil, length-append}
+use Rattle.std.proofs.Common.{◌≡◌, List, [], ◌∷◌, ◌++◌, map, refl, ap, ◌∙◌}
 
 map-moved : {A B : Type 0} (f : A → B) (ws : List A) (w : A) (ys : List B) → map f (ws ++ w ∷ []) ++ ys ≡ map f ws ++ f w ∷ ys
 map-moved f [] w ys = refl
@@ -16,8 +15,3 @@ passed done x xs ys all whole first = over done ∙ (rw (← first) whole)
     over : (zs : _) → (zs ++ x ∷ []) ++ ys ≡ zs ++ x ∷ ys
     over [] = refl
     over (z ∷ zs) = ap (λ q. z ∷ q) (over zs)
-
--- nothing is after a first part that is as long as the whole
-pub whole : {A : Type 0} (xs ys all : List A) → xs ++ ys ≡ all → length xs ≡ length all → xs ≡ all
-whole xs [] all is long = sym (append-nil xs) ∙ is
-whole xs (y ∷ ys) all is long = absurd (omega (arith, long, ap length is, length-append xs (y ∷ ys)))

@@ -5,12 +5,11 @@ use Rattle.tc_entry.specs.declared.entry.Entry.{Entry}
 use Rattle.tc_case.specs.declared.closed.Closed.{Closed}
 use Rattle.tc_case.specs.declared.run_log.RunLog.{RunLog}
 use Rattle.tc_table.specs.History.{comp_of}
-use Rattle.tc_verdict.specs.declared.run.Run.{Run}
 use Rattle.tc_book.specs.Closing.{IsWhole}
 use Rattle.tc_book.specs.Passes.{PassState, LeftState}
 use Rattle.tc_case.specs.Report.{IsOneHistory}
 use Rattle.tc_exec.specs.declared.job.Back.{Back}
-use Rattle.tc_exec.specs.Workers.{WasCalledFor, AreLeftBy}
+use Rattle.tc_exec.specs.Workers.{WasCalledFor, IsLeftBy}
 use Rattle.tc_book.specs.Starts.{start_of}
 
 -- a Start of this log's run, on the log's component, was replied Ok in the history
@@ -37,11 +36,11 @@ AreCalled outcome jobs c = (k : ℕ) (b : _) → k < length jobs → comp_of (re
 -- What was handed back of a case, whole or not. Each behaviour was called with a new pass of its run, did not run out
 -- of memory, and the pass that it handed back has left; or its run was never started.
 pub record IsHandedBack {B : Type 0} (outcome : B → PassState → Back → Type 0) (jobs : List B) : Type 0 where
-  pub runs : List Run
+  -- what each run left, in the order of the runs' numbers
   pub lefts : List LeftState
+  pub as_many : length lefts ≡ length jobs
   -- behaviour k is that of run k
-  pub numbered : (k : ℕ) (run : Run) → k < length runs → (slice_index_or runs k run).0 ≡ k
-  pub left : AreLeftBy outcome runs jobs lefts
+  pub left : (k : ℕ) (b : B) (l : LeftState) → k < length jobs → IsLeftBy outcome (record { 0 = k }) (slice_index_or jobs k b) (slice_index_or lefts k l)
   -- that of run 0 was called
   pub main : (l : LeftState) → (slice_index_or lefts 0 l).started ≢ None
 

@@ -1,5 +1,5 @@
 -- What the functions inside of a case say, which no public clause names.
-use Rattle.std.specs.Prelude.{ℕ, ◌≡◌, ◌≢◌, ◌<◌, ◌+◌, ◌++◌, Bool, true, false, None, List, Result, Ok, Err, length, map, slice_index_or}
+use Rattle.std.specs.Prelude.{ℕ, ◌≡◌, ◌≢◌, ◌<◌, ◌+◌, ◌++◌, Bool, true, false, None, List, [], ◌∷◌, Result, Ok, Err, length, map, slice_index_or}
 use Rattle.tc_verdict.specs.declared.run.Run.{Run}
 use Rattle.tc_case.specs.declared.closed.Closed.{Closed}
 use Rattle.tc_case.specs.declared.closed.CloseFault.{CloseFault}
@@ -11,7 +11,7 @@ use Rattle.tc_exec.specs.declared.job.Ending.TheVariants as E
 use Rattle.tc_exec.specs.declared.gathered.Gathered.{Gathered}
 use Rattle.tc_exec.specs.declared.worker.Worker.{Worker}
 use Rattle.tc_case.specs.Refusals.{of_close}
-use Rattle.tc_exec.specs.Workers.{AreLeftBy}
+use Rattle.tc_exec.specs.Workers.{IsLeftBy}
 
 -- what the close of a case is answered by: the report as it is, or the refusal
 abbrev pub handed_on : Result Closed CloseFault → Result Closed CaseError
@@ -44,10 +44,16 @@ abbrev pub KeepsFirst : List LeftState → List LeftState → Type 0
 KeepsFirst before after = (d : LeftState) → 0 < length before → slice_index_or after 0 d ≡ slice_index_or before 0 d
 
 module _ {B : Type 0} (outcome : B → PassState → Back → Type 0) where
+  -- these are what the workers of these runs left, each with its own behaviour
+  abbrev pub AreLeftBy : List Run → List B → List LeftState → Type 0
+  AreLeftBy [] [] [] = Unit {0}
+  AreLeftBy (run ∷ runs) (b ∷ bs) (l ∷ ls) = IsLeftBy outcome run b l × AreLeftBy runs bs ls
+  AreLeftBy _ _ _ = ⊥
+
   -- unless memory ran out in a behaviour, what was gathered is what the workers of these runs left, each with its own
   -- behaviour
   abbrev pub Gathers : List Run → List B → Gathered → Type 0
-  Gathers runs behaviours g = g.starved ≡ false → AreLeftBy outcome runs behaviours g.lefts.items
+  Gathers runs behaviours g = g.starved ≡ false → AreLeftBy runs behaviours g.lefts.items
 
   -- what these runs left, with their behaviours, was added to what was gathered, whichever runs that was of
   abbrev pub GathersMore : List Run → List B → Gathered → Gathered → Type 0

@@ -7,14 +7,14 @@ use Rattle.tc_book.specs.Starts.{start_of}
 use Rattle.tc_case.specs.declared.run_log.RunLog.{RunLog}
 use Rattle.tc_exec.specs.declared.job.Back.{Back}
 use Rattle.tc_exec.specs.declared.job.Ending.TheVariants as E
-use Rattle.tc_exec.specs.Workers.{WasStarted}
+use Rattle.tc_exec.specs.Workers.{WasCalled, WasStarted}
 
 -- The log is that of a pass of its run, which was new when the behaviour was called with it, on the component and with
 -- the arguments of the run's Start. The behaviour did not run out of memory. The log is what the pass that it handed
 -- back has logged, and then a Finish if that pass had not ended.
 pub record IsLogBy (outcome : PassState → Back → Type 0) (history : List Entry) (l : RunLog) : Type 0 where
   pub left : LeftState
-  pub made : WasStarted l.run outcome (record { left = left; ending = E.Returned })
+  pub made : WasStarted l.run (λ p. WasCalled (outcome p) (record { left = left; ending = E.Returned }))
   pub entries : l.entries ≡ left.log
   pub started : 0 < l.run.0 → left.started ≡ start_of (reverse history) l.run.0
 

@@ -4,7 +4,7 @@ ghost use Rattle.std.specs.Vec.{vec_len, vec_capacity};
 ghost use Rattle.tc_entry.specs.declared.limits.TheConstants.{BEHAVIOURS};
 ghost use Rattle.tc_book.specs.Closing.{IsWhole};
 ghost use Rattle.tc_exec.specs.Inside.{AreAbove, Gathers, IsFirstStarted, handed_on, jobs_of, runs_of};
-ghost use Rattle.tc_exec.specs.Workers.{WasCalledFor, opening};
+ghost use Rattle.tc_exec.specs.Workers.{opening};
 ghost use Rattle.tc_exec.specs.Gates.{IsPassed, IsStopped};
 ghost use Rattle.tc_exec.specs.Case.{IsCaseReport, AreCalled, IsHandedBack, IsMadeOf};
 ghost use Rattle.tc_case.specs.declared.refusal.CaseError.TheVariants.{NoBehaviours, TooManyBehaviours, NoMemory, NoThread, Torn};
@@ -80,7 +80,6 @@ fn gather<R: Threads + Wait, B: Callable>(
     requires empty { gathered.lefts.items ≡ [] }
     requires room { vec_len workers < vec_capacity gathered.lefts }
     ensures all { vec_len result.lefts ≡ vec_len workers + 1 }
-    ensures called { WasCalledFor opening.run (B.outcome first) }
     ensures first { IsFirstStarted result.lefts.items }
     ensures lefts { Gathers B.outcome (opening.run ∷ runs_of workers.items) (first ∷ jobs_of workers.items) result }
 {
@@ -147,6 +146,7 @@ fn room_for<B: Callable>(
 }
 
 /// Runs the behaviours of a case, behaviour k as that of run k.
+#[tactic(auto, using(crate::proofs::Gates::passed_others, crate::proofs::Gates::stopped_others))]
 fn run_jobs<R: Threads + Wait + Copy + Send + 'static, B: Callable, G: Gate>(
     rt: &R,
     alloc: Global,
@@ -162,11 +162,11 @@ fn run_jobs<R: Threads + Wait + Copy + Send + 'static, B: Callable, G: Gate>(
     ensures report { IfOk result (IsCaseReport behaviours) }
     ensures called { IfOk result (AreCalled B.outcome jobs.items) }
     ensures made { IfOk result (IsMadeOf B.outcome jobs.items) }
-    ensures asked { OnOk result (IsPassed G.asks behaviours gate.old gate.new) }
-    ensures stopped { result ≡ Err NoThread → IsStopped G.asks behaviours gate.old gate.new }
+    ensures asked { OnOk result (IsPassed G.asks (behaviours - 1) gate.old gate.new) }
+    ensures stopped { result ≡ Err NoThread → IsStopped G.asks (behaviours - 1) gate.old gate.new }
     ensures torn { result ≡ Err Torn → IsHandedBack B.outcome jobs.items }
-    ensures asked_torn { result ≡ Err Torn → IsPassed G.asks behaviours gate.old gate.new }
-    ensures asked_refused { result ≡ Err NoMemory → (gate.new ≡ gate.old) ⊎ IsPassed G.asks behaviours gate.old gate.new }
+    ensures asked_torn { result ≡ Err Torn → IsPassed G.asks (behaviours - 1) gate.old gate.new }
+    ensures asked_refused { result ≡ Err NoMemory → (gate.new ≡ gate.old) ⊎ IsPassed G.asks (behaviours - 1) gate.old gate.new }
 {
     let count = usize::from(behaviours);
     let (shared, pass, tickets) = open_case(alloc, behaviours)?;
@@ -225,11 +225,11 @@ pub fn run_case_with<R: Threads + Wait + Copy + Send + 'static, B: Callable, G: 
     ensures report { IfOk result (IsCaseReport (vec_len jobs)) }
     ensures called { IfOk result (AreCalled B.outcome jobs.items) }
     ensures made { IfOk result (IsMadeOf B.outcome jobs.items) }
-    ensures asked { OnOk result (IsPassed G.asks (vec_len jobs) gate.old gate.new) }
-    ensures stopped { result ≡ Err NoThread → vec_len jobs ≤ threads + 1 → IsStopped G.asks (vec_len jobs) gate.old gate.new }
+    ensures asked { OnOk result (IsPassed G.asks (vec_len jobs - 1) gate.old gate.new) }
+    ensures stopped { result ≡ Err NoThread → vec_len jobs ≤ threads + 1 → IsStopped G.asks (vec_len jobs - 1) gate.old gate.new }
     ensures torn { result ≡ Err Torn → IsHandedBack B.outcome jobs.items }
-    ensures asked_torn { result ≡ Err Torn → IsPassed G.asks (vec_len jobs) gate.old gate.new }
-    ensures asked_refused { result ≡ Err NoMemory → (gate.new ≡ gate.old) ⊎ IsPassed G.asks (vec_len jobs) gate.old gate.new }
+    ensures asked_torn { result ≡ Err Torn → IsPassed G.asks (vec_len jobs - 1) gate.old gate.new }
+    ensures asked_refused { result ≡ Err NoMemory → (gate.new ≡ gate.old) ⊎ IsPassed G.asks (vec_len jobs - 1) gate.old gate.new }
     ensures unasked { (vec_len jobs ≡ 0) ⊎ (BEHAVIOURS < vec_len jobs) ⊎ (threads + 1 < vec_len jobs) → gate.new ≡ gate.old }
 {
     let behaviours = behaviours_of(jobs.len(), threads)?;

@@ -1,9 +1,9 @@
 //! The threads of a case.
-ghost use Rattle.std.specs.Prelude.{◌≡◌, ◌≤◌, ◌+◌, [], IsTrue, IsFalse, IfSome};
+ghost use Rattle.std.specs.Prelude.{◌≡◌, ◌≤◌, ◌+◌, [], IsTrue, IsFalse, IfSome, length};
 ghost use Rattle.std.specs.Vec.{vec_len, vec_capacity};
 ghost use Rattle.tc_exec.specs.Workers.{IsWorked};
-ghost use Rattle.tc_exec.specs.Gates.{AreAllowed, IsAskedUpTo};
-ghost use Rattle.tc_exec.specs.Inside.{GathersMore, KeepsFirst, jobs_of, runs_of};
+ghost use Rattle.tc_exec.specs.Gates.{IsPassed, IsStopped};
+ghost use Rattle.tc_exec.specs.Inside.{AreAbove, GathersMore, KeepsFirst, jobs_of, runs_of};
 
 use crate::callable::Callable;
 use crate::gate::Gate;
@@ -76,13 +76,14 @@ pub(crate) fn make_workers<R: Threads + Wait + Copy + Send + 'static, B: Callabl
     requires empty { workers.old.items ≡ [] }
     requires room { vec_len tickets ≤ vec_capacity workers.old }
     requires pairs { vec_len tickets ≡ vec_len behaviours }
+    requires numbered { AreAbove tickets.items }
     ensures most { vec_len workers.new ≤ vec_len tickets }
     ensures all { IsTrue result → vec_len workers.new ≡ vec_len tickets }
     ensures runs { IsTrue result → runs_of workers.new.items ≡ tickets.items }
     ensures behaviours { IsTrue result → jobs_of workers.new.items ≡ behaviours.items }
     ensures none { vec_len tickets ≡ 0 → IsTrue result }
-    ensures asked { IsTrue result → AreAllowed G.asks tickets.items gate.old gate.new }
-    ensures stopped { IsFalse result → IsAskedUpTo G.asks tickets.items gate.old gate.new }
+    ensures asked { IsTrue result → IsPassed G.asks (length tickets.items) gate.old gate.new }
+    ensures stopped { IsFalse result → IsStopped G.asks (length tickets.items) gate.old gate.new }
 {
     let mut tickets = tickets.into_iter();
     for behaviour in behaviours {

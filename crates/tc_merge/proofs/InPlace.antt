@@ -5,8 +5,8 @@ use Rattle.std.proofs.Math.Seq.{take-suc}
 use Rattle.std.proofs.lemmas.List.{reverse-append}
 use Rattle.std.proofs.lemmas.Bool.{ne_eqb, cases_eq, cases_lt}
 use Rattle.tc_entry.specs.declared.entry.Entry.{Entry}
-use Rattle.tc_merge.specs.Inside.{Has}
-use Rattle.tc_case.specs.Merge.{in_place, follows, after_other, head, head_at_start, started}
+use Rattle.tc_merge.specs.Inside.{Has, head_at_start}
+use Rattle.tc_case.specs.Merge.{in_place, follows, after_other, head, started}
 
 pub past_more : (h : List Entry) (i : ℕ) (e : Entry) → i < length h → e ≡ get_or h i e → reverse (take (i + 1) h) ≡ e ∷ reverse (take i h)
 past_more h i e within is =

@@ -1,5 +1,5 @@
 -- Each log is its run's part of the merge.
-use Rattle.std.proofs.Common.{◌≡◌, ◌≢◌, ℕ, zero, suc, ◌<◌, ◌≤◌, ◌==◌, if◌then◌else◌, Bool, true, false, Option, Some, None, List, [], ◌∷◌, ◌++◌, filter, reverse, refl, sym, ap, ◌∙◌, subst, append_assoc, eq-eqb, arith, ◌⊎◌, inl, inr}
+use Rattle.std.proofs.Common.{◌≡◌, ◌≢◌, ℕ, zero, suc, ◌<◌, ◌≤◌, ◌==◌, if◌then◌else◌, Bool, true, false, Option, Some, None, List, [], ◌∷◌, ◌++◌, filter, length, reverse, refl, sym, ap, ◌∙◌, subst, append_assoc, eq-eqb, arith, ◌⊎◌, inl, inr}
 use Rattle.std.specs.List.{All}
 use Rattle.std.proofs.lemmas.Bool.{ne_eqb, cases_eq, cases_lt}
 use Rattle.std.proofs.lemmas.List.{append-nil, reverse-append, reverse-reverse}
@@ -12,8 +12,9 @@ use Rattle.tc_entry.specs.declared.op.Op.TheVariants as O
 use Rattle.tc_entry.specs.Reply.{is_ended, is_ok}
 use Rattle.tc_table.specs.History.{comp_of, first_some, starts_run}
 use Rattle.tc_case.specs.declared.run_log.RunLog.{RunLog}
-use Rattle.tc_case.specs.Merge.{is_other, is_late, is_verdict_call, head, after_other, after_others, count_of, follows, started, run_of, head_at_start, in_place, late, log_of, end_of, merge}
+use Rattle.tc_case.specs.Merge.{is_other, is_late, is_verdict_call, head, after_other, after_others, follows, started, run_of, in_place, late, log_of, end_of, merge}
 use Rattle.tc_case.specs.Parts.{is_by, part}
+use Rattle.tc_merge.specs.Inside.{head_at_start}
 use Rattle.tc_merge.specs.OneCase.{AreByStarted, AreStartedOnce, AreOfOneCase, stops_when_late}
 use Rattle.tc_merge.proofs.InPlace.{follows_same, follows_more}
 use Rattle.tc_merge.proofs.Lemmas.Table.{log_of-beyond}
@@ -228,7 +229,7 @@ opening b log own =
     ]
 
 by_follows : (log : ℕ → List Entry) (past : List Entry) (c : ℕ) → AllBy c (log c) → AllBy c (head (follows log past c))
-by_follows log past c own = by_head c (follows log past c) (by_after_others c (count_of past c) (log c) own)
+by_follows log past c own = by_head c (follows log past c) (by_after_others c (length (filter (is_by c) past)) (log c) own)
 
 placed_other : (b : ℕ) (log : ℕ → List Entry) (past : List Entry) (e : Entry) → AllBy e.caller.0 (log e.caller.0) → e.caller.0 ≢ b →
     entries_by (in_place log (e ∷ past)) b ≡ entries_by (in_place log past) b ++ entries_by (head_at_start log (started e)) b

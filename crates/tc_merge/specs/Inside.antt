@@ -1,8 +1,10 @@
 -- What only the way the merge is made needs: no public clause names a word of this file.
-use Rattle.std.specs.Prelude.{ℕ, ◌≡◌, ◌<◌, ◌≤◌, List, [], length, reverse, slice_index_or}
+use Rattle.std.specs.Prelude.{ℕ, ◌≡◌, ◌<◌, ◌≤◌, Option, List, [], length, reverse, slice_index_or}
 use Rattle.std.specs.Borrow.{Bor}
+use Rattle.std.specs.Option.{option_map_or}
+use Rattle.tc_verdict.specs.declared.run.Run.{Run}
 use Rattle.tc_entry.specs.declared.entry.Entry.{Entry}
-use Rattle.tc_case.specs.Merge.{after_other, in_place}
+use Rattle.tc_case.specs.Merge.{after_other, head, in_place}
 
 -- what the table has of run b, and this if it has no such run
 abbrev pub entries_of : List (Bor (List Entry)) → ℕ → Bor (List Entry) → List Entry
@@ -11,6 +13,10 @@ entries_of table b d = (slice_index_or table b d).now
 -- if one table has entries of run b, the other has what follows the first other entry of them
 abbrev pub IsMovedOn : List (Bor (List Entry)) → List (Bor (List Entry)) → ℕ → Type 0
 IsMovedOn before after b = (d : Bor (List Entry)) → b < length before → entries_of after b d ≡ after_other (entries_of before b d)
+
+-- the verdict entries at the head of the log of this run, if there is one
+abbrev pub head_at_start : (ℕ → List Entry) → Option Run → List Entry
+head_at_start log run = option_map_or (λ b. head (log b.0)) run []
 
 -- the history with the verdict entries that are put in place; the history is in the order in which it was made
 abbrev pub placed : (ℕ → List Entry) → List Entry → List Entry

@@ -1,7 +1,7 @@
 //! The merge of a history with the logs of its runs.
 ghost use Rattle.std.specs.Prelude.{◌≡◌, ◌++◌, ℕ, IfOk, OnOk, filter, length};
 ghost use Rattle.tc_case.specs.Merge as rules;
-ghost use Rattle.tc_merge.specs.Inside.{Has, placed};
+ghost use Rattle.tc_merge.specs.Inside.{Has, head_at_start, placed};
 ghost use Rattle.tc_merge.specs.OneCase.{AreOfOneCase, IsOneEach};
 ghost use Rattle.tc_case.specs.Parts.{part};
 
@@ -15,7 +15,7 @@ use tc_verdict::NoMemory;
 
 /// Adds the verdict entries at the head of the log of a run that the entry starts.
 fn add_head_at_start(all: &mut Vec<Entry>, logs: &[&[Entry]], entry: &Entry) -> Result<(), NoMemory>
-    ensures { (log : _) → Has logs.now log → OnOk result (all.new.items ≡ all.old.items ++ rules.head_at_start log (rules.started entry.now)) }
+    ensures { (log : _) → Has logs.now log → OnOk result (all.new.items ≡ all.old.items ++ head_at_start log (rules.started entry.now)) }
 {
     match started(entry) {
         Some(run) => add_head(all, at_run(logs, run)),

@@ -11,6 +11,7 @@ use Rattle.tc_entry.specs.declared.op.Op.TheVariants as O
 use Rattle.tc_entry.specs.declared.op.Target.{Target}
 use Rattle.tc_entry.specs.declared.reply.Reply.{Reply}
 use Rattle.tc_entry.specs.declared.reply.Reply.TheVariants as R
+use Rattle.tc_entry.specs.Reply.{is_ended, is_fault, is_ok}
 use Rattle.tc_step.specs.declared.step.Status.TheVariants as Asks
 use Rattle.tc_step.specs.declared.step.Step.{Step}
 use Rattle.tc_step.specs.declared.step.Step.TheVariants as S
@@ -21,7 +22,7 @@ use Rattle.tc_step.specs.Steps.{ScriptView}
 use Rattle.tc_table.specs.History.{created, ends_pass}
 use Rattle.tc_table.proofs.Lemmas.Deciding.{self_equal}
 use Rattle.tc_book.specs.Passes.{PassState, LeftState, has_ended, added, entry_of}
-use Rattle.tc_book.specs.Replies.{is_parked, suits}
+use Rattle.tc_book.specs.Replies.{is_parked}
 use Rattle.tc_exec.specs.declared.job.Back.{Back}
 use Rattle.tc_exec.specs.declared.job.Ending.TheVariants as E
 use Rattle.tc_exec.specs.Workers.{HasLeft}
@@ -272,7 +273,7 @@ all_called [] h = refl
 all_called (s ∷ left) h = absurd cc
 
 -- a Finish ends the pass
-finish_ends : (me : Comp) (run : Run) (r : Reply) → suits O.Finish r ≡ true → ends_pass me (entry_of run O.Finish r) ≡ true
+finish_ends : (me : Comp) (run : Run) (r : Reply) → (is_ok r || is_ended r || is_fault r) ≡ true → ends_pass me (entry_of run O.Finish r) ≡ true
 unfolding ends_pass
 finish_ends me run R.Ended h = refl
 finish_ends me run (R.Fault f) h = refl

@@ -7,7 +7,7 @@ use Rattle.tc_table.specs.Waiting.{holds, is_stuck}
 use Rattle.tc_table.specs.Faults.{all_exist, start_fault, components, fault}
 use Rattle.tc_table.specs.Answers.{is_active, answer}
 use Rattle.tc_table.specs.Local.{local, overall}
-use Rattle.tc_table.specs.WorkedCases.{WorkedCases}
+use Rattle.tc_table.specs.Inside.WorkedCases.{WorkedCases}
 
 pub worked_cases : WorkedCases
 unfolding exists phase running alive done killed local overall holds is_stuck all_exist start_fault components fault is_active answer

@@ -8,7 +8,6 @@ pub mod Faults
 pub mod Answers
 pub mod Legal
 pub mod Laws
-pub mod WorkedCases
 pub mod Check
 pub mod Deciding
 pub mod Case

@@ -1,6 +1,6 @@
 //! Laws of legal histories, and the worked cases: each function does nothing, and its contract is the law.
 ghost use Rattle.tc_table.specs.Laws as laws;
-ghost use Rattle.tc_table.specs.WorkedCases.{WorkedCases};
+ghost use Rattle.tc_table.specs.Inside.WorkedCases.{WorkedCases};
 
 /// After an entry that ends the case no component is alive, and every further call is replied Ended.
 #[tactic(auto, using(crate::proofs::Lemmas::LawsOfHistories::over_for_all))]
@@ -32,43 +32,19 @@ pub fn local_of_whole()
     ensures { laws.LocalOfWhole }
 {}
 
-/// An entry that changes no component's phase, and whose caller continues, wakes nobody.
-#[tactic(auto, using(crate::proofs::Lemmas::Quiet::quiet_wakes_nobody))]
-pub fn quiet_wakes_nobody()
-    ensures { laws.QuietWakesNobody }
-{}
-
 /// A history that a case's state represents is legal.
 #[tactic(auto, using(crate::proofs::Lemmas::Standing::stands_legal))]
 pub fn stands_for_legal()
     ensures { laws.StandsForLegal }
 {}
 
-/// The worked cases: the replies and the verdict that the definitions give to each.
-#[tactic(auto, using(crate::proofs::WorkedCases::worked_cases))]
-pub fn worked_cases()
-    ensures { WorkedCases }
-{}
-
-/// Which runs an entry halts: those that are active on a component that it halts.
-#[tactic(auto, using(crate::proofs::Lemmas::Going::halted_by_entry))]
-pub fn halted_by_entry()
-    ensures { laws.HaltedByEntry }
-{}
-
-/// An entry that is none of Stop, Kill, StopCase and Finish, and no error, halts nothing.
-#[tactic(auto, using(crate::proofs::Lemmas::Going::others_halt_nothing))]
-pub fn others_halt_nothing()
-    ensures { laws.OthersHaltNothing }
-{}
-
-/// Which run an entry starts.
-#[tactic(auto, using(crate::proofs::Lemmas::Going::started_by_entry))]
-pub fn started_by_entry()
-    ensures { laws.StartedByEntry }
-{}
-
 /// The names of components change no reply and no verdict.
 pub fn names_say_nothing()
     ensures { laws.NamesSayNothing }
+{}
+
+/// The worked cases: the replies and the verdict that the definitions give to each. Nothing rests on them.
+#[tactic(auto, using(crate::proofs::WorkedCases::worked_cases))]
+fn worked_cases()
+    ensures { WorkedCases }
 {}

@@ -1,5 +1,5 @@
 -- The words after the newest entry, before any word is closed.
-use Rattle.std.proofs.Common.{ℕ, ◌≡◌, ◌<◌, ◌&&◌, not, Bool, true, false, Option, Some, None, List, [], ◌∷◌, ◌++◌, reverse, refl, ap, sym, ◌∙◌, subst, inl, inr}
+use Rattle.std.proofs.Common.{ℕ, ◌≡◌, ◌<◌, ◌&&◌, not, Bool, true, false, Option, Some, None, List, [], ◌∷◌, ◌++◌, drop, reverse, refl, ap, sym, ◌∙◌, subst, inl, inr}
 use Rattle.std.proofs.lemmas.Bool.{cases_eq}
 use Rattle.std.proofs.lemmas.List.{reverse-append}
 use Rattle.tc_verdict.specs.declared.run.Run.{Run}
@@ -19,7 +19,7 @@ use Rattle.tc_table.proofs.Lemmas.Going.{halted_by_entry, started_by_entry, othe
 use Rattle.tc_table.proofs.Lemmas.Sound.{starts_fresh}
 use Rattle.tc_board.specs.declared.record.Record.{Record}
 use Rattle.tc_board.specs.declared.record.Record.TheVariants.{Open}
-use Rattle.tc_words.specs.Words.{record_at, record_for, is_closed, carried, carried_to, carried_to_newest, closing, earlier, AreTold, StayClosed}
+use Rattle.tc_words.specs.Words.{record_at, record_for, is_closed, carried, carried_to, carried_to_newest, closing, AreTold, StayClosed}
 use Rattle.tc_words.specs.Inside.{is_open, ArePartlyTold, CanBegin, with_start}
 use Rattle.tc_words.proofs.Settling.{all_told, at_other, stay_closed}
 use Rattle.tc_words.proofs.Lagging.{after_entry, can_begin, entry, same_test, start}
@@ -66,21 +66,21 @@ open_go_on n past words caller (O.Start c run args) reply u legal told quiet b l
 open_go_on n past words caller op reply u legal told quiet b less h = goes_on n past (entry caller op reply) words b legal told quiet less h
 
 -- the words lag at most
-pub lags_at_most : (n : ℕ) (whole past : List Entry) (e : Entry) (words after : List Record) (u : UserVerdict) → whole ≡ e ∷ past → IsLegal n whole → AreTold n (earlier whole) words →
+pub lags_at_most : (n : ℕ) (whole past : List Entry) (e : Entry) (words after : List Record) (u : UserVerdict) → whole ≡ e ∷ past → IsLegal n whole → AreTold n (drop 1 whole) words →
     u ≡ carried_to_newest words whole → after ≡ with_start e.op e.reply u words → ArePartlyTold n whole after 0
 lags_at_most n whole past e words after u is legal told carries begun =
     let now : IsLegal n (e ∷ past) = subst (λ p. IsLegal n p) is legal in
-    let before : AreTold n past words = subst (λ p. AreTold n (earlier p) words) is told in
+    let before : AreTold n past words = subst (λ p. AreTold n (drop 1 p) words) is told in
     let begins : u ≡ carried_to words past e.op = carries ∙ ap (carried_to_newest words) is in
     rw (begun, begins, is) (after_entry n past words e.caller e.op e.reply now before)
 
 -- and not at all if the entry halts nothing
-pub told_quietly : (n : ℕ) (whole past : List Entry) (e : Entry) (words after : List Record) (u : UserVerdict) → whole ≡ e ∷ past → IsLegal n whole → AreTold n (earlier whole) words →
+pub told_quietly : (n : ℕ) (whole past : List Entry) (e : Entry) (words after : List Record) (u : UserVerdict) → whole ≡ e ∷ past → IsLegal n whole → AreTold n (drop 1 whole) words →
     u ≡ carried_to_newest words whole → after ≡ with_start e.op e.reply u words → may_halt e.op e.reply ≡ false → AreTold n whole after
 told_quietly n whole past e words after u is legal told carries begun quiet =
     let p = lags_at_most n whole past e words after u is legal told carries begun in
     let now : IsLegal n (e ∷ past) = subst (λ p. IsLegal n p) is legal in
-    let before : AreTold n past words = subst (λ p. AreTold n (earlier p) words) is told in
+    let before : AreTold n past words = subst (λ p. AreTold n (drop 1 p) words) is told in
     all_told n whole after (record {
       as_many = p.as_many;
       each = p.each;
@@ -89,10 +89,10 @@ told_quietly n whole past e words after u is legal told carries begun quiet =
     })
 
 -- the word that the entry begins is unbegun
-pub can_begin_newest : (n : ℕ) (whole past : List Entry) (e : Entry) (words : List Record) → whole ≡ e ∷ past → IsLegal n whole → AreTold n (earlier whole) words → CanBegin e.op e.reply words
+pub can_begin_newest : (n : ℕ) (whole past : List Entry) (e : Entry) (words : List Record) → whole ≡ e ∷ past → IsLegal n whole → AreTold n (drop 1 whole) words → CanBegin e.op e.reply words
 can_begin_newest n whole past e words is legal told =
     let now : IsLegal n (e ∷ past) = subst (λ p. IsLegal n p) is legal in
-    can_begin n past words e.caller e.op e.reply (subst (λ p. AreTold n (earlier p) words) is told) now.0
+    can_begin n past words e.caller e.op e.reply (subst (λ p. AreTold n (drop 1 p) words) is told) now.0
 
 -- the word that an entry begins was not closed
 pub begun_stay_closed : (op : Op) (reply : Reply) (u : UserVerdict) (words : List Record) → CanBegin op reply words → StayClosed words (with_start op reply u words)

@@ -70,11 +70,6 @@ abbrev pub carried_to : List Record → List Entry → Op → UserVerdict
 carried_to words past (O.Start c run args) = left_by words (last_run past c.0)
 carried_to words past _ = U.None
 
--- the entries before the newest
-abbrev pub earlier : List Entry → List Entry
-earlier [] = []
-earlier (e ∷ past) = past
-
 -- what the component carried on which the newest entry would start a run
 abbrev pub carried_to_newest : List Record → List Entry → UserVerdict
 carried_to_newest words [] = U.None

@@ -1,5 +1,5 @@
 //! The keeper of a board, next to the component table of its case.
-ghost use Rattle.std.specs.Prelude.{◌≡◌, ◌<◌, ◌≤◌, ◌+◌, [], IfOk, true, set, length};
+ghost use Rattle.std.specs.Prelude.{◌≡◌, ◌<◌, ◌≤◌, ◌+◌, [], IfOk, true, drop, set, length};
 ghost use Rattle.std.specs.Arc.{arc_value};
 ghost use Rattle.tc_table.specs.Case.{past_of};
 ghost use Rattle.tc_board.specs.Board.{new_keeper};
@@ -117,7 +117,7 @@ impl Words {
     /// Brings the words up to the newest entry of the table. Begins the word of the run that it starts with what the
     /// run's component carried, and closes the word of each run that it halts. It takes no memory.
     pub fn follow(&mut self, table: &Table, carried: UserVerdict)
-        requires told { AreTold table.now.behaviours (rules.earlier (past_of table.now)) self.old }
+        requires told { AreTold table.now.behaviours (drop 1 (past_of table.now)) self.old }
         requires carried { carried ≡ rules.carried_to_newest self.old (past_of table.now) }
         ensures told { AreTold table.now.behaviours (past_of table.now) self.new }
         ensures closed { StayClosed self.old self.new }

@@ -1,5 +1,5 @@
 -- What workers left, one after another.
-use Rattle.std.proofs.Common.{ℕ, zero, suc, ◌≡◌, ◌≢◌, ◌<◌, ◌+◌, ◌==◌, ◌||◌, inl, inr, Bool, true, false, Some, None, Result, Ok, Err, IfOk, List, [], ◌∷◌, ◌++◌, All, length, get_or, map, reverse, refl, sym, ap, ◌∙◌, arith}
+use Rattle.std.proofs.Common.{ℕ, zero, suc, ◌≡◌, ◌≢◌, ◌<◌, ◌+◌, ◌==◌, ◌||◌, inl, inr, Bool, true, false, Some, None, Result, Ok, Err, IfOk, List, [], ◌∷◌, ◌++◌, length, get_or, map, reverse, refl, sym, ap, subst, ◌∙◌, arith}
 use Rattle.std.proofs.lemmas.Bool.Decides.{nat_tests}
 use Rattle.std.proofs.lemmas.List.{append-nil}
 use Rattle.std.proofs.lemmas.List.Elements.{All-get_or}
@@ -19,8 +19,8 @@ use Rattle.tc_case.specs.declared.refusal.CaseError.TheVariants.{NoMemory, Torn}
 use Rattle.tc_exec.specs.declared.job.Ending.{Ending}
 use Rattle.tc_exec.specs.declared.job.Ending.TheVariants as E
 use Rattle.tc_exec.specs.Case.{AreCalled, IsHandedBack, IsMadeOf}
-use Rattle.tc_exec.specs.Workers.{IsWorked, WasCalled, WasCalledFor, IsLeftBy, AreLeftBy, opening}
-use Rattle.tc_exec.specs.Inside.{is_starved}
+use Rattle.tc_exec.specs.Workers.{IsWorked, WasCalled, WasCalledFor, IsLeftBy, opening}
+use Rattle.tc_exec.specs.Inside.{AreLeftBy, is_starved}
 
 -- memory ran out neither before nor now
 pub neither : (before now after : Bool) → after ≡ (before || now) → after ≡ false → (before ≡ false) × (now ≡ false)
@@ -78,16 +78,32 @@ module _ {B : Type 0} (outcome : B → PassState → Back → Type 0) where
       rw (is, ← over run runs ws w, ← over behaviour bs ws w)
       (pushed (runs ++ map run ws) (bs ++ map behaviour ws) ls (run w) (behaviour w) l all one)
 
+  -- as many runs left as there are behaviours
+  as_many_left : (runs : List Run) (bs : List B) (ls : List LeftState) → AreLeftBy outcome runs bs ls → length ls ≡ length bs
+  as_many_left [] [] [] all = refl
+  as_many_left (_ ∷ runs) (_ ∷ bs) (_ ∷ ls) all = ap suc (as_many_left runs bs ls all.1)
+  as_many_left [] [] (_ ∷ ls) all = absurd all
+  as_many_left [] (_ ∷ bs) ls all = absurd all
+  as_many_left (_ ∷ runs) [] ls all = absurd all
+  as_many_left (_ ∷ runs) (_ ∷ bs) [] all = absurd all
+
   -- what run k left
-  pub at : (runs : List Run) (bs : List B) (ls : List LeftState) → AreLeftBy outcome runs bs ls → (k : ℕ) (run : Run) (b : B) (l : LeftState) → k < length bs →
-      IsLeftBy outcome (get_or runs k run) (get_or bs k b) (get_or ls k l) × (k < length runs) × (k < length ls)
-  at [] [] [] all k run b l below = absurd (omega arith)
-  at (_ ∷ runs) (_ ∷ bs) (_ ∷ ls) all zero run b l below = (all.0, omega arith, omega arith)
-  at (_ ∷ runs) (_ ∷ bs) (_ ∷ ls) all (suc k) run b l below = let h = at runs bs ls all.1 k run b l (omega arith) in (h.0, omega (arith, h.1), omega (arith, h.2))
-  at [] [] (_ ∷ ls) all k run b l below = absurd all
-  at [] (_ ∷ bs) ls all k run b l below = absurd all
-  at (_ ∷ runs) [] ls all k run b l below = absurd all
-  at (_ ∷ runs) (_ ∷ bs) [] all k run b l below = absurd all
+  left_at : (runs : List Run) (bs : List B) (ls : List LeftState) → AreLeftBy outcome runs bs ls → (k : ℕ) (run : Run) (b : B) (l : LeftState) → k < length bs →
+      IsLeftBy outcome (get_or runs k run) (get_or bs k b) (get_or ls k l) × (k < length runs)
+  left_at [] [] [] all k run b l below = absurd (omega arith)
+  left_at (_ ∷ runs) (_ ∷ bs) (_ ∷ ls) all zero run b l below = (all.0, omega arith)
+  left_at (_ ∷ runs) (_ ∷ bs) (_ ∷ ls) all (suc k) run b l below = let h = left_at runs bs ls all.1 k run b l (omega arith) in (h.0, omega (arith, h.1))
+  left_at [] [] (_ ∷ ls) all k run b l below = absurd all
+  left_at [] (_ ∷ bs) ls all k run b l below = absurd all
+  left_at (_ ∷ runs) [] ls all k run b l below = absurd all
+  left_at (_ ∷ runs) (_ ∷ bs) [] all k run b l below = absurd all
+
+  left_numbered : (runs : List Run) (bs : List B) (ls : List LeftState) → AreLeftBy outcome runs bs ls → ((k : ℕ) (run : Run) → k < length runs → (get_or runs k run).0 ≡ k) →
+      (k : ℕ) (b : B) (l : LeftState) → k < length bs → IsLeftBy outcome (record { 0 = k }) (get_or bs k b) (get_or ls k l)
+  left_numbered runs bs ls all number k b l below =
+      let h = left_at runs bs ls all k (record { 0 = 0 }) b l below in
+      let same : get_or runs k (record { 0 = 0 }) ≡ record { 0 = k } = ap (λ m. let r : Run = record { 0 = m } in r) (number k (record { 0 = 0 }) h.1) in
+      subst (λ r. IsLeftBy outcome r (get_or bs k b) (get_or ls k l)) same h.0
 
   pub unstarted_comp : (b : ℕ) → 0 < b → comp_by b None ≡ None
   unstarted_comp b above = let k : (b == 0) ≡ false = grind (arith, nat_tests) in rw k refl
@@ -96,7 +112,7 @@ module _ {B : Type 0} (outcome : B → PassState → Back → Type 0) where
   of_one : (history : List Entry) (run : Run) (b : B) (l : LeftState) → IsLeftBy outcome run b l → 0 < run.0 → IsFitting history l → comp_of (reverse history) run.0 ≢ None →
       WasCalledFor run (outcome b)
   of_one history run b l (inr w) above fits started =
-      record { pass = w.pass; own = w.own; new = w.new; main = w.main; back = w.called.back; outcome_of = w.called.outcome_of }
+      record { pass = w.pass; own = w.own; new = w.new; main = w.main; called = (w.called.back, w.called.outcome_of) }
   of_one history run b l (inl e) above fits started =
       let left : l ≡ record { run = run; log = []; started = None } = ap (λ h. h.left) e in
       let own : l.run ≡ run = ap (λ m. m.run) left in
@@ -105,18 +121,23 @@ module _ {B : Type 0} (outcome : B → PassState → Back → Type 0) where
       let start : start_of (reverse history) run.0 ≡ None = rw (← own) (sym known ∙ none) in
       absurd (started (comp_is (reverse history) run.0 ∙ (rw start (unstarted_comp run.0 above))))
 
-  pub all_called : (history : List Entry) (runs : List Run) (bs : List B) (ls : List LeftState) →
-      AreLeftBy outcome runs bs ls → ((k : ℕ) (run : Run) → k < length runs → (get_or runs k run).0 ≡ k) → All (IsFitting history) ls →
-      ((b : B) → WasCalledFor (record { 0 = 0 }) (outcome (get_or bs 0 b))) →
-      (k : ℕ) (b : B) → k < length bs → comp_of (reverse history) k ≢ None → WasCalledFor (record { 0 = k }) (outcome (get_or bs k b))
-  all_called history runs bs ls all numbered fits main zero b below started = main b
-  all_called history runs bs ls all numbered fits main (suc k) b below started =
-      let l : LeftState = record { run = record { 0 = 0 }; log = []; started = None } in
-      let h = at runs bs ls all (suc k) (record { 0 = 0 }) b l below in
-      let number = numbered (suc k) (record { 0 = 0 }) h.1 in
-      let same : get_or runs (suc k) (record { 0 = 0 }) ≡ record { 0 = suc k } = ap (λ m. let r : Run = record { 0 = m } in r) number in
-      let c = of_one history (get_or runs (suc k) (record { 0 = 0 })) (get_or bs (suc k) b) (get_or ls (suc k) l) h.0 (rw number (omega arith)) (All-get_or (IsFitting history) ls (suc k) l h.2 fits) (rw number started) in
-      rw (← same) c
+  -- the main behaviour was not left unstarted
+  of_main : (b : B) (l : LeftState) → IsLeftBy outcome (record { 0 = 0 }) b l → l.started ≢ None → WasCalledFor (record { 0 = 0 }) (outcome b)
+  of_main b l (inr w) some = record { pass = w.pass; own = w.own; new = w.new; main = w.main; called = (w.called.back, w.called.outcome_of) }
+  of_main b l (inl e) some = absurd (some (ap (λ h. h.left.started) e))
+
+  pub all_called : (c : Closed) (bs : List B) → IsMadeOf outcome bs c → AreCalled outcome bs c
+  all_called c bs made = λ k b below started. by k b below started
+    where
+      nothing : LeftState
+      nothing = record { run = record { 0 = 0 }; log = []; started = None }
+
+      by : (k : ℕ) (b : B) → k < length bs → comp_of (reverse c.history) k ≢ None → WasCalledFor (record { 0 = k }) (outcome (get_or bs k b))
+      by zero b below started = of_main (get_or bs 0 b) (get_or made.handed.lefts 0 nothing) (made.handed.left 0 b nothing below) (made.handed.main nothing)
+      by (suc k) b below started =
+          let above : 0 < suc k = omega arith in
+          of_one c.history (record { 0 = suc k }) (get_or bs (suc k) b) (get_or made.handed.lefts (suc k) nothing) (made.handed.left (suc k) b nothing below) above
+          (All-get_or (IsFitting c.history) made.handed.lefts (suc k) nothing (omega (arith, below, made.handed.as_many)) made.whole.fitting) started
 
   -- what the main behaviour left, as the first of all
   pub main_left : (p : PassState) (b : B) (h : Handed) → p ≡ opening → WasCalled (outcome b p) h →
@@ -125,12 +146,6 @@ module _ {B : Type 0} (outcome : B → PassState → Back → Type 0) where
       let own : p.run ≡ record { 0 = 0 } = ap (λ q. q.run) is in
       let new : p.log ≡ [] = ap (λ q. q.log) is in
       (left_by (record { 0 = 0 }) b h none (inr (record { pass = p; own = own; new = new; main = λ _. is; called = called })), tt)
-
-  pub main_called : (p : PassState) (b : B) (h : Handed) → p ≡ opening → WasCalled (outcome b p) h → WasCalledFor (record { 0 = 0 }) (outcome b)
-  main_called p b h is called =
-      let own : p.run ≡ record { 0 = 0 } = ap (λ q. q.run) is in
-      let new : p.log ≡ [] = ap (λ q. q.log) is in
-      record { pass = p; own = own; new = new; main = λ _. is; back = called.back; outcome_of = called.outcome_of }
 
   -- run 0, and then the others from 1 on
   pub numbered : (runs : List Run) → ((k : ℕ) (run : Run) → k < length runs → (get_or runs k run).0 ≡ k + 1) →
@@ -147,30 +162,30 @@ module _ {B : Type 0} (outcome : B → PassState → Back → Type 0) where
       absurd cc
 
   -- a report is made only if memory ran out in no behaviour
-  pub report_called : (result : Result Closed CaseError) (starved : Bool) (runs : List Run) (bs : List B) (ls : List LeftState) →
-      (starved ≡ true → result ≡ Err NoMemory) → (starved ≡ false → AreLeftBy outcome runs bs ls) →
-      ((k : ℕ) (run : Run) → k < length runs → (get_or runs k run).0 ≡ k) →
-      ((b : B) → WasCalledFor (record { 0 = 0 }) (outcome (get_or bs 0 b))) →
-      IfOk result (λ c. IsWhole c.behaviours c.history ls) → IfOk result (AreCalled outcome bs)
-  report_called (Ok c) false runs bs ls refused all number main whole = all_called c.history runs bs ls (all refl) number whole.fitting main
-  report_called (Ok c) true runs bs ls refused all number main whole = let bad = refused refl in absurd cc
-  report_called (Err e) starved runs bs ls refused all number main whole = tt
-
   pub report_made : (result : Result Closed CaseError) (starved : Bool) (runs : List Run) (bs : List B) (ls : List LeftState) →
       (starved ≡ true → result ≡ Err NoMemory) → (starved ≡ false → AreLeftBy outcome runs bs ls) →
       ((k : ℕ) (run : Run) → k < length runs → (get_or runs k run).0 ≡ k) →
-      (starved ≡ false → (l : LeftState) → (get_or ls 0 l).started ≢ None) →
+      ((l : LeftState) → (get_or ls 0 l).started ≢ None) →
       IfOk result (λ c. IsWhole c.behaviours c.history ls) → IfOk result (IsMadeOf outcome bs)
-  report_made (Ok c) false runs bs ls refused all number main whole = record { handed = record { runs = runs; lefts = ls; numbered = number; left = all refl; main = main refl }; whole = whole }
+  report_made (Ok c) false runs bs ls refused all number main whole = record {
+    handed = record { lefts = ls; as_many = as_many_left runs bs ls (all refl); left = left_numbered runs bs ls (all refl) number; main = main };
+    whole = whole;
+  }
   report_made (Ok c) true runs bs ls refused all number main whole = let bad = refused refl in absurd cc
   report_made (Err e) starved runs bs ls refused all number main whole = tt
+
+  -- each behaviour whose run was started was called for what the report is made of
+  pub report_called : (result : Result Closed CaseError) (bs : List B) → IfOk result (IsMadeOf outcome bs) → IfOk result (AreCalled outcome bs)
+  report_called (Ok c) bs made = all_called c bs made
+  report_called (Err e) bs made = tt
 
   -- if a case is torn, memory ran out in no behaviour
   pub torn_handed : (result : Result Closed CaseError) (starved : Bool) (runs : List Run) (bs : List B) (ls : List LeftState) →
       (starved ≡ true → result ≡ Err NoMemory) → (starved ≡ false → AreLeftBy outcome runs bs ls) →
       ((k : ℕ) (run : Run) → k < length runs → (get_or runs k run).0 ≡ k) →
-      (starved ≡ false → (l : LeftState) → (get_or ls 0 l).started ≢ None) →
+      ((l : LeftState) → (get_or ls 0 l).started ≢ None) →
       result ≡ Err Torn → IsHandedBack outcome bs
-  torn_handed result false runs bs ls refused all number main torn = record { runs = runs; lefts = ls; numbered = number; left = all refl; main = main refl }
+  torn_handed result false runs bs ls refused all number main torn =
+      record { lefts = ls; as_many = as_many_left runs bs ls (all refl); left = left_numbered runs bs ls (all refl) number; main = main }
   torn_handed (Err e) true runs bs ls refused all number main torn = let bad = refused refl in absurd cc
   torn_handed (Ok c) true runs bs ls refused all number main torn = absurd cc

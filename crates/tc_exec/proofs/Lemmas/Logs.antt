@@ -16,7 +16,7 @@ use Rattle.tc_exec.specs.declared.job.Back.{Back}
 use Rattle.tc_exec.specs.Workers.{IsLeftBy}
 use Rattle.tc_exec.specs.Case.{IsMadeOf}
 use Rattle.tc_exec.specs.Logs.{IsLogBy, AreLogsBy}
-use Rattle.tc_exec.proofs.Lemmas.Calls.{at, unstarted_comp}
+use Rattle.tc_exec.proofs.Lemmas.Calls.{unstarted_comp}
 
 module _ {B : Type 0} (outcome : B → PassState → Back → Type 0) (own : (b : B) (p : PassState) (k : Back) → outcome b p k → k.pass.run ≡ p.run) where
   -- the log of a run on a component, by what the run left
@@ -62,11 +62,8 @@ module _ {B : Type 0} (outcome : B → PassState → Back → Type 0) (own : (b 
       IsLogBy (outcome (get_or bs k b)) c.history (record { run = record { 0 = k }; comp = comp; entries = part c.history k })
   log_of_run c bs made k b comp below on =
       let l : LeftState = record { run = record { 0 = 0 }; log = []; started = None } in
-      let h = at outcome made.handed.runs bs made.handed.lefts made.handed.left k (record { 0 = 0 }) b l below in
-      let same : get_or made.handed.runs k (record { 0 = 0 }) ≡ record { 0 = k } = ap (λ m. let r : Run = record { 0 = m } in r) (made.handed.numbered k (record { 0 = 0 }) h.1) in
-      let left : IsLeftBy outcome (record { 0 = k }) (get_or bs k b) (get_or made.handed.lefts k l) = subst (λ r. IsLeftBy outcome r (get_or bs k b) (get_or made.handed.lefts k l)) same h.0 in
-      of_left c.history (record { 0 = k }) (get_or bs k b) (get_or made.handed.lefts k l) comp left (All-get_or (IsFitting c.history) made.handed.lefts k l h.2 made.whole.fitting)
-      (λ zero_is. rw zero_is (made.handed.main l)) on
+      let fits : IsFitting c.history (get_or made.handed.lefts k l) = All-get_or (IsFitting c.history) made.handed.lefts k l (omega (arith, below, made.handed.as_many)) made.whole.fitting in
+      of_left c.history (record { 0 = k }) (get_or bs k b) (get_or made.handed.lefts k l) comp (made.handed.left k b l below) fits (λ zero_is. rw zero_is (made.handed.main l)) on
 
   -- if each behaviour hands back a pass of its own run
   pub logs_by : (c : Closed) (bs : List B) → IsOneHistory c → c.behaviours ≡ length bs → IsMadeOf outcome bs c → AreLogsBy outcome bs c

@@ -6,7 +6,8 @@ use Rattle.tc_verdict.specs.declared.run.Run.{Run}
 use Rattle.tc_entry.specs.declared.entry.Entry.{Entry}
 use Rattle.tc_entry.specs.Reply.{is_ended}
 use Rattle.tc_case.specs.declared.run_log.RunLog.{RunLog}
-use Rattle.tc_case.specs.Merge.{is_other, is_late, is_verdict_call, head, follows, head_at_start, started, in_place, late, log_of, end_of, merge}
+use Rattle.tc_case.specs.Merge.{is_other, is_late, is_verdict_call, head, follows, started, in_place, late, log_of, end_of, merge}
+use Rattle.tc_merge.specs.Inside.{head_at_start}
 
 abbrev others : List Entry → List Entry
 others h = filter is_other h

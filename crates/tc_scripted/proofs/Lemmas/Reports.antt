@@ -4,7 +4,6 @@ use Rattle.std.proofs.lemmas.List.{append-nil, reverse-append, reverse-reverse}
 use Rattle.std.proofs.lemmas.List.Elements.{filter-append}
 use Rattle.std.proofs.lemmas.Option.{slice_get-get_or}
 use Rattle.std.proofs.lemmas.Bool.Decides.{nat_tests}
-use Rattle.tc_verdict.specs.declared.run.Run.{Run}
 use Rattle.tc_entry.specs.declared.comp.Comp.{Comp}
 use Rattle.tc_entry.specs.declared.entry.Entry.{Entry}
 use Rattle.tc_entry.specs.declared.op.Op.{Op}
@@ -25,7 +24,7 @@ use Rattle.tc_book.proofs.Lemmas.PartOf.{comp_is, part_end}
 use Rattle.tc_exec.specs.declared.job.Back.{Back}
 use Rattle.tc_exec.specs.Case.{IsCaseReport, IsMadeOf}
 use Rattle.tc_exec.specs.Logs.{IsLogBy}
-use Rattle.tc_exec.specs.Workers.{AreLeftBy, opening}
+use Rattle.tc_exec.specs.Workers.{opening}
 use Rattle.tc_exec.proofs.Lemmas.Logs.{log_of_run}
 use Rattle.tc_behaviour.specs.Acts.{MakesItsCalls}
 use Rattle.tc_behaviour.proofs.Lemmas.Running.{run_grown}
@@ -145,12 +144,10 @@ no_more_turns steps s None left = refl
 own : (s : ScriptView) (p : PassState) (k : Back) → MakesItsCalls s p k → k.pass.run ≡ p.run
 own s p k is = ap (λ q. q.run) (run_grown s.steps p k.pass k.ending is.calls).1
 
-some_job : (runs : List Run) (scripts : List ScriptView) (lefts : List LeftState) → AreLeftBy MakesItsCalls runs scripts lefts → ((l : LeftState) → (get_or lefts 0 l).started ≢ None) → 1 ≤ length scripts
-some_job [] [] [] left main = absurd (main (record { run = record { 0 = 0 }; log = []; started = None }) refl)
-some_job [] [] (l ∷ lefts) left main = absurd left
-some_job [] (s ∷ scripts) lefts left main = omega arith
-some_job (r ∷ runs) [] lefts left main = absurd left
-some_job (r ∷ runs) (s ∷ scripts) lefts left main = omega arith
+some_job : (scripts : List ScriptView) (lefts : List LeftState) → length lefts ≡ length scripts → ((l : LeftState) → (get_or lefts 0 l).started ≢ None) → 1 ≤ length scripts
+some_job [] [] many main = absurd (main (record { run = record { 0 = 0 }; log = []; started = None }) refl)
+some_job [] (l ∷ lefts) many main = absurd (omega (arith, many))
+some_job (s ∷ scripts) lefts many main = omega arith
 
 some_same : {A : Type 0} (x y : A) → Some x ≡ Some y → x ≡ y
 some_same x y h = cc
@@ -192,7 +189,7 @@ module _ (scripts : List ScriptView) (c : Closed) (report : IsCaseReport (length
   legal = subst (λ n. IsLegal n whole) report.behaviours report.one_history.legal
 
   some : 1 ≤ length scripts
-  some = some_job made.handed.runs scripts made.handed.lefts made.handed.left made.handed.main
+  some = some_job scripts made.handed.lefts made.handed.as_many made.handed.main
 
   -- the log of a run that was started is that of its script, on the component and with the arguments of its start
   log_is : (b : ℕ) (w : Comp × List Comp) → b < length scripts → given whole b ≡ Some w → IsLogOf (steps_of scripts b) w.0 w.1 (part c.history b)

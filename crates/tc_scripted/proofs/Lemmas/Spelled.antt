@@ -25,16 +25,15 @@ use Rattle.tc_script.specs.Law.{signatures, StartsOne, IsCase}
 use Rattle.tc_case.specs.declared.closed.Closed.{Closed}
 use Rattle.tc_book.specs.Closing.{IsFitting}
 use Rattle.tc_case.specs.Parts.{part}
-use Rattle.tc_book.specs.Passes.{PassState, LeftState}
+use Rattle.tc_book.specs.Passes.{LeftState}
 use Rattle.tc_case.specs.Report.{IsOneHistory}
 use Rattle.tc_book.specs.Starts.{start_of, start_in}
 use Rattle.tc_book.proofs.Lemmas.PartOf.{comp_is}
 use Rattle.tc_book.proofs.Lemmas.Starting.{starts_below}
-use Rattle.tc_exec.specs.declared.job.Back.{Back}
 use Rattle.tc_exec.specs.declared.job.Ending.TheVariants as E
 use Rattle.tc_exec.specs.Case.{AreCalled, IsMadeOf}
-use Rattle.tc_exec.specs.Workers.{WasCalledFor, WasStarted, IsLeftBy, AreLeftBy}
-use Rattle.tc_exec.proofs.Lemmas.Calls.{at, all_called, unstarted_comp}
+use Rattle.tc_exec.specs.Workers.{WasCalled, WasStarted, IsLeftBy}
+use Rattle.tc_exec.proofs.Lemmas.Calls.{all_called, unstarted_comp}
 use Rattle.tc_behaviour.specs.Acts.{Acts, MakesItsCalls}
 use Rattle.tc_scripted.proofs.Giving.{GivesAll, GiveAll, worker_gives}
 
@@ -132,22 +131,12 @@ own_run run s l (inl none) = ap (λ h. h.left.run) none
 own_run run s l (inr w) = w.called.left.run ∙ ap (λ q. q.run) w.called.outcome_of.grown.1 ∙ w.own
 
 -- with these arguments a started run was called
-called_with : (history : List Entry) (run : Run) (s : ScriptView) (l : LeftState) (w : WasStarted run (Acts s) (record { left = l; ending = E.Returned })) → IsFitting history l → 0 < run.0
+called_with : (history : List Entry) (run : Run) (s : ScriptView) (l : LeftState) (w : WasStarted run (λ p. WasCalled (Acts s p) (record { left = l; ending = E.Returned }))) → IsFitting history l → 0 < run.0
     → start_of (reverse history) run.0 ≡ Some (w.pass.me, w.pass.args)
 called_with history run s l w fits above =
     let same : l.run ≡ run = own_run run s l (inr w) in
     let known : l.started ≡ start_of (reverse history) l.run.0 = fits.started (rw same above) in
     ap (λ r. start_of (reverse history) r.0) (sym same) ∙ sym known ∙ w.called.left.started ∙ ap (λ q. Some (q.me, q.args)) w.called.outcome_of.grown.1
-
--- what holds of each worker holds of them all
-each_left : {B : Type 0} (P Q : B → PassState → Back → Type 0) (runs : List Run) (bs : List B) (ls : List LeftState) → AreLeftBy P runs bs ls
-    → ((k : ℕ) (run : Run) (b : B) (l : LeftState) → k < length bs → IsLeftBy Q (get_or runs k run) (get_or bs k b) (get_or ls k l)) → AreLeftBy Q runs bs ls
-each_left P Q [] [] [] are each = tt
-each_left P Q (run ∷ runs) (b ∷ bs) (l ∷ ls) are each = (each 0 run b l (omega arith), each_left P Q runs bs ls are.1 (λ k r c m below. each (suc k) r c m (omega arith)))
-each_left P Q [] [] (l ∷ ls) are each = absurd are
-each_left P Q [] (b ∷ bs) ls are each = absurd are
-each_left P Q (run ∷ runs) [] ls are each = absurd are
-each_left P Q (run ∷ runs) (b ∷ bs) [] are each = absurd are
 
 no_script : Word × ScriptView
 no_script = ([], record { parameters = 0; steps = [] })
@@ -172,20 +161,17 @@ module _ (scripts : List (Word × ScriptView)) (c : Closed) (lawful : IsCase scr
   job_at : (k : ℕ) (b : ScriptView) → k < length scripts → get_or jobs k b ≡ script k
   job_at k b below = get_or-map (λ b. b.1) scripts k no_script b below
 
-  number_at : (k : ℕ) (run : Run) → k < length made.handed.runs → get_or made.handed.runs k run ≡ record { 0 = k }
-  number_at k run below = ap (λ m. let r : Run = record { 0 = m } in r) (made.handed.numbered k run below)
-
   as_many_jobs : length jobs ≡ length scripts
   as_many_jobs = length-map scripts (λ b. b.1)
 
   -- what the worker of run k left
   worker : (k : ℕ) (l : LeftState) → k < length scripts → IsLeftBy Acts (record { 0 = k }) (script k) (get_or made.handed.lefts k l) × IsFitting c.history (get_or made.handed.lefts k l)
   worker k l below =
-      let run : Run = record { 0 = 0 } in
       let b : ScriptView = no_script.1 in
-      let h = at Acts made.handed.runs jobs made.handed.lefts made.handed.left k run b l (omega (arith, below, as_many_jobs)) in
-      let own : IsLeftBy Acts (record { 0 = k }) (get_or jobs k b) (get_or made.handed.lefts k l) = subst (λ r. IsLeftBy Acts r (get_or jobs k b) (get_or made.handed.lefts k l)) (number_at k run h.1) h.0 in
-      (subst (λ s. IsLeftBy Acts (record { 0 = k }) s (get_or made.handed.lefts k l)) (job_at k b below) own, All-get_or (IsFitting c.history) made.handed.lefts k l h.2 made.whole.fitting)
+      let low : k < length jobs = omega (arith, below, as_many_jobs) in (
+        subst (λ s. IsLeftBy Acts (record { 0 = k }) s (get_or made.handed.lefts k l)) (job_at k b below) (made.handed.left k b l low),
+        All-get_or (IsFitting c.history) made.handed.lefts k l (omega (arith, low, made.handed.as_many)) made.whole.fitting,
+      )
 
   log_gives : (k : ℕ) → k < length scripts → GiveAll heads (part c.history k)
   log_gives k below =
@@ -216,7 +202,7 @@ module _ (scripts : List (Word × ScriptView)) (c : Closed) (lawful : IsCase scr
   main_has_none some = subst (λ o. IfSome o (λ b. b.1.parameters ≡ 0)) (slice_get-get_or scripts 0 no_script some) lawful.main
 
   -- each behaviour was called with as many arguments as it has parameters
-  as_many : (k : ℕ) (l : LeftState) → k < length scripts → (w : WasStarted (record { 0 = k }) (Acts (script k)) (record { left = get_or made.handed.lefts k l; ending = E.Returned }))
+  as_many : (k : ℕ) (l : LeftState) → k < length scripts → (w : WasStarted (record { 0 = k }) (λ p. WasCalled (Acts (script k) p) (record { left = get_or made.handed.lefts k l; ending = E.Returned })))
       → length w.pass.args ≡ (script k).parameters
   as_many zero l below w = ap (λ p. length p.args) (w.main refl) ∙ sym (main_has_none below)
   as_many (suc k) l below w =
@@ -240,26 +226,19 @@ module _ (scripts : List (Word × ScriptView)) (c : Closed) (lawful : IsCase scr
             called = record { back = w.called.back; outcome_of = record { as_many = many; calls = w.called.outcome_of.calls many }; left = w.called.left; ending = w.called.ending };
           })
 
-  left_by_calls : AreLeftBy MakesItsCalls made.handed.runs jobs made.handed.lefts
-  left_by_calls = each_left Acts MakesItsCalls made.handed.runs jobs made.handed.lefts made.handed.left (λ k run b l below.
-      let low : k < length scripts = omega (arith, below, as_many_jobs) in
-      let h = at Acts made.handed.runs jobs made.handed.lefts made.handed.left k run b l below in
-      let own : IsLeftBy MakesItsCalls (get_or made.handed.runs k run) (script k) (get_or made.handed.lefts k l) =
-      subst (λ r. IsLeftBy MakesItsCalls r (script k) (get_or made.handed.lefts k l)) (sym (number_at k run h.1)) (made_its_calls k l low) in
-      subst (λ s. IsLeftBy MakesItsCalls (get_or made.handed.runs k run) s (get_or made.handed.lefts k l)) (sym (job_at k b low)) own)
-
   -- the report is made of the calls of the scripts
   pub made_of_calls : IsMadeOf MakesItsCalls jobs c
-  made_of_calls = record { handed = record { runs = made.handed.runs; lefts = made.handed.lefts; numbered = made.handed.numbered; left = left_by_calls; main = made.handed.main }; whole = made.whole }
-
-  main_calls : (b : ScriptView) → 0 < length scripts → WasCalledFor (record { 0 = 0 }) (MakesItsCalls (get_or jobs 0 b))
-  main_calls b some = subst (λ s. WasCalledFor (record { 0 = 0 }) (MakesItsCalls s)) (sym (job_at 0 b some)) (by (made_its_calls 0 nothing_left some))
-    where
-      by : IsLeftBy MakesItsCalls (record { 0 = 0 }) (script 0) (get_or made.handed.lefts 0 nothing_left) → WasCalledFor (record { 0 = 0 }) (MakesItsCalls (script 0))
-      by (inl none) = absurd (made.handed.main nothing_left (ap (λ h. h.left.started) none))
-      by (inr w) = record { pass = w.pass; own = w.own; new = w.new; main = w.main; back = w.called.back; outcome_of = w.called.outcome_of }
+  made_of_calls = record {
+    handed = record {
+      lefts = made.handed.lefts;
+      as_many = made.handed.as_many;
+      left = λ k b l below.
+          let low : k < length scripts = omega (arith, below, as_many_jobs) in
+          subst (λ s. IsLeftBy MakesItsCalls (record { 0 = k }) s (get_or made.handed.lefts k l)) (sym (job_at k b low)) (made_its_calls k l low);
+      main = made.handed.main;
+    };
+    whole = made.whole;
+  }
 
   pub are_called : AreCalled MakesItsCalls jobs c
-  are_called = λ k b below started.
-      all_called MakesItsCalls c.history made.handed.runs jobs made.handed.lefts left_by_calls made.handed.numbered made.whole.fitting
-      (λ b. main_calls b (omega (arith, below, as_many_jobs))) k b below started
+  are_called = all_called MakesItsCalls c jobs made_of_calls

@@ -8,7 +8,7 @@ use Rattle.tc_entry.specs.declared.reply.Reply.{Reply}
 use Rattle.tc_entry.specs.declared.reply.Reply.TheVariants as R
 use Rattle.tc_entry.specs.Reply.{is_ok}
 use Rattle.tc_table.specs.History.{first_some, is_comp, is_finish, is_kill_of, is_stop_case, is_stop_of}
-use Rattle.tc_table.specs.Laws.{halting_op}
+use Rattle.tc_table.specs.Inside.Laws.{halting_op}
 
 pub self_equal : (m : ℕ) → (m == m) ≡ true
 self_equal m = grind (arith, nat_tests)

@@ -16,7 +16,7 @@ use Rattle.tc_table.specs.Status.{is_running, is_killed}
 use Rattle.tc_table.specs.Faults.{start_fault}
 use Rattle.tc_table.specs.Answers.{answer, is_active, is_run_of}
 use Rattle.tc_table.specs.Legal.{IsLegal}
-use Rattle.tc_table.specs.Laws.{halting_op, HaltedByEntry, OthersHaltNothing, StartedByEntry}
+use Rattle.tc_table.specs.Inside.Laws.{halting_op, HaltedByEntry, OthersHaltNothing, StartedByEntry}
 use Rattle.tc_table.proofs.Lemmas.Keeping.{kill_halts}
 use Rattle.tc_table.proofs.Lemmas.Kept.{inactive}
 use Rattle.tc_table.proofs.Lemmas.Over.{on_existing}

@@ -22,7 +22,7 @@ use Rattle.tc_table.specs.Waiting.{holds, is_still, is_stuck, parks, waiting}
 use Rattle.tc_table.specs.Faults.{all_exist, asks_many, fault, target_names}
 use Rattle.tc_table.specs.Answers.{answer, answer_unless, is_active, is_active_on, is_run_of}
 use Rattle.tc_table.specs.Legal.{IsLegal}
-use Rattle.tc_table.specs.Laws.{halting_op, keeps_phases, lets_go_on, is_quiet, QuietWakesNobody}
+use Rattle.tc_table.specs.Inside.Laws.{halting_op, keeps_phases, lets_go_on, is_quiet, QuietWakesNobody}
 use Rattle.tc_table.proofs.Lemmas.LawsOfHistories.{answered_is_running}
 use Rattle.tc_table.proofs.Lemmas.Over.{on_existing, stays}
 use Rattle.tc_table.proofs.Lemmas.Sound.{starts}

@@ -1,9 +1,6 @@
 use Rattle.std.proofs.Common.{◌≡◌, [], ◌∷◌, ◌++◌, ap, ◌∙◌}
-use Rattle.tc_exec.proofs.Lemmas.Calls.{neither, main_left, main_called, main_started}
+use Rattle.tc_exec.proofs.Lemmas.Calls.{neither, main_left, main_started}
 use Rattle.tc_exec.proofs.case.gather.Goals as goal
-
-pub returns-clause-called : goal.returns-clause-called
-returns-clause-called g c = main_called g.B.Callable.outcome c.args.pass c.args.first c.act.result c.requires.main c.act.ensures
 
 pub returns-clause-first : goal.returns-clause-first
 returns-clause-first g c = λ d.

@@ -1,7 +1,7 @@
-use Rattle.std.proofs.Common.{◌≡◌, ◌≤◌, ◌+◌, ◌++◌, map}
+use Rattle.std.proofs.Common.{◌≡◌, ◌≤◌, ◌+◌, ◌++◌, length, map}
 use Rattle.std.specs.Vec.{vec_len, vec_capacity}
 use Rattle.std.specs.Vec.Iter.{into_iter_items, into_iter_len}
-use Rattle.tc_exec.specs.Gates.{AreAllowed}
+use Rattle.tc_exec.specs.Gates.{IsPassed}
 use Rattle.tc_exec.proofs.worker.make_workers.Given as goal
 
 abbrev pub invariant-loop-behaviour : goal.invariant-loop-behaviour
@@ -11,4 +11,4 @@ invariant-loop-behaviour g l =
     × (vec_len l.fn.tickets ≤ vec_capacity l.workers)
     × (map (λ w. w.handle.promise.run) l.workers.items ++ into_iter_items l.tickets ≡ l.fn.tickets.items)
     × (map (λ w. w.handle.promise.behaviour.value) l.workers.items ++ into_iter_items l.behaviour-iterator ≡ l.fn.behaviours.items)
-    × AreAllowed g.G.Gate.asks (map (λ w. w.handle.promise.run) l.workers.items) l.fn.gate l.gate
+    × IsPassed g.G.Gate.asks (length l.workers.items) l.fn.gate l.gate
