@@ -1,7 +1,7 @@
 -- The evidence has what was asked for.
 use Rattle.std.proofs.Common.{ℕ, ◌≡◌, ◌∙◌, ◌&&◌, not, inl, inr, if◌then◌else◌, zero, suc, Bool, true, false, is_some, Option, Some, None, List, [], ◌∷◌, ◌++◌, refl, ap, sym, subst, append_assoc}
 use Rattle.std.specs.Option.{option_map_or}
-use Rattle.std.specs.List.{flat_map}
+use Rattle.std.specs.List.{cons_option, filter_map, flat_map}
 use Rattle.tc_verdict.specs.declared.run.Run.{Run}
 use Rattle.tc_entry.specs.declared.op.Op.{Op}
 use Rattle.tc_table.specs.declared.awaited.Awaited.{Awaited}
@@ -11,10 +11,10 @@ use Rattle.tc_evidence.specs.declared.line.Line.TheVariants as L
 use Rattle.tc_evidence.specs.Line.{entries_of}
 use Rattle.tc_serve.specs.declared.order.Order.{Order}
 use Rattle.tc_serve.specs.declared.order.Order.TheVariants as O
-use Rattle.tc_serve.specs.Protocol.{Played, Stand, called, is_parked, is_wake, moved, sleep_of, wake_op, with_current, woken, woken_from}
+use Rattle.tc_serve.specs.Protocol.{Came, Played, Stand, called, done_of, is_parked, is_wake, moved, sleep_of, wake_op, was_done, was_lost, was_refused, with_current, woken, woken_from}
 use Rattle.tc_serve.specs.Inside.{after_call}
-use Rattle.tc_serve.specs.Laws.{EvidenceIsAsked, asked_by, asked_in, asked_of, done_by}
-use Rattle.tc_serve.proofs.Changes.{Changed, changes, may_ask}
+use Rattle.tc_serve.specs.Laws.{EvidenceIsAsked, asked_by, asked_in, asked_of}
+use Rattle.tc_serve.proofs.Changes.{Changed, changes, done_by, may_ask}
 
 -- ---- wakes come of themselves
 
@@ -74,7 +74,13 @@ next asks s t (inr (inr (inr (inl closes)))) =
 next asks s t (inr (inr (inr (inr same)))) =
     subst (λ (x : Stand). asked_of x ≡ asks ++ asked_of s) same.1 (ap (λ (l : List Order). l ++ asked_of s) (sym same.0))
 
+one_done : (c : Came) (orders : List Order) → done_by c ++ orders ≡ cons_option (done_of c) orders
+one_done (was_done o) orders = refl
+one_done (was_refused run why) orders = refl
+one_done (was_lost why) orders = refl
+
 pub evidence_is_asked : EvidenceIsAsked
 evidence_is_asked [] s served = ap asked_of served
 evidence_is_asked (l ∷ before) t served =
-    next (done_by l.came) served.0 t (changes l.came l.ended _ served.0 t served.4) ∙ ap (λ (x : List Order). done_by l.came ++ x) (evidence_is_asked before served.0 served.1)
+    next (done_by l.came) served.0 t (changes l.came l.ended _ served.0 t served.4)
+    ∙ (ap (λ (x : List Order). done_by l.came ++ x) (evidence_is_asked before served.0 served.1) ∙ one_done l.came (filter_map (λ x. done_of x.came) before))

@@ -24,8 +24,8 @@ use Rattle.tc_evidence.specs.Met.{AreMet}
 use Rattle.tc_serve.specs.declared.open_case.OpenCase.{OpenCase}
 use Rattle.tc_serve.specs.declared.refusal.Refusal.{Refusal}
 use Rattle.tc_serve.specs.declared.refusal.Refusal.TheVariants as W
-use Rattle.tc_serve.specs.Protocol.{Played, called, is_parked, is_wake, made, moved, past_of, sleep_of, with_line, woken}
-use Rattle.tc_serve.specs.Inside.{AreAsleep, Becomes, BecomesAwake, Holds, IsAdded, IsCalled, IsKept, IsOpen, IsText, Moves, Rests, after_call, entry, started, wakes_nobody}
+use Rattle.tc_serve.specs.Protocol.{Played, called, is_parked, is_wake, made, moved, past_of, sleep_of, woken}
+use Rattle.tc_serve.specs.Inside.{AreAsleep, Becomes, BecomesAwake, Holds, IsAdded, IsCalled, IsKept, IsOpen, IsText, Moves, Rests, after_call, entry, started, wakes_nobody, with_line}
 use Rattle.tc_serve.proofs.Going.{appended, grows, line_more}
 use Rattle.tc_serve.proofs.Settled.{moved_settled, nobody_woken, noted_settled}
 use Rattle.tc_serve.proofs.Sleeping.{asleep_more, asleep_on}

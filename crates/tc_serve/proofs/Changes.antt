@@ -18,8 +18,9 @@ use Rattle.tc_serve.specs.declared.refusal.Refusal.{Refusal}
 use Rattle.tc_serve.specs.declared.refusal.Refusal.TheVariants as W
 use Rattle.tc_serve.specs.Order.{IsOrder}
 use Rattle.tc_serve.specs.Refusal.{why_text}
-use Rattle.tc_serve.specs.Protocol.{AreServed, Came, Comes, Played, Sent, Stand, added, is_wake, made, moved, named, sleep_of, taken, was_done, was_lost, was_refused, with_current, with_line, with_open}
-use Rattle.tc_serve.specs.Laws.{AllServed, asked_by, done_by}
+use Rattle.tc_serve.specs.Protocol.{AreServed, Came, Comes, Played, Sent, Stand, added, is_wake, made, moved, named, sleep_of, taken, was_done, was_lost, was_refused, with_current, with_open}
+use Rattle.tc_serve.specs.Inside.{with_line}
+use Rattle.tc_serve.specs.Laws.{AllServed, asked_by}
 
 abbrev pub new : List ℕ → ℕ → Played
 new name n = record { name = name; behaviours = n; lines = [] }
@@ -162,6 +163,11 @@ done s t (O.Move caller op) fits e =
     inr (inr (inl (record { case = so.case; caller = caller; op = op; some = so.some; may = two.0; low = fits.0; fits = fits.1; asked = refl; is = ap (with_current s) two.1 ∙ so.is })))
 done s t (O.Remark run sentence) fits e = noted _ s t (L.Remark run sentence) (added run (L.Remark run sentence)) (added_is run (L.Remark run sentence)) fits.1 refl e
 done s t O.End fits e = closed _ s t s.current refl refl e
+
+-- what a line asked for that was done
+abbrev pub done_by : Came → List Order
+done_by (was_done o) = o ∷ []
+done_by _ = []
 
 pub changes : (c : Came) (ended : Bool) (line : List ℕ) (s t : Stand) → Comes c ended line s t → Changed (done_by c) s t
 changes (was_done o) ended line s t came = done s t o came.0.1 came.1

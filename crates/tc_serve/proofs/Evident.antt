@@ -35,9 +35,9 @@ use Rattle.tc_evidence.specs.Written.{text_of_block, text_of_blocks}
 use Rattle.tc_evidence.proofs.Lemmas.WrittenEvidence.{written_evidence}
 use Rattle.tc_serve.specs.declared.refusal.Refusal.{Refusal}
 use Rattle.tc_serve.specs.declared.refusal.Refusal.TheVariants as W
-use Rattle.tc_serve.specs.Protocol.{Played, Stand, called, finished, is_parked, moved, past_of, wake_op, with_line, woken, woken_from}
+use Rattle.tc_serve.specs.Protocol.{Played, Stand, called, finished, is_parked, moved, past_of, wake_op, woken, woken_from}
 use Rattle.tc_serve.specs.Text.{block, header_of, stand_text}
-use Rattle.tc_serve.specs.Inside.{after_call}
+use Rattle.tc_serve.specs.Inside.{after_call, with_line}
 use Rattle.tc_serve.specs.Laws.{ServedIsEvidence, block_of, blocks_of}
 use Rattle.tc_serve.specs.Refusal.{why_text}
 use Rattle.tc_serve.proofs.Changes.{IsNote, all_served, closing, may_add}

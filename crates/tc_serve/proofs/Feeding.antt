@@ -15,9 +15,9 @@ use Rattle.tc_serve.specs.declared.serving.Serving.{Serving}
 use Rattle.tc_serve.specs.declared.order.TheConstants.{LINE_BYTES}
 use Rattle.tc_serve.specs.Protocol.{AllEnded, Asks, Came, Comes, IsNobodys, IsOf, NoLf, Refuses, Sent, Stand, finished, seen, taken, was_done, was_lost, was_refused}
 use Rattle.tc_serve.specs.Refusal.{why_text}
-use Rattle.tc_serve.specs.Text.{bytes_of, end_told, is_refused, lost_text, refusal_text, told_of, worst_of}
+use Rattle.tc_serve.specs.Text.{bytes_of, end_told, lost_text, refusal_text, told_of, worst_of}
 use Rattle.tc_serve.specs.Serve.{IsWhy}
-use Rattle.tc_serve.specs.Inside.{Closes, Counts, Fails, Feeds, Finishes, IsAtLine, IsBadLine, IsEnd, IsFed, Serves, StandsAs, Stops, StopsIn, TakesPiece, TellsRun, Tries, TriesLine}
+use Rattle.tc_serve.specs.Inside.{Closes, Counts, Fails, Feeds, Finishes, IsAtLine, IsBadLine, IsEnd, IsFed, Serves, StandsAs, Stops, StopsIn, TakesPiece, TellsRun, Tries, TriesLine, is_refused}
 use Rattle.tc_serve.proofs.Going.{appended}
 
 -- ---- lines

@@ -31,8 +31,8 @@ use Rattle.tc_table.proofs.Lemmas.Quiet.{quiet_wakes_nobody}
 use Rattle.tc_table.proofs.Lemmas.Sound.{plain_if}
 use Rattle.tc_evidence.specs.declared.line.Line.{Line}
 use Rattle.tc_evidence.specs.Line.{entries_of, entry_of}
-use Rattle.tc_serve.specs.Protocol.{Played, called, moved, past_of, wake_op, with_line, woken, woken_from}
-use Rattle.tc_serve.specs.Inside.{after_call, wakes_nobody}
+use Rattle.tc_serve.specs.Protocol.{Played, called, moved, past_of, wake_op, woken, woken_from}
+use Rattle.tc_serve.specs.Inside.{after_call, wakes_nobody, with_line}
 use Rattle.tc_serve.specs.Laws.{AllServed, IsSettled, IsSound}
 use Rattle.tc_serve.proofs.Changes.{all_served}
 use Rattle.tc_serve.proofs.Sound.{all_legal, move_sound, no_entry, note_sound}

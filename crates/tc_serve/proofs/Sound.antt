@@ -10,8 +10,8 @@ use Rattle.tc_table.specs.Waiting.{waiting}
 use Rattle.tc_evidence.specs.declared.line.Line.{Line}
 use Rattle.tc_evidence.specs.declared.line.Line.TheVariants as L
 use Rattle.tc_evidence.specs.Line.{entries_of, entry_of}
-use Rattle.tc_serve.specs.Protocol.{Played, called, is_parked, is_wake, moved, wake_op, with_line, woken, woken_from}
-use Rattle.tc_serve.specs.Inside.{after_call}
+use Rattle.tc_serve.specs.Protocol.{Played, called, is_parked, is_wake, moved, wake_op, woken, woken_from}
+use Rattle.tc_serve.specs.Inside.{after_call, with_line}
 use Rattle.tc_serve.specs.Laws.{AllServed, IsSound}
 use Rattle.tc_serve.proofs.Changes.{all_served, may_add, may_ask}
 

@@ -16,10 +16,10 @@ use Rattle.tc_serve.specs.declared.refusal.Refusal.{Refusal}
 use Rattle.tc_serve.specs.declared.refusal.Refusal.TheVariants as W
 use Rattle.tc_serve.specs.declared.server.Server.{Server}
 use Rattle.tc_serve.specs.Order.{IsOrder, order_text}
-use Rattle.tc_serve.specs.Protocol.{Asks, IsNobodys, IsOf, IsWhyNothing, Played, Refuses, Stand, added, past_of, refused, taken, with_current, with_line, with_open}
+use Rattle.tc_serve.specs.Protocol.{Asks, IsNobodys, IsOf, IsWhyNothing, Played, Refuses, Stand, added, past_of, refused, taken, with_current, with_open}
 use Rattle.tc_serve.specs.Refusal.{why_text}
 use Rattle.tc_serve.specs.Text.{counted, header_of, stand_text}
-use Rattle.tc_serve.specs.Inside.{Changes, IsCurrent, IsOpen, Rests, StandsAs, TellsRun, Tries, TriesLine}
+use Rattle.tc_serve.specs.Inside.{Changes, IsCurrent, IsOpen, Rests, StandsAs, TellsRun, Tries, TriesLine, with_line}
 use Rattle.tc_serve.proofs.Going.{appended, begins, ends}
 use Rattle.tc_serve.proofs.Settled.{new_settled}
 

@@ -1,6 +1,6 @@
 -- What is read and written, and what goes to standard error, turn by turn.
 use Rattle.std.proofs.Common.{ℕ, ◌≡◌, ◌≢◌, ◌∙◌, ◌+◌, ◌-◌, ◌<◌, ◌≤◌, ◌^◌, ◌↔◌, inl, inr, Bool, true, false, MatchOption, Option, Some, None, Result, Ok, Err, IfErr, IfOk, List, [], ◌∷◌, ◌++◌, length, take, zero-add, suc-add, refl, ap, sym, subst, append_assoc, arith}
-use Rattle.std.specs.Io.KnownBytes.{Appends, Consumes, IsAtEnd}
+use Rattle.std.specs.Io.KnownBytes.{Appends, Consumes, IsAtEnd, Keeps}
 use Rattle.std.proofs.lemmas.Grind.{common_steps}
 use Rattle.std.proofs.lemmas.List.{append-nil, length-append, take_all}
 use Rattle.tc_stream.specs.Output.{AppendsPrefix}
@@ -8,9 +8,10 @@ use Rattle.tc_serve.specs.declared.fault.ServeFault.{ServeFault}
 use Rattle.tc_serve.specs.declared.fault.ServeFault.TheVariants as F
 use Rattle.tc_serve.specs.declared.service.Served.{Served}
 use Rattle.tc_serve.specs.declared.serving.Serving.{Serving}
-use Rattle.tc_serve.specs.Text.{bytes_of, stand_text}
-use Rattle.tc_serve.specs.Serve.{Devices, IsServed, IsStopped, IsTaken, IsWhy, devices}
-use Rattle.tc_serve.specs.Inside.{Finishes, Hears, IsAt, IsFed, IsOwn, Stops}
+use Rattle.tc_serve.specs.Protocol.{finished}
+use Rattle.tc_serve.specs.Text.{bytes_of, stand_text, told_of}
+use Rattle.tc_serve.specs.Serve.{Devices, IsTaken, IsWhy, devices}
+use Rattle.tc_serve.specs.Inside.{Finishes, Hears, IsAt, IsFed, IsOwn, IsServed, IsStopped, Stops}
 
 -- ---- bytes
 
@@ -19,6 +20,12 @@ consumes_join None b c x y p q = tt
 consumes_join (Some u) None c x y p q = absurd p
 consumes_join (Some u) (Some v) None x y p q = absurd q
 consumes_join (Some u) (Some v) (Some w) x y p q = p ∙ (ap (λ l. x ++ l) q ∙ sym (append_assoc x y w))
+
+consumes_kept : (a b c : Option (List ℕ)) (x : List ℕ) → Consumes a b x → Keeps b c → Consumes a c x
+consumes_kept None b c x p q = tt
+consumes_kept (Some u) None c x p q = absurd p
+consumes_kept (Some u) (Some v) None x p q = absurd q
+consumes_kept (Some u) (Some v) (Some w) x p q = p ∙ ap (λ l. x ++ l) (sym q)
 
 appends_join : (a b c : Option (List ℕ)) (x y : List ℕ) → Appends a b x → Appends b c y → Appends a c (x ++ y)
 appends_join None b c x y p q = tt
@@ -76,10 +83,11 @@ fed_again bytes v before out before' told fed = record {
 }
 
 -- no more is read
-stopped_at : (from to : Devices) (told : Bool) (turns : ℕ) (v : Serving) (f : ServeFault) → (at_ : IsAt from to told turns v) → f ≢ F.Write → IsWhy f at_.fed.lines at_.fed.stand at_.fed.last to.input → IsStopped from to told f
-stopped_at from to told turns v f at_ not_write why =
+stopped_at : (from to : Devices) (told : Bool) (turns : ℕ) (v : Serving) (f : ServeFault) → (at_ : IsAt from to told turns v) → IsWhy f at_.fed.lines at_.fed.stand at_.fed.last to.input → IsStopped from to told f
+stopped_at from to told turns v f at_ why =
     let text = sym (append-nil at_.before) ∙ at_.fed.counts.stands.text in
-    let reports = sym (append-nil at_.before') ∙ at_.fed.counts.tells in
+    let reports = (sym (append-nil at_.before') ∙ at_.fed.counts.tells) ∙ sym (append-nil (told_of at_.fed.lines)) in
+    let written = subst (λ (l : List ℕ). Appends from.output to.output l) text at_.written in
     record {
       lines = at_.fed.lines;
       stand = at_.fed.stand;
@@ -87,20 +95,33 @@ stopped_at from to told turns v f at_ not_write why =
       rest = at_.fed.last;
       read = subst (λ (l : List ℕ). Consumes from.input to.input l) at_.fed.parts at_.read;
       last = inl at_.fed.all;
-      why = why;
       ended = false;
       end = λ e. absurd cc;
-      whole = λ other. subst (λ (l : List ℕ). Appends from.output to.output l) text at_.written;
-      part = λ is. absurd (not_write is);
+      all = tt;
+      refused = tt;
+      why = (λ e. absurd cc, why);
+      whole = λ other. written;
+      part = prefix_whole from.output to.output (stand_text at_.fed.stand) written;
       told_is = subst (λ (l : List ℕ). IsTaken told from.errors to.errors l) reports at_.told_is;
     }
 
-is_long : F.TooLong ≢ F.Write
-is_long = λ e. cc
-
 pub uncounted : (from to : Devices) (told : Bool) (turns : ℕ) (v : Serving) → 2 ^ 64 - 1 ≤ turns → IsAt from to told turns v → IsStopped from to told F.TooLong
 uncounted from to told turns v most at_ =
-    stopped_at from to told turns v F.TooLong at_ is_long (subst (λ (l : List ℕ). 2 ^ 64 - 1 ≤ length l) at_.fed.parts (omega (arith, most, at_.many)))
+    stopped_at from to told turns v F.TooLong at_ (subst (λ (l : List ℕ). 2 ^ 64 - 1 ≤ length l) at_.fed.parts (omega (arith, most, at_.many)))
+
+pub unread : (from : Devices) (left rest output errors : Option (List ℕ)) (told : Bool) (turns : ℕ) (v : Serving) → IsAt from (devices left output errors) told turns v → Keeps left rest → IsStopped from (devices rest output errors) told F.Read
+unread from left rest output errors told turns v at_ kept =
+    let still : IsAt from (devices rest output errors) told turns v = record {
+      bytes = at_.bytes;
+      read = consumes_kept from.input left rest at_.bytes at_.read kept;
+      many = at_.many;
+      before = at_.before;
+      before' = at_.before';
+      fed = at_.fed;
+      written = at_.written;
+      told_is = at_.told_is;
+    } in
+    stopped_at from (devices rest output errors) told turns v F.Read still at_.fed.last_is
 
 module _ (from : Devices) (left rest output output' errors errors' : Option (List ℕ)) (heard told : Bool) (turns : ℕ) (v w : Serving) (chunk out said : List ℕ) (at_ : IsAt from (devices left output errors) heard turns v) (read : Consumes left rest chunk) (hears : Hears heard told errors errors' said) where
   all_read : Consumes from.input rest (at_.bytes ++ chunk)
@@ -132,46 +153,63 @@ module _ (from : Devices) (left rest output output' errors errors' : Option (Lis
     lines = so.lines;
     stand = so.stand;
     served = so.served;
-    read = subst (λ (l : List ℕ). Consumes from.input rest l) ((ap (λ (l : List ℕ). at_.bytes ++ l) none ∙ append-nil at_.bytes) ∙ so.parts) all_read;
-    end = end;
-    written = written_whole _ so.text wrote;
+    rest = [];
+    read = subst (λ (l : List ℕ). Consumes from.input rest l) ((ap (λ (l : List ℕ). at_.bytes ++ l) none ∙ append-nil at_.bytes) ∙ (so.parts ∙ sym (append-nil (bytes_of so.lines)))) all_read;
+    last = inr (refl, end);
+    ended = true;
+    end = λ e. (refl, end);
+    all = (refl, so.worst_is);
+    refused = so.refused_is;
+    why = tt;
+    whole = λ other. written_whole _ so.text wrote;
+    part = prefix_whole from.output output' (stand_text (finished so.stand)) (written_whole _ so.text wrote);
     told_is = reports _ so.tells;
-    worst_is = so.worst_is;
-    refused_is = so.refused_is;
   }
 
-  pub stops_on : (f : ServeFault) → Stops (at_.bytes ++ chunk) rest at_.before out at_.before' said f → Appends output output' out → IsStopped from (devices rest output' errors') told f
-  stops_on f so wrote = record {
+  -- the service stopped for the first fault, and this one ended it
+  stopping : (f g : ServeFault) (so : Stops (at_.bytes ++ chunk) rest at_.before out at_.before' said f) → IsWhy g so.lines so.stand so.rest rest →
+      (◌≢◌ {A = Result Served ServeFault} (Err g) (Err F.Write) → Appends from.output output' (stand_text so.stand)) → AppendsPrefix from.output output' (stand_text so.stand) → IsStopped from (devices rest output' errors') told g
+  stopping f g so why whole part = record {
     lines = so.lines;
     stand = so.stand;
     served = so.served;
     rest = so.rest;
     read = subst (λ (l : List ℕ). Consumes from.input rest l) so.parts all_read;
     last = so.last;
-    why = so.why;
     ended = false;
     end = λ e. absurd cc;
-    whole = λ other. written_whole _ so.text wrote;
-    part = λ is. prefix_whole from.output output' (stand_text so.stand) (written_whole _ so.text wrote);
-    told_is = reports _ so.tells;
+    all = tt;
+    refused = tt;
+    why = (λ e. absurd cc, why);
+    whole = whole;
+    part = part;
+    told_is = reports _ (so.tells ∙ sym (append-nil (told_of so.lines)));
   }
 
+  pub stops_on : (f : ServeFault) → Stops (at_.bytes ++ chunk) rest at_.before out at_.before' said f → Appends output output' out → IsStopped from (devices rest output' errors') told f
+  stops_on f so wrote =
+      let written = written_whole _ so.text wrote in
+      stopping f f so so.why (λ other. written) (prefix_whole from.output output' (stand_text so.stand) written)
+
   -- the output failed
+  pub stops_unwritten : (f : ServeFault) → Stops (at_.bytes ++ chunk) rest at_.before out at_.before' said f → AppendsPrefix output output' out → IsStopped from (devices rest output' errors') told F.Write
+  stops_unwritten f so wrote = stopping f F.Write so tt (λ other. absurd (other refl)) (written_part _ so.text wrote)
+
   pub on_unwritten : IsFed (at_.bytes ++ chunk) w at_.before out at_.before' said → AppendsPrefix output output' out → IsStopped from (devices rest output' errors') told F.Write
-  on_unwritten fed wrote = record {
-    lines = fed.lines;
-    stand = fed.stand;
-    served = fed.counts.served;
-    rest = fed.last;
-    read = subst (λ (l : List ℕ). Consumes from.input rest l) fed.parts all_read;
-    last = inl fed.all;
-    why = tt;
-    ended = false;
-    end = λ e. absurd cc;
-    whole = λ other. absurd (other refl);
-    part = λ is. written_part _ fed.counts.stands.text wrote;
-    told_is = reports _ fed.counts.tells;
-  }
+  on_unwritten fed wrote = stops_unwritten F.Write so wrote
+    where
+      so : Stops (at_.bytes ++ chunk) rest at_.before out at_.before' said F.Write
+      so = record {
+        lines = fed.lines;
+        stand = fed.stand;
+        rest = fed.last;
+        parts = fed.parts;
+        served = fed.counts.served;
+        last = inl fed.all;
+        why = tt;
+        text = fed.counts.stands.text;
+        tells = fed.counts.tells;
+      }
 
   pub end_unwritten : IsAtEnd rest → (r : Served) → chunk ≡ [] → Finishes at_.bytes at_.before out at_.before' said r → AppendsPrefix output output' out → IsStopped from (devices rest output' errors') told F.Write
   end_unwritten end r none so wrote = record {
@@ -181,27 +219,13 @@ module _ (from : Devices) (left rest output output' errors errors' : Option (Lis
     rest = [];
     read = subst (λ (l : List ℕ). Consumes from.input rest l) ((ap (λ (l : List ℕ). at_.bytes ++ l) none ∙ append-nil at_.bytes) ∙ (so.parts ∙ sym (append-nil (bytes_of so.lines)))) all_read;
     last = inr (refl, end);
-    why = tt;
     ended = true;
-    end = λ e. (refl, refl, end);
+    end = λ e. (refl, end);
+    all = tt;
+    refused = tt;
+    why = (λ e. refl, tt);
     whole = λ other. absurd (other refl);
-    part = λ is. written_part _ so.text wrote;
-    told_is = reports _ so.tells;
-  }
-
-  pub stops_unwritten : (f : ServeFault) → Stops (at_.bytes ++ chunk) rest at_.before out at_.before' said f → AppendsPrefix output output' out → IsStopped from (devices rest output' errors') told F.Write
-  stops_unwritten f so wrote = record {
-    lines = so.lines;
-    stand = so.stand;
-    served = so.served;
-    rest = so.rest;
-    read = subst (λ (l : List ℕ). Consumes from.input rest l) so.parts all_read;
-    last = so.last;
-    why = tt;
-    ended = false;
-    end = λ e. absurd cc;
-    whole = λ other. absurd (other refl);
-    part = λ is. written_part _ so.text wrote;
+    part = written_part _ so.text wrote;
     told_is = reports _ so.tells;
   }
 

@@ -1,5 +1,5 @@
 -- What the functions inside say.
-use Rattle.std.specs.Prelude.{ℕ, ◌≡◌, ◌+◌, ◌-◌, ◌<◌, ◌≤◌, ◌^◌, ◌⊎◌, ◌==◌, suc, if◌then◌else◌, Bool, true, false, is_some, Option, Some, None, Result, Ok, List, [], ◌∷◌, ◌++◌, length, take, drop, insert, MatchResult}
+use Rattle.std.specs.Prelude.{ℕ, ◌≡◌, ◌+◌, ◌-◌, ◌<◌, ◌≤◌, ◌^◌, ◌⊎◌, ◌==◌, suc, if◌then◌else◌, Bool, true, false, is_some, is_none, Option, Some, None, Result, Ok, Err, List, [], ◌∷◌, ◌++◌, length, take, drop, insert, MatchResult}
 use Rattle.std.specs.List.{list_any}
 use Rattle.std.specs.Io.KnownBytes.{Appends, Consumes, IsAtEnd}
 use Rattle.tc_verdict.specs.declared.run.Run.{Run}
@@ -28,15 +28,20 @@ use Rattle.tc_serve.specs.declared.service.Served.{Served}
 use Rattle.tc_serve.specs.declared.serving.Serving.{Serving}
 use Rattle.tc_serve.specs.declared.sleepers.Sleeper.{Sleeper}
 use Rattle.tc_serve.specs.Laws.{IsSettled}
-use Rattle.tc_serve.specs.Protocol.{AllEnded, AreServed, Asks, Came, IsNobodys, IsOf, NoLf, Played, Refuses, Sent, Stand, called, finished, moved, past_of, refused, seen, sleep_of, taken, woken_from}
-use Rattle.tc_serve.specs.Serve.{Devices, IsTaken, IsWhy}
-use Rattle.tc_serve.specs.Text.{bytes_of, is_refused, stand_text, told_at_end, told_of, worst_of}
+use Rattle.tc_serve.specs.Order.{order_text}
+use Rattle.tc_serve.specs.Protocol.{AllEnded, AreServed, Asks, Came, IsNobodys, IsOf, NoLf, Played, Refuses, Sent, Stand, called, done_of, finished, moved, past_of, refused, seen, sleep_of, taken, woken_from}
+use Rattle.tc_serve.specs.Serve.{Devices, IsEnding, IsTaken, IsWhy}
+use Rattle.tc_serve.specs.Text.{bytes_of, end_told, stand_text, told_of, worst_of}
 
 -- the line is neither a move nor a remark
 abbrev pub IsOther : Order → Type 0
 IsOther (O.Move caller op) = ⊥
 IsOther (O.Remark run sentence) = ⊥
 IsOther _ = Unit {0}
+
+-- the line that opens a test case: its name, and how many behaviours it has
+abbrev pub case_text : List ℕ → ℕ → List ℕ
+case_text name n = order_text (O.Case name n)
 
 -- ---- the runs that sleep
 
@@ -74,6 +79,10 @@ pub record IsPassed (ss : List Sleeper) (place : ℕ) (ss' : List Sleeper) (next
   pub before : (k : ℕ) → AllBelow k (take (suc place) ss) → AllBelow k (take next ss')
 
 -- ---- the test case that is open
+
+-- the test case with one more line
+abbrev pub with_line : Played → Line → Played
+with_line p l = record p { lines = l ∷ p.lines }
 
 -- this is kept of its history, and of the runs that its lines are about
 pub record IsKept (state : Kept) (met : MetRuns) (p : Played) : Type 0 where
@@ -156,6 +165,10 @@ Changes change why o o' out written = (p : Played) (closed : List Played) (befor
 
 -- ---- the server
 
+-- before the first line
+abbrev pub start : Stand
+start = record { closed = []; current = None }
+
 -- a test case is kept so and at rest, or none is open
 abbrev pub IsCurrent : Option OpenCase → Option Played → Type 0
 IsCurrent None None = Unit {0}
@@ -187,6 +200,14 @@ TellsRun line why true v w out written = (s : Stand) (before : List ℕ) → Sta
 TellsRun line why false v w out written = (s : Stand) (before : List ℕ) → StandsAs v s before out → IsNobodys line s × StandsAs w s before written
 
 -- ---- lines that come in pieces
+
+-- the line was refused
+abbrev pub is_refused : Came → Bool
+is_refused c = is_none (done_of c)
+
+-- what goes to standard error in all, if the input ends after these lines in this state
+abbrev pub told_at_end : List Sent → Stand → List ℕ
+told_at_end lines s = told_of lines ++ end_told (is_some s.current)
 
 -- these lines were served, which are counted; what was written before and this is their text, and so it is with reports
 pub record Counts (v : Serving) (lines : List Sent) (s : Stand) (before out before' told : List ℕ) : Type 0 where
@@ -289,6 +310,14 @@ pub record Finishes (bytes : List ℕ) (before out before' told : List ℕ) (r :
   pub refused_is : r.refused ≡ list_any (λ l. is_refused l.came) lines
 
 -- ---- devices
+
+-- the input was served to its end so
+abbrev pub IsServed : Devices → Devices → Bool → Served → Type 0
+IsServed from to told r = IsEnding from to (record { outcome = Ok r; told = told })
+
+-- the service stopped so
+abbrev pub IsStopped : Devices → Devices → Bool → ServeFault → Type 0
+IsStopped from to told f = IsEnding from to (record { outcome = Err f; told = told })
 
 -- standard error gets the text if it took all before it
 abbrev pub Hears : Bool → Bool → Option (List ℕ) → Option (List ℕ) → List ℕ → Type 0

@@ -1,7 +1,7 @@
 -- What holds of all that is served.
 use Rattle.std.specs.Prelude.{ℕ, ◌≡◌, ◌≢◌, ◌+◌, ◌<◌, ◌≤◌, length, reverse, if◌then◌else◌, Bool, true, false, Some, List, [], ◌∷◌, ◌++◌}
 use Rattle.std.specs.Option.{option_map_or}
-use Rattle.std.specs.List.{AllByRecursion, flat_map}
+use Rattle.std.specs.List.{AllByRecursion, filter_map, flat_map}
 use Rattle.tc_entry.specs.declared.entry.Entry.{Entry}
 use Rattle.tc_entry.specs.declared.reply.Reply.TheVariants as R
 use Rattle.tc_table.specs.declared.awaited.Awaited.{Awaited}
@@ -17,7 +17,7 @@ use Rattle.tc_serve.specs.declared.order.Order.{Order}
 use Rattle.tc_serve.specs.declared.order.Order.TheVariants as O
 use Rattle.tc_serve.specs.declared.order.TheConstants.{LINE_BYTES}
 use Rattle.tc_serve.specs.declared.refusal.Refusal.TheVariants as W
-use Rattle.tc_serve.specs.Protocol.{AreServed, Came, Comes, Played, Refuses, Sent, Stand, finished, is_parked, is_wake, past_of, seen, wake_op, was_done}
+use Rattle.tc_serve.specs.Protocol.{AreServed, Came, Comes, Played, Refuses, Sent, Stand, done_of, finished, is_parked, is_wake, past_of, seen, wake_op}
 use Rattle.tc_serve.specs.Text.{header_of, stand_text}
 
 -- of all that is served this holds of each test case, also of one that is open
@@ -48,14 +48,9 @@ asked_in p = flat_map asked_by p.lines ++ O.Case p.name p.behaviours ∷ []
 abbrev pub asked_of : Stand → List Order
 asked_of s = option_map_or asked_in s.current [] ++ flat_map (λ p. O.End ∷ asked_in p) s.closed
 
--- what a line asked for that was done
-abbrev pub done_by : Came → List Order
-done_by (was_done o) = o ∷ []
-done_by _ = []
-
 -- the evidence has what was asked for and done, each once and in its order
 abbrev pub EvidenceIsAsked : Type 0
-EvidenceIsAsked = (lines : List Sent) (s : Stand) → AreServed lines s → asked_of s ≡ flat_map (λ l. done_by l.came) lines
+EvidenceIsAsked = (lines : List Sent) (s : Stand) → AreServed lines s → asked_of s ≡ filter_map (λ l. done_of l.came) lines
 
 -- the block of a test case, whose first line is the line of this number
 abbrev pub block_of : ℕ → Played → Block

@@ -9,13 +9,9 @@ use Rattle.tc_evidence.specs.Sentence.{IsSentence}
 use Rattle.tc_serve.specs.declared.order.Order.{Order}
 use Rattle.tc_serve.specs.declared.order.Order.TheVariants as O
 
--- the line that opens a test case: its name, and how many behaviours it has
-abbrev pub case_text : List ℕ → ℕ → List ℕ
-case_text name n = codes "case " ++ (name ++ (codes " " ++ decimal n))
-
--- a line, without its LF
+-- a line, without its LF; the one that opens a test case has its name, and how many behaviours it has
 abbrev pub order_text : Order → List ℕ
-order_text (O.Case name n) = case_text name n
+order_text (O.Case name n) = codes "case " ++ (name ++ (codes " " ++ decimal n))
 order_text (O.Named run name) = naming_text run.0 name
 order_text (O.Move caller op) = move_text caller.0 op
 order_text (O.Remark run sentence) = said_text false run.0 sentence

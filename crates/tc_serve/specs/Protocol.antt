@@ -41,10 +41,6 @@ pub record Stand : Type 0 where
   pub closed : List Played
   pub current : Option Played
 
--- before the first line
-abbrev pub start : Stand
-start = record { closed = []; current = None }
-
 -- ---- a call, and who is woken by it
 
 -- the entry of a call, with the component table's reply
@@ -92,13 +88,9 @@ moved p caller op = record p { lines = woken p.behaviours (L.Entry (called p.beh
 abbrev pub made : Run → Op → Played → Result Played Refusal
 made caller op p = if is_wake op then Err W.Wake else if is_some (sleep_of p caller.0) then Err W.Waiting else Ok (moved p caller op)
 
--- the test case with one more line
-abbrev pub with_line : Played → Line → Played
-with_line p l = record p { lines = l ∷ p.lines }
-
 -- the line of this run is added, if the run is one of the test case
 abbrev pub added : Run → Line → Played → Result Played Refusal
-added run l p = if nat_lt run.0 p.behaviours then Ok (with_line p l) else Err W.NoRun
+added run l p = if nat_lt run.0 p.behaviours then Ok (record p { lines = l ∷ p.lines }) else Err W.NoRun
 
 -- so is the name of its behaviour, if no line is about the run
 abbrev pub named : Run → List ℕ → Played → Result Played Refusal
@@ -166,6 +158,11 @@ Comes (was_done o) ended line s t = Asks ended line o × (taken s o ≡ Ok t)
 Comes (was_refused run why) ended line s t = Refuses why ended line s × IsOf line run.0 × (refused s run why ≡ Ok t)
 Comes (was_lost why) ended line s t = Refuses why ended line s × IsNobodys line s × (is_some s.current ≡ true) × (t ≡ s)
 
+-- what a line asked for that was done
+abbrev pub done_of : Came → Option Order
+done_of (was_done o) = Some o
+done_of _ = None
+
 -- ---- lines, one after the other
 
 -- a line that came: its bytes, whether LF ended it, and what came of it
@@ -188,7 +185,7 @@ AllEnded lines = list_all (λ l. l.ended) lines ≡ true
 
 -- these lines came, the newest first in the list, and this is the state after them; only the last may lack its LF
 abbrev pub AreServed : List Sent → Stand → Type 0
-AreServed [] s = s ≡ start
+AreServed [] s = s ≡ record { closed = []; current = None }
 AreServed (l ∷ before) t = (s : Stand) × AreServed before s × AllEnded before × NoLf l.bytes × Comes l.came l.ended (seen l.bytes) s t
 
 -- the state after the end of the input: the test case that is open is closed, if one is

@@ -1,5 +1,5 @@
 -- The service: what is written, by what is read.
-use Rattle.std.specs.Prelude.{ℕ, ◌≡◌, ◌≢◌, ◌+◌, ◌-◌, ◌≤◌, ◌^◌, ◌⊎◌, if◌then◌else◌, Bool, true, false, is_some, Option, List, [], ◌∷◌, ◌++◌, length, MatchResult}
+use Rattle.std.specs.Prelude.{ℕ, ◌≡◌, ◌≢◌, ◌+◌, ◌-◌, ◌≤◌, ◌^◌, ◌⊎◌, ◌&&◌, if◌then◌else◌, Bool, true, false, is_some, is_none, Option, Err, IfOk, IfErr, List, [], ◌∷◌, ◌++◌, length}
 use Rattle.std.specs.List.{list_any}
 use Rattle.std.specs.Io.KnownBytes.{Appends, Consumes, IsAtEnd}
 use Rattle.tc_stream.specs.Output.{AppendsPrefix}
@@ -7,9 +7,8 @@ use Rattle.tc_serve.specs.declared.fault.ServeFault.{ServeFault}
 use Rattle.tc_serve.specs.declared.fault.ServeFault.TheVariants as F
 use Rattle.tc_serve.specs.declared.refusal.Refusal.{Refusal}
 use Rattle.tc_serve.specs.declared.service.Ending.{Ending}
-use Rattle.tc_serve.specs.declared.service.Served.{Served}
-use Rattle.tc_serve.specs.Protocol.{AllEnded, AreServed, NoLf, Refuses, Sent, Stand, finished, seen}
-use Rattle.tc_serve.specs.Text.{bytes_of, is_refused, stand_text, told_at_end, told_of, worst_of}
+use Rattle.tc_serve.specs.Protocol.{AllEnded, AreServed, NoLf, Refuses, Sent, Stand, done_of, finished, seen}
+use Rattle.tc_serve.specs.Text.{bytes_of, end_told, stand_text, told_of, worst_of}
 
 -- what is left of the input, and what the output and standard error took, if they are known
 pub record Devices : Type 0 where
@@ -26,18 +25,6 @@ abbrev pub IsTaken : Bool → Option (List ℕ) → Option (List ℕ) → List �
 IsTaken true before after text = Appends before after text
 IsTaken false before after text = AppendsPrefix before after text
 
--- all was read, and each line served; what the text is at the end was written
-pub record IsServed (from to : Devices) (told : Bool) (r : Served) : Type 0 where
-  pub lines : List Sent
-  pub stand : Stand
-  pub served : AreServed lines stand
-  pub read : Consumes from.input to.input (bytes_of lines)
-  pub end : IsAtEnd to.input
-  pub written : Appends from.output to.output (stand_text (finished stand))
-  pub told_is : IsTaken told from.errors to.errors (told_at_end lines stand)
-  pub worst_is : r.worst ≡ worst_of (finished stand)
-  pub refused_is : r.refused ≡ list_any (λ l. is_refused l.came) lines
-
 -- the next line is refused for this; if no LF ends it, the input ends with it
 abbrev pub IsBadNext : Refusal → Stand → List ℕ → Option (List ℕ) → Type 0
 IsBadNext why s rest input = (line more : List ℕ) × NoLf line
@@ -51,21 +38,20 @@ IsWhy F.TooLong lines s rest input = 2 ^ 64 - 1 ≤ length (bytes_of lines ++ re
 IsWhy F.Read lines s rest input = NoLf rest
 IsWhy _ lines s rest input = Unit {0}
 
--- these lines were served, and then the service ended; only if the output failed, the end of the input may be due too
-pub record IsStopped (from to : Devices) (told : Bool) (f : ServeFault) : Type 0 where
+-- how the service ended: these lines were served, and the end of the input, or a fault came before it was; only a failure of the
+-- output may come later. What the text is then was written, or, if the output failed, a prefix of it
+pub record IsEnding (from to : Devices) (e : Ending) : Type 0 where
   pub lines : List Sent
   pub stand : Stand
   pub served : AreServed lines stand
   pub rest : List ℕ
   pub read : Consumes from.input to.input (bytes_of lines ++ rest)
   pub last : AllEnded lines ⊎ ((rest ≡ []) × IsAtEnd to.input)
-  pub why : IsWhy f lines stand rest to.input
   pub ended : Bool
-  pub end : ended ≡ true → (f ≡ F.Write) × (rest ≡ []) × IsAtEnd to.input
-  pub whole : f ≢ F.Write → Appends from.output to.output (stand_text stand)
-  pub part : f ≡ F.Write → AppendsPrefix from.output to.output (stand_text (if ended then finished stand else stand))
-  pub told_is : IsTaken told from.errors to.errors (if ended then told_at_end lines stand else told_of lines)
-
--- how the service ended
-abbrev pub IsEnding : Devices → Devices → Ending → Type 0
-IsEnding from to e = MatchResult e.outcome (IsServed from to e.told) (IsStopped from to e.told)
+  pub end : ended ≡ true → (rest ≡ []) × IsAtEnd to.input
+  pub all : IfOk e.outcome (λ r. (ended ≡ true) × (r.worst ≡ worst_of (finished stand)))
+  pub refused : IfOk e.outcome (λ r. r.refused ≡ list_any (λ l. is_none (done_of l.came)) lines)
+  pub why : IfErr e.outcome (λ f. (ended ≡ true → f ≡ F.Write) × IsWhy f lines stand rest to.input)
+  pub whole : e.outcome ≢ Err F.Write → Appends from.output to.output (stand_text (if ended then finished stand else stand))
+  pub part : AppendsPrefix from.output to.output (stand_text (if ended then finished stand else stand))
+  pub told_is : IsTaken e.told from.errors to.errors (told_of lines ++ end_told (ended && is_some stand.current))

@@ -1,5 +1,5 @@
 -- What is written and reported of the lines that came, and what their verdicts come to.
-use Rattle.std.specs.Prelude.{ℕ, ◌+◌, if◌then◌else◌, Bool, true, false, is_some, List, [], ◌∷◌, ◌++◌, codes, length, map, reverse}
+use Rattle.std.specs.Prelude.{ℕ, ◌+◌, if◌then◌else◌, Bool, List, [], ◌∷◌, ◌++◌, codes, length, map, reverse}
 use Rattle.std.specs.Option.{option_map_or}
 use Rattle.std.specs.List.{flat_map}
 use Rattle.std.specs.Fmt.{decimal}
@@ -13,7 +13,7 @@ use Rattle.tc_evidence.specs.declared.header.Header.{Header}
 use Rattle.tc_evidence.specs.declared.header.Kind.TheVariants as K
 use Rattle.tc_evidence.specs.Line.{line_text}
 use Rattle.tc_evidence.specs.Block.{ended, header_text}
-use Rattle.tc_serve.specs.Protocol.{Came, Played, Sent, Stand, past_of, was_done, was_lost}
+use Rattle.tc_serve.specs.Protocol.{Came, Played, Sent, Stand, past_of, was_lost}
 use Rattle.tc_serve.specs.declared.refusal.Refusal.{Refusal}
 use Rattle.tc_serve.specs.Refusal.{why_text}
 
@@ -46,11 +46,6 @@ abbrev pub bytes_of : List Sent → List ℕ
 bytes_of [] = []
 bytes_of (l ∷ before) = bytes_of before ++ (l.bytes ++ (if l.ended then 10 ∷ [] else []))
 
--- the line was refused
-abbrev pub is_refused : Came → Bool
-is_refused (was_done o) = false
-is_refused _ = true
-
 -- what is said on standard error of the line of this number, which is refused for this
 abbrev pub refusal_text : ℕ → Refusal → List ℕ
 refusal_text n why = codes "ttrun: line " ++ (decimal n ++ (codes ": " ++ (why_text why ++ (10 ∷ []))))
@@ -68,7 +63,3 @@ told_of (l ∷ before) = told_of before ++ lost_text (length before + 1) l.came
 -- and about the end of the input, by whether a test case is open
 abbrev pub end_told : Bool → List ℕ
 end_told inside = if inside then codes "ttrun: the input ended inside a test case" ++ (10 ∷ []) else []
-
--- what goes there in all, if the input ends after these lines in this state
-abbrev pub told_at_end : List Sent → Stand → List ℕ
-told_at_end lines s = told_of lines ++ end_told (is_some s.current)

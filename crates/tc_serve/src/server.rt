@@ -4,10 +4,10 @@ ghost use Rattle.std.specs.Io.{StartsWith};
 ghost use Rattle.tc_entry.specs.Limits.{IsBehaviours};
 ghost use Rattle.tc_evidence.specs.declared.line.Line.TheVariants as lines;
 ghost use Rattle.tc_serve.specs.declared.order.Order.TheVariants as orders;
-ghost use Rattle.tc_serve.specs.Inside.{StandsAs, TellsRun, Tries, TriesLine};
+ghost use Rattle.tc_serve.specs.Inside.{StandsAs, TellsRun, Tries, TriesLine, start as spec_start};
 ghost use Rattle.tc_serve.specs.Order.{IsOrder, order_text};
 ghost use Rattle.tc_text.specs.Spelling.{move_text};
-ghost use Rattle.tc_serve.specs.Protocol.{IsOf, Stand as AnyStand, added, made, named, start as spec_start, taken, with_open};
+ghost use Rattle.tc_serve.specs.Protocol.{IsOf, Stand as AnyStand, added, made, named, taken, with_open};
 ghost use Rattle.tc_serve.specs.Text.{worst_of};
 
 use crate::open_case::OpenCase;

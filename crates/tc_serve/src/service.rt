@@ -3,8 +3,8 @@ ghost use Rattle.std.specs.Prelude.{◌≡◌, ◌+◌, ◌≤◌, ◌<◌, ◌^
 ghost use Rattle.std.specs.Borrow.{GName};
 ghost use Rattle.std.specs.Io.KnownBytes.{Appends};
 ghost use Rattle.tc_stream.specs.Output.{AppendsPrefix};
-ghost use Rattle.tc_serve.specs.Inside.{Hears, IsAt, IsFed};
-ghost use Rattle.tc_serve.specs.Serve.{Devices as AnyDevices, IsEnding, IsServed, IsStopped, devices};
+ghost use Rattle.tc_serve.specs.Inside.{Hears, IsAt, IsFed, IsServed, IsStopped};
+ghost use Rattle.tc_serve.specs.Serve.{Devices as AnyDevices, IsEnding, devices};
 
 use crate::fault::ServeFault;
 use crate::serving::Serving;
@@ -182,10 +182,8 @@ fn serve_lines<R: CountedRead, W: FlushedWrite, E: CountedWrite>(
     requires few { (E.writes errors.old ≡ 0) × (R.reads reader.old ≡ 0) }
     requires read { R.has_failed reader.old ≡ false }
     requires written { W.has_failed writer.old ≡ false }
-    ensures served { IfOk result (IsServed (devices (R.remaining reader.old) (W.contents writer.old) (E.contents errors.old))
-        (devices (R.remaining reader.new) (W.contents writer.new) (E.contents errors.new)) heard.new) }
-    ensures stopped { IfErr result (IsStopped (devices (R.remaining reader.old) (W.contents writer.old) (E.contents errors.old))
-        (devices (R.remaining reader.new) (W.contents writer.new) (E.contents errors.new)) heard.new) }
+    ensures ending { IsEnding (devices (R.remaining reader.old) (W.contents writer.old) (E.contents errors.old))
+        (devices (R.remaining reader.new) (W.contents writer.new) (E.contents errors.new)) (record { outcome = result; told = heard.new }) }
     ensures heard { heard.new ≡ not (E.has_failed errors.new) }
     ensures read { IsErrOf result ServeFault.Read ↔ (R.has_failed reader.new ≡ true) }
     ensures written { IsErrOf result ServeFault.Write ↔ (W.has_failed writer.new ≡ true) }

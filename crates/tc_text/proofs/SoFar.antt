@@ -1,9 +1,10 @@
 -- How far a list of moves is read.
 use Rattle.std.proofs.Common.{◌≡◌, ◌≢◌, ◌∙◌, ◌+◌, ℕ, List, [], ◌∷◌, ◌++◌, length, map, sym, ap, refl, append_assoc, arith}
+use Rattle.std.specs.List.{AllByRecursion}
 use Rattle.std.proofs.lemmas.List.{append-nil, length-append}
 use Rattle.tc_text.specs.Lines.{lines_of}
 use Rattle.tc_entry.specs.Limits.{IsBehaviours}
-use Rattle.tc_text.specs.MoveList.{Move, behaviours_line, move_line, list_lines, IsMove, AreMoves, IsMoveList, IsMadeOf, IsBadFirstLine, IsBadMove}
+use Rattle.tc_text.specs.MoveList.{Move, behaviours_line, move_line, list_lines, IsMove, IsMoveList, IsMadeOf, IsBadFirstLine, IsBadMove}
 use Rattle.tc_text.specs.Inside.{IsNoMove}
 use Rattle.tc_text.proofs.Lemmas.LinesOf.{some_line}
 
@@ -12,12 +13,12 @@ pub record Remains (moves : List Move) (rest : List ℕ) (all : List Move) : Typ
   pub tail : List Move
   pub parts : all ≡ moves ++ tail
   pub spelled : lines_of rest ≡ map move_line tail
-  pub fits : AreMoves tail
+  pub fits : AllByRecursion IsMove tail
 
 -- these moves are read, and every list of moves that the text spells begins with them
 pub record SoFar (text : List ℕ) (n : ℕ) (moves : List Move) (rest : List ℕ) : Type 0 where
   pub right : IsBehaviours n
-  pub fits : AreMoves moves
+  pub fits : AllByRecursion IsMove moves
   pub lines : lines_of text ≡ list_lines n moves ++ lines_of rest
   pub only : (k : ℕ) (ms : List Move) → IsMoveList text k ms → (n ≡ k) × Remains moves rest ms
 
@@ -33,7 +34,7 @@ map-append : (xs ys : List Move) → map move_line (xs ++ ys) ≡ map move_line 
 map-append [] ys = refl
 map-append (x ∷ xs) ys = ap (λ l. move_line x ∷ l) (map-append xs ys)
 
-moves_more : (ms : List Move) (m : Move) → AreMoves ms → IsMove m → AreMoves (ms ++ m ∷ [])
+moves_more : (ms : List Move) (m : Move) → AllByRecursion IsMove ms → IsMove m → AllByRecursion IsMove (ms ++ m ∷ [])
 moves_more [] m all one = (one, tt)
 moves_more (x ∷ xs) m all one = (all.0, moves_more xs m all.1 one)
 
@@ -48,7 +49,7 @@ begins text rest n right lines only = record {
 one_more : (rest after : List ℕ) (m : Move) (moves new all : List Move) → IsThatMove rest m after → new ≡ moves ++ m ∷ [] → lines_of rest ≢ [] → Remains moves rest all → Remains new after all
 one_more rest after m moves new all only added some r = by_tail r.tail r.parts r.spelled r.fits
   where
-    by_tail : (tail : List Move) → all ≡ moves ++ tail → lines_of rest ≡ map move_line tail → AreMoves tail → Remains new after all
+    by_tail : (tail : List Move) → all ≡ moves ++ tail → lines_of rest ≡ map move_line tail → AllByRecursion IsMove tail → Remains new after all
     by_tail [] parts spelled fits = absurd (some spelled)
     by_tail (t ∷ ts) parts spelled fits =
         let two = only t (map move_line ts) fits.0 spelled in
@@ -73,9 +74,7 @@ goes_on text n moves new rest after m so spelled fits only added = record {
 }
 
 pub bad_first : (text : List ℕ) → text ≢ [] → ((n : ℕ) (others : List (List ℕ)) → IsBehaviours n → lines_of text ≡ behaviours_line n ∷ others → ⊥) → IsBadFirstLine text × (◌≡◌ {A = ℕ} 1 1)
-bad_first text some never =
-    let line = some_line text some in
-    (record { first = line.0; others = line.1.0; lines = line.1.1; bad = λ n good e. never n line.1.0 good (line.1.1 ∙ ap (λ l. l ∷ line.1.0) e) }, refl)
+bad_first text some never = let line = some_line text some in ((some_lines line.0 line.1.0 (lines_of text) line.1.1, λ n others right lines. never n others right lines), refl)
 
 pub bad_move : (text : List ℕ) (n count : ℕ) (moves : List Move) (rest : List ℕ) → count ≡ length moves → rest ≢ [] → SoFar text n moves rest → IsNoMove rest → IsBadMove text (count + 2)
 bad_move text n count moves rest counted some so never =
@@ -98,7 +97,7 @@ no_list text n moves rest some so never k ms list = by_tail r.tail r.spelled r.f
     r : Remains moves rest ms
     r = (so.only k ms list).1
 
-    by_tail : (tail : List Move) → lines_of rest ≡ map move_line tail → AreMoves tail → ⊥
+    by_tail : (tail : List Move) → lines_of rest ≡ map move_line tail → AllByRecursion IsMove tail → ⊥
     by_tail [] spelled inside = let line = some_line rest some in let e = sym line.1.1 ∙ spelled in cc
     by_tail (t ∷ ts) spelled inside = never t (map move_line ts) inside.0 spelled
 

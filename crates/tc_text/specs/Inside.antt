@@ -1,10 +1,17 @@
 -- What only the way the texts are read needs: no public clause names a word of this file.
-use Rattle.std.specs.Prelude.{ℕ, ◌≡◌, ◌≢◌, ◌<◌, ◌≤◌, ◌++◌, codes, length, true, if◌then◌else◌, List, [], ◌∷◌, Option, Some, MatchOption, slice_get}
+use Rattle.std.specs.Prelude.{ℕ, ◌≡◌, ◌≢◌, ◌<◌, ◌≤◌, ◌++◌, codes, length, Bool, true, false, if◌then◌else◌, List, [], ◌∷◌, Option, Some, None, MatchOption, slice_get}
 use Rattle.std.specs.Borrow.{Bor}
 use Rattle.std.specs.Char.{is_ascii_digit}
 use Rattle.std.specs.Fmt.{decimal}
+use Rattle.tc_verdict.specs.UserVerdict.{given}
+use Rattle.tc_verdict.specs.Verdict.{name_of}
+use Rattle.tc_entry.specs.declared.op.Op.{Op}
+use Rattle.tc_entry.specs.declared.op.Op.TheVariants as O
 use Rattle.tc_text.specs.Lines.{lines_of}
 use Rattle.tc_text.specs.MoveList.{Move, IsMove, move_line}
+use Rattle.tc_text.specs.Spelling.{group_text, start_text, target_text}
+use Rattle.tc_text.specs.declared.verb.Verb.{Verb}
+use Rattle.tc_text.specs.declared.verb.Verb.TheVariants as V
 use Rattle.tc_text.specs.declared.verb.Status.{Status}
 use Rattle.tc_text.specs.declared.verb.Status.TheVariants as S
 use Rattle.tc_text.specs.declared.said.Part.{Part}
@@ -62,3 +69,74 @@ pub record IsMoveTakenBy {T : Type 0} (stands : ℕ → List Move → T → Type
   pub less : length rest < length text
   pub only : (m : Move) (others : List (List ℕ)) → IsMove m → lines_of text ≡ move_line m ∷ others → (move ≡ m) × (lines_of rest ≡ others)
   pub taken : (n : ℕ) (moves : List Move) → stands n moves value → stands n (moves ++ move ∷ []) value'
+
+-- ---- the first words of an operation, and what follows them
+
+-- the first words of an operation that is about a target
+abbrev pub status_text : Status → List ℕ
+status_text S.Running = codes "running "
+status_text S.Alive = codes "alive "
+status_text S.Done = codes "done "
+status_text S.Killed = codes "killed "
+status_text S.WaitDone = codes "wait done "
+status_text S.WaitKilled = codes "wait killed "
+status_text S.WakeDone = codes "wake done "
+status_text S.WakeKilled = codes "wake killed "
+
+-- the first words of an operation
+abbrev pub verb_text : Verb → List ℕ
+verb_text V.Create = codes "create"
+verb_text V.Start = codes "start "
+verb_text V.Stop = codes "stop "
+verb_text V.Kill = codes "kill "
+verb_text V.StopCase = codes "stopcase"
+verb_text (V.Status s) = status_text s
+verb_text V.SetVerdict = codes "setverdict "
+verb_text V.GetVerdict = codes "getverdict"
+verb_text V.Finish = codes "finish"
+
+-- the first words that an operation has
+abbrev pub verb_of : Op → Verb
+verb_of (O.Create _ _) = V.Create
+verb_of (O.Start _ _ _) = V.Start
+verb_of (O.Stop _) = V.Stop
+verb_of (O.Kill _) = V.Kill
+verb_of O.StopCase = V.StopCase
+verb_of (O.Running _) = V.Status S.Running
+verb_of (O.Alive _) = V.Status S.Alive
+verb_of (O.Done _) = V.Status S.Done
+verb_of (O.Killed _) = V.Status S.Killed
+verb_of (O.Wait false _) = V.Status S.WaitDone
+verb_of (O.Wait true _) = V.Status S.WaitKilled
+verb_of (O.Wake false _) = V.Status S.WakeDone
+verb_of (O.Wake true _) = V.Status S.WakeKilled
+verb_of (O.SetVerdict _) = V.SetVerdict
+verb_of O.GetVerdict = V.GetVerdict
+verb_of O.Finish = V.Finish
+
+-- what follows `create` of the component's kind
+abbrev pub kind_text : Bool → List ℕ
+kind_text false = []
+kind_text true = codes " alive"
+
+-- the same, and the component's name
+abbrev pub named_text : Bool → List ℕ → List ℕ
+named_text alive name = kind_text alive ++ (codes " named " ++ name)
+
+-- what follows the first words
+abbrev pub operand_text : Op → List ℕ
+operand_text (O.Create alive None) = kind_text alive
+operand_text (O.Create alive (Some name)) = named_text alive name
+operand_text (O.Start c run args) = start_text c run args
+operand_text (O.Stop g) = group_text g
+operand_text (O.Kill g) = group_text g
+operand_text O.StopCase = []
+operand_text (O.Running t) = target_text t
+operand_text (O.Alive t) = target_text t
+operand_text (O.Done t) = target_text t
+operand_text (O.Killed t) = target_text t
+operand_text (O.Wait _ t) = target_text t
+operand_text (O.Wake _ t) = target_text t
+operand_text (O.SetVerdict v) = name_of (given v)
+operand_text O.GetVerdict = []
+operand_text O.Finish = []

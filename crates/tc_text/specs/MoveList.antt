@@ -1,10 +1,10 @@
 -- Lists of moves as texts, and what is wrong with other texts.
-use Rattle.std.specs.Prelude.{ℕ, ◌≡◌, ◌<◌, ◌+◌, ◌^◌, List, [], ◌∷◌, ◌++◌, length, map, codes}
+use Rattle.std.specs.Prelude.{ℕ, ◌≡◌, ◌≢◌, ◌<◌, ◌+◌, ◌^◌, List, [], ◌∷◌, ◌++◌, length, map, codes}
 use Rattle.std.specs.Fmt.{decimal}
+use Rattle.std.specs.List.{AllByRecursion}
 use Rattle.tc_entry.specs.Limits.{IsBehaviours}
 use Rattle.tc_verdict.specs.declared.run.Run.{Run}
 use Rattle.tc_entry.specs.declared.op.Op.{Op}
-use Rattle.tc_text.specs.declared.fault.TextKind.{TextKind}
 use Rattle.tc_text.specs.declared.fault.TextKind.TheVariants as K
 use Rattle.tc_text.specs.declared.fault.TextFault.{TextFault}
 use Rattle.tc_text.specs.declared.fault.TextFault.TheVariants as F
@@ -31,15 +31,10 @@ list_lines n moves = behaviours_line n ∷ map move_line moves
 abbrev pub IsMove : Move → Type 0
 IsMove m = (m.0.0 < 2 ^ 16) × IsOp m.1
 
--- moves whose numbers are those of their types
-abbrev pub AreMoves : List Move → Type 0
-AreMoves [] = Unit {0}
-AreMoves (m ∷ ms) = IsMove m × AreMoves ms
-
 -- the text is that of n behaviours and these moves
 pub record IsMoveList (text : List ℕ) (n : ℕ) (moves : List Move) : Type 0 where
   pub behaviours : IsBehaviours n
-  pub fits : AreMoves moves
+  pub fits : AllByRecursion IsMove moves
   pub lines : lines_of text ≡ list_lines n moves
 
 -- the value is what the moves of the text make
@@ -50,11 +45,8 @@ pub record IsMadeOf {T : Type 0} (stands : ℕ → List Move → T → Type 0) (
   pub made : stands behaviours moves value
 
 -- there is a first line, and it gives no number of behaviours
-pub record IsBadFirstLine (text : List ℕ) : Type 0 where
-  pub first : List ℕ
-  pub others : List (List ℕ)
-  pub lines : lines_of text ≡ first ∷ others
-  pub bad : (n : ℕ) → IsBehaviours n → first ≡ behaviours_line n → ⊥
+abbrev pub IsBadFirstLine : List ℕ → Type 0
+IsBadFirstLine text = (lines_of text ≢ []) × ((n : ℕ) (others : List (List ℕ)) → IsBehaviours n → lines_of text ≢ behaviours_line n ∷ others)
 
 -- a right first line and some moves, and then, in the line of this number, no move
 pub record IsBadMove (text : List ℕ) (line : ℕ) : Type 0 where
@@ -63,19 +55,15 @@ pub record IsBadMove (text : List ℕ) (line : ℕ) : Type 0 where
   pub bad_line : List ℕ
   pub others : List (List ℕ)
   pub right : IsBehaviours behaviours
-  pub fits : AreMoves moves
+  pub fits : AllByRecursion IsMove moves
   pub lines : lines_of text ≡ list_lines behaviours moves ++ bad_line ∷ others
   pub number : line ≡ length moves + 2
   pub bad : (m : Move) → IsMove m → bad_line ≡ move_line m → ⊥
 
--- the first fault of the text, read as a list of moves, is of this kind and in this line
-abbrev pub IsListFaultAt : List ℕ → ℕ → TextKind → Type 0
-IsListFaultAt text line K.Early = (lines_of text ≡ []) × (line ≡ 1)
-IsListFaultAt text line K.FirstLine = IsBadFirstLine text × (line ≡ 1)
-IsListFaultAt text line K.Move = IsBadMove text line
-IsListFaultAt text line K.Entry = ⊥
-
--- what a fault says of the text; if memory runs out, nothing is said
+-- the first fault of the text, read as a list of moves, is of this kind and in this line; if memory runs out, nothing is said
 abbrev pub IsListFault : List ℕ → TextFault → Type 0
-IsListFault text (F.At line kind) = IsListFaultAt text line kind
+IsListFault text (F.At line K.Early) = (lines_of text ≡ []) × (line ≡ 1)
+IsListFault text (F.At line K.FirstLine) = IsBadFirstLine text × (line ≡ 1)
+IsListFault text (F.At line K.Move) = IsBadMove text line
+IsListFault text (F.At line K.Entry) = ⊥
 IsListFault text F.NoMemory = Unit {0}

@@ -1,6 +1,8 @@
 -- The one spelling of each move and each reply; it is this project's own.
-use Rattle.std.specs.Prelude.{ℕ, ◌<◌, ◌≤◌, ◌^◌, Bool, true, false, Some, None, IfSome, List, [], ◌∷◌, ◌++◌, length, codes}
+use Rattle.std.specs.Prelude.{ℕ, ◌<◌, ◌≤◌, ◌^◌, true, false, Some, IfSome, if◌then◌else◌, List, [], ◌++◌, length, codes}
 use Rattle.std.specs.Fmt.{decimal}
+use Rattle.std.specs.List.{AllByRecursion, flat_map}
+use Rattle.std.specs.Option.{option_map_or}
 use Rattle.tc_entry.specs.declared.limits.TheConstants.{ARGUMENTS}
 use Rattle.tc_entry.specs.Name.{IsName}
 use Rattle.tc_entry.specs.Reply.{fault_name}
@@ -16,10 +18,6 @@ use Rattle.tc_entry.specs.declared.op.Op.{Op}
 use Rattle.tc_entry.specs.declared.op.Op.TheVariants as O
 use Rattle.tc_entry.specs.declared.reply.Reply.{Reply}
 use Rattle.tc_entry.specs.declared.reply.Reply.TheVariants as R
-use Rattle.tc_text.specs.declared.verb.Verb.{Verb}
-use Rattle.tc_text.specs.declared.verb.Verb.TheVariants as V
-use Rattle.tc_text.specs.declared.verb.Status.{Status}
-use Rattle.tc_text.specs.declared.verb.Status.TheVariants as S
 
 -- a component by its number, or all of them
 abbrev pub group_text : Group → List ℕ
@@ -34,50 +32,7 @@ target_text T.All = codes "all"
 
 -- each argument with a space in front
 abbrev pub args_text : List Comp → List ℕ
-args_text [] = []
-args_text (c ∷ cs) = codes " " ++ (decimal c.0 ++ args_text cs)
-
--- the first words of an operation that is about a target
-abbrev pub status_text : Status → List ℕ
-status_text S.Running = codes "running "
-status_text S.Alive = codes "alive "
-status_text S.Done = codes "done "
-status_text S.Killed = codes "killed "
-status_text S.WaitDone = codes "wait done "
-status_text S.WaitKilled = codes "wait killed "
-status_text S.WakeDone = codes "wake done "
-status_text S.WakeKilled = codes "wake killed "
-
--- the first words of an operation
-abbrev pub verb_text : Verb → List ℕ
-verb_text V.Create = codes "create"
-verb_text V.Start = codes "start "
-verb_text V.Stop = codes "stop "
-verb_text V.Kill = codes "kill "
-verb_text V.StopCase = codes "stopcase"
-verb_text (V.Status s) = status_text s
-verb_text V.SetVerdict = codes "setverdict "
-verb_text V.GetVerdict = codes "getverdict"
-verb_text V.Finish = codes "finish"
-
--- the first words that an operation has
-abbrev pub verb_of : Op → Verb
-verb_of (O.Create _ _) = V.Create
-verb_of (O.Start _ _ _) = V.Start
-verb_of (O.Stop _) = V.Stop
-verb_of (O.Kill _) = V.Kill
-verb_of O.StopCase = V.StopCase
-verb_of (O.Running _) = V.Status S.Running
-verb_of (O.Alive _) = V.Status S.Alive
-verb_of (O.Done _) = V.Status S.Done
-verb_of (O.Killed _) = V.Status S.Killed
-verb_of (O.Wait false _) = V.Status S.WaitDone
-verb_of (O.Wait true _) = V.Status S.WaitKilled
-verb_of (O.Wake false _) = V.Status S.WakeDone
-verb_of (O.Wake true _) = V.Status S.WakeKilled
-verb_of (O.SetVerdict _) = V.SetVerdict
-verb_of O.GetVerdict = V.GetVerdict
-verb_of O.Finish = V.Finish
+args_text cs = flat_map (λ c. codes " " ++ decimal c.0) cs
 
 -- an operation with more to it than others: a start, and a create with a name
 abbrev pub IsLong : Op → Type 0
@@ -85,40 +40,26 @@ IsLong (O.Start c run args) = Unit {0}
 IsLong (O.Create alive (Some name)) = Unit {0}
 IsLong _ = ⊥
 
--- what follows `create` of the component's kind
-abbrev pub kind_text : Bool → List ℕ
-kind_text false = []
-kind_text true = codes " alive"
-
--- the same, and the component's name
-abbrev pub named_text : Bool → List ℕ → List ℕ
-named_text alive name = kind_text alive ++ (codes " named " ++ name)
-
 -- what follows `start `
 abbrev pub start_text : Comp → Run → List Comp → List ℕ
 start_text c run args = decimal c.0 ++ (codes " " ++ (decimal run.0 ++ args_text args))
 
--- what follows the first words
-abbrev pub operand_text : Op → List ℕ
-operand_text (O.Create alive None) = kind_text alive
-operand_text (O.Create alive (Some name)) = named_text alive name
-operand_text (O.Start c run args) = start_text c run args
-operand_text (O.Stop g) = group_text g
-operand_text (O.Kill g) = group_text g
-operand_text O.StopCase = []
-operand_text (O.Running t) = target_text t
-operand_text (O.Alive t) = target_text t
-operand_text (O.Done t) = target_text t
-operand_text (O.Killed t) = target_text t
-operand_text (O.Wait _ t) = target_text t
-operand_text (O.Wake _ t) = target_text t
-operand_text (O.SetVerdict v) = name_of (given v)
-operand_text O.GetVerdict = []
-operand_text O.Finish = []
-
 -- an operation, without its caller
 abbrev pub op_text : Op → List ℕ
-op_text op = verb_text (verb_of op) ++ operand_text op
+op_text (O.Create alive name) = codes "create" ++ ((if alive then codes " alive" else []) ++ option_map_or (λ n. codes " named " ++ n) name [])
+op_text (O.Start c run args) = codes "start " ++ start_text c run args
+op_text (O.Stop g) = codes "stop " ++ group_text g
+op_text (O.Kill g) = codes "kill " ++ group_text g
+op_text O.StopCase = codes "stopcase"
+op_text (O.Running t) = codes "running " ++ target_text t
+op_text (O.Alive t) = codes "alive " ++ target_text t
+op_text (O.Done t) = codes "done " ++ target_text t
+op_text (O.Killed t) = codes "killed " ++ target_text t
+op_text (O.Wait killed t) = (if killed then codes "wait killed " else codes "wait done ") ++ target_text t
+op_text (O.Wake killed t) = (if killed then codes "wake killed " else codes "wake done ") ++ target_text t
+op_text (O.SetVerdict v) = codes "setverdict " ++ name_of (given v)
+op_text O.GetVerdict = codes "getverdict"
+op_text O.Finish = codes "finish"
 
 -- a move: the number of the caller's run, a space, and the operation
 abbrev pub move_text : ℕ → Op → List ℕ
@@ -152,8 +93,7 @@ IsTarget _ = Unit {0}
 
 -- components, each with a number of 32 bits
 abbrev pub AreComps : List Comp → Type 0
-AreComps [] = Unit {0}
-AreComps (c ∷ cs) = IsComp c × AreComps cs
+AreComps cs = AllByRecursion IsComp cs
 
 -- an operation whose numbers are those of their types, with at most four arguments, and whose name is one
 abbrev pub IsOp : Op → Type 0

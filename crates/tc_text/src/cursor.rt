@@ -18,6 +18,21 @@ pub fn after<'a>(text: &'a [u8], word: &[u8]) -> Option<&'a [u8]>
     Some(rest)
 }
 
+/// The value, and what follows the word, if the text begins with the word.
+#[inline(always)]
+pub(crate) fn value_after<'a, T: Copy>(
+    text: &'a [u8],
+    word: &[u8],
+    value: T,
+) -> Option<(T, &'a [u8])>
+    ensures { MatchOption result ((rest : List ℕ) → text.now ≢ word.now ++ rest) (λ r. (r.0 ≡ value) × (text.now ≡ word.now ++ r.1.now)) }
+{
+    match after(text, word) {
+        Some(rest) => Some((value, rest)),
+        None => None,
+    }
+}
+
 /// What follows the end of a line, if the text begins with that end: an LF, or nothing.
 #[inline(always)]
 pub fn take_line_end(text: &[u8]) -> Option<&[u8]>

@@ -5,7 +5,7 @@ ghost use Rattle.tc_text.specs.Lines.{lines_of};
 ghost use Rattle.tc_text.specs.Spelling.{move_text, IsLong, IsOp};
 ghost use Rattle.tc_text.specs.Reading.{op_of};
 ghost use Rattle.tc_entry.specs.Limits.{IsBehaviours};
-ghost use Rattle.tc_text.specs.MoveList.{Move as AnyMove, behaviours_line, move_line, list_lines, IsMadeOf, IsMove, AreMoves, IsMoveList, IsListFault};
+ghost use Rattle.tc_text.specs.MoveList.{Move as AnyMove, behaviours_line, move_line, list_lines, IsMadeOf, IsMove, IsMoveList, IsListFault};
 ghost use Rattle.tc_entry.specs.declared.op.Op.{Op as AnyOp};
 ghost use Rattle.tc_text.specs.Inside.{IsMoveTakenBy, IsNoMove, TakesLine};
 

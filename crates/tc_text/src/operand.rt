@@ -3,9 +3,9 @@ ghost use Rattle.std.specs.Prelude.{◌≡◌, ◌<◌, ◌≤◌, ◌+◌, ◌^
 ghost use Rattle.tc_entry.specs.declared.limits.TheConstants.{ARGUMENTS};
 ghost use Rattle.tc_verdict.specs.UserVerdict.{given};
 ghost use Rattle.tc_verdict.specs.Verdict.{name_of};
-ghost use Rattle.tc_text.specs.Spelling.{group_text, target_text, args_text, IsGroup, IsTarget, IsOp, AreComps, kind_text, named_text, start_text, verb_of, operand_text};
+ghost use Rattle.tc_text.specs.Spelling.{group_text, target_text, args_text, IsGroup, IsTarget, IsOp, AreComps, start_text};
 ghost use Rattle.tc_entry.specs.Name.{IsName};
-ghost use Rattle.tc_text.specs.Inside.{EndsKind};
+ghost use Rattle.tc_text.specs.Inside.{EndsKind, kind_text, named_text, operand_text, verb_of};
 ghost use Rattle.tc_text.specs.Reading.{EndsNumber, EndsMove, Takes};
 ghost use Rattle.std.specs.Fmt.{decimal};
 ghost use Rattle.tc_verdict.specs.declared.user_verdict.UserVerdict.{UserVerdict as AnySetting};
@@ -19,7 +19,9 @@ ghost use Rattle.tc_verdict.specs.declared.run.Run.{Run as AnyRun};
 use crate::cursor::after;
 use crate::name::take_name;
 use crate::number::take_number;
+use crate::verdict::take_verdict;
 use tc_entry::{Args, Comp, Group, Op, Run, Target, UserVerdict};
+use tc_verdict::to_user;
 
 #[inline(always)]
 pub(crate) fn take_group(text: &[u8]) -> Option<(Group, &[u8])>
@@ -55,17 +57,8 @@ pub(crate) fn take_setting(text: &[u8]) -> Option<(UserVerdict, &[u8])>
     ensures spelled { IfSome result (λ r. text.now ≡ name_of (given r.0) ++ r.1.now) }
     ensures only { (v : AnySetting) (rest : List ℕ) → text.now ≡ name_of (given v) ++ rest → Takes result v rest }
 {
-    if let Some(rest) = after(text, b"none") {
-        Some((UserVerdict::None, rest))
-    } else if let Some(rest) = after(text, b"pass") {
-        Some((UserVerdict::Pass, rest))
-    } else if let Some(rest) = after(text, b"inconc") {
-        Some((UserVerdict::Inconc, rest))
-    } else if let Some(rest) = after(text, b"fail") {
-        Some((UserVerdict::Fail, rest))
-    } else {
-        None
-    }
+    let (verdict, rest) = take_verdict(text)?;
+    Some((to_user(verdict)?, rest))
 }
 
 /// The number of a run that the text begins with, and what follows it.

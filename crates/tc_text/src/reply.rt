@@ -1,5 +1,5 @@
 //! The texts of replies.
-ghost use Rattle.std.specs.Prelude.{◌≡◌, ◌++◌, ℕ, List, ◌≢◌, MatchOption, Some, IfSome, OnOk, OnErr};
+ghost use Rattle.std.specs.Prelude.{◌≡◌, ◌++◌, ℕ, List, Some, IfSome, OnOk, OnErr};
 ghost use Rattle.std.specs.Io.{StartsWith};
 ghost use Rattle.tc_text.specs.Spelling.{reply_text, IsReply};
 ghost use Rattle.tc_entry.specs.Reply.{fault_name};
@@ -11,7 +11,7 @@ ghost use Rattle.tc_entry.specs.declared.reply.Reply.TheVariants.{Made};
 ghost use Rattle.tc_entry.specs.declared.comp.Comp.{Comp as AnyComp};
 
 use crate::append::{append_number, append_text};
-use crate::cursor::after;
+use crate::cursor::{after, value_after};
 use crate::number::take_number;
 use tc_entry::{Comp, Fault, NoMemory, Reply, Verdict, name_of_fault};
 use tc_verdict::name;
@@ -59,17 +59,6 @@ fn take_end_or_error(text: &[u8]) -> Option<(Reply, &[u8])>
     Some((Reply::Local(Verdict::Error), after(text, b"error")?))
 }
 
-// The reply, and what follows the word, if the text begins with it.
-#[inline(always)]
-fn reply_after<'a>(text: &'a [u8], word: &[u8], reply: Reply) -> Option<(Reply, &'a [u8])>
-    ensures { MatchOption result ((rest : List ℕ) → text.now ≢ word.now ++ rest) (λ r. (r.0 ≡ reply) × (text.now ≡ word.now ++ r.1.now)) }
-{
-    match after(text, word) {
-        Some(rest) => Some((reply, rest)),
-        None => None,
-    }
-}
-
 // The reply to a create that the text begins with.
 #[inline(always)]
 fn take_made(text: &[u8]) -> Option<(Reply, &[u8])>
@@ -89,23 +78,23 @@ pub fn take_reply(text: &[u8]) -> Option<(Reply, &[u8])>
     ensures only { (r : AnyReply) (rest : List ℕ) → IsReply r → EndsReply rest → text.now ≡ reply_text r ++ rest → Takes result r rest }
 {
     match *text.first()? {
-        b'o' => reply_after(text, b"ok", Reply::Ok),
-        b't' => reply_after(text, b"true", Reply::Answer(true)),
+        b'o' => value_after(text, b"ok", Reply::Ok),
+        b't' => value_after(text, b"true", Reply::Answer(true)),
         b'e' => take_end_or_error(text),
-        b'f' => match reply_after(text, b"false", Reply::Answer(false)) {
+        b'f' => match value_after(text, b"false", Reply::Answer(false)) {
             Some(found) => Some(found),
-            None => reply_after(text, b"fail", Reply::Local(Verdict::Fail)),
+            None => value_after(text, b"fail", Reply::Local(Verdict::Fail)),
         },
-        b'm' => match reply_after(text, b"matched", Reply::Matched) {
+        b'm' => match value_after(text, b"matched", Reply::Matched) {
             Some(found) => Some(found),
             None => take_made(text),
         },
-        b'p' => match reply_after(text, b"parked", Reply::Parked) {
+        b'p' => match value_after(text, b"parked", Reply::Parked) {
             Some(found) => Some(found),
-            None => reply_after(text, b"pass", Reply::Local(Verdict::Pass)),
+            None => value_after(text, b"pass", Reply::Local(Verdict::Pass)),
         },
-        b'n' => reply_after(text, b"none", Reply::Local(Verdict::None)),
-        b'i' => reply_after(text, b"inconc", Reply::Local(Verdict::Inconc)),
+        b'n' => value_after(text, b"none", Reply::Local(Verdict::None)),
+        b'i' => value_after(text, b"inconc", Reply::Local(Verdict::Inconc)),
         _ => None,
     }
 }

@@ -1,6 +1,7 @@
 //! Operations with neither arguments nor a name, which are small.
 ghost use Rattle.std.specs.Prelude.{◌≡◌, ◌<◌, ◌^◌, ◌++◌, ℕ, List, IfSome, MatchOption};
-ghost use Rattle.tc_text.specs.Spelling.{IsLong, IsOp, move_text, op_text, operand_text, verb_of};
+ghost use Rattle.tc_text.specs.Spelling.{IsLong, IsOp, move_text, op_text};
+ghost use Rattle.tc_text.specs.Inside.{operand_text, verb_of};
 ghost use Rattle.tc_text.specs.Reading.{EndsMove, op_of};
 ghost use Rattle.tc_entry.specs.declared.op.Op.{Op as AnyOp};
 

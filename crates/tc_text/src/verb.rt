@@ -1,8 +1,7 @@
 //! The first words of operations.
 ghost use Rattle.std.specs.Prelude.{◌≡◌, ◌≢◌, ◌++◌, ℕ, List, IfSome, MatchOption};
-ghost use Rattle.tc_text.specs.Spelling.{status_text, verb_of, verb_text};
 ghost use Rattle.tc_text.specs.Reading.{status_op, Takes};
-ghost use Rattle.tc_text.specs.Inside.{IsWait};
+ghost use Rattle.tc_text.specs.Inside.{IsWait, status_text, verb_of, verb_text};
 ghost use Rattle.tc_text.specs.declared.verb.Status.{Status as AnyStatus};
 ghost use Rattle.tc_text.specs.declared.verb.Verb.{Verb as AnyVerb};
 

@@ -2,7 +2,8 @@
 ghost use Rattle.std.specs.Prelude.{◌≡◌, ◌++◌, OnOk, OnErr};
 ghost use Rattle.std.specs.Io.{StartsWith};
 ghost use Rattle.tc_entry.specs.declared.op.Op.TheVariants as ops;
-ghost use Rattle.tc_text.specs.Spelling.{move_text, op_text, operand_text, group_text, target_text, args_text};
+ghost use Rattle.tc_text.specs.Spelling.{move_text, op_text, group_text, target_text, args_text};
+ghost use Rattle.tc_text.specs.Inside.{operand_text};
 
 use crate::append::{append_number, append_text};
 use crate::verb::Verb;

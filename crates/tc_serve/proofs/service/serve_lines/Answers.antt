@@ -2,15 +2,15 @@ use Rattle.std.proofs.Common.{◌≡◌, Some}
 use Rattle.tc_serve.proofs.Turns.{uncounted}
 use Rattle.tc_serve.proofs.service.serve_lines.Goals as goal
 
-pub returns-clause-stopped : goal.returns-clause-stopped
-returns-clause-stopped g c = uncounted _ _ _ c.loop-turns._turns _ c.loop-turns-test.false c.loop-turns.invariant.at_
+pub returns-clause-ending : goal.returns-clause-ending
+returns-clause-ending g c = uncounted _ _ _ c.loop-turns._turns _ c.loop-turns-test.false c.loop-turns.invariant.at_
 
-pub returns-in-Ok-Some-clause-served : goal.returns-in-Ok-Some-clause-served
-returns-in-Ok-Some-clause-served g c =
+pub returns-in-Ok-Some-clause-ending : goal.returns-in-Ok-Some-clause-ending
+returns-in-Ok-Some-clause-ending g c =
     let first = c.in-Ok-Some.field-0-is in
     let second = c.in-Ok-Some.served-is in
     let is : c.in-Ok-Some.field-0 ≡ Some c.in-Ok-Some.served = cc in
     rw is at ((rw c.in-Ok-Some.is at c.turn.ensures.served) _ _ c.loop-turns.invariant.at_)
 
-pub returns-in-Err-clause-stopped : goal.returns-in-Err-clause-stopped
-returns-in-Err-clause-stopped g c = c.in-Err.ensures.stopped _ _ c.loop-turns.invariant.at_
+pub returns-in-Err-clause-ending : goal.returns-in-Err-clause-ending
+returns-in-Err-clause-ending g c = c.in-Err.ensures.stopped _ _ c.loop-turns.invariant.at_

@@ -1,7 +1,7 @@
 use Rattle.std.proofs.Common.{◌∙◌, ap, is_err, arith, rules}
 use Rattle.std.proofs.lemmas.Result.{IfErr-weaker, IfOk-weaker}
 use Rattle.tc_serve.specs.declared.fault.ServeFault.TheVariants as F
-use Rattle.tc_serve.proofs.Turns.{going, is_no_device, stops_on, unwritten}
+use Rattle.tc_serve.proofs.Turns.{going, is_no_device, stops_on, unread, unwritten}
 use Rattle.tc_serve.proofs.service.turn.Goals as goal
 
 pub returns-in-Ok-put-clause-served : goal.returns-in-Ok-put-clause-served
@@ -37,3 +37,7 @@ returns-in-Ok-put-clause-read g c = is_no_device c.take_read-end.result F.Read _
 
 pub returns-in-Ok-put-clause-written : goal.returns-in-Ok-put-clause-written
 returns-in-Ok-put-clause-written g c = is_no_device c.take_read-end.result F.Write _ c.take_read-end.ensures.own (λ own. own) (c.put.ensures.failed ∙ ap is_err c.in-Ok-put.is)
+
+pub returns-in_default-clause-stopped : goal.returns-in_default-clause-stopped
+returns-in_default-clause-stopped g c = λ from turns at_.
+    unread from (g.R.CountedRead.remaining c.args.reader.now) (g.R.CountedRead.remaining c.read.new.self) _ _ _ turns c.args.serving.now at_ c.in_default.ensures.bytes

@@ -1,6 +1,9 @@
-use Rattle.std.proofs.Common.{◌≡◌, ◌∙◌, ◌++◌, ℕ, List, length, take, drop, sym, ap, append_assoc, take-append-drop, Result, Ok, Err, OnErr}
+use Rattle.std.proofs.Common.{◌≡◌, ◌∙◌, ◌++◌, ℕ, List, length, take, drop, sym, ap, append_assoc, take-append-drop, Result, Ok, Err, OnErr, OnOk}
 use Rattle.std.specs.Io.{StartsWith}
 use Rattle.std.proofs.Math.Seq.{take-append_seam}
+use Rattle.tc_text.specs.Spelling.{op_text}
+use Rattle.tc_text.specs.Inside.{operand_text}
+use Rattle.tc_text.proofs.Verbs.{op_words}
 use Rattle.tc_text.proofs.writing.append_op.Goals as goal
 
 -- what begins with more begins with less
@@ -17,3 +20,12 @@ refused_less (Err e) new mid old words is starts = starts_less new mid old words
 
 pub returns-clause-err : goal.returns-clause-err
 returns-clause-err c = refused_less c.append_operand.result _ _ _ _ c.in_ok-append_text.ensures.ok c.append_operand.ensures.err
+
+-- what is appended after words is what is appended of both
+joined : {A E : Type 0} (r : Result A E) (new mid old words more both : List ℕ) → mid ≡ old ++ words → both ≡ words ++ more → OnOk r (new ≡ mid ++ more) → OnOk r (new ≡ old ++ both)
+joined (Ok x) new mid old words more both is parts e = e ∙ (ap (λ l. l ++ more) is ∙ (append_assoc old words more ∙ ap (λ l. old ++ l) (sym parts)))
+joined (Err e) new mid old words more both is parts h = tt
+
+pub returns-clause-ok : goal.returns-clause-ok
+returns-clause-ok c =
+    joined c.append_operand.result _ _ _ _ (operand_text c.args.op.now) (op_text c.args.op.now) c.in_ok-append_text.ensures.ok (let parts = op_words c.args.op.now in cc) c.append_operand.ensures.ok

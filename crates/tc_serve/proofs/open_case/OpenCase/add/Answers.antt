@@ -1,6 +1,6 @@
 use Rattle.std.proofs.Common.{◌∙◌, Ok, refl, sym}
 use Rattle.tc_serve.specs.declared.refusal.Refusal.TheVariants as W
-use Rattle.tc_serve.specs.Protocol.{with_line}
+use Rattle.tc_serve.specs.Inside.{with_line}
 use Rattle.tc_serve.proofs.Calling.{may_change, may_not, noted}
 use Rattle.tc_serve.proofs.open_case.OpenCase.add.Goals as goal
 

@@ -1,7 +1,7 @@
 use Rattle.std.proofs.Common.{◌∙◌, Ok, refl, sym}
 use Rattle.tc_evidence.specs.declared.line.Line.TheVariants as L
 use Rattle.tc_serve.specs.declared.refusal.Refusal.TheVariants as W
-use Rattle.tc_serve.specs.Protocol.{with_line}
+use Rattle.tc_serve.specs.Inside.{with_line}
 use Rattle.tc_serve.specs.Refusal.{why_text}
 use Rattle.tc_serve.proofs.Calling.{may_change, may_not, noted}
 use Rattle.tc_serve.proofs.open_case.OpenCase.refuse.Goals as goal
