@@ -42,17 +42,22 @@ abbrev pub wake_reply : List Entry → ℕ → Awaited → Reply
 wake_reply past b a =
     if holds past a then R.Matched else if (b == 0) && is_stuck past then R.Fault F.Stuck else R.Parked
 
--- the reply to a call that is no error: Ok, if it neither makes a component, nor asks, nor waits
+-- the reply to a call that is no error
 abbrev pub plain_answer : List Entry → ℕ → Op → Reply
 plain_answer past b (O.Create alive name) = R.Made (record { 0 = components past })
+plain_answer past b (O.Start c run args) = R.Ok
+plain_answer past b (O.Stop g) = R.Ok
+plain_answer past b (O.Kill g) = R.Ok
+plain_answer past b O.StopCase = R.Ok
 plain_answer past b (O.Running t) = R.Answer (running past t)
 plain_answer past b (O.Alive t) = R.Answer (alive past t)
 plain_answer past b (O.Done t) = R.Answer (done past t)
 plain_answer past b (O.Killed t) = R.Answer (killed past t)
 plain_answer past b (O.Wait k t) = if holds past (record { killed = k; target = t }) then R.Matched else R.Parked
 plain_answer past b (O.Wake k t) = wake_reply past b (record { killed = k; target = t })
+plain_answer past b (O.SetVerdict v) = R.Ok
 plain_answer past b O.GetVerdict = local_reply past (comp_of past b)
-plain_answer past b _ = R.Ok
+plain_answer past b O.Finish = R.Ok
 
 -- the error, if there is one, and otherwise the reply
 abbrev pub answer_unless : Option Fault → Reply → Reply
