@@ -48,7 +48,7 @@ WITHOUT_ALLOCATOR = (
     "worse_of", "worst", "name", "tc_verdict::read_name", "to_user", "from_user", "rank", "of_rank", "NoMemory::text", "Run::copy",
     "Comp::copy", "Group::is_of", "is_comp", "is_behaviours", "may_create", "name_of_fault", "as_behaviours", "TextKind::text",
     "TextFault::at", "Args::push", "Args::as_slice", "Args::copy", "Args::same", "Args::new", "Name::bytes", "Name::copy",
-    "Name::same", "Name::of_bytes", "Name::read", "after", "take_line_end", "is_plain", "read_number", "take_number", "take_verdict",
+    "Name::same", "Name::of_bytes", "Name::read", "after", "take_line_end", "is_plain", "read_number", "take_number", "take_run", "take_verdict",
     "take_name", "Op::copy", "Op::same", "ShortOp::op", "take_long_move", "take_short_move", "take_move", "read_move", "take_reply",
     "read_reply", "Reply::copy", "Reply::same", "Reply::is_ok", "Reply::is_ended", "Reply::is_fault", "Entry::copy", "Entry::same",
     "ends_case", "ends_pass", "created", "started_on", "is_alive_create", "OutFault::text", "CaseError::text", "CloseFault::text",

@@ -2,6 +2,7 @@
 use crate::calls::{answer, carry_out, in_lines, task_of, words_of};
 use crate::checks::{holds, is};
 use std::alloc::Global;
+use std::io::{Read, Write};
 use std::process::Abort;
 use std::sync::Wait;
 use std::test::Fail;
@@ -12,9 +13,11 @@ use tc_campaign::{CampaignEnd, Finished, Results};
 use tc_command::{Form, Task};
 use tc_entry::{Comp, Entry, Name, Op, Reply, Run, Sequence, Verdict};
 use tc_exec::CaseError;
+use tc_program::check::check;
 use tc_program::fault::{RunFault, abort_line};
 use tc_program::outcome::Outcome;
 use tc_program::output::give;
+use tc_program::replay::replay;
 use tc_stream::devices::{NarrowWriter, SlowReader, WriteFailure};
 
 /// The words of a task, its input, and its status.
@@ -130,6 +133,78 @@ fn fail_task<R: Abort + Threads + Wait + Clock + Copy + Send + 'static>(
     Ok(fail_each(rt, alloc, &task, input.as_slice(), whole.as_slice()))
 }
 
+/// A call over a reader and a writer.
+#[derive(Clone, Copy)]
+enum Call {
+    Replay,
+    Check,
+}
+
+/// What the call returns.
+fn answer_of<I: Read, W: Write>(
+    alloc: Global,
+    call: Call,
+    reader: &mut I,
+    writer: &mut W,
+) -> Result<u8, RunFault> {
+    match call {
+        Call::Replay => replay(alloc, reader, writer),
+        Call::Check => check(alloc, reader, writer),
+    }
+}
+
+/// Makes the call with a reader that fails at this read.
+fn fails_at_a_read<R: Abort>(rt: &R, alloc: Global, call: Call, input: &[u8], fails_at: usize) {
+    let mut reader = SlowReader::new(input, fails_at);
+    let mut written = Vec::new(alloc);
+    let answer = answer_of(alloc, call, &mut reader, &mut written);
+    is(rt, "the answer", answer, Err(RunFault::Read));
+    is(rt, "how much is written", written.len(), 0);
+}
+
+/// Makes the call with a writer that fails after this part of what must be written, in each way.
+fn fails_at_a_write<R: Abort>(rt: &R, alloc: Global, call: Call, input: &[u8], part: &[u8]) {
+    for failure in FAILURES {
+        let mut reader = input;
+        let mut writer = NarrowWriter::new(alloc, part.len(), failure);
+        let answer = answer_of(alloc, call, &mut reader, &mut writer);
+        is(rt, "the answer", answer, Err(RunFault::Write));
+        is(rt, "what is written", writer.taken.as_slice(), part);
+    }
+}
+
+/// Fails each read and each write of the call in turn; otherwise it returns this status.
+fn fail_call<R: Abort>(
+    rt: &R,
+    alloc: Global,
+    call: Call,
+    input: &str,
+    status: u8,
+) -> Result<(), Fail> {
+    let input = in_lines(alloc, input)?;
+    let mut reader = SlowReader::new(input.as_slice(), usize::MAX);
+    let mut whole = Vec::new(alloc);
+    let answer = answer_of(alloc, call, &mut reader, &mut whole);
+    is(rt, "the answer", answer, Ok(status));
+    for fails_at in 0..=input.len() {
+        fails_at_a_read(rt, alloc, call, input.as_slice(), fails_at);
+    }
+    for (place, _) in whole.iter().enumerate() {
+        let part = whole.as_slice().get(..place).unwrap_or(b"");
+        fails_at_a_write(rt, alloc, call, input.as_slice(), part);
+    }
+    Ok(())
+}
+
+/// Fails each read and each write of both calls in turn.
+fn fail_calls<R: Abort>(rt: &R, alloc: Global) -> Result<(), Fail> {
+    let moves = "behaviours 3;0 create;0 start 1 1;0 start 1 2;1 getverdict;";
+    fail_call(rt, alloc, Call::Replay, moves, 2)?;
+    let history =
+        "history 1 t 1;0 create -> made 1;0 stop 1 -> ok;0 alive 1 -> true;0 wait done 1 -> matched;end none;";
+    fail_call(rt, alloc, Call::Check, history, 3)
+}
+
 /// The one call of a test case.
 fn finish() -> Entry {
     Entry {
@@ -236,6 +311,7 @@ fn fail_tasks<R: Abort + Threads + Wait + Clock + Copy + Send + 'static>(
 fn failing_devices(rt: HostRuntime) -> Result<(), Fail> {
     let failed = fail_tasks(&rt, rt.alloc())?;
     holds(&rt, "more than 1000 failed", failed > 1_000);
+    fail_calls(&rt, rt.alloc())?;
     let results = aborted(rt.alloc())?;
     give_all(&rt, rt.alloc(), &results);
     Ok(())

@@ -18,7 +18,7 @@ use std::alloc::Global;
 use tc_entry::{Name, NoMemory, Op, Run};
 use tc_evidence::Sentence;
 use tc_text::{
-    ShortOp, after, as_behaviours, read_move, read_number, take_name, take_number, take_short_move,
+    ShortOp, after, as_behaviours, read_move, read_number, take_name, take_run, take_short_move,
 };
 
 /// How many bytes of a line are looked at: one more than any line has that asks for something.
@@ -59,11 +59,9 @@ fn read_naming(text: &[u8]) -> Option<(Run, Name)>
     ensures only { (k : ℕ) (name : List ℕ) → k < 2 ^ 16 → IsName name → text.now ≡ naming_text k name → result ≡ Some (record { 0 = k }, name) }
 {
     let rest = after(text, b"behaviour ")?;
-    let (number, rest) = take_number(rest)?;
+    let (run, rest) = take_run(rest)?;
     let rest = after(rest, b" ")?;
-    let name = Name::of_bytes(rest)?;
-    let number = u16::try_from(number).ok()?;
-    Some((Run(number), name))
+    Some((run, Name::of_bytes(rest)?))
 }
 
 // The run that makes a remark in the line, and what it says, which may be no sentence.
@@ -73,10 +71,8 @@ fn read_remark(text: &[u8]) -> Option<(Run, &[u8])>
     ensures only { (k : ℕ) (sentence : List ℕ) → k < 2 ^ 16 → text.now ≡ said_text false k sentence
         → MatchOption result ⊥ (λ r. (r.0.0 ≡ k) × (r.1.now ≡ sentence)) }
 {
-    let (number, rest) = take_number(text)?;
-    let sentence = after(rest, b" # ")?;
-    let number = u16::try_from(number).ok()?;
-    Some((Run(number), sentence))
+    let (run, rest) = take_run(text)?;
+    Some((run, after(rest, b" # ")?))
 }
 
 /// The move that the line spells, if its operation has neither arguments nor a name.

@@ -17,7 +17,7 @@ use std::alloc::Global;
 use tc_entry::{Name, NoMemory, Op, Run, Verdict};
 use tc_evidence::{Header, Kind, Line, Sentence, append_first_line};
 use tc_history::append_end;
-use tc_text::take_number;
+use tc_text::take_run;
 use tc_verdict::worse_of;
 
 /// The test case that is open, if one is, and the worst verdict of those that were closed.
@@ -32,14 +32,11 @@ fn run_of(line: &[u8]) -> Option<Run>
     ensures { MatchOption result ((run : ℕ) → run < 2 ^ 16 → IsOf line.now run → ⊥)
         (λ r. IsOf line.now r.0 × ((run : ℕ) → run < 2 ^ 16 → IsOf line.now run → r.0 ≡ run)) }
 {
-    let (number, rest) = take_number(line)?;
-    if let Some(byte) = rest.first() {
-        if *byte >= b'0' {
-            return None;
-        }
+    let (run, rest) = take_run(line)?;
+    match rest.first() {
+        Some(byte) if *byte >= b'0' => None,
+        _ => Some(run),
     }
-    let number = u16::try_from(number).ok()?;
-    Some(Run(number))
 }
 
 impl Server {

@@ -24,6 +24,7 @@ pub use move_list::{MoveList, TakesMoves, as_behaviours, read_moves, read_moves_
 pub use moves::{read_move, take_long_move, take_move};
 pub use name::take_name;
 pub use number::{read_number, take_number};
+pub use operand::take_run;
 pub use reply::{read_reply, take_reply, write_reply};
 pub use said::{Part, append_parts};
 pub use short::{ShortOp, take_short_move};

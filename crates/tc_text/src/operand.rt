@@ -63,7 +63,7 @@ pub(crate) fn take_setting(text: &[u8]) -> Option<(UserVerdict, &[u8])>
 
 /// The number of a run that the text begins with, and what follows it.
 #[inline(always)]
-pub(crate) fn take_run(text: &[u8]) -> Option<(Run, &[u8])>
+pub fn take_run(text: &[u8]) -> Option<(Run, &[u8])>
     ensures spelled { IfSome result (λ r. text.now ≡ decimal r.0.0 ++ r.1.now) }
     ensures fits { IfSome result (λ r. r.0.0 < 2 ^ 16) }
     ensures only { (n : ℕ) (rest : List ℕ) → n < 2 ^ 16 → EndsNumber rest → text.now ≡ decimal n ++ rest
