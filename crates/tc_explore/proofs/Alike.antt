@@ -282,10 +282,6 @@ no_gift : (n : ℕ) (past : List Entry) (e : Entry) → IsLegal n (e ∷ past) �
 unfolding answer is_active
 no_gift n past e legal none = let r : e.reply ≡ R.Ended = legal.0 ∙ rw none refl in rw r refl
 
-made_gift : (op : Op) (reply : Reply) (m : Comp) → created op reply ≡ Some m → gives op reply ≡ []
-made_gift (O.Create alive name) (R.Made c) m h = refl
-made_gift _ _ m h = absurd cc
-
 overall_by : (n : ℕ) (past : List Entry) (e : Entry) → IsLegal n (e ∷ past) →
     worst (map (local (e ∷ past)) (comps past)) ≡ next_local (gives e.op e.reply) (worst (map (local past) (comps past)))
 unfolding exists

@@ -33,7 +33,8 @@ use Rattle.tc_table.proofs.Lemmas.Stuck.{one_false}
 use Rattle.tc_table.proofs.Lemmas.Going.{started_by_entry}
 use Rattle.tc_explore.specs.declared.witness.Witness.{Witness}
 use Rattle.std.specs.Option.{unwrap_or}
-use Rattle.tc_explore.specs.Course.{Stand, stand, goes_on, after_own, after_other_by, is_wake, is_idle, wake_if, call_of, turn, steps_of, IsTurn, IsCourse, IsComplete}
+use Rattle.tc_explore.specs.Course.{Stand, stand, goes_on, after_own, after_other_by, is_wake, is_idle, turn, steps_of, IsTurn, IsCourse, IsComplete}
+use Rattle.tc_explore.specs.Inside.Standing.{wake_if, call_of}
 use Rattle.tc_explore.specs.Told.{is_found}
 use Rattle.tc_explore.specs.Inside.Simulation.{IsAlike, is_quiet, is_late, is_met, is_spent, IsQuietAt, call_at, IsWakeOf, IsBefore, IsParkedAt, IsFollowed, IsLastAt, WasParked, IsLeaving, place_of, IsEnding, IsAhead, IsFor, IsCovered, GoesOn, IsClosed, IsWithin, is_barred, IsBarredBefore, AreOrdered}
 use Rattle.tc_explore.proofs.Legality.{course_legal}

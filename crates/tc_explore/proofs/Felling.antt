@@ -25,7 +25,8 @@ use Rattle.tc_table.proofs.Lemmas.Deciding.{equal_if, self_equal}
 use Rattle.tc_table.proofs.Lemmas.Over.{on_existing, stays}
 use Rattle.tc_table.proofs.Lemmas.Sound.{plain_if}
 use Rattle.std.specs.Option.{unwrap_or}
-use Rattle.tc_explore.specs.Course.{stand, call_of, steps_of, turn, IsCourse}
+use Rattle.tc_explore.specs.Course.{stand, steps_of, turn, IsCourse}
+use Rattle.tc_explore.specs.Inside.Standing.{call_of}
 use Rattle.tc_explore.specs.Inside.Simulation.{is_barred, is_late, call_at, IsQuietAt, IsFollowed, IsEnding, IsFor, IsFelling}
 use Rattle.tc_explore.proofs.Legality.{course_legal}
 use Rattle.tc_explore.proofs.Alike.{phase_next}

@@ -21,7 +21,8 @@ use Rattle.tc_table.specs.Legal.{IsLegal}
 use Rattle.tc_table.proofs.Lemmas.Deciding.{equal_if}
 use Rattle.tc_table.proofs.Lemmas.Sound.{plain_if}
 use Rattle.tc_table.proofs.Lemmas.Going.{halted_by_entry}
-use Rattle.tc_explore.specs.Course.{Stand, stand, goes_on, after_other_by, ends, IsTurn, IsCourse}
+use Rattle.tc_explore.specs.Course.{Stand, stand, goes_on, after_other_by, IsTurn, IsCourse}
+use Rattle.tc_explore.specs.Inside.Standing.{ends}
 use Rattle.tc_explore.specs.Inside.Going.{taken, IsOn, CannotGo}
 use Rattle.tc_explore.specs.Inside.Simulation.{is_spent, IsSilent, IsWithin}
 use Rattle.tc_explore.specs.Inside.Seen.{IsSame, HasNoWake, IsOpen, IsCalmAt, IsCalm, IsLoudAt, IsCalmAfter, IsState}
@@ -183,17 +184,6 @@ pub ruleset call_rules = (on_open, open_silent, within_silent, on_not_ended)
 
 -- ---- no call is left of which nobody can see that it was made
 
-pub calm_none : (scripts : List ScriptView) (t : Case) (b : ℕ) → CannotGo scripts (past_of t) b → IsCalmAfter scripts t t b
-calm_none scripts t b cannot = (refl, λ e own turn goes plain. absurd (cannot e own turn))
-
-pub calm_loud : (scripts : List ScriptView) (t : Case) (run : Run) (op : Op) → IsTurn scripts (past_of t) (taken t.behaviours (past_of t) run op) → IsLoudAt t.behaviours (past_of t) run.0 op → IsCalmAfter scripts t t run.0
-calm_loud scripts t run op turn loud = (
-  refl,
-  λ e own mine.
-      let same : e ≡ taken t.behaviours (past_of t) run op = same_entry scripts (past_of t) e (taken t.behaviours (past_of t) run op) mine turn own in
-      subst (λ x. goes_on x.reply ≡ true → is_fault x.reply ≡ false → is_spent (past_of t) x.op ≡ false) (sym same) loud,
-)
-
 -- a course that is as long as it was, and one more of which so it is
 pub calm_then : (scripts : List ScriptView) (t u v : Case) (b : ℕ) → past_of u ≡ past_of t → IsCalmAfter scripts u v b → IsCalmAfter scripts t v b
 calm_then scripts t u v b same h = (h.0 ∙ same, subst (λ p. IsCalmAt scripts p b) same h.1)
@@ -210,9 +200,6 @@ calm_more scripts t u v k h last = (last.0 ∙ h.0, λ b less. by_place b less (
     by_place b less false j =
         let same : k ≡ b = grind (arith, nat_tests) in
         subst (λ p. IsCalmAt scripts p b) h.0 (subst (IsCalmAt scripts (past_of u)) same last.1)
-
-pub calm_all : (scripts : List ScriptView) (t v : Case) (k : ℕ) → length scripts ≤ k → AreCalmAfter scripts t v k → IsCalm scripts (past_of v)
-calm_all scripts t v k whole h b near = subst (λ p. IsCalmAt scripts p b) (sym h.0) (h.1 b (omega arith))
 
 pub state_of : {aim : Verdict} (scripts : List ScriptView) (t : Case) → IsOpen scripts t → IsCalm scripts (past_of t) → IsWithin aim (past_of t) → IsState aim scripts t
 state_of scripts t o calm within = record { opened = o; calm = calm; within = within }

@@ -15,7 +15,8 @@ use Rattle.tc_explore.specs.declared.findings.Findings.{Findings}
 use Rattle.tc_explore.specs.declared.search.Met.{Met}
 use Rattle.tc_explore.specs.declared.witness.Witness.{Witness}
 use Rattle.tc_explore.specs.Course.{carried, IsCourse}
-use Rattle.tc_explore.specs.Found.{Reaches, AreReached, AreCourses, AreCovered, Covers, AreMet}
+use Rattle.tc_explore.specs.Inside.Going.{Reaches}
+use Rattle.tc_explore.specs.Found.{AreReached, AreCourses, AreCovered, Covers, AreMet}
 use Rattle.tc_explore.specs.Inside.Going.{IsOn}
 use Rattle.tc_explore.specs.Inside.Keys.{key_of}
 use Rattle.tc_explore.specs.Inside.Seen.{AreKept, AreKeyed, IsCountedTo, IsLonger, IsNoLess, IsState, IsWith}

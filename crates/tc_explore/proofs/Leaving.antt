@@ -24,7 +24,8 @@ use Rattle.tc_table.proofs.Lemmas.Deciding.{self_equal, equal_if, and_left}
 use Rattle.tc_table.proofs.Lemmas.Over.{on_existing}
 use Rattle.tc_table.proofs.Lemmas.LawsOfHistories.{runs_if_active}
 use Rattle.tc_table.proofs.Lemmas.Going.{halted_by_entry, started_by_entry}
-use Rattle.tc_explore.specs.Course.{Stand, stand, call_of, steps_of, IsCourse}
+use Rattle.tc_explore.specs.Course.{Stand, stand, steps_of, IsCourse}
+use Rattle.tc_explore.specs.Inside.Standing.{call_of}
 use Rattle.tc_explore.specs.Inside.Simulation.{is_gone, is_spent, IsQuietAt, IsWakeOf, call_at, IsBefore, IsParkedAt, IsFollowed, IsLastAt, WasParked, IsLeaving, IsEnding, place_of, place_by, IsOrdered, IsFor, is_barred, IsBarredBefore, AreOrdered}
 use Rattle.tc_explore.proofs.Legality.{course_legal}
 use Rattle.tc_explore.proofs.Alike.{phase_next, kind_kept, first_kept, fresh, overall_next}

@@ -14,6 +14,7 @@ pub mod Completeness
 pub mod Searching
 pub mod Seeing
 pub mod Noting
+pub mod Verdicts
 pub mod Keeping
 pub mod Keys
 pub mod LastCalls

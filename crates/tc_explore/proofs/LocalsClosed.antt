@@ -20,7 +20,8 @@ use Rattle.tc_table.specs.History.{ends_case, is_over}
 use Rattle.tc_table.specs.Answers.{is_active}
 use Rattle.tc_table.proofs.Lemmas.Over.{all_over}
 use Rattle.tc_explore.specs.declared.search.Met.{Met}
-use Rattle.tc_explore.specs.Course.{stand, call_of, steps_of, turn, IsTurn, IsCourse, IsComplete}
+use Rattle.tc_explore.specs.Course.{stand, steps_of, turn, IsTurn, IsCourse, IsComplete}
+use Rattle.tc_explore.specs.Inside.Standing.{call_of}
 use Rattle.tc_explore.specs.Locals.{is_local, AllLocalsFound}
 use Rattle.tc_explore.specs.Found.{HasCourses}
 use Rattle.tc_explore.specs.Inside.Going.{taken, IsOn, CannotGo}

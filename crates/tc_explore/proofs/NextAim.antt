@@ -131,14 +131,14 @@ above_next scripts f g aim a more above told is v worse gives = by_test (nat_lt 
 
 -- the last search
 pub above_all : (scripts : List ScriptView) (f g : List Witness) (aim : Verdict) → IsLonger f g → AreFoundAbove aim scripts f → AllTold aim scripts g → None ≡ next_aim g aim → AllFound scripts g
-above_all scripts f g aim more above told is v gives = by_test (nat_lt (level_of aim) (level_of v)) refl
+above_all scripts f g aim more above told is history v one = by_test (nat_lt (level_of aim) (level_of v)) refl
   where
     here : IsDecided g aim None
     here = subst (IsDecided g aim) (sym is) (decided g aim)
 
     by_test : (t : Bool) → nat_lt (level_of aim) (level_of v) ≡ t → is_found g v ≡ true
-    by_test true k = above_longer scripts f g aim more above v (grind (arith, nat_tests)) gives
-    by_test false k = here v (told v (grind (arith, nat_tests)) gives)
+    by_test true k = above_longer scripts f g aim more above v (grind (arith, nat_tests)) (history, one)
+    by_test false k = here v (told v (grind (arith, nat_tests)) (history, one))
 
 -- no verdict is worse than error
 pub above_error : (scripts : List ScriptView) (found : List Witness) → AreFoundAbove V.Error scripts found

@@ -3,7 +3,7 @@ use Rattle.std.proofs.Common.{ℕ, zero, suc, ◌≡◌, ◌==◌, ◌<◌, ◌�
 use Rattle.std.proofs.lemmas.Bool.Decides.{nat_tests}
 use Rattle.std.proofs.lemmas.List.{get_or_append_left}
 use Rattle.std.specs.List.{IsDistinct}
-use Rattle.std.specs.List.Sorted.{IsPermutation}
+use Rattle.std.specs.List.Sorted.{IsNonDecreasingBy, IsPermutation}
 use Rattle.std.proofs.lemmas.List.Elements.{All-push}
 use Rattle.std.proofs.lemmas.List.Sorted.{All-permutation, list_any-IsPermutation}
 use Rattle.std.proofs.lemmas.Map.Keys.{IsDistinct-from_apart, apart_from_distinct, IsDistinct-IsPermutation}
@@ -13,8 +13,8 @@ use Rattle.tc_verdict.specs.Verdict.{level_of}
 use Rattle.tc_step.specs.Steps.{ScriptView}
 use Rattle.tc_table.proofs.Lemmas.Deciding.{equal_if, self_equal}
 use Rattle.tc_explore.specs.declared.witness.Witness.{Witness}
-use Rattle.tc_explore.specs.Found.{IsWitness, IsOnce, AllFound, AreCovered, AreFromBest, Covers}
-use Rattle.tc_explore.specs.Inside.Going.{AreNoted}
+use Rattle.tc_explore.specs.Found.{IsWitness, AllFound, AreCovered, AreFromBest, Covers}
+use Rattle.tc_explore.specs.Inside.Going.{AreNoted, IsOnce}
 use Rattle.tc_explore.specs.Told.{is_found}
 use Rattle.tc_explore.proofs.Sameness.{same_verdict}
 
@@ -129,7 +129,15 @@ pub covered_moved : (reached : List ℕ) (before after : List Witness) → IsPer
 covered_moved reached before after moved covered = All-permutation (λ w. Covers reached (reverse w.history)) before after moved covered
 
 pub all_found_moved : (scripts : List ScriptView) (before after : List Witness) → IsPermutation before after → AllFound scripts before → AllFound scripts after
-all_found_moved scripts before after moved all v gives = sym (list_any-IsPermutation (λ w. level_of w.verdict == level_of v) before after moved) ∙ all v gives
+all_found_moved scripts before after moved all history v is = sym (list_any-IsPermutation (λ w. level_of w.verdict == level_of v) before after moved) ∙ all history v is
+
+-- in their order, and each verdict once
+pub from_best : (found : List Witness) → IsNonDecreasingBy (λ w. level_of w.verdict) found → IsOnce found → AreFromBest found
+unfolding has_same
+from_best found ordered once i j d less near =
+    let low : level_of (get_or found i d).verdict ≤ level_of (get_or found j d).verdict = ordered i j d (omega (arith, less)) near in
+    let apart : (level_of (get_or found i d).verdict == level_of (get_or found j d).verdict) ≡ false = apart_if_once found once i j d less near in
+    grind (arith, nat_tests)
 
 pub best_none : AreFromBest []
 best_none i j d less near = absurd (omega arith)

@@ -14,7 +14,8 @@ use Rattle.tc_table.specs.Legal.{IsLegal}
 use Rattle.tc_table.proofs.Lemmas.Deciding.{equal_if, and_left}
 use Rattle.tc_table.proofs.Lemmas.Going.{halted_by_entry, started_by_entry}
 use Rattle.std.specs.Option.{unwrap_or}
-use Rattle.tc_explore.specs.Course.{Stand, stand, after_own, is_wake, wake_if, call_of, steps_of, IsTurn, IsCourse}
+use Rattle.tc_explore.specs.Course.{Stand, stand, after_own, is_wake, steps_of, IsTurn, IsCourse}
+use Rattle.tc_explore.specs.Inside.Standing.{wake_if, call_of}
 use Rattle.tc_explore.specs.Inside.Simulation.{IsAlike, is_gone, call_at, place_by, IsAhead, IsOrdered, AreOrdered}
 use Rattle.tc_explore.proofs.Legality.{course_legal}
 use Rattle.tc_explore.proofs.Alike.{any_phase_same, first_kept}

@@ -29,7 +29,8 @@ use Rattle.tc_table.proofs.Lemmas.Deciding.{self_equal, equal_if}
 use Rattle.tc_table.proofs.Lemmas.Going.{last_on_it}
 use Rattle.tc_table.proofs.Lemmas.Steps.{phase_by}
 use Rattle.tc_explore.specs.declared.witness.Witness.{Witness}
-use Rattle.tc_explore.specs.Course.{Stand, stand, goes_on, carried, one_more_if, after_other_by, is_wake, call_of, turn, steps_of, IsTurn, IsCourse}
+use Rattle.tc_explore.specs.Course.{Stand, stand, goes_on, carried, after_other_by, is_wake, turn, steps_of, IsTurn, IsCourse}
+use Rattle.tc_explore.specs.Inside.Standing.{one_more_if, call_of}
 use Rattle.tc_explore.specs.Told.{is_found}
 use Rattle.tc_explore.specs.Inside.Going.{IsOn, IsStepped, IsSteppedIfActive}
 use Rattle.tc_explore.specs.Found.{Covers}

@@ -5,7 +5,8 @@ use Rattle.tc_step.specs.Steps.{ScriptView}
 use Rattle.tc_table.specs.Case.{Case, past_of}
 use Rattle.tc_table.proofs.Lemmas.Deciding.{equal_if, self_equal}
 use Rattle.tc_explore.specs.Course.{carried}
-use Rattle.tc_explore.specs.Found.{Reaches, AreReached}
+use Rattle.tc_explore.specs.Inside.Going.{Reaches}
+use Rattle.tc_explore.specs.Found.{AreReached}
 use Rattle.tc_explore.specs.Inside.Going.{IsOn}
 
 -- nothing was called at the opening

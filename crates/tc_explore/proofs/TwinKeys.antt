@@ -21,7 +21,8 @@ use Rattle.tc_table.specs.Local.{local, local_if_any}
 use Rattle.tc_table.specs.Answers.{is_active}
 use Rattle.tc_table.proofs.Lemmas.Deciding.{equal_if}
 use Rattle.tc_explore.specs.declared.search.Met.{Met}
-use Rattle.tc_explore.specs.Course.{Stand, stand, after_other_by, is_wake, wake_if, IsCourse}
+use Rattle.tc_explore.specs.Course.{Stand, stand, after_other_by, is_wake, IsCourse}
+use Rattle.tc_explore.specs.Inside.Standing.{wake_if}
 use Rattle.tc_explore.specs.Inside.Keys.{key_of}
 use Rattle.tc_explore.specs.Inside.Simulation.{IsAlike}
 use Rattle.tc_explore.specs.Inside.Twins.{IsTwin, HasTwinKeys, IsGoing, IsTwinSeen, local_code, local_key, twin_key, wake_key, wake_key_of}

@@ -23,7 +23,8 @@ use Rattle.tc_table.specs.Answers.{answer, plain_answer, wake_reply, local_reply
 use Rattle.tc_table.specs.Legal.{IsLegal}
 use Rattle.tc_table.proofs.Lemmas.Deciding.{self_equal, equal_if, and_left}
 use Rattle.tc_table.proofs.Lemmas.Going.{halted_by_entry, last_on_it}
-use Rattle.tc_explore.specs.Course.{Stand, stand, next, after_own, after_other_by, ends, wake_if, turn, IsTurn, IsCourse}
+use Rattle.tc_explore.specs.Course.{Stand, stand, next, after_own, after_other_by, turn, IsTurn, IsCourse}
+use Rattle.tc_explore.specs.Inside.Standing.{ends, wake_if}
 use Rattle.tc_explore.specs.Inside.Simulation.{IsAlike, is_quiet}
 use Rattle.tc_explore.specs.Inside.Twins.{IsTwin}
 use Rattle.tc_explore.proofs.Legality.{course_legal}

@@ -1,6 +1,6 @@
 -- Courses of a test case whose behaviours are scripts: what each run has called, and what it calls next. As in the
 -- component table's definitions `past` lists entries, the newest first, and runs are numbers.
-use Rattle.std.specs.Prelude.{ℕ, ◌≡◌, ◌==◌, ◌<◌, ◌+◌, ◌*◌, ◌/◌, ◌++◌, ◌&&◌, ◌||◌, min, if◌then◌else◌, Bool, true, false, Option, Some, None, List, [], ◌∷◌, length, slice_get}
+use Rattle.std.specs.Prelude.{ℕ, ◌≡◌, ◌==◌, ◌<◌, ◌+◌, ◌*◌, ◌/◌, ◌++◌, ◌&&◌, ◌||◌, min, if◌then◌else◌, Bool, true, false, Option, Some, None, is_some, List, [], ◌∷◌, length, slice_get}
 use Rattle.std.specs.Option.{option_map_or, option_to_list, unwrap_or}
 use Rattle.tc_entry.specs.declared.comp.Comp.{Comp}
 use Rattle.tc_entry.specs.declared.entry.Entry.{Entry}
@@ -34,26 +34,16 @@ abbrev pub is_wake : Op → Bool
 is_wake (O.Wake killed target) = true
 is_wake _ = false
 
--- the Wake that follows a parked call
-abbrev pub wake_for : Op → Option Op
-wake_for (O.Wait killed target) = Some (O.Wake killed target)
-wake_for (O.Wake killed target) = Some (O.Wake killed target)
-wake_for _ = None
-
--- the Wake to come after this call
-abbrev pub wake_if : Op → Reply → Option Op
-wake_if op R.Parked = wake_for op
-wake_if op _ = None
+-- the Wake to come after a call with this reply: after a wait that was parked, and after a Wake that was parked again
+abbrev pub wake_after : Reply → Op → Option Op
+wake_after R.Parked (O.Wait killed target) = Some (O.Wake killed target)
+wake_after R.Parked (O.Wake killed target) = Some (O.Wake killed target)
+wake_after _ _ = None
 
 -- the arguments with which this operation starts run b
 abbrev pub arguments : Op → ℕ → List Comp
 arguments (O.Start c run args) b = if run.0 == b then args else []
 arguments _ b = []
-
--- the entry, by a run on this component, ends its pass
-abbrev pub ends : Option Comp → Entry → Bool
-ends (Some own) e = ends_pass own e
-ends None e = false
 
 -- after an entry of its own
 abbrev pub after_own : Entry → Stand → Stand
@@ -61,19 +51,13 @@ after_own e s = record {
   comp = s.comp;
   bound = s.bound ++ option_to_list (created e.op e.reply);
   called = if is_wake e.op then s.called else s.called + 1;
-  left = s.left || ends s.comp e;
-  wake = wake_if e.op e.reply;
+  left = s.left || option_map_or (λ own. ends_pass own e) s.comp false;
+  wake = wake_after e.reply e.op;
 }
-
--- started on this component with these arguments, if on any
-abbrev pub started : Option Comp → List Comp → Stand → Stand
-started (Some c) args s = record s { comp = Some c; bound = args }
-started None args s = s
 
 -- after an entry of another run: the first Start of run b that is replied Ok starts it
 abbrev pub after_other_by : Option Comp → Entry → ℕ → Stand → Stand
-after_other_by (Some c) e b s = s
-after_other_by None e b s = started (started_on e b) (arguments e.op b) s
+after_other_by own e b s = if is_some own then s else option_map_or (λ c. record s { comp = Some c; bound = arguments e.op b }) (started_on e b) s
 
 -- after one more entry
 abbrev pub next : Entry → ℕ → Stand → Stand
@@ -90,26 +74,17 @@ goes_on R.Ended = false
 goes_on R.Parked = false
 goes_on _ = true
 
--- how many calls a run has carried out after one more entry, by whether it is its own
-abbrev pub one_more_if : Bool → Entry → ℕ → ℕ
-one_more_if own e k = if own && goes_on e.reply then k + 1 else k
-
 -- how many calls run b has carried out: its steps, and its end, without calls that are answered ended, and waits that
 -- are not over
 abbrev pub carried : List Entry → ℕ → ℕ
 carried [] b = 0
-carried (e ∷ past) b = one_more_if (e.caller.0 == b) e (carried past b)
+carried (e ∷ past) b = if (e.caller.0 == b) && goes_on e.reply then carried past b + 1 else carried past b
 
 -- ---- what a run calls next
 
--- the call of a step; after the last step the behaviour ends
-abbrev pub call_of : Comp → List Comp → Option Step → Op
-call_of me bound (Some s) = operation me bound s
-call_of me bound None = O.Finish
-
--- what a run on this component calls next
+-- what a run on this component calls next: the Wake to come, or the call of the next of its steps, and after the last the end of its behaviour
 abbrev pub turn_on : Option Comp → List Step → Stand → Option Op
-turn_on (Some me) steps s = if s.left then None else Some (unwrap_or s.wake (call_of me s.bound (slice_get steps s.called)))
+turn_on (Some me) steps s = if s.left then None else Some (unwrap_or s.wake (option_map_or (operation me s.bound) (slice_get steps s.called) O.Finish))
 turn_on None steps s = None
 
 -- the steps of the script of run b

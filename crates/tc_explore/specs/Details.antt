@@ -1,15 +1,13 @@
 -- What matters of what the details say of a test case that was explored: what some of the lines hold.
-use Rattle.std.specs.Prelude.{ℕ, ◌==◌, ◌+◌, ◌&&◌, nat_lt, if◌then◌else◌, Bool, true, false, Option, Some, List, [], ◌∷◌, ◌++◌, codes, length, reverse, slice_get, slice_index_or}
+use Rattle.std.specs.Prelude.{ℕ, ◌==◌, ◌+◌, ◌&&◌, nat_lt, if◌then◌else◌, Bool, true, false, Option, Some, List, [], ◌∷◌, ◌++◌, length, reverse, slice_get, slice_index_or}
 use Rattle.std.specs.Fmt.{decimal}
-use Rattle.std.specs.Option.{option_map_or, option_to_list}
+use Rattle.std.specs.Option.{option_map_or}
 use Rattle.std.specs.List.{flat_map, range_with_len}
 use Rattle.tc_step.specs.declared.place.Place.TheVariants as P
 use Rattle.tc_step.specs.declared.step.Step.{Step}
 use Rattle.tc_step.specs.declared.step.Step.TheVariants as S
 use Rattle.tc_step.specs.declared.place.TargetPlace.TheVariants as T
 use Rattle.tc_step.specs.Steps.{ScriptView}
-use Rattle.tc_explore.specs.declared.explored.Ending.{Ending}
-use Rattle.tc_explore.specs.declared.explored.Ending.TheVariants as E
 use Rattle.tc_explore.specs.declared.explored.Explored.{Explored}
 use Rattle.tc_explore.specs.declared.witness.Witness.{Witness}
 use Rattle.tc_text.specs.Said.{Line}
@@ -20,14 +18,11 @@ use Rattle.tc_table.specs.Faults.{components}
 use Rattle.tc_table.specs.Local.{local_if_any}
 use Rattle.tc_explore.specs.Race.{races}
 use Rattle.tc_explore.specs.Course.{steps_of}
-
--- component c: the main one, or another by its number and its name
-abbrev pub comp_words : List Entry → ℕ → Line
-comp_words history c = if c == 0 then codes "mtc" ∷ [] else decimal c ∷ option_to_list (comp_name (reverse history) c)
+use Rattle.tc_explore.specs.Told.{comp_words, if_complete}
 
 -- component c and its local verdict at the end of a history
 abbrev pub local_words : List Entry → ℕ → Line
-local_words history c = comp_words history c ++ option_map_or (λ v. name_of v ∷ []) (local_if_any (reverse history) c) []
+local_words history c = comp_words c (comp_name (reverse history) c) ++ option_map_or (λ v. name_of v ∷ []) (local_if_any (reverse history) c) []
 
 -- the verdict of a witness, and the local verdicts
 abbrev pub locals : Witness → List Line
@@ -51,12 +46,7 @@ unseen_among b k steps =
 unfoldable pub unseen : List ScriptView → List ℕ → List Line
 unseen scripts reached = flat_map (λ b. unseen_among b (slice_index_or reached b 0) (steps_of scripts b)) (range_with_len 0 (length scripts))
 
--- the same, if the search came to its end
-abbrev pub unseen_if_complete : Ending → List ScriptView → List ℕ → List Line
-unseen_if_complete E.Complete scripts reached = unseen scripts reached
-unseen_if_complete E.Undecided scripts reached = []
-
--- the components by verdict, the races, and such steps; of a test case without behaviours nothing
+-- the components by verdict, the races, and, if the search came to its end, such steps; of a test case without behaviours nothing
 unfoldable pub details : List ScriptView → Explored → List Line
 details scripts e =
-    if length scripts == 0 then [] else flat_map locals e.found ++ (races e.found ++ unseen_if_complete e.ending scripts e.reached)
+    if length scripts == 0 then [] else flat_map locals e.found ++ (races e.found ++ if_complete e.ending (unseen scripts e.reached) [])

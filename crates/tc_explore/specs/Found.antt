@@ -1,6 +1,6 @@
 -- What is found of a test case: the overall verdicts of its complete courses.
 use Rattle.std.specs.Prelude.{ℕ, ◌≡◌, ◌<◌, ◌≤◌, true, List, length, reverse, slice_index_or, All}
-use Rattle.std.specs.List.Sorted.{IsNonDecreasingBy}
+use Rattle.std.specs.List.{AllPairs}
 use Rattle.tc_verdict.specs.declared.verdict.Verdict.{Verdict}
 use Rattle.tc_verdict.specs.Verdict.{level_of}
 use Rattle.tc_entry.specs.declared.entry.Entry.{Entry}
@@ -17,35 +17,22 @@ pub record IsWitness (scripts : List ScriptView) (history : List Entry) (v : Ver
   pub complete : IsComplete scripts (reverse history)
   pub verdict : v ≡ overall (reverse history)
 
--- a course gives this verdict
-abbrev pub Gives : List ScriptView → Verdict → Type 0
-Gives scripts verdict = (history : List Entry) × IsWitness scripts history verdict
-
 -- the verdict of each complete course is found
 abbrev pub AllFound : List ScriptView → List Witness → Type 0
-AllFound scripts found = (v : Verdict) → Gives scripts v → is_found found v ≡ true
+AllFound scripts found = (history : List Entry) (v : Verdict) → IsWitness scripts history v → is_found found v ≡ true
 
 -- each of these is a witness
 abbrev pub AreWitnesses : List ScriptView → List Witness → Type 0
 AreWitnesses scripts found = All (λ w. IsWitness scripts w.history w.verdict) found
 
--- no verdict has two witnesses
-abbrev pub IsOnce : List Witness → Type 0
-IsOnce found =
-    (i j : ℕ) (d : Witness) → i < length found → j < length found → (slice_index_or found i d).verdict ≡ (slice_index_or found j d).verdict → i ≡ j
-
--- they are in the order of their verdicts, the best first
+-- the verdict of each is better than those after it
 abbrev pub AreFromBest : List Witness → Type 0
-AreFromBest found = IsNonDecreasingBy (λ w. level_of w.verdict) found
+AreFromBest found = AllPairs (λ v w. level_of v.verdict < level_of w.verdict) found
 
--- in some course run b carries out that many calls
-abbrev pub Reaches : List ScriptView → ℕ → ℕ → Type 0
-Reaches scripts b k = (past : List Entry) × IsCourse scripts past × (carried past b ≡ k)
-
--- there is one such number for each run
+-- there is one number for each run: in some course it carries out that many calls
 pub record AreReached (scripts : List ScriptView) (reached : List ℕ) : Type 0 where
   pub as_many : length reached ≡ length scripts
-  pub each : (b : ℕ) → b < length reached → Reaches scripts b (slice_index_or reached b 0)
+  pub each : (b : ℕ) → b < length reached → (past : List Entry) × IsCourse scripts past × (carried past b ≡ slice_index_or reached b 0)
 
 -- for no run fewer calls are counted than it carries out in this course
 abbrev pub Covers : List ℕ → List Entry → Type 0

@@ -1,7 +1,7 @@
 -- Two witnesses side by side: how far they are alike.
-use Rattle.std.specs.Prelude.{ℕ, suc, if◌then◌else◌, List, [], ◌∷◌, bytes_eq}
+use Rattle.std.specs.Prelude.{ℕ, List, [], ◌∷◌, bytes_eq}
 use Rattle.std.specs.Fmt.{decimal}
-use Rattle.std.specs.List.{flat_map}
+use Rattle.std.specs.List.{common_prefix_len, flat_map}
 use Rattle.tc_entry.specs.declared.entry.Entry.{Entry}
 use Rattle.tc_history.specs.Block.{entry_text}
 use Rattle.tc_explore.specs.declared.witness.Witness.{Witness}
@@ -10,9 +10,7 @@ use Rattle.tc_verdict.specs.Verdict.{name_of}
 
 -- how many entries two histories have alike in front, by their texts
 abbrev pub alike_count : List Entry → List Entry → ℕ
-alike_count [] right = 0
-alike_count (x ∷ left) [] = 0
-alike_count (x ∷ left) (y ∷ right) = if bytes_eq (entry_text x) (entry_text y) then suc (alike_count left right) else 0
+alike_count left right = common_prefix_len (λ x y. bytes_eq (entry_text x) (entry_text y)) left right
 
 -- two witnesses, and how many entries they have alike in front
 abbrev pub race : Witness → Witness → List Line

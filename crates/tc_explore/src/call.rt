@@ -1,13 +1,13 @@
 //! The call of a step.
 ghost use Rattle.std.specs.Prelude.{◌≡◌, slice_get};
-ghost use Rattle.tc_explore.specs.Course as courses;
+ghost use Rattle.tc_explore.specs.Inside.Standing.{call_of};
 
 use tc_entry::{Comp, Op};
 use tc_step::Step;
 
 /// The call of the step at this place; after the last step, the end of the behaviour.
 pub(crate) fn call_at(me: Comp, bound: &[Comp], steps: &[Step], at: usize) -> Op
-    ensures { result ≡ courses.call_of me bound.now (slice_get steps.now at) }
+    ensures { result ≡ call_of me bound.now (slice_get steps.now at) }
 {
     if at < steps.len() {
         steps[at].operation(me, bound)

@@ -9,7 +9,8 @@ ghost use Rattle.tc_table.specs.Faults.{components};
 ghost use Rattle.tc_table.specs.Legal.{IsLegal};
 ghost use Rattle.tc_table.specs.Standing.{StandsFor};
 ghost use Rattle.tc_explore.specs.Inside.Adding.{AddsWords};
-ghost use Rattle.tc_explore.specs.Details.{comp_words, local_words, locals as about_locals};
+ghost use Rattle.tc_explore.specs.Details.{local_words, locals as about_locals};
+ghost use Rattle.tc_explore.specs.Told.{comp_words};
 ghost use Rattle.tc_verdict.specs.Verdict.{name_of as verdict_name};
 ghost use Rattle.tc_text.specs.Said.{TellsAmong};
 
@@ -51,10 +52,10 @@ pub(crate) fn name_at(history: &[Entry], comp: u32) -> Option<&Name>
 }
 
 // Appends the name of a component, if it has one.
-fn push_name<'a>(parts: &mut Vec<Part<'a>>, history: &'a [Entry], comp: u32) -> Result<(), NoMemory>
-    ensures { OnOk result (AddsWords (option_to_list (name_of_comp (reverse history.now) comp)) parts.old.items parts.new.items) }
+fn push_name<'a>(parts: &mut Vec<Part<'a>>, name: Option<&'a Name>) -> Result<(), NoMemory>
+    ensures { OnOk result (AddsWords (option_to_list (option_copied name.entry)) parts.old.items parts.new.items) }
 {
-    match name_at(history, comp) {
+    match name {
         Some(name) => push_word(parts, name.bytes()),
         None => Ok(()),
     }
@@ -63,16 +64,16 @@ fn push_name<'a>(parts: &mut Vec<Part<'a>>, history: &'a [Entry], comp: u32) -> 
 /// Appends a component: the main one as mtc, others by their number and name.
 pub(crate) fn push_comp<'a>(
     parts: &mut Vec<Part<'a>>,
-    history: &'a [Entry],
-    comp: Comp,
+    comp: u64,
+    name: Option<&'a Name>,
 ) -> Result<(), NoMemory>
-    ensures { OnOk result (AddsWords (comp_words history.now comp.0) parts.old.items parts.new.items) }
+    ensures { OnOk result (AddsWords (comp_words comp (option_copied name.entry)) parts.old.items parts.new.items) }
 {
-    if comp.0 == 0 {
+    if comp == 0 {
         return push_word(parts, b"mtc");
     }
-    push_number(parts, u64::from(comp.0))?;
-    push_name(parts, history, comp.0)
+    push_number(parts, comp)?;
+    push_name(parts, name)
 }
 
 // Appends a local verdict.
@@ -96,7 +97,7 @@ fn push_local<'a>(
     ensures { OnOk result (AddsWords (local_words history.now comp) parts.old.items parts.new.items) }
 {
     push_text(parts, if comp == 0 { b":" } else { b"," })?;
-    push_comp(parts, history, Comp(comp))?;
+    push_comp(parts, u64::from(comp), name_at(history, comp))?;
     push_verdict(parts, state.local(Comp(comp)))
 }
 

@@ -1,13 +1,14 @@
 //! What one entry says of its caller and of the run that it starts.
 ghost use Rattle.std.specs.Prelude.{◌≡◌};
 ghost use Rattle.tc_explore.specs.Course as courses;
+ghost use Rattle.tc_explore.specs.Inside.Standing.{ends as own_ends};
 
 use tc_entry::{Comp, Entry, Op, Reply};
 use tc_table::ends_pass;
 
 /// Whether an entry by a run on this component ends its pass.
 pub(crate) fn ends(own: Option<Comp>, entry: &Entry) -> bool
-    ensures { result ≡ courses.ends own entry.now }
+    ensures { result ≡ own_ends own entry.now }
 {
     match own {
         Some(own) => ends_pass(own, entry),
@@ -24,7 +25,7 @@ pub(crate) fn is_wake(op: &Op) -> bool
 
 /// The Wake to come after this entry.
 pub(crate) fn wake_after(entry: &Entry) -> Option<Op>
-    ensures { result ≡ courses.wake_if entry.now.op entry.now.reply }
+    ensures { result ≡ courses.wake_after entry.now.reply entry.now.op }
 {
     match (entry.reply, &entry.op) {
         (Reply::Parked, Op::Wait { killed, target } | Op::Wake { killed, target }) => {

@@ -1,7 +1,7 @@
 //! The search for the overall verdicts of a test case.
 ghost use Rattle.std.specs.Prelude.{◌≡◌, ◌≤◌, [], IfOk, IfSome, OnOk, length};
 ghost use Rattle.tc_entry.specs.declared.limits.TheConstants.{BEHAVIOURS};
-ghost use Rattle.tc_explore.specs.Found.{AreWitnesses, AreLegal, AreFromBest, AreCovered, AreMet, AreReached, IsOnce};
+ghost use Rattle.tc_explore.specs.Found.{AreWitnesses, AreLegal, AreFromBest, AreCovered, AreMet, AreReached};
 ghost use Rattle.tc_explore.specs.Course as courses;
 ghost use Rattle.tc_explore.specs.Course.{room_of, weight_of};
 ghost use Rattle.tc_explore.specs.Found.{AllFound};
@@ -92,7 +92,6 @@ pub fn explore(alloc: Global, scripts: &[Script], limit: usize) -> Result<Explor
     ensures within { IfOk result (λ e. e.states ≤ limit) }
     ensures most { IfOk result (λ e. e.states ≤ courses.most_states scripts.now limit) }
     ensures undecided { IfOk result (λ e. e.ending ≡ Undecided → 1 ≤ length scripts.now → e.states ≡ courses.most_states scripts.now limit) }
-    ensures once { IfOk result (λ e. IsOnce e.found) }
     ensures nothing { IfOk result (λ e. scripts.now ≡ [] → (e.ending ≡ Undecided) × (e.found ≡ []) × (e.states ≡ 0)) }
 {
     let mut found = no_findings(alloc, scripts)?;

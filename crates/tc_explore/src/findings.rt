@@ -2,8 +2,9 @@
 ghost use Rattle.std.specs.Prelude.{◌≡◌, ◌≤◌, [], IfOk, length};
 ghost use Rattle.tc_table.specs.Case.{past_of};
 ghost use Rattle.tc_entry.specs.declared.limits.TheConstants.{BEHAVIOURS};
-ghost use Rattle.std.specs.List.Sorted.{IsPermutation};
-ghost use Rattle.tc_explore.specs.Found.{AreFromBest, AreReached, Covers};
+ghost use Rattle.std.specs.List.Sorted.{IsNonDecreasingBy, IsPermutation};
+ghost use Rattle.tc_verdict.specs.Verdict.{level_of};
+ghost use Rattle.tc_explore.specs.Found.{AreReached, Covers};
 ghost use Rattle.tc_explore.specs.Inside.Going.{IsOn};
 ghost use Rattle.tc_explore.specs.Inside.Seen.{IsNoLess, IsNoted};
 
@@ -35,7 +36,7 @@ pub(crate) fn no_findings(alloc: Global, scripts: &[Script]) -> Result<Findings,
 /// Orders witnesses from the best verdict to the worst.
 pub(crate) fn order(witnesses: &mut Vec<Witness>)
     ensures same { IsPermutation witnesses.old.items witnesses.new.items }
-    ensures ordered { AreFromBest witnesses.new.items }
+    ensures ordered { IsNonDecreasingBy (λ w. level_of w.verdict) witnesses.new.items }
 {
     witnesses.sort_unstable_by_key(|witness| level(witness.verdict));
 }

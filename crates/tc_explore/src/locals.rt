@@ -1,5 +1,6 @@
 //! The local verdicts that the components of a test case may have.
-ghost use Rattle.std.specs.Prelude.{◌≡◌, ◌≤◌, ◌+◌, ◌*◌, ◌/◌, ◌∷◌, [], if◌then◌else◌, IfOk, OnOk, length};
+ghost use Rattle.std.specs.Prelude.{◌≡◌, ◌≤◌, ◌+◌, ◌*◌, ◌/◌, ◌∷◌, [], None, if◌then◌else◌, IfOk, OnOk, length, map, option_copied, slice_index_or};
+ghost use Rattle.std.specs.Fmt.{decimal};
 ghost use Rattle.std.specs.List.{flat_map, range_with_len};
 ghost use Rattle.tc_entry.specs.declared.limits.TheConstants.{BEHAVIOURS};
 ghost use Rattle.tc_explore.specs.Course as courses;
@@ -7,13 +8,15 @@ ghost use Rattle.tc_explore.specs.Found.{HasCourses};
 ghost use Rattle.tc_explore.specs.Inside.Adding.{AddsWords};
 ghost use Rattle.tc_explore.specs.Locals as told;
 ghost use Rattle.tc_explore.specs.Locals.{AllLocalsFound, AreLocals};
+ghost use Rattle.tc_explore.specs.Told.{if_complete, verdicts_where};
 ghost use Rattle.tc_explore.specs.declared.explored.Ending.TheVariants.{Complete, Undecided};
 ghost use Rattle.tc_text.specs.Said.{TellsAmong};
 ghost use Rattle.tc_verdict.specs.Verdict.{name_of as verdict_name};
 
+use crate::components::push_comp;
 use crate::explored::{Ending, most_states};
 use crate::marks::Marks;
-use crate::parts::{push_number, push_text, push_word};
+use crate::parts::{push_text, push_word};
 use crate::search_locals::search_locals;
 use crate::told::level;
 use std::alloc::Global;
@@ -111,16 +114,17 @@ impl Locals {
     // One for a verdict that a component is found with.
     fn once(&self, comp: usize, verdict: Verdict) -> u64
         requires { comp * 5 ≤ length self.now.found }
-        ensures is { result ≡ told.local_once self.now.found comp verdict }
+        ensures is { result ≡ (if told.is_local self.now.found comp verdict then 1 else 0) }
         ensures few { result ≤ 1 }
     {
         if self.has(comp, verdict) { 1 } else { 0 }
     }
 
     // How many verdicts a component is found with.
+    #[tactic(auto, using(crate::proofs::Verdicts::count_where))]
     fn count(&self, comp: usize) -> u64
         requires { comp * 5 ≤ length self.now.found }
-        ensures { result ≡ told.local_count self.now.found comp }
+        ensures { result ≡ length (verdicts_where (told.is_local self.now.found comp)) }
     {
         let error = self.once(comp, Verdict::Error);
         let fail = self.once(comp, Verdict::Fail);
@@ -130,28 +134,23 @@ impl Locals {
         none + (pass + (inconc + (fail + error)))
     }
 
-    // Appends a component: the main one as mtc, others by their number and name.
-    fn push_comp<'a>(&'a self, parts: &mut Vec<Part<'a>>, comp: usize) -> Result<(), NoMemory>
-        ensures { OnOk result (AddsWords (told.local_comp self.now.names comp) parts.old.items parts.new.items) }
+    // The name of a component, if it has one.
+    fn name_at(&self, comp: usize) -> Option<&Name>
+        ensures { option_copied result ≡ slice_index_or self.now.names comp None }
     {
-        if comp == 0 {
-            return push_word(parts, b"mtc");
-        }
-        push_number(parts, comp as u64)?;
         let names = self.names.as_slice();
-        if comp >= names.len() {
-            return Ok(());
-        }
-        match &names[comp] {
-            Some(name) => push_word(parts, name.bytes()),
-            None => Ok(()),
+        if comp < names.len() {
+            names[comp].as_ref()
+        } else {
+            None
         }
     }
 
     // Appends the verdicts that a component is found with.
+    #[tactic(auto, using(crate::proofs::Verdicts::names_where))]
     fn push_verdicts(&self, parts: &mut Vec<Part>, comp: usize) -> Result<(), NoMemory>
         requires { comp * 5 ≤ length self.now.found }
-        ensures { OnOk result (AddsWords (told.local_names self.now.found comp) parts.old.items parts.new.items) }
+        ensures { OnOk result (AddsWords (map verdict_name (verdicts_where (told.is_local self.now.found comp))) parts.old.items parts.new.items) }
     {
         let none = self.has(comp, Verdict::None);
         let pass = self.has(comp, Verdict::Pass);
@@ -176,7 +175,7 @@ impl Locals {
         }
         let mut parts = Vec::new(alloc);
         push_text(&mut parts, b"local")?;
-        self.push_comp(&mut parts, comp)?;
+        push_comp(&mut parts, comp as u64, self.name_at(comp))?;
         push_text(&mut parts, b":")?;
         self.push_verdicts(&mut parts, comp)?;
         append_parts(alloc, out, parts.as_slice())
@@ -194,9 +193,9 @@ impl Locals {
     }
 
     // Appends how many states a search looked at that met its limit; if memory runs out, a part of it.
-    #[tactic(auto, unfolding(crate::specs::Locals::undecided_line), using(tc_text::proofs::Lemmas::Among::among_rules))]
+    #[tactic(auto, using(tc_text::proofs::Lemmas::Among::among_rules))]
     fn append_undecided(&self, alloc: Global, out: &mut Vec<u8>) -> Result<(), NoMemory>
-        ensures { OnOk result (TellsAmong (told.undecided_line self.now.ending self.now.states) out.old.items out.new.items) }
+        ensures { OnOk result (TellsAmong (if_complete self.now.ending [] ((decimal self.now.states ∷ []) ∷ [])) out.old.items out.new.items) }
     {
         match self.ending {
             Ending::Complete => Ok(()),

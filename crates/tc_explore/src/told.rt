@@ -1,7 +1,7 @@
 //! What is printed about a test case that was explored.
-ghost use Rattle.std.specs.Prelude.{◌≡◌, ◌≤◌, ◌++◌, OnOk};
-ghost use Rattle.tc_verdict.specs.Verdict.{level_of};
-ghost use Rattle.tc_explore.specs.declared.explored.Ending.TheVariants.{Complete};
+ghost use Rattle.std.specs.Prelude.{◌≡◌, ◌==◌, ◌≤◌, ◌++◌, [], OnOk, codes, if◌then◌else◌, length, nat_lt};
+ghost use Rattle.std.specs.List.{flat_map};
+ghost use Rattle.tc_verdict.specs.Verdict.{level_of, name_of as verdict_name};
 ghost use Rattle.tc_explore.specs.Told as told;
 
 use crate::explored::{Ending, Explored};
@@ -35,14 +35,15 @@ pub(crate) fn is_found(found: &[Witness], verdict: Verdict) -> bool
 
 // One for a verdict that was found.
 fn found_once(found: &[Witness], verdict: Verdict) -> u64
-    ensures is { result ≡ told.found_once found.now verdict }
+    ensures is { result ≡ (if told.is_found found.now verdict then 1 else 0) }
     ensures few { result ≤ 1 }
 {
     if is_found(found, verdict) { 1 } else { 0 }
 }
 
+#[tactic(auto, using(crate::proofs::Verdicts::count_where))]
 fn verdict_count(found: &[Witness]) -> u64
-    ensures { result ≡ told.verdict_count found.now }
+    ensures { result ≡ length (told.verdicts_where (told.is_found found.now)) }
 {
     let error = found_once(found, Verdict::Error);
     let fail = found_once(found, Verdict::Fail);
@@ -54,7 +55,7 @@ fn verdict_count(found: &[Witness]) -> u64
 
 // Appends the name of a verdict after a space, if it was found; if memory runs out, a part of it.
 fn append_verdict(out: &mut Vec<u8>, found: &[Witness], verdict: Verdict) -> Result<(), NoMemory>
-    ensures { OnOk result (out.new.items ≡ out.old.items ++ told.verdict_word found.now verdict) }
+    ensures { OnOk result (out.new.items ≡ out.old.items ++ (if told.is_found found.now verdict then codes " " ++ verdict_name verdict else [])) }
 {
     if !is_found(found, verdict) {
         return Ok(());
@@ -64,8 +65,9 @@ fn append_verdict(out: &mut Vec<u8>, found: &[Witness], verdict: Verdict) -> Res
 }
 
 // Appends the names of the verdicts that were found; if memory runs out, a part of them.
+#[tactic(auto, using(crate::proofs::Verdicts::words_where))]
 fn append_verdicts(out: &mut Vec<u8>, found: &[Witness]) -> Result<(), NoMemory>
-    ensures { OnOk result (out.new.items ≡ out.old.items ++ told.verdict_words found.now) }
+    ensures { OnOk result (out.new.items ≡ out.old.items ++ flat_map (λ v. codes " " ++ verdict_name v) (told.verdicts_where (told.is_found found.now))) }
 {
     append_verdict(out, found, Verdict::None)?;
     append_verdict(out, found, Verdict::Pass)?;
@@ -90,7 +92,7 @@ fn append_ending(out: &mut Vec<u8>, ending: Ending, states: usize) -> Result<(),
 
 // The status of a complete search by the number of verdicts that were found.
 fn count_status(count: u64) -> u8
-    ensures { result ≡ told.ending_status Complete count }
+    ensures { result ≡ (if count == 1 then 0 else if nat_lt 1 count then 1 else 3) }
 {
     if count == 1 {
         0

@@ -4,7 +4,7 @@ ghost use Rattle.tc_entry.specs.declared.limits.TheConstants.{BEHAVIOURS};
 ghost use Rattle.tc_table.specs.Legal.{IsLegal};
 ghost use Rattle.tc_text.specs.Said.{TellsAmong};
 
-use crate::components::push_comp;
+use crate::components::{name_at, push_comp};
 use crate::parts::{push_number, push_text, push_word};
 use crate::state::{standing_after, state_after};
 use crate::witness::Witness;
@@ -59,7 +59,7 @@ fn push_target<'a>(
 ) -> Result<(), NoMemory> {
     match target {
         Target::One(comp) => {
-            push_comp(parts, history, comp)?;
+            push_comp(parts, u64::from(comp.0), name_at(history, comp.0))?;
             push_phase(parts, state.phase_of(comp))
         }
         Target::Any => push_word(parts, b"any"),
@@ -79,7 +79,7 @@ fn push_wait<'a>(
     push_text(parts, b"stuck: run")?;
     push_number(parts, u64::from(run))?;
     push_text(parts, b"on")?;
-    push_comp(parts, history, comp)?;
+    push_comp(parts, u64::from(comp.0), name_at(history, comp.0))?;
     push_text(parts, b"waits for")?;
     push_word(parts, if awaited.killed { b"killed" } else { b"done" })?;
     push_text(parts, b"of")?;

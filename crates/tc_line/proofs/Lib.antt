@@ -2,5 +2,6 @@
 pub mod Each
 pub mod Naming
 pub mod Skipping
+pub mod Spelled
 pub mod Taking
 pub mod WholeLines

@@ -8,7 +8,7 @@ use Rattle.std.specs.Bool.{Decides}
 use Rattle.std.proofs.lemmas.Bool.Decides.{nat_tests, Decides-by_and}
 use Rattle.tc_entry.specs.declared.limits.TheConstants.{NAME_BYTES}
 use Rattle.tc_entry.specs.Name.{IsName, is_name_byte}
-use Rattle.tc_line.specs.Words.{is_text, is_reserved, begins_with_letter, has_name_bytes, is_name}
+use Rattle.tc_line.specs.Words.{is_text, begins_with_letter, is_name}
 
 both : (a b : Bool) → (a && b) ≡ true → (a ≡ true) × (b ≡ true)
 both true true e = (refl, refl)
@@ -53,7 +53,7 @@ begins_well [] letter some = absurd (omega (arith, some))
 begins_well (b ∷ bs) letter some = (true_is (is_ascii_alphabetic b)).1 letter
 
 pub name_is_told : (word : List ℕ) → is_name word ≡ true → IsName word
-unfolding is_name is_reserved has_name_bytes
+unfolding is_name
 name_is_told word e =
     let well = both (begins_with_letter word && list_all is_name_byte word && nat_le (length word) NAME_BYTES) _ e in
     let short = both (begins_with_letter word && list_all is_name_byte word) _ well.0 in
@@ -82,7 +82,7 @@ short_enough : (n : ℕ) → n ≤ NAME_BYTES → nat_le n NAME_BYTES ≡ true
 short_enough n h = grind (arith, nat_tests)
 
 pub name_is_found : (word : List ℕ) → IsName word → is_name word ≡ true
-unfolding is_name is_reserved has_name_bytes
+unfolding is_name
 name_is_found word is = joined _ _ _ _ (begins_well word is.begins is.is_some) ((all_allowed word).1 is.allowed) (short_enough (length word) is.is_short)
     (none_of _ _ _ _ (other_is word (codes "all") is.not_all) (other_is word (codes "any") is.not_any) (other_is word (codes "mtc") is.not_mtc) (other_is word (codes "self") is.not_self))
 

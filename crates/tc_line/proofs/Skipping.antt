@@ -1,15 +1,17 @@
 -- Lines at the head of a text that say nothing.
 use Rattle.std.proofs.Common.{ℕ, zero, suc, ◌≡◌, ◌∙◌, ◌+◌, ◌≤◌, Bool, true, false, Ok, List, [], ◌∷◌, ◌++◌, length, refl, sym, ap, subst, cond, arith}
-use Rattle.std.specs.Prelude.{filter}
+use Rattle.std.specs.Prelude.{filter, All}
 use Rattle.std.specs.List.{slice_split, onto_first}
 use Rattle.std.proofs.lemmas.Bool.Decides.{nat_tests}
 use Rattle.std.proofs.lemmas.List.{append_assoc}
 use Rattle.std.proofs.lemmas.List.Elements.{All-nil, All-cons, All-append}
 use Rattle.tc_line.specs.declared.line.Line.TheVariants as L
-use Rattle.tc_line.specs.Text.{lines, words, is_newline, is_space, is_some_text}
+use Rattle.tc_line.specs.Text.{lines, words}
 use Rattle.tc_line.specs.Line.{line_of, line_with}
-use Rattle.tc_line.specs.Inside.Indented.{spaces, IsIndented, HasBefore}
-use Rattle.tc_line.specs.Skipping.{SkipsOne, Skips}
+use Rattle.tc_line.specs.declared.text.Part.TheVariants as P
+use Rattle.tc_line.specs.Skipping.{BeginsWith}
+use Rattle.tc_line.specs.Inside.Indented.{is_newline, is_space, is_some_text, spaces, IsIndented, HasBefore}
+use Rattle.tc_line.specs.Inside.Skips.{SkipsOne, Skips}
 use Rattle.tc_line.proofs.Taking.{HasNoEnd, lines_next}
 
 pub one_space_more : (n : ℕ) (bytes : List ℕ) → spaces n (32 ∷ bytes) ≡ spaces (suc n) bytes
@@ -106,5 +108,20 @@ skips_next n ls more left is one = let same : suc n ≡ n + 1 = omega arith in s
 
 pub skips_first : (ls left : List (List ℕ)) → SkipsOne ls left → Skips 1 ls left
 skips_first ls left one = (left, one, refl)
+
+-- they are the lines that a text begins with
+begins : (n : ℕ) (ls left : List (List ℕ)) → Skips n ls left
+    → (silent : List (List ℕ)) × (ls ≡ silent ++ left) × (length silent ≡ n) × All (λ line. line_of line ≡ Ok L.Skipped) silent
+begins zero ls left is = ([], is, refl, All-nil (λ line. line_of line ≡ Ok L.Skipped))
+begins (suc n) ls left is =
+    let more = begins n is.0 left is.2 in (
+      is.1.line ∷ more.0,
+      is.1.is ∙ ap (λ xs. is.1.line ∷ xs) more.1,
+      ap suc more.2,
+      All-cons (λ line. line_of line ≡ Ok L.Skipped) is.1.line more.0 is.1.silent more.3,
+    )
+
+pub begins_with : (more : ℕ) (ls left : List (List ℕ)) → Skips (suc more) ls left → BeginsWith (P.Skipped more) ls left
+begins_with more ls left is = begins (suc more) ls left is
 
 pub ruleset skipping_rules = (skips_first)

@@ -7,7 +7,9 @@ use Rattle.std.proofs.lemmas.Grind.{get_or_default_zero}
 use Rattle.std.proofs.lemmas.List.Splits.{slice_split_at, slice_split_none, length-slice_split}
 use Rattle.std.proofs.lemmas.List.Sums.{count_by-le-length}
 use Rattle.memchr.specs.Find.{IsFirstByte, is_byte}
-use Rattle.tc_line.specs.Text.{lines, parts, is_newline, without_end}
+use Rattle.std.specs.List.{slice_split}
+use Rattle.tc_line.specs.Text.{lines, without_end}
+use Rattle.tc_line.specs.Inside.Indented.{is_newline}
 
 -- no byte of the text is a line feed
 abbrev pub HasNoEnd : List ℕ → Type 0
@@ -29,11 +31,11 @@ cut_after [] c rest = refl
 cut_after (b ∷ []) c rest = cut_behind b c rest
 cut_after (b ∷ d ∷ front) c rest = cut_behind b d (front ++ c ∷ rest) ∙ ap (λ xs. b ∷ xs) (cut_after (d ∷ front) c rest)
 
-some_lines : (text : List ℕ) → 1 ≤ length text → lines text ≡ parts is_newline (without_end text)
+some_lines : (text : List ℕ) → 1 ≤ length text → lines text ≡ slice_split is_newline (without_end text)
 unfolding lines
 some_lines text some = by (length text == 0) (grind (arith, nat_tests, some))
   where
-    by : (b : Bool) → b ≡ false → (if b then [] else parts is_newline (without_end text)) ≡ parts is_newline (without_end text)
+    by : (b : Bool) → b ≡ false → (if b then [] else slice_split is_newline (without_end text)) ≡ slice_split is_newline (without_end text)
     by false e = refl
     by true e = absurd cc
 
@@ -50,7 +52,7 @@ pub few_lines : (text : List ℕ) → length (lines text) ≤ length text + 1
 unfolding lines
 few_lines text = by (length text == 0)
   where
-    by : (b : Bool) → length (if b then [] else parts is_newline (without_end text)) ≤ length text + 1
+    by : (b : Bool) → length (if b then [] else slice_split is_newline (without_end text)) ≤ length text + 1
     by true = omega arith
     by false = omega (arith, length-slice_split is_newline (without_end text), count_by-le-length is_newline (without_end text), shorter text)
 
@@ -64,9 +66,9 @@ lone_end = at_last (10 ∷ []) 0 refl
 pub lines_next : (front rest : List ℕ) → HasNoEnd front → lines (front ++ 10 ∷ rest) ≡ front ∷ lines rest
 unfolding lines
 lines_next front [] none =
-    some_lines (front ++ 10 ∷ []) (longer front 10 []) ∙ ap (parts is_newline) (cut_after front 10 [] ∙ ap (λ xs. front ++ xs) lone_end ∙ append-nil front) ∙ slice_split_none is_newline front none
+    some_lines (front ++ 10 ∷ []) (longer front 10 []) ∙ ap (slice_split is_newline) (cut_after front 10 [] ∙ ap (λ xs. front ++ xs) lone_end ∙ append-nil front) ∙ slice_split_none is_newline front none
 lines_next front (c ∷ rest) none =
-    some_lines (front ++ 10 ∷ c ∷ rest) (longer front 10 (c ∷ rest)) ∙ ap (parts is_newline) (cut_after front 10 (c ∷ rest) ∙ ap (λ xs. front ++ xs) (cut_behind 10 c rest))
+    some_lines (front ++ 10 ∷ c ∷ rest) (longer front 10 (c ∷ rest)) ∙ ap (slice_split is_newline) (cut_after front 10 (c ∷ rest) ∙ ap (λ xs. front ++ xs) (cut_behind 10 c rest))
     ∙ slice_split_at is_newline front 10 (without_end (c ∷ rest)) none refl ∙ ap (λ xs. front ∷ xs) (sym (some_lines (c ∷ rest) (omega arith)))
 
 not_true : (b : Bool) → (b ≡ true → ⊥) → b ≡ false
@@ -111,7 +113,7 @@ last_taken (b ∷ text) some is =
     let none : HasNoEnd (b ∷ text) = λ i d lt. ap is_newline (get_or_default_zero (b ∷ text) i d lt) ∙ not_true _ (is i (omega arith) lt) in
     let last : is_newline (slice_index (b ∷ text) (length text)) ≡ false = not_true _ (is (length text) (omega arith) (omega arith)) in
     let whole : without_end (b ∷ text) ≡ b ∷ text = at_last (b ∷ text) (length text) (omega arith) ∙ by _ last in
-    some_lines (b ∷ text) some ∙ ap (parts is_newline) whole ∙ slice_split_none is_newline (b ∷ text) none
+    some_lines (b ∷ text) some ∙ ap (slice_split is_newline) whole ∙ slice_split_none is_newline (b ∷ text) none
   where
     by : (x : Bool) → x ≡ false → (if x then take (length text) (b ∷ text) else b ∷ text) ≡ b ∷ text
     by false e = refl

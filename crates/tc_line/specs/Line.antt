@@ -1,6 +1,8 @@
 -- What a line says.
-use Rattle.std.specs.Prelude.{ℕ, ◌≡◌, ◌==◌, ◌&&◌, nat_le, not, Bool, true, false, if◌then◌else◌, Option, Some, None, Result, Ok, Err, List, [], ◌∷◌, codes}
+use Rattle.std.specs.Prelude.{ℕ, ◌≡◌, ◌==◌, ◌&&◌, nat_le, not, Bool, true, false, if◌then◌else◌, Some, None, Result, Ok, Err, List, [], ◌∷◌, codes}
 use Rattle.std.specs.List.{list_all}
+use Rattle.std.specs.Map.{lookup}
+use Rattle.std.specs.Option.{ok_or}
 use Rattle.tc_line.specs.declared.kind.ScriptKind.{ScriptKind}
 use Rattle.tc_line.specs.declared.kind.ScriptKind.TheVariants as F
 use Rattle.tc_line.specs.declared.kind.LineFault.{LineFault}
@@ -33,14 +35,9 @@ each f (x ∷ xs) = do
   ys ← each f xs
   Ok (y ∷ ys)
 
--- what is there, or the fault if nothing is
-abbrev pub or_fault : {A : Type 0} → Option A → ScriptKind → Result A ScriptKind
-or_fault (Some x) kind = Ok x
-or_fault None kind = Err kind
-
 -- the word as a name
 unfoldable pub named : List ℕ → Result (List ℕ) ScriptKind
-named word = or_fault (name word) F.BadName
+named word = ok_or (name word) F.BadName
 
 -- the component that a word names
 unfoldable pub reference : List ℕ → Result (Place (List ℕ)) ScriptKind
@@ -60,20 +57,13 @@ target word =
     else if is_text word (codes "all") then Ok T.All
     else reference word >>= λ r. Ok (T.One r)
 
--- the line of a create that binds the word r, and gives the component no name
-abbrev pub create : List ℕ → Bool → Result Line ScriptKind
-create r alive = named r >>= λ n. Ok (L.Step (C.Create n alive None))
-
--- the line of a create that binds the word r, and gives the component the name l
-abbrev pub create_named : List ℕ → Bool → List ℕ → Result Line ScriptKind
-create_named r alive l = do
-  n ← named r
-  m ← named l
-  Ok (L.Step (C.Create n alive (Some m)))
-
--- the line of a wait on this word
-abbrev pub wait : List ℕ → Bool → Result Line ScriptKind
-wait t killed = target t >>= λ u. Ok (L.Step (C.Wait killed u))
+-- the line of a create that binds the word r; after it may come the name that the component is given
+abbrev pub create : List ℕ → Bool → List (List ℕ) → Result Line ScriptKind
+create r alive [] = named r >>= λ n. Ok (L.Step (C.Create n alive None))
+create r alive (w ∷ l ∷ []) =
+    if not (is_text w (codes "named")) then Err F.BadLine
+    else named r >>= λ n. named l >>= λ m. Ok (L.Step (C.Create n alive (Some m)))
+create r alive _ = Err F.BadLine
 
 -- the line that a keyword and the words after it make
 unfoldable pub form : Keyword → List (List ℕ) → Result Line ScriptKind
@@ -83,11 +73,8 @@ form K.Behaviour (n ∷ ps) = do
   qs ← each named ps
   Ok (L.Behaviour m qs)
 form K.End [] = Ok L.End
-form K.Create (r ∷ []) = create r false
-form K.Create (r ∷ w ∷ []) = if is_text w (codes "alive") then create r true else Err F.BadLine
-form K.Create (r ∷ w ∷ l ∷ []) = if is_text w (codes "named") then create_named r false l else Err F.BadLine
-form K.Create (r ∷ w ∷ v ∷ l ∷ []) =
-    if is_text w (codes "alive") && is_text v (codes "named") then create_named r true l else Err F.BadLine
+form K.Create (r ∷ []) = create r false []
+form K.Create (r ∷ w ∷ ws) = if is_text w (codes "alive") then create r true ws else create r false (w ∷ ws)
 form K.Start (x ∷ b ∷ as_given) = do
   on ← reference x
   m ← named b
@@ -97,11 +84,11 @@ form K.Stop (g ∷ []) = group g >>= λ h. Ok (L.Step (C.Stop h))
 form K.Kill (g ∷ []) = group g >>= λ h. Ok (L.Step (C.Kill h))
 form K.StopCase [] = Ok (L.Step C.StopCase)
 form (K.Ask s) (t ∷ []) = target t >>= λ u. Ok (L.Step (C.Ask s u))
-form K.Wait (w ∷ t ∷ []) =
-    if is_text w (codes "done") then wait t false
-    else if is_text w (codes "killed") then wait t true
-    else Err F.BadLine
-form K.SetVerdict (v ∷ []) = or_fault (verdict v) F.BadLine >>= λ u. Ok (L.Step (C.SetVerdict u))
+form K.Wait (w ∷ t ∷ []) = do
+  killed ← ok_or (lookup (is_text w) ((codes "done", false) ∷ (codes "killed", true) ∷ [])) F.BadLine
+  u ← target t
+  Ok (L.Step (C.Wait killed u))
+form K.SetVerdict (v ∷ []) = ok_or (verdict v) F.BadLine >>= λ u. Ok (L.Step (C.SetVerdict u))
 form K.GetVerdict [] = Ok (L.Step C.GetVerdict)
 form _ _ = Err F.BadLine
 
@@ -120,7 +107,7 @@ line_with bytes [] = Ok L.Skipped
 line_with bytes (w ∷ ws) =
     if is_comment w then Ok L.Skipped
     else if not (printable bytes) then Err F.BadByte
-    else or_fault (keyword w) F.BadLine >>= λ k. form k ws
+    else ok_or (keyword w) F.BadLine >>= λ k. form k ws
 
 -- what a line says, or its first fault: BadByte, BadLine or BadName
 unfoldable pub line_of : List ℕ → Result Line ScriptKind

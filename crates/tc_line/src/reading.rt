@@ -1,8 +1,7 @@
 //! A line is read as its form, or by its first fault.
-ghost use Rattle.std.specs.Prelude.{◌≡◌, if◌then◌else◌, true, codes, map, Err};
-ghost use Rattle.tc_line.specs.Line.{named, reference, group, target, create, create_named, form, line_of, printable, is_comment as comment, each, Gives};
-ghost use Rattle.tc_line.specs.Words.{is_text};
-ghost use Rattle.tc_line.specs.declared.kind.ScriptKind.TheVariants.{BadLine};
+ghost use Rattle.std.specs.Prelude.{◌≡◌, map};
+ghost use Rattle.tc_line.specs.Inside.Creating.{create_named};
+ghost use Rattle.tc_line.specs.Line.{named, reference, group, target, create, form, line_of, printable, is_comment as comment, each, Gives};
 ghost use Rattle.tc_line.specs.declared.line.Keyword.TheVariants as K;
 
 use crate::kind::{LineFault, ScriptKind};
@@ -83,17 +82,6 @@ fn read_test_case(words: &[&[u8]]) -> Result<Line, LineFault>
     }
 }
 
-fn read_unnamed_create(word: &[u8], alive: bool) -> Result<Line, LineFault>
-    ensures { Gives result (create word.now alive) }
-{
-    let name = read_named(word)?;
-    Ok(Line::Step(Call::Create {
-        name,
-        alive,
-        given_name: None,
-    }))
-}
-
 fn read_named_create(word: &[u8], alive: bool, given: &[u8]) -> Result<Line, LineFault>
     ensures { Gives result (create_named word.now alive given.now) }
 {
@@ -106,24 +94,27 @@ fn read_named_create(word: &[u8], alive: bool, given: &[u8]) -> Result<Line, Lin
     }))
 }
 
-// The create that binds the word, if what follows it says that the component is alive-type.
-fn read_alive_create(word: &[u8], says: &[u8]) -> Result<Line, LineFault>
-    ensures { Gives result (if is_text says.now (codes "alive") then create word.now true else Err BadLine) }
+// The create that binds the word, by the words after it and after `alive`.
+fn read_create_of(word: &[u8], alive: bool, rest: &[&[u8]]) -> Result<Line, LineFault>
+    ensures { Gives result (create word.now alive (map (λ w. w.now) rest.now)) }
 {
-    if !is_word(says, b"alive") {
-        return Err(LineFault::Kind(ScriptKind::BadLine));
+    match rest {
+        [] => {
+            let name = read_named(word)?;
+            Ok(Line::Step(Call::Create {
+                name,
+                alive,
+                given_name: None,
+            }))
+        }
+        [says, given] => {
+            if !is_word(says, b"named") {
+                return Err(LineFault::Kind(ScriptKind::BadLine));
+            }
+            read_named_create(word, alive, given)
+        }
+        _ => Err(LineFault::Kind(ScriptKind::BadLine)),
     }
-    read_unnamed_create(word, true)
-}
-
-// The create that binds the word, if what is in front of the given name says that it is one.
-fn read_given_create(word: &[u8], alive: bool, says: &[u8], given: &[u8]) -> Result<Line, LineFault>
-    ensures { Gives result (if is_text says.now (codes "named") then create_named word.now alive given.now else Err BadLine) }
-{
-    if !is_word(says, b"named") {
-        return Err(LineFault::Kind(ScriptKind::BadLine));
-    }
-    read_named_create(word, alive, given)
 }
 
 #[tactic(auto, unfolding(crate::specs::Line::form))]
@@ -132,16 +123,15 @@ fn read_create(words: &[&[u8]]) -> Result<Line, LineFault>
     ensures { Gives result (form K.Create (map (λ w. w.now) words.now)) }
 {
     match words {
-        [word] => read_unnamed_create(word, false),
-        [word, second] => read_alive_create(word, second),
-        [word, second, given] => read_given_create(word, false, second, given),
-        [word, second, third, given] => {
-            if !is_word(second, b"alive") {
-                return Err(LineFault::Kind(ScriptKind::BadLine));
+        [word] => read_create_of(word, false, &[]),
+        [word, says, rest @ ..] => {
+            if is_word(says, b"alive") {
+                read_create_of(word, true, rest)
+            } else {
+                read_create_of(word, false, &words[1..])
             }
-            read_given_create(word, true, third, given)
         }
-        _ => Err(LineFault::Kind(ScriptKind::BadLine)),
+        [] => Err(LineFault::Kind(ScriptKind::BadLine)),
     }
 }
 

@@ -1,6 +1,7 @@
 //! The words of the script language: keywords and verdicts.
-ghost use Rattle.std.specs.Prelude.{◌≡◌};
-ghost use Rattle.tc_line.specs.Words.{is_text, keyword, keyword_text, verdict};
+ghost use Rattle.std.specs.Prelude.{◌≡◌, Some};
+ghost use Rattle.tc_line.specs.Words.{is_text, keyword, verdict};
+ghost use Rattle.tc_line.specs.Inside.Spelling.{keyword_text, spelled_so};
 
 use crate::line::Keyword;
 use tc_entry::UserVerdict;
@@ -37,7 +38,15 @@ pub const KEYWORDS: [Keyword; 15] = [
 impl Keyword {
     /// Its spelling.
     #[inline(always)]
+    #[tactic(auto, using(crate::proofs::Spelled::spelled))]
     pub fn text(self) -> &'static str
+        ensures { keyword result.now ≡ Some self }
+    {
+        self.spelling()
+    }
+
+    #[inline(always)]
+    fn spelling(self) -> &'static str
         ensures { result.now ≡ keyword_text self }
     {
         match self {
@@ -65,13 +74,19 @@ impl Keyword {
 fn is_keyword(word: &[u8], keyword: Keyword) -> bool
     ensures { result ≡ is_text word.now (keyword_text keyword) }
 {
-    is_word(word, keyword.text().as_bytes())
+    is_word(word, keyword.spelling().as_bytes())
 }
 
 /// The keyword of this spelling.
-#[tactic(auto, unfolding(crate::specs::Words::keyword))]
 pub fn read_keyword(word: &[u8]) -> Option<Keyword>
     ensures { result ≡ keyword word.now }
+{
+    find_keyword(word)
+}
+
+#[tactic(auto, unfolding(crate::specs::Inside::Spelling::spelled_so))]
+fn find_keyword(word: &[u8]) -> Option<Keyword>
+    ensures { result ≡ spelled_so word.now }
 {
     KEYWORDS
         .iter()

@@ -1,8 +1,9 @@
 //! The lines of a text, and the words of a line.
 ghost use Rattle.std.specs.Prelude.{suc, ◌≡◌, ◌≤◌, [], ◌∷◌, length, OnOk, IfSome, MatchOption, map};
 ghost use Rattle.tc_line.specs.Text.{lines, words};
-ghost use Rattle.tc_line.specs.Skipping.{BeginsWith, Skips, SkipsOne};
+ghost use Rattle.tc_line.specs.Skipping.{BeginsWith};
 ghost use Rattle.tc_line.specs.Inside.Indented.{IsIndented, HasBefore};
+ghost use Rattle.tc_line.specs.Inside.Skips.{Skips, SkipsOne};
 
 use memchr::memchr;
 use std::alloc::AllocError;

@@ -6,7 +6,7 @@ use Rattle.tc_script.specs.Campaign.{CampaignView}
 use Rattle.tc_explore.specs.Details.{details as of_details}
 use Rattle.tc_text.specs.Said.{TellsAmong}
 use Rattle.tc_explore.specs.Course.{most_states}
-use Rattle.tc_explore.specs.Found.{AllFound, AreWitnesses, AreLegal, AreMet, AreReached, HasCourses, IsOnce}
+use Rattle.tc_explore.specs.Found.{AllFound, AreFromBest, AreWitnesses, AreLegal, AreMet, AreReached, HasCourses}
 use Rattle.tc_explore.specs.declared.explored.Ending.TheVariants as E
 use Rattle.tc_explore.specs.declared.explored.Explored.{Explored}
 use Rattle.tc_explore.specs.declared.locals.Locals.{Locals}
@@ -48,7 +48,7 @@ pub record IsExplored (o : ExploreOptions) (c : CaseView) (e : ExploredCase) : T
   pub behaviours : e.behaviours ≡ length c.1
   pub sound : AreWitnesses (scripts_of c.1) e.explored.found
   pub legal : AreLegal (scripts_of c.1) e.explored.found
-  pub once : IsOnce e.explored.found
+  pub ordered : AreFromBest e.explored.found
   pub complete : e.explored.ending ≡ E.Complete → AllFound (scripts_of c.1) e.explored.found
   pub reached : AreReached (scripts_of c.1) e.explored.reached
   pub met : AreMet (scripts_of c.1) e.explored.reached e.explored.states

@@ -10,7 +10,8 @@ use Rattle.indexmap.specs.IndexMap.{IndexMap, insert_entry}
 use Rattle.indexmap.proofs.CallerLemmas.{insert_entry-new}
 use Rattle.tc_line.specs.Words.{is_text}
 use Rattle.tc_script.specs.Names.{Word, among, has_twice}
-use Rattle.tc_script.specs.Scope.{parameters_of, add_head}
+use Rattle.tc_script.specs.Scope.{parameters_of}
+use Rattle.tc_script.specs.Inside.Heads.{add_head}
 use Rattle.tc_script.proofs.Binding.{neither, either, differ}
 
 none_is : {X : Type 0} (o : Option X) → is_some o ≡ false → o ≡ None

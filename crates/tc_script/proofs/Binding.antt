@@ -2,6 +2,7 @@
 use Rattle.std.proofs.Common.{ℕ, suc, ◌≡◌, ◌∙◌, ◌+◌, ◌<◌, Bool, true, false, Option, Some, None, List, [], ◌∷◌, ◌++◌, length, map, All, nat_eq, refl, sym, ap, arith, rules, cond}
 use Rattle.std.specs.Prelude.{◌||◌, not, if◌then◌else◌}
 use Rattle.std.specs.List.{list_any, position_or_len}
+use Rattle.std.specs.Option.{option_map, option_or}
 use Rattle.std.specs.Cmp.Lexicographic.{pointwise, bytes_decides}
 use Rattle.std.proofs.lemmas.List.{length-append}
 use Rattle.std.proofs.lemmas.List.Elements.{All-cons}
@@ -23,16 +24,13 @@ use Rattle.tc_step.specs.Steps.{IsBound, AreBound, of_group, of_target}
 use Rattle.tc_script.specs.Names.{among, index_of, add, all_of, has_twice}
 use Rattle.tc_script.specs.Scope.{Head, scope_of, bound}
 use Rattle.tc_script.specs.Campaign.{steps, step_of, place}
-use Rattle.tc_script.specs.SecondPass.{misnamed, name_fault, at_line, is_unbound}
-use Rattle.tc_script.specs.Inside.Passing.{line_fault, start_fault, fault_where}
-use Rattle.tc_script.proofs.Judging.{line_fault_is}
+use Rattle.tc_script.specs.FirstPass.{at_next}
+use Rattle.tc_script.specs.SecondPass.{misnamed, name_fault, is_unbound}
 
-pub named_next : (past : List Line) (l : Line) (rest : List Line) → misnamed past (l ∷ rest) ≡ None → (line_fault (scope_of past (l ∷ rest)) l ≡ None) × (misnamed (l ∷ past) rest ≡ None)
-named_next past l rest is =
-    let two = by (name_fault (scope_of past (l ∷ rest)) l) is in
-    (line_fault_is (scope_of past (l ∷ rest)) l ∙ two.0, two.1)
+pub named_next : (past : List Line) (l : Line) (rest : List Line) → misnamed past (l ∷ rest) ≡ None → (name_fault (scope_of past (l ∷ rest)) l ≡ None) × (misnamed (l ∷ past) rest ≡ None)
+named_next past l rest is = by (name_fault (scope_of past (l ∷ rest)) l) is
   where
-    by : (o : Option ScriptKind) → at_line past o (misnamed (l ∷ past) rest) ≡ None → (o ≡ None) × (misnamed (l ∷ past) rest ≡ None)
+    by : (o : Option ScriptKind) → option_or (option_map (at_next past) o) (misnamed (l ∷ past) rest) ≡ None → (o ≡ None) × (misnamed (l ∷ past) rest ≡ None)
     by (Some kind) e = absurd cc
     by None e = (refl, e)
 
@@ -78,17 +76,13 @@ target_bound ns T.All e = search rules
 
 -- ---- what the lack of a fault says
 
-pub no_fault : (b : Bool) (kind : ScriptKind) → fault_where b kind ≡ None → b ≡ false
-no_fault true kind e = absurd cc
-no_fault false kind e = refl
+-- neither the first nor another
+pub no_first : (b : Bool) (kind : ScriptKind) (others : Option ScriptKind) → (if b then Some kind else others) ≡ None → (b ≡ false) × (others ≡ None)
+no_first true kind others e = absurd cc
+no_first false kind others e = (refl, e)
 
-start_is_bound : (b : Bool) (o : Option ℕ) (given : ℕ) → start_fault b o given ≡ None → b ≡ false
-start_is_bound true o given e = absurd cc
-start_is_bound false o given e = refl
-
-none_twice : (twice main : Bool) → (if twice then Some F.Twice else fault_where main F.MainParameters) ≡ None → twice ≡ false
-none_twice true main e = absurd cc
-none_twice false main e = refl
+pub no_fault : (b : Bool) (kind : ScriptKind) → (if b then Some kind else None) ≡ None → b ≡ false
+no_fault b kind e = (no_first b kind None e).0
 
 -- ---- names that are bound once each
 
@@ -151,7 +145,7 @@ are_bound hs past (L.Step (C.Create n alive given_name) ∷ rest) named =
     (search rules, rw (← long) (are_bound hs (L.Step (C.Create n alive given_name) ∷ past) rest two.1))
 are_bound hs past (L.Step (C.Start on b args) ∷ rest) named =
     let two = named_next past (L.Step (C.Start on b args)) rest named in
-    (all_bound (bound past) (on ∷ args) (start_is_bound _ _ _ two.0), are_bound hs (L.Step (C.Start on b args) ∷ past) rest two.1)
+    (all_bound (bound past) (on ∷ args) ((no_first _ F.NoReference _ two.0).0), are_bound hs (L.Step (C.Start on b args) ∷ past) rest two.1)
 are_bound hs past (L.Step (C.Stop g) ∷ rest) named =
     let two = named_next past (L.Step (C.Stop g)) rest named in
     (group_bound (bound past) g (no_fault _ F.NoReference two.0), are_bound hs (L.Step (C.Stop g) ∷ past) rest two.1)
@@ -169,9 +163,9 @@ are_bound hs past (L.Step C.StopCase ∷ rest) named = (search rules, are_bound 
 are_bound hs past (L.Step C.GetVerdict ∷ rest) named = (search rules, are_bound hs (L.Step C.GetVerdict ∷ past) rest (named_next past (L.Step C.GetVerdict) rest named).1)
 
 -- those of a behaviour with these parameters
-pub places_bound : (hs : List Head) (past : List Line) (n : List ℕ) (ps : List (List ℕ)) (rest : List Line) → line_fault (scope_of past (L.Behaviour n ps ∷ rest)) (L.Behaviour n ps) ≡ None
+pub places_bound : (hs : List Head) (past : List Line) (n : List ℕ) (ps : List (List ℕ)) (rest : List Line) → name_fault (scope_of past (L.Behaviour n ps ∷ rest)) (L.Behaviour n ps) ≡ None
     → misnamed (L.Behaviour n ps ∷ past) rest ≡ None → AreBound (length ps) (steps hs (all_of [] ps) rest)
 places_bound hs past n ps rest here named =
-    let once = neither (among n (scope_of past (L.Behaviour n ps ∷ rest)).behaviours) (has_twice ps) (none_twice _ _ here) in
+    let once = neither (among n (scope_of past (L.Behaviour n ps ∷ rest)).behaviours) (has_twice ps) (no_first _ F.Twice _ here).0 in
     let long : length (all_of [] ps) ≡ length ps = all_length [] ps once.1 (new_to_none ps) ∙ omega arith in
     rw (← long) (are_bound hs (L.Behaviour n ps ∷ past) rest named)

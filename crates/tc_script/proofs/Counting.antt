@@ -1,6 +1,6 @@
 -- What the first pass remembers follows from the lines before.
 use Rattle.std.proofs.Common.{ℕ, ◌≡◌, ◌+◌, Bool, true, false, Result, Ok, Err, List, [], ◌∷◌, length, refl, sym, ap, arith}
-use Rattle.std.specs.Prelude.{filter, nat_le, nat_lt, ◌||◌, if◌then◌else◌}
+use Rattle.std.specs.Prelude.{nat_le, nat_lt, ◌||◌, if◌then◌else◌, Some}
 use Rattle.tc_entry.specs.declared.limits.TheConstants.{ARGUMENTS, BEHAVIOURS}
 use Rattle.tc_step.specs.declared.limits.TheConstants.{STEPS}
 use Rattle.tc_line.specs.declared.kind.ScriptKind.{ScriptKind}
@@ -11,7 +11,7 @@ use Rattle.tc_script.specs.declared.counts.Counts.{Counts}
 use Rattle.tc_line.specs.declared.line.Call.{Call}
 use Rattle.tc_line.specs.declared.line.Line.{Line}
 use Rattle.tc_line.specs.declared.line.Line.TheVariants as L
-use Rattle.tc_script.specs.FirstPass.{opened, cases_in, behaviours_in, steps_in, given, is_mark, open_by, placed}
+use Rattle.tc_script.specs.FirstPass.{open_after, opened, cases_in, behaviours_in, steps_in, given, placed}
 use Rattle.tc_script.specs.Inside.Counts.{counts_of, counted, case_counted, behaviour_counted, end_counted, step_counted, case_counted_at, behaviour_counted_at, end_counted_at, step_counted_at}
 
 -- what `counted` answers, against `placed`
@@ -28,46 +28,27 @@ skipped_agrees past = (refl, refl)
 
 -- ---- what one line changes
 
-case_counts : (past : List Line) (n : List ℕ) → made O.NewCase (cases_in past + 1) 0 (steps_in past) ≡ counts_of (L.TestCase n ∷ past)
-unfolding opened cases_in behaviours_in steps_in
-case_counts past n = ap (λ k. made O.NewCase k 0 (steps_in past)) (omega arith)
+-- what is open after a line that may be there
+opens : (past : List Line) (l : Line) (o next : Open) → opened past ≡ o → open_after l o ≡ Some next → opened (l ∷ past) ≡ next
+unfolding opened
+opens past l o next e is = rw (e, is) refl
 
-behaviour_counts : (past : List Line) (n : List ℕ) (ps : List (List ℕ)) → made O.Behaviour (cases_in past) (behaviours_in past + 1) 0 ≡ counts_of (L.Behaviour n ps ∷ past)
-unfolding opened cases_in behaviours_in steps_in
-behaviour_counts past n ps = ap (λ k. made O.Behaviour (cases_in past) k 0) (omega arith)
+case_counts : (past : List Line) (n : List ℕ) → opened (L.TestCase n ∷ past) ≡ O.NewCase → made O.NewCase (cases_in past + 1) 0 (steps_in past) ≡ counts_of (L.TestCase n ∷ past)
+unfolding cases_in behaviours_in steps_in
+case_counts past n e = rw e (ap (λ k. made O.NewCase k 0 (steps_in past)) (omega arith))
 
-step_counts : (past : List Line) (call : Call) → opened past ≡ O.Behaviour → made O.Behaviour (cases_in past) (behaviours_in past) (steps_in past + 1) ≡ counts_of (L.Step call ∷ past)
-unfolding opened cases_in behaviours_in steps_in
+behaviour_counts : (past : List Line) (n : List ℕ) (ps : List (List ℕ)) → opened (L.Behaviour n ps ∷ past) ≡ O.Behaviour
+    → made O.Behaviour (cases_in past) (behaviours_in past + 1) 0 ≡ counts_of (L.Behaviour n ps ∷ past)
+unfolding cases_in behaviours_in steps_in
+behaviour_counts past n ps e = rw e (ap (λ k. made O.Behaviour (cases_in past) k 0) (omega arith))
+
+step_counts : (past : List Line) (call : Call) → opened (L.Step call ∷ past) ≡ O.Behaviour → made O.Behaviour (cases_in past) (behaviours_in past) (steps_in past + 1) ≡ counts_of (L.Step call ∷ past)
+unfolding cases_in behaviours_in steps_in
 step_counts past call e = rw e (ap (λ k. made O.Behaviour (cases_in past) (behaviours_in past) k) (omega arith))
 
-case_closes : (marks : List Line) → open_by marks ≡ O.Case → open_by (L.End ∷ marks) ≡ O.Nothing
-case_closes [] e = cc
-case_closes (L.TestCase n ∷ marks) e = cc
-case_closes (L.Behaviour n ps ∷ marks) e = cc
-case_closes (L.End ∷ marks) e = refl
-case_closes (L.Skipped ∷ marks) e = refl
-case_closes (L.Step call ∷ marks) e = refl
-
-behaviour_closes : (marks : List Line) → open_by marks ≡ O.Behaviour → open_by (L.End ∷ marks) ≡ O.Case
-behaviour_closes [] e = cc
-behaviour_closes (L.TestCase n ∷ marks) e = cc
-behaviour_closes (L.Behaviour n ps ∷ marks) e = refl
-behaviour_closes (L.End ∷ []) e = cc
-behaviour_closes (L.End ∷ L.TestCase n ∷ marks) e = cc
-behaviour_closes (L.End ∷ L.Behaviour n ps ∷ marks) e = cc
-behaviour_closes (L.End ∷ L.End ∷ marks) e = cc
-behaviour_closes (L.End ∷ L.Skipped ∷ marks) e = cc
-behaviour_closes (L.End ∷ L.Step call ∷ marks) e = cc
-behaviour_closes (L.Skipped ∷ marks) e = cc
-behaviour_closes (L.Step call ∷ marks) e = cc
-
-end_of_case : (past : List Line) → opened past ≡ O.Case → made O.Nothing (cases_in past) (behaviours_in past) (steps_in past) ≡ counts_of (L.End ∷ past)
-unfolding opened cases_in behaviours_in steps_in
-end_of_case past e = ap (λ o. made o (cases_in past) (behaviours_in past) (steps_in past)) (sym (case_closes (filter is_mark past) e))
-
-end_of_behaviour : (past : List Line) → opened past ≡ O.Behaviour → made O.Case (cases_in past) (behaviours_in past) (steps_in past) ≡ counts_of (L.End ∷ past)
-unfolding opened cases_in behaviours_in steps_in
-end_of_behaviour past e = ap (λ o. made o (cases_in past) (behaviours_in past) (steps_in past)) (sym (behaviour_closes (filter is_mark past) e))
+end_counts : (past : List Line) (o : Open) → opened (L.End ∷ past) ≡ o → made o (cases_in past) (behaviours_in past) (steps_in past) ≡ counts_of (L.End ∷ past)
+unfolding cases_in behaviours_in steps_in
+end_counts past o e = rw e refl
 
 -- ---- each kind of line
 
@@ -76,28 +57,30 @@ within past l s true is same = is
 within past l s false is same = (is, same)
 
 case_at : (past : List Line) (n : List ℕ) (o : Open) → opened past ≡ o → Agrees past (L.TestCase n) (case_counted_at o (counts_of past))
-case_at past n O.Nothing e = within past (L.TestCase n) (made O.NewCase (cases_in past + 1) 0 (steps_in past)) (nat_le 1000 (cases_in past)) (rw e refl) (case_counts past n)
+case_at past n O.Nothing e = within past (L.TestCase n) (made O.NewCase (cases_in past + 1) 0 (steps_in past)) (nat_le 1000 (cases_in past)) (rw e refl) (case_counts past n (opens past (L.TestCase n) O.Nothing O.NewCase e refl))
 case_at past n O.NewCase e = rw e refl
 case_at past n O.Case e = rw e refl
 case_at past n O.Behaviour e = rw e refl
 
 behaviour_at : (past : List Line) (n : List ℕ) (ps : List (List ℕ)) (o : Open) → opened past ≡ o → Agrees past (L.Behaviour n ps) (behaviour_counted_at o (counts_of past) (length ps))
 behaviour_at past n ps O.Nothing e = rw e refl
-behaviour_at past n ps O.NewCase e = within past (L.Behaviour n ps) (made O.Behaviour (cases_in past) (behaviours_in past + 1) 0) (nat_le BEHAVIOURS (behaviours_in past) || nat_lt ARGUMENTS (length ps)) (rw e refl) (behaviour_counts past n ps)
-behaviour_at past n ps O.Case e = within past (L.Behaviour n ps) (made O.Behaviour (cases_in past) (behaviours_in past + 1) 0) (nat_le BEHAVIOURS (behaviours_in past) || nat_lt ARGUMENTS (length ps)) (rw e refl) (behaviour_counts past n ps)
+behaviour_at past n ps O.NewCase e = within past (L.Behaviour n ps) (made O.Behaviour (cases_in past) (behaviours_in past + 1) 0) (nat_le BEHAVIOURS (behaviours_in past) || nat_lt ARGUMENTS (length ps)) (rw e refl)
+    (behaviour_counts past n ps (opens past (L.Behaviour n ps) O.NewCase O.Behaviour e refl))
+behaviour_at past n ps O.Case e = within past (L.Behaviour n ps) (made O.Behaviour (cases_in past) (behaviours_in past + 1) 0) (nat_le BEHAVIOURS (behaviours_in past) || nat_lt ARGUMENTS (length ps)) (rw e refl)
+    (behaviour_counts past n ps (opens past (L.Behaviour n ps) O.Case O.Behaviour e refl))
 behaviour_at past n ps O.Behaviour e = rw e refl
 
 end_at : (past : List Line) (o : Open) → opened past ≡ o → Agrees past L.End (end_counted_at o (counts_of past))
 end_at past O.Nothing e = rw e refl
 end_at past O.NewCase e = rw e refl
-end_at past O.Case e = (rw e refl, end_of_case past e)
-end_at past O.Behaviour e = (rw e refl, end_of_behaviour past e)
+end_at past O.Case e = (rw e refl, end_counts past O.Nothing (opens past L.End O.Case O.Nothing e refl))
+end_at past O.Behaviour e = (rw e refl, end_counts past O.Case (opens past L.End O.Behaviour O.Case e refl))
 
 step_at : (past : List Line) (call : Call) (o : Open) → opened past ≡ o → Agrees past (L.Step call) (step_counted_at o (counts_of past) (given call))
 step_at past call O.Nothing e = rw e refl
 step_at past call O.NewCase e = rw e refl
 step_at past call O.Case e = rw e refl
-step_at past call O.Behaviour e = within past (L.Step call) (made O.Behaviour (cases_in past) (behaviours_in past) (steps_in past + 1)) (nat_le STEPS (steps_in past) || nat_lt ARGUMENTS (given call)) (rw e refl) (step_counts past call e)
+step_at past call O.Behaviour e = within past (L.Step call) (made O.Behaviour (cases_in past) (behaviours_in past) (steps_in past + 1)) (nat_le STEPS (steps_in past) || nat_lt ARGUMENTS (given call)) (rw e refl) (step_counts past call (opens past (L.Step call) O.Behaviour O.Behaviour e refl))
 
 pub counted_agrees : (past : List Line) (l : Line) → Agrees past l (counted (counts_of past) l)
 unfolding case_counted behaviour_counted end_counted step_counted

@@ -1,6 +1,6 @@
 -- The first pass, line by line.
 use Rattle.std.proofs.Common.{ℕ, zero, suc, ◌≡◌, ◌≤◌, ◌∙◌, ◌+◌, ◌^◌, true, false, Result, Ok, Err, List, [], ◌∷◌, ◌++◌, length, refl, sym, ap, arith}
-use Rattle.std.specs.Prelude.{reverse}
+use Rattle.std.specs.Prelude.{reverse, All}
 use Rattle.std.proofs.lemmas.List.{append_assoc, append-nil, length-append, reverse-append, reverse-reverse, length-reverse}
 use Rattle.tc_line.specs.declared.kind.ScriptKind.{ScriptKind}
 use Rattle.tc_line.specs.declared.kind.ScriptKind.TheVariants as F
@@ -12,9 +12,10 @@ use Rattle.tc_line.specs.declared.line.Line.{Line}
 use Rattle.tc_line.specs.declared.line.Line.TheVariants as L
 use Rattle.tc_line.specs.Line.{line_of}
 use Rattle.tc_line.specs.Text.{lines as lines_of}
-use Rattle.tc_line.specs.Skipping.{Skips}
+use Rattle.tc_line.specs.declared.text.Part.TheVariants as P
+use Rattle.tc_line.specs.Skipping.{BeginsWith}
 use Rattle.tc_line.proofs.Taking.{few_lines}
-use Rattle.tc_script.specs.FirstPass.{parsed, judged, ends_well}
+use Rattle.tc_script.specs.FirstPass.{opened, cases_in, parsed, judged, ends_well}
 use Rattle.tc_script.specs.Inside.Counts.{counts_of, counted, Takes, may_end}
 use Rattle.tc_script.specs.Inside.Kept.{skipped}
 use Rattle.tc_script.specs.Reading.{Reads}
@@ -88,13 +89,15 @@ parsed_more lines more counts number texts rest total bytes after is at takes =
     }
 
 -- lines that say nothing
-parsed_silent : (n : ℕ) (lines : List Line) (texts rest : List (List ℕ)) → Skips n texts rest → parsed (reverse lines) texts ≡ parsed (reverse (lines ++ skipped n [])) rest
-parsed_silent zero lines texts rest skips = rw (append-nil lines) (ap (parsed (reverse lines)) skips)
-parsed_silent (suc n) lines texts rest skips =
-    let one : parsed (reverse lines) texts ≡ parsed (L.Skipped ∷ reverse lines) skips.0 = rw (skips.1.is, skips.1.silent) refl in
+parsed_silent : (silent : List (List ℕ)) (lines : List Line) (rest : List (List ℕ)) → All (λ line. line_of line ≡ Ok L.Skipped) silent
+    → parsed (reverse lines) (silent ++ rest) ≡ parsed (reverse (lines ++ skipped (length silent) [])) rest
+parsed_silent [] lines rest are = ap (λ ls. parsed (reverse ls) rest) (sym (append-nil lines))
+parsed_silent (line ∷ silent) lines rest are =
+    let here : line_of line ≡ Ok L.Skipped = are 0 line (omega arith) in
+    let one : parsed (reverse lines) (line ∷ (silent ++ rest)) ≡ parsed (L.Skipped ∷ reverse lines) (silent ++ rest) = rw here refl in
     let longer : reverse (lines ++ L.Skipped ∷ []) ≡ L.Skipped ∷ reverse lines = reverse-append lines (L.Skipped ∷ []) in
-    let same : (lines ++ L.Skipped ∷ []) ++ skipped n [] ≡ lines ++ skipped (suc n) [] = append_assoc lines (L.Skipped ∷ []) (skipped n []) in
-    one ∙ ap (λ past. parsed past skips.0) (sym longer) ∙ parsed_silent n (lines ++ L.Skipped ∷ []) skips.0 rest skips.2 ∙ ap (λ ls. parsed (reverse ls) rest) same
+    let same : (lines ++ L.Skipped ∷ []) ++ skipped (length silent) [] ≡ lines ++ skipped (suc (length silent)) [] = append_assoc lines (L.Skipped ∷ []) (skipped (length silent) []) in
+    one ∙ ap (λ past. parsed past (silent ++ rest)) (sym longer) ∙ parsed_silent silent (lines ++ L.Skipped ∷ []) rest (λ i d lt. are (suc i) d (omega (arith, lt))) ∙ ap (λ ls. parsed (reverse ls) rest) same
 
 counted_silent : (n : ℕ) (lines : List Line) → counts_of (reverse lines) ≡ counts_of (reverse (lines ++ skipped n []))
 counted_silent zero lines = ap (λ ls. counts_of (reverse ls)) (sym (append-nil lines))
@@ -103,21 +106,22 @@ counted_silent (suc n) lines =
     let same : (lines ++ L.Skipped ∷ []) ++ skipped n [] ≡ lines ++ skipped (suc n) [] = append_assoc lines (L.Skipped ∷ []) (skipped n []) in
     (skipped_agrees (reverse lines)).1 ∙ ap counts_of (sym longer) ∙ counted_silent n (lines ++ L.Skipped ∷ []) ∙ ap (λ ls. counts_of (reverse ls)) same
 
-pub fewer_left : (n : ℕ) (texts rest : List (List ℕ)) → Skips n texts rest → length texts ≡ n + length rest
-fewer_left zero texts rest skips = omega (arith, ap length skips)
-fewer_left (suc n) texts rest skips = let next = fewer_left n skips.0 rest skips.2 in let here : length texts ≡ suc (length skips.0) = ap length skips.1.is in omega (arith, here, next)
+pub fewer_left : (more : ℕ) (texts rest : List (List ℕ)) → BeginsWith (P.Skipped more) texts rest → length texts ≡ suc more + length rest
+fewer_left more texts rest begins = ap length begins.1 ∙ length-append begins.0 rest ∙ ap (λ n. n + length rest) begins.2
 
-pub parsed_skips : (lines more : List Line) (counts : Counts) (number n after : ℕ) (texts rest : List (List ℕ)) (total : Result (List Line) ScriptFault)
-    → IsParsed lines counts number texts total → Skips n texts rest → more ≡ lines ++ skipped n [] → after ≡ number + n → IsParsed more counts after rest total
-parsed_skips lines more counts number n after texts rest total is skips added next =
-    let long : length more ≡ length lines + length (skipped n []) = ap length added ∙ length-append lines (skipped n []) in
-    let many = many_skipped n [] in
-    let left = fewer_left n texts rest skips in
+pub parsed_skips : (lines more : List Line) (counts : Counts) (number many after : ℕ) (texts rest : List (List ℕ)) (total : Result (List Line) ScriptFault)
+    → IsParsed lines counts number texts total → BeginsWith (P.Skipped many) texts rest → more ≡ lines ++ skipped (suc many) [] → after ≡ number + suc many → IsParsed more counts after rest total
+parsed_skips lines more counts number many after texts rest total is begins added next =
+    let long : length more ≡ length lines + length (skipped (suc many) []) = ap length added ∙ length-append lines (skipped (suc many) []) in
+    let count = many_skipped (suc many) [] in
+    let left = fewer_left many texts rest begins in
+    let silent : parsed (reverse lines) texts ≡ parsed (reverse (lines ++ skipped (suc many) [])) rest =
+    ap (parsed (reverse lines)) begins.1 ∙ parsed_silent begins.0 lines rest begins.3 ∙ ap (λ n. parsed (reverse (lines ++ skipped n [])) rest) begins.2 in
     record {
-      counted = is.counted ∙ counted_silent n lines ∙ ap (λ ls. counts_of (reverse ls)) (sym added);
-      numbered = omega (arith, long, many, next, is.numbered);
-      few = omega (arith, long, many, left, is.few);
-      so_far = ap (λ ls. parsed (reverse ls) rest) added ∙ sym (parsed_silent n lines texts rest skips) ∙ is.so_far;
+      counted = is.counted ∙ counted_silent (suc many) lines ∙ ap (λ ls. counts_of (reverse ls)) (sym added);
+      numbered = omega (arith, long, count, next, is.numbered);
+      few = omega (arith, long, count, left, is.few);
+      so_far = ap (λ ls. parsed (reverse ls) rest) added ∙ sym silent ∙ is.so_far;
     }
 
 parsed_stops : (lines : List Line) (counts : Counts) (number : ℕ) (texts rest : List (List ℕ)) (total : Result (List Line) ScriptFault) (bytes : List ℕ) (fault : ScriptFault)
@@ -130,14 +134,14 @@ parsed_stops lines counts number texts rest total bytes fault is at stops =
 pub parsed_ends : (lines : List Line) (counts : Counts) (number : ℕ) (texts : List (List ℕ)) (total : Result (List Line) ScriptFault)
     → IsParsed lines counts number texts total → texts ≡ [] → may_end counts ≡ true → total ≡ Ok lines
 parsed_ends lines counts number texts total is at ends =
-    let well : ends_well (reverse lines) ≡ true = ap may_end (sym is.counted) ∙ ends in
+    let well : ends_well (opened (reverse lines)) (cases_in (reverse lines)) ≡ true = ap may_end (sym is.counted) ∙ ends in
     let one : parsed (reverse lines) texts ≡ Ok lines = rw (at, well) (ap Ok (reverse-reverse lines)) in
     sym is.so_far ∙ one
 
 pub parsed_cut : (lines : List Line) (counts : Counts) (number : ℕ) (texts : List (List ℕ)) (total : Result (List Line) ScriptFault)
     → IsParsed lines counts number texts total → texts ≡ [] → may_end counts ≡ false → total ≡ Err (fault_at number F.Cut)
 parsed_cut lines counts number texts total is at ends =
-    let well : ends_well (reverse lines) ≡ false = ap may_end (sym is.counted) ∙ ends in
+    let well : ends_well (opened (reverse lines)) (cases_in (reverse lines)) ≡ false = ap may_end (sym is.counted) ∙ ends in
     let one : parsed (reverse lines) texts ≡ Err (fault_at (length (reverse lines) + 1) F.Cut) = rw (at, well) refl in
     sym is.so_far ∙ one ∙ ap (λ n. Err (fault_at (n + 1) F.Cut)) (length-reverse lines) ∙ ap (λ n. Err (fault_at n F.Cut)) (sym is.numbered)
 

@@ -1,7 +1,7 @@
 -- Each test case of lines without a fault starts its own behaviours, with their numbers of arguments.
 use Rattle.std.proofs.Common.{ℕ, suc, ◌≡◌, ◌∙◌, ◌+◌, ◌≤◌, Bool, true, false, Option, Some, None, List, [], ◌∷◌, ◌++◌, length, map, All, refl, sym, ap, arith, rules, append_assoc, cond}
 use Rattle.std.specs.Prelude.{◌&&◌, ◌||◌, not, if◌then◌else◌, ◌==◌, is_some, slice_get, IfSome}
-use Rattle.std.specs.Option.{option_map}
+use Rattle.std.specs.Option.{option_map, option_map_or}
 use Rattle.std.specs.Map.{lookup}
 use Rattle.std.specs.List.{list_any, position_or_len}
 use Rattle.std.proofs.lemmas.List.{length-map, map-append, append-nil}
@@ -17,13 +17,13 @@ use Rattle.tc_line.specs.declared.line.Line.TheVariants as L
 use Rattle.tc_line.specs.Words.{is_text}
 use Rattle.tc_step.specs.Steps.{ScriptView}
 use Rattle.tc_script.specs.Names.{Word, among, index_of, add, all_of, has_twice}
-use Rattle.tc_script.specs.Scope.{Head, heads, heads_behind, heads_around, add_head, names_of, parameters_of, cases_before, behaviours_before, with_bound}
+use Rattle.tc_script.specs.Scope.{Head, heads, heads_behind, heads_around, parameters_of, cases_before, behaviours_before, with_bound}
+use Rattle.tc_script.specs.Inside.Heads.{add_head, names_of}
 use Rattle.tc_script.specs.Campaign.{place, steps, step_of, behaviours, cases}
 use Rattle.tc_script.specs.SecondPass.{misnamed}
-use Rattle.tc_script.specs.Inside.Passing.{start_fault, fault_where}
 use Rattle.tc_script.specs.Inside.Building.{AreCases}
 use Rattle.tc_script.specs.Law.{signatures, StartsOne, IsCase}
-use Rattle.tc_script.proofs.Binding.{named_next, neither, either, differ, add_new, no_fault}
+use Rattle.tc_script.proofs.Binding.{named_next, neither, either, differ, add_new, no_first, no_fault}
 
 -- ---- a behaviour and its place
 
@@ -48,7 +48,7 @@ at_place n (h ∷ hs) k e = by (is_text n h.0) (at_place n hs k) e
 
 -- ---- the behaviours that are judged with are those of the campaign
 
-none_used : (twice other main : Bool) → (if twice || other then Some F.Twice else fault_where main F.MainParameters) ≡ None → (twice ≡ false) × (main ≡ false)
+none_used : (twice other main : Bool) → (if twice || other then Some F.Twice else if main then Some F.MainParameters else None) ≡ None → (twice ≡ false) × (main ≡ false)
 none_used true other main e = absurd cc
 none_used false true main e = absurd cc
 none_used false false true e = absurd cc
@@ -71,17 +71,16 @@ heads_are gs hs past (L.Behaviour n ps ∷ rest) named same =
 
 -- ---- starts
 
-equal_counts : (given expected : ℕ) → fault_where (not (given == expected)) F.Arguments ≡ None → expected ≡ given
-equal_counts given expected e = by (not (given == expected)) refl e
+equal_counts : (given expected : ℕ) → (if given == expected then None else Some F.Arguments) ≡ None → expected ≡ given
+equal_counts given expected e = by (given == expected) refl e
   where
-    by : (b : Bool) → not (given == expected) ≡ b → fault_where b F.Arguments ≡ None → expected ≡ given
-    by true same e = absurd cc
-    by false same e = grind (arith, nat_tests, same)
+    by : (b : Bool) → (given == expected) ≡ b → (if b then None else Some F.Arguments) ≡ None → expected ≡ given
+    by true same e = grind (arith, nat_tests, same)
+    by false same e = absurd cc
 
-right_count : (unbound : Bool) (o : Option ℕ) (given : ℕ) → start_fault unbound o given ≡ None → o ≡ Some given
-right_count true o given e = absurd cc
-right_count false None given e = absurd cc
-right_count false (Some expected) given e = ap Some (equal_counts given expected e)
+right_count : (o : Option ℕ) (given : ℕ) → option_map_or (λ expected. if given == expected then None else Some F.Arguments) o (Some F.UnknownBehaviour) ≡ None → o ≡ Some given
+right_count None given e = absurd cc
+right_count (Some expected) given e = ap Some (equal_counts given expected e)
 
 length-of_map : {X Y : Type 0} (f : X → Y) (xs : List X) → length (map f xs) ≡ length xs
 length-of_map f xs = length-map xs f
@@ -89,7 +88,8 @@ length-of_map f xs = length-map xs f
 starts_at : (hs : List Head) (ns : List Word) (past : List Line) (call : Call) (rest : List Line) → heads_around past (L.Step call ∷ rest) ≡ hs → misnamed past (L.Step call ∷ rest) ≡ None → StartsOne hs (step_of hs ns call)
 unfolding step_of
 starts_at hs ns past (C.Start on b args) rest same named =
-    let given = right_count _ (parameters_of b (heads_around past (L.Step (C.Start on b args) ∷ rest))) (length args) (named_next past (L.Step (C.Start on b args)) rest named).0 in
+    let known = no_first _ F.NoReference _ (named_next past (L.Step (C.Start on b args)) rest named).0 in
+    let given = right_count (parameters_of b (heads_around past (L.Step (C.Start on b args) ∷ rest))) (length args) known.1 in
     at_place b hs (length args) (ap (parameters_of b) (sym same) ∙ given) ∙ ap Some (sym (length-of_map (place ns) args))
 starts_at hs ns past (C.Create n alive given_name) rest same named = tt
 starts_at hs ns past (C.Stop g) rest same named = tt

@@ -3,7 +3,6 @@ pub mod Counting
 pub mod FirstPass
 pub mod Positions
 pub mod Adding
-pub mod Judging
 pub mod SecondPass
 pub mod Binding
 pub mod Lawful

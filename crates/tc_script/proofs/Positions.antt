@@ -6,7 +6,8 @@ use Rattle.std.proofs.lemmas.List.{length-map}
 use Rattle.std.proofs.lemmas.List.Sums.{prefix_len-le-length}
 use Rattle.tc_line.specs.Words.{is_text}
 use Rattle.tc_script.specs.Names.{index_of}
-use Rattle.tc_script.specs.Scope.{Head, names_of}
+use Rattle.tc_script.specs.Scope.{Head}
+use Rattle.tc_script.specs.Inside.Heads.{names_of}
 
 pub absent_at_end : {X : Type 0} (p : X → Bool) (xs : List X) → position_or_len p xs ≤ length xs → position p xs ≡ None → position_or_len p xs ≡ length xs
 absent_at_end p xs le none = by (ltb (position_or_len p xs) (length xs)) (λ e. omega (arith, ltb-false _ _ e)) none

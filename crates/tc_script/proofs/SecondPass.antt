@@ -9,9 +9,8 @@ use Rattle.tc_script.specs.Scope.{ScopeView, scope_of}
 use Rattle.tc_script.specs.Inside.Kept.{skipped, begun, said, lines_in}
 use Rattle.tc_script.specs.declared.kept_lines.First.{First}
 use Rattle.tc_script.specs.declared.kept_lines.First.TheVariants as I
-use Rattle.tc_script.specs.Inside.Passing.{scope_after, line_fault}
+use Rattle.tc_script.specs.Inside.Passing.{scope_after}
 use Rattle.tc_script.specs.SecondPass.{name_fault, misnamed}
-use Rattle.tc_script.proofs.Judging.{line_fault_is}
 
 -- the names after a line are those that the lines say
 pub goes_on : (past : List Line) (l : Line) (rest : List Line) → scope_after (scope_of past (l ∷ rest)) l rest ≡ scope_of (l ∷ past) rest
@@ -32,11 +31,11 @@ pub record IsJudged (scope : ScopeView) (line : ℕ) (rest lines : List Line) : 
 pub judged_first : (lines : List Line) → IsJudged (record { cases = []; behaviours = []; bound = []; heads = [] }) 1 lines lines
 judged_first lines = record { past = []; counted = omega arith; numbered = omega arith; now = refl; so_far = refl }
 
-name_fault_is : (scope : ScopeView) (line : ℕ) (l : Line) (rest others : List Line) (o : Option ScriptKind) {lines : List Line} → rest ≡ l ∷ others → (is : IsJudged scope line rest lines) → o ≡ line_fault scope l
+name_fault_is : (scope : ScopeView) (line : ℕ) (l : Line) (rest others : List Line) (o : Option ScriptKind) {lines : List Line} → rest ≡ l ∷ others → (is : IsJudged scope line rest lines) → o ≡ name_fault scope l
     → name_fault (scope_of is.past (l ∷ others)) l ≡ o
-name_fault_is scope line l rest others o at is found = ap (λ s. name_fault s l) (sym (is.now ∙ ap (scope_of is.past) at)) ∙ sym (line_fault_is scope l) ∙ sym found
+name_fault_is scope line l rest others o at is found = ap (λ s. name_fault s l) (sym (is.now ∙ ap (scope_of is.past) at)) ∙ sym found
 
-judged_more : (scope after : ScopeView) (line : ℕ) (l : Line) (rest others lines : List Line) → rest ≡ l ∷ others → IsJudged scope line rest lines → None ≡ line_fault scope l → after ≡ scope_after scope l others
+judged_more : (scope after : ScopeView) (line : ℕ) (l : Line) (rest others lines : List Line) → rest ≡ l ∷ others → IsJudged scope line rest lines → None ≡ name_fault scope l → after ≡ scope_after scope l others
     → IsJudged after (line + 1) others lines
 judged_more scope after line l rest others lines at is none new =
     let one : misnamed is.past rest ≡ misnamed (l ∷ is.past) others = rw at (rw (name_fault_is scope line l rest others None at is none) refl) in
@@ -62,7 +61,7 @@ judged_through (suc n) scope line rest others lines at is =
 judged_skipped : (n after : ℕ) (scope : ScopeView) (line : ℕ) (rest others lines : List Line) → rest ≡ skipped n others → IsJudged scope line rest lines → after ≡ line + n → IsJudged scope after others lines
 judged_skipped n after scope line rest others lines at is next = subst (λ (k : ℕ). IsJudged scope k others lines) (sym next) (judged_through n scope line rest others lines at is)
 
-judged_faulty : (scope : ScopeView) (line : ℕ) (l : Line) (rest others lines : List Line) (kind : ScriptKind) → rest ≡ l ∷ others → IsJudged scope line rest lines → Some kind ≡ line_fault scope l
+judged_faulty : (scope : ScopeView) (line : ℕ) (l : Line) (rest others lines : List Line) (kind : ScriptKind) → rest ≡ l ∷ others → IsJudged scope line rest lines → Some kind ≡ name_fault scope l
     → Some (record { line = line; kind = kind }) ≡ misnamed [] lines
 judged_faulty scope line l rest others lines kind at is some =
     let one : misnamed is.past rest ≡ Some (at_next is.past kind) = rw at (rw (name_fault_is scope line l rest others (Some kind) at is some) refl) in
@@ -70,7 +69,7 @@ judged_faulty scope line l rest others lines kind at is some =
 
 -- ---- the lines of a mark
 
-pub judged_begun : (f : First) (scope after : ScopeView) (line number : ℕ) (rest others lines : List Line) → rest ≡ begun f others → IsJudged scope line rest lines → None ≡ line_fault scope (said f)
+pub judged_begun : (f : First) (scope after : ScopeView) (line number : ℕ) (rest others lines : List Line) → rest ≡ begun f others → IsJudged scope line rest lines → None ≡ name_fault scope (said f)
     → after ≡ scope_after scope (said f) others → number ≡ line + lines_in f → IsJudged after number others lines
 judged_begun (I.Skipped more) scope after line number rest others lines at is none new next =
     subst (λ (s : ScopeView). IsJudged s number others lines) (sym new) (judged_skipped (suc more) number scope line rest others lines at is (omega (arith, next)))
@@ -81,7 +80,7 @@ judged_begun I.Get scope after line number rest others lines at is none new next
 judged_begun (I.Other l) scope after line number rest others lines at is none new next =
     subst (λ (k : ℕ). IsJudged after k others lines) (sym next) (judged_more scope after line l.now rest others lines at is none new)
 
-pub faulty_begun : (f : First) (scope : ScopeView) (line : ℕ) (rest others lines : List Line) (kind : ScriptKind) → rest ≡ begun f others → IsJudged scope line rest lines → Some kind ≡ line_fault scope (said f)
+pub faulty_begun : (f : First) (scope : ScopeView) (line : ℕ) (rest others lines : List Line) (kind : ScriptKind) → rest ≡ begun f others → IsJudged scope line rest lines → Some kind ≡ name_fault scope (said f)
     → Some (record { line = line; kind = kind }) ≡ misnamed [] lines
 faulty_begun (I.Skipped more) scope line rest others lines kind at is some = absurd cc
 faulty_begun (I.Set v) scope line rest others lines kind at is some = absurd cc

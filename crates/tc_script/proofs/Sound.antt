@@ -12,8 +12,10 @@ use Rattle.tc_line.specs.declared.line.Call.{Call}
 use Rattle.tc_line.specs.declared.line.Line.{Line}
 use Rattle.tc_line.specs.declared.line.Line.TheVariants as L
 use Rattle.tc_line.specs.Line.{line_of, ◌>>=◌}
-use Rattle.tc_script.specs.FirstPass.{parsed, placed, fits, passes_limit, opened, or_at, at_next, ends_well, given, steps_in, behaviours_in}
-use Rattle.tc_script.specs.Scope.{Head, heads, heads_behind, add_head, with_bound, parameters_of}
+use Rattle.tc_script.specs.FirstPass.{parsed, placed, open_after, passes_limit, opened, at_next, ends_well, given, cases_in, steps_in, behaviours_in}
+use Rattle.tc_script.specs.Scope.{Head, heads, heads_behind, with_bound, parameters_of}
+use Rattle.tc_script.specs.Inside.Heads.{add_head}
+use Rattle.tc_script.specs.Inside.Counts.{or_at}
 use Rattle.tc_script.specs.Campaign.{steps, cases, CampaignView}
 use Rattle.tc_script.specs.Law.{IsCase}
 use Rattle.tc_script.proofs.Lawful.{cases_are, case_names}
@@ -30,7 +32,7 @@ ArePlaced past (l ∷ rest) = (placed past l ≡ Ok l) × ArePlaced (l ∷ past)
 -- ---- what the first pass says of its lines
 
 placed_same : (past : List Line) (l m : Line) → placed past l ≡ Ok m → m ≡ l
-placed_same past l m is = by (fits l (opened past)) (passes_limit l past) is
+placed_same past l m is = by (is_some (open_after l (opened past))) (passes_limit l past) is
   where
     by : (a b : Bool) → (if not a then Err F.BadPlace else if b then Err F.TooMany else Ok l) ≡ Ok m → m ≡ l
     by false b e = absurd cc
@@ -48,7 +50,7 @@ read_more past l ls is rest = (l ∷ rest.0, rest.1 ∙ turned, (is, rest.2))
     turned = ap (λ xs. xs ++ rest.0) (reverse-append (l ∷ []) past) ∙ append_assoc (reverse past) (l ∷ []) rest.0
 
 pub parsed_rest : (past : List Line) (texts : List (List ℕ)) (ls : List Line) → parsed past texts ≡ Ok ls → IsRest past ls
-parsed_rest past [] ls is = by (ends_well past) is
+parsed_rest past [] ls is = by (ends_well (opened past) (cases_in past)) is
   where
     by : (b : Bool) → (if b then Ok (reverse past) else Err (at_next past F.Cut)) ≡ Ok ls → IsRest past ls
     by true e = let same : reverse past ≡ ls = cc in ([], sym same ∙ sym (append-nil (reverse past)), tt)
@@ -66,7 +68,7 @@ parsed_rest past (bytes ∷ texts) ls is = by (line_of bytes) (λ l. parsed_rest
     by (Ok l) more e = at l (placed past l) (more l) refl e
 
 within_limits : (past : List Line) (l : Line) → placed past l ≡ Ok l → passes_limit l past ≡ false
-within_limits past l is = by (fits l (opened past)) (passes_limit l past) is
+within_limits past l is = by (is_some (open_after l (opened past))) (passes_limit l past) is
   where
     by : (a b : Bool) → (if not a then Err F.BadPlace else if b then Err F.TooMany else Ok l) ≡ Ok l → b ≡ false
     by false b e = absurd cc

@@ -14,7 +14,7 @@ use Rattle.tc_step.specs.Places.{place_map, group_map, target_map}
 use Rattle.tc_step.specs.Steps.{ScriptView}
 use Rattle.tc_script.specs.declared.fault.ScriptFault.{ScriptFault}
 use Rattle.tc_script.specs.Names.{Word, index_of, all_of}
-use Rattle.tc_script.specs.Scope.{Head, heads, names_of, with_bound}
+use Rattle.tc_script.specs.Scope.{Head, heads, with_bound}
 use Rattle.tc_script.specs.FirstPass.{parsed}
 use Rattle.tc_script.specs.SecondPass.{misnamed}
 
@@ -27,7 +27,7 @@ place ns p = place_map (λ n. index_of n ns) p
 -- a call where the names ns are bound, in a test case with the behaviours hs: the run of a behaviour is its place among them
 unfoldable pub step_of : List Head → List Word → Call → Step
 step_of hs ns (C.Create n alive given_name) = S.Create alive given_name
-step_of hs ns (C.Start on b args) = S.Start (place ns on) (record { 0 = index_of b (names_of hs) }) (map (place ns) args)
+step_of hs ns (C.Start on b args) = S.Start (place ns on) (record { 0 = index_of b (map (λ h. h.0) hs) }) (map (place ns) args)
 step_of hs ns (C.Stop g) = S.Stop (group_map (place ns) g)
 step_of hs ns (C.Kill g) = S.Kill (group_map (place ns) g)
 step_of hs ns (C.Ask s t) = S.Ask s (target_map (place ns) t)

@@ -1,5 +1,7 @@
 -- What is open at a line, and which lines are out of place. `past` lists the lines before, the newest first.
-use Rattle.std.specs.Prelude.{ℕ, ◌+◌, ◌&&◌, ◌||◌, not, nat_le, nat_lt, Bool, true, false, if◌then◌else◌, Result, Ok, Err, List, [], ◌∷◌, length, filter, reverse}
+use Rattle.std.specs.Prelude.{ℕ, ◌+◌, ◌&&◌, ◌||◌, not, nat_le, nat_lt, Bool, true, false, if◌then◌else◌, Option, Some, None, is_some, Result, Ok, Err, List, [], ◌∷◌, length, filter, reverse}
+use Rattle.std.specs.Option.{unwrap_or}
+use Rattle.std.specs.Result.{result_map_both}
 use Rattle.tc_entry.specs.declared.limits.TheConstants.{ARGUMENTS, BEHAVIOURS}
 use Rattle.tc_step.specs.declared.limits.TheConstants.{STEPS}
 use Rattle.tc_line.specs.declared.kind.ScriptKind.{ScriptKind}
@@ -28,27 +30,26 @@ abbrev pub is_step : Line → Bool
 is_step (L.Step call) = true
 is_step _ = false
 
--- it begins or ends something
-abbrev pub is_mark : Line → Bool
-is_mark L.Skipped = false
-is_mark (L.Step call) = false
-is_mark _ = true
-
 -- the lines after the newest one that passes
 abbrev pub since : (Line → Bool) → List Line → List Line
 since p [] = []
 since p (l ∷ past) = if p l then [] else l ∷ since p past
 
--- the last two marks say what is open
-abbrev pub open_by : List Line → Open
-open_by (L.TestCase n ∷ marks) = O.NewCase
-open_by (L.Behaviour n ps ∷ marks) = O.Behaviour
-open_by (L.End ∷ L.Behaviour n ps ∷ marks) = O.Case
-open_by _ = O.Nothing
+-- what is open after a line, by what is open before it, if the line may be there
+abbrev pub open_after : Line → Open → Option Open
+open_after L.Skipped o = Some o
+open_after (L.TestCase n) O.Nothing = Some O.NewCase
+open_after (L.Behaviour n ps) O.NewCase = Some O.Behaviour
+open_after (L.Behaviour n ps) O.Case = Some O.Behaviour
+open_after L.End O.Case = Some O.Nothing
+open_after L.End O.Behaviour = Some O.Case
+open_after (L.Step call) O.Behaviour = Some O.Behaviour
+open_after _ _ = None
 
--- what is open after these lines
+-- what is open after these lines, each of which may be where it is
 unfoldable pub opened : List Line → Open
-opened past = open_by (filter is_mark past)
+opened [] = O.Nothing
+opened (l ∷ past) = unwrap_or (open_after l (opened past)) O.Nothing
 
 -- the test cases so far
 unfoldable pub cases_in : List Line → ℕ
@@ -61,17 +62,6 @@ behaviours_in past = length (filter is_behaviour (since is_case past))
 -- in the behaviour that is open
 unfoldable pub steps_in : List Line → ℕ
 steps_in past = length (filter is_step (since is_behaviour past))
-
--- the line may be there
-abbrev pub fits : Line → Open → Bool
-fits L.Skipped o = true
-fits (L.TestCase n) O.Nothing = true
-fits (L.Behaviour n ps) O.NewCase = true
-fits (L.Behaviour n ps) O.Case = true
-fits L.End O.Case = true
-fits L.End O.Behaviour = true
-fits (L.Step call) O.Behaviour = true
-fits _ _ = false
 
 -- how many arguments a call gives
 abbrev pub given : Call → ℕ
@@ -88,35 +78,26 @@ passes_limit _ past = false
 -- the line, if it may be there and passes no limit
 abbrev pub placed : List Line → Line → Result Line ScriptKind
 placed past l =
-    if not (fits l (opened past)) then Err F.BadPlace
+    if not (is_some (open_after l (opened past))) then Err F.BadPlace
     else if passes_limit l past then Err F.TooMany
     else Ok l
 
--- nothing is open
-abbrev pub is_nothing : Open → Bool
-is_nothing O.Nothing = true
-is_nothing _ = false
-
--- the text may end here: no test case is open, and there is one
-abbrev pub ends_well : List Line → Bool
-ends_well past = is_nothing (opened past) && nat_lt 0 (cases_in past)
+-- a text may end where this is open, after that many test cases: no test case is open, and there is one
+abbrev pub ends_well : Open → ℕ → Bool
+ends_well O.Nothing count = nat_lt 0 count
+ends_well _ count = false
 
 -- a fault of the line after these
 abbrev pub at_next : List Line → ScriptKind → ScriptFault
 at_next past kind = record { line = length past + 1; kind = kind }
 
--- with the number of the line after these
-abbrev pub or_at : {A : Type 0} → List Line → Result A ScriptKind → Result A ScriptFault
-or_at past (Ok x) = Ok x
-or_at past (Err kind) = Err (at_next past kind)
-
--- the next line, or its first fault, BadByte to TooMany
+-- the next line, or its first fault, BadByte to TooMany, with the number of the line
 abbrev pub judged : List Line → List ℕ → Result Line ScriptFault
-judged past bytes = or_at past (line_of bytes >>= placed past)
+judged past bytes = result_map_both (λ l. l) (at_next past) (line_of bytes >>= placed past)
 
 -- the lines of a text, the first ones read already: all of them, or the first fault, BadByte to Cut
 abbrev pub parsed : List Line → List (List ℕ) → Result (List Line) ScriptFault
-parsed past [] = if ends_well past then Ok (reverse past) else Err (at_next past F.Cut)
+parsed past [] = if ends_well (opened past) (cases_in past) then Ok (reverse past) else Err (at_next past F.Cut)
 parsed past (bytes ∷ more) = do
   l ← judged past bytes
   parsed (l ∷ past) more

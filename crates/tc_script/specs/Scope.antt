@@ -1,6 +1,6 @@
 -- The names at a line: what is used, and what is bound. `past` lists the lines before, the newest first; `rest` lists the line and those
 -- after it.
-use Rattle.std.specs.Prelude.{ℕ, Option, is_some, if◌then◌else◌, List, [], ◌∷◌, ◌++◌, length, map}
+use Rattle.std.specs.Prelude.{ℕ, Option, is_some, if◌then◌else◌, List, [], ◌∷◌, ◌++◌, length}
 use Rattle.std.specs.Map.{lookup}
 use Rattle.tc_line.specs.Words.{is_text}
 use Rattle.tc_line.specs.declared.line.Call.{Call}
@@ -39,26 +39,18 @@ bound (_ ∷ past) = bound past
 abbrev pub Head : Type 0
 Head = Word × ℕ
 
--- their names
-abbrev pub names_of : List Head → List Word
-names_of hs = map (λ h. h.0) hs
-
 -- how many parameters the behaviour of that name has
 unfoldable pub parameters_of : Word → List Head → Option ℕ
 parameters_of n hs = lookup (is_text n) hs
 
--- with a behaviour after the others, if none of them has its name
-abbrev pub add_head : Word → ℕ → List Head → List Head
-add_head n k hs = if is_some (parameters_of n hs) then hs else hs ++ (n, k) ∷ []
-
--- and with the behaviours of these lines, up to the next test case
+-- with the behaviours of these lines after them, up to the next test case, and of each name the first
 abbrev pub heads_behind : List Head → List Line → List Head
 heads_behind hs [] = hs
 heads_behind hs (L.TestCase n ∷ rest) = hs
-heads_behind hs (L.Behaviour n ps ∷ rest) = heads_behind (add_head n (length ps) hs) rest
+heads_behind hs (L.Behaviour n ps ∷ rest) = heads_behind (if is_some (parameters_of n hs) then hs else hs ++ (n, length ps) ∷ []) rest
 heads_behind hs (_ ∷ rest) = heads_behind hs rest
 
--- the behaviours of the test case whose lines these begin with: each name once, as it is first
+-- the behaviours of the test case whose lines these begin with
 unfoldable pub heads : List Line → List Head
 heads rest = heads_behind [] rest
 

@@ -1,7 +1,8 @@
 //! The behaviours of a test case, each with the number of its parameters.
 ghost use Rattle.std.specs.Prelude.{◌≡◌, ◌≤◌, [], length, OnOk, IfOk};
 ghost use Rattle.tc_script.specs.Names.{index_of};
-ghost use Rattle.tc_script.specs.Scope.{names_of, add_head, parameters_of, heads};
+ghost use Rattle.tc_script.specs.Scope.{parameters_of, heads};
+ghost use Rattle.tc_script.specs.Inside.Heads.{names_of, add_head};
 
 use crate::kept_lines::{First, Rest};
 use indexmap::IndexMap;

@@ -1,10 +1,12 @@
 //! The names that a line may not use again, and those that it may refer to.
-ghost use Rattle.std.specs.Prelude.{◌≡◌, [], ◌∷◌, length, IfOk, OnOk};
+ghost use Rattle.std.specs.Prelude.{◌≡◌, [], Some, None, if◌then◌else◌, IfOk, OnOk};
 ghost use Rattle.tc_step.specs.Steps.{of_group, of_target};
 ghost use Rattle.tc_script.specs.Names.{add, all_of, has_twice};
-ghost use Rattle.tc_script.specs.Scope.{heads, with_bound, parameters_of};
-ghost use Rattle.tc_script.specs.SecondPass.{is_unbound};
-ghost use Rattle.tc_script.specs.Inside.Passing.{scope_after, line_fault, call_fault, start_fault, behaviour_fault, any_unbound, fault_where as the_fault_where};
+ghost use Rattle.tc_line.specs.declared.line.Call.TheVariants as C;
+ghost use Rattle.tc_line.specs.declared.line.Line.TheVariants as L;
+ghost use Rattle.tc_script.specs.Scope.{heads, with_bound};
+ghost use Rattle.tc_script.specs.SecondPass.{is_unbound, any_unbound, name_fault};
+ghost use Rattle.tc_script.specs.Inside.Passing.{scope_after};
 
 use crate::heads::{Heads, heads_of};
 use crate::kept_lines::Rest;
@@ -31,7 +33,7 @@ impl Model for Scope {
 }
 
 fn fault_where(is_fault: bool, kind: ScriptKind) -> Option<ScriptKind>
-    ensures { result ≡ the_fault_where is_fault kind }
+    ensures { result ≡ (if is_fault then Some kind else None) }
 {
     if is_fault { Some(kind) } else { None }
 }
@@ -121,7 +123,7 @@ impl Scope {
     }
 
     fn fault_of_behaviour(&self, name: &Name, parameters: &[Name]) -> Option<ScriptKind>
-        ensures { result ≡ behaviour_fault self.now name.now parameters.now }
+        ensures { result ≡ name_fault self.now (L.Behaviour name.now parameters.now) }
     {
         if self.behaviours.contains(name) || any_twice(parameters) {
             return Some(ScriptKind::Twice);
@@ -139,19 +141,20 @@ impl Scope {
         name: &Name,
         args: &[Place<Name>],
     ) -> Option<ScriptKind>
-        ensures { result ≡ start_fault (any_unbound self.now (on.now ∷ args.now)) (parameters_of name.now self.now.heads) (length args.now) }
+        ensures { result ≡ name_fault self.now (L.Step (C.Start on.now name.now args.now)) }
     {
         if self.is_unbound(on) || self.is_any_unbound(args) {
             return Some(ScriptKind::NoReference);
         }
         match self.heads.parameters_of(name) {
             None => Some(ScriptKind::UnknownBehaviour),
-            Some(parameters) => fault_where(args.len() != parameters, ScriptKind::Arguments),
+            Some(expected) if args.len() == expected => None,
+            Some(_) => Some(ScriptKind::Arguments),
         }
     }
 
     fn fault_of_call(&self, call: &Call) -> Option<ScriptKind>
-        ensures { result ≡ call_fault self.now call.now }
+        ensures { result ≡ name_fault self.now (L.Step call.now) }
     {
         match call {
             Call::Create { name, .. } => {
@@ -174,7 +177,7 @@ impl Scope {
 
     /// The first fault of a line among these names.
     pub fn fault_of(&self, line: &Line) -> Option<ScriptKind>
-        ensures { result ≡ line_fault self.now line.now }
+        ensures { result ≡ name_fault self.now line.now }
     {
         match line {
             Line::TestCase(name) => fault_where(self.cases.contains(name), ScriptKind::Twice),

@@ -1,8 +1,8 @@
 //! The second pass over a script: the first fault of names.
 ghost use Rattle.std.specs.Prelude.{◌≡◌, ◌≤◌, ◌^◌, [], None, IfOk, OnOk, length};
-ghost use Rattle.tc_script.specs.SecondPass.{misnamed};
+ghost use Rattle.tc_script.specs.SecondPass.{misnamed, name_fault};
 ghost use Rattle.tc_script.specs.Inside.Kept.{said};
-ghost use Rattle.tc_script.specs.Inside.Passing.{line_fault, scope_after};
+ghost use Rattle.tc_script.specs.Inside.Passing.{scope_after};
 
 use crate::fault::ScriptFault;
 use crate::kept_lines::{First, Rest};
@@ -17,8 +17,8 @@ fn passed(
     first: First,
     others: &Rest,
 ) -> Result<Option<ScriptKind>, AllocError>
-    ensures fault { IfOk result (λ kind. kind ≡ line_fault scope.old (said first.entry)) }
-    ensures next { OnOk result (None ≡ line_fault scope.old (said first.entry) → scope.new ≡ scope_after scope.old (said first.entry) others.now) }
+    ensures fault { IfOk result (λ kind. kind ≡ name_fault scope.old (said first.entry)) }
+    ensures next { OnOk result (None ≡ name_fault scope.old (said first.entry) → scope.new ≡ scope_after scope.old (said first.entry) others.now) }
 {
     match first {
         First::Skipped(_) | First::Set(_) | First::Get => Ok(None),

@@ -18,7 +18,8 @@ use Rattle.tc_table.specs.Legal.{IsLegal}
 use Rattle.tc_table.proofs.Lemmas.Deciding.{self_equal, equal_if}
 use Rattle.tc_table.proofs.Lemmas.Sound.{runs_on}
 use Rattle.std.specs.Option.{unwrap_or}
-use Rattle.tc_explore.specs.Course.{Stand, stand, after_own, after_other_by, is_wake, wake_for, wake_if, call_of, turn, turn_on, steps_of, IsTurn, IsCourse}
+use Rattle.tc_explore.specs.Course.{Stand, stand, after_own, after_other_by, is_wake, turn, turn_on, steps_of, IsTurn, IsCourse}
+use Rattle.tc_explore.specs.Inside.Standing.{wake_for, wake_if, call_of}
 
 -- ---- turns
 

@@ -5,11 +5,12 @@ use Rattle.tc_entry.specs.declared.entry.Entry.{Entry}
 use Rattle.tc_entry.specs.declared.op.Op.{Op}
 use Rattle.tc_table.specs.Local.{local_if_any}
 use Rattle.tc_table.specs.Answers.{answer, is_active}
-use Rattle.tc_explore.specs.Course.{Stand, next, stand, one_more_if, carried, IsTurn, IsCourse}
+use Rattle.tc_explore.specs.Course.{Stand, next, stand, carried, IsTurn, IsCourse}
+use Rattle.tc_explore.specs.Inside.Standing.{one_more_if}
 use Rattle.tc_step.specs.Steps.{ScriptView}
 use Rattle.tc_table.specs.Case.{Case, past_of}
 use Rattle.tc_explore.specs.declared.witness.Witness.{Witness}
-use Rattle.tc_explore.specs.Found.{AreWitnesses, IsOnce}
+use Rattle.tc_explore.specs.Found.{AreWitnesses}
 
 -- what is known of run b after one more entry if it is run r, and otherwise what was known of it
 abbrev pub next_for : ℕ → Entry → ℕ → Stand → Stand
@@ -67,6 +68,15 @@ pub record IsCounted (t : Case) (counts : List ℕ) : Type 0 where
 abbrev pub CountsOn : Entry → List ℕ → List ℕ → Type 0
 CountsOn e before after =
     (b : ℕ) → b < length before → slice_index_or after b 0 ≡ one_more_if (e.caller.0 == b) e (slice_index_or before b 0)
+
+-- in some course run b carries out that many calls
+abbrev pub Reaches : List ScriptView → ℕ → ℕ → Type 0
+Reaches scripts b k = (past : List Entry) × IsCourse scripts past × (carried past b ≡ k)
+
+-- no verdict has two witnesses
+abbrev pub IsOnce : List Witness → Type 0
+IsOnce found =
+    (i j : ℕ) (d : Witness) → i < length found → j < length found → (slice_index_or found i d).verdict ≡ (slice_index_or found j d).verdict → i ≡ j
 
 -- each is a witness, and no verdict has two
 pub record AreNoted (scripts : List ScriptView) (found : List Witness) : Type 0 where

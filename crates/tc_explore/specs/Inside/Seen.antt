@@ -15,7 +15,7 @@ use Rattle.tc_table.specs.Answers.{answer, is_active}
 use Rattle.tc_explore.specs.declared.witness.Witness.{Witness}
 use Rattle.tc_explore.specs.declared.findings.Findings.{Findings}
 use Rattle.tc_explore.specs.declared.search.Met.{Met}
-use Rattle.tc_explore.specs.Found.{AreReached, AreCovered, Covers, Gives}
+use Rattle.tc_explore.specs.Found.{AreReached, AreCovered, Covers, IsWitness}
 use Rattle.tc_explore.specs.Told.{is_found}
 use Rattle.tc_explore.specs.Course.{carried, stand, goes_on, IsTurn, IsCourse}
 use Rattle.tc_explore.specs.Inside.Going.{taken, IsOn, AreNoted}
@@ -149,6 +149,10 @@ AreClosed aim scripts states found = (i : ℕ) → IsClosedAt aim scripts states
 -- a verdict that is found is as bad as that of the course, and no worse than is looked for
 abbrev pub IsToldBy : Verdict → List Witness → Verdict → Type 0
 IsToldBy aim found v = (w : Verdict) × (is_found found w ≡ true) × (level_of v ≤ level_of w) × (level_of w ≤ level_of aim)
+
+-- a course gives this verdict
+abbrev pub Gives : List ScriptView → Verdict → Type 0
+Gives scripts verdict = (history : List Entry) × IsWitness scripts history verdict
 
 -- so it is of each complete course whose verdict is no worse than is looked for
 abbrev pub AllTold : Verdict → List ScriptView → List Witness → Type 0

@@ -23,7 +23,8 @@ use Rattle.tc_table.specs.Local.{overall}
 use Rattle.tc_table.specs.Faults.{fault}
 use Rattle.tc_table.specs.Answers.{is_active}
 use Rattle.tc_explore.specs.declared.witness.Witness.{Witness}
-use Rattle.tc_explore.specs.Course.{Stand, stand, goes_on, steps_of, call_of, turn, IsTurn, IsCourse}
+use Rattle.tc_explore.specs.Course.{Stand, stand, goes_on, steps_of, turn, IsTurn, IsCourse}
+use Rattle.tc_explore.specs.Inside.Standing.{call_of}
 use Rattle.tc_explore.specs.Told.{is_found}
 
 -- the same components in the same phases, the same runs on them

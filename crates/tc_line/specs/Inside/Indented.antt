@@ -1,6 +1,17 @@
 -- Bytes after spaces, and bytes of a line.
-use Rattle.std.specs.Prelude.{ℕ, zero, suc, ◌≡◌, List, ◌∷◌, ◌++◌, false, All}
-use Rattle.tc_line.specs.Text.{is_newline}
+use Rattle.std.specs.Prelude.{ℕ, zero, suc, ◌≡◌, ◌==◌, not, Bool, List, ◌∷◌, ◌++◌, false, length, All}
+
+-- a line feed
+abbrev pub is_newline : ℕ → Bool
+is_newline b = b == 10
+
+-- a space
+abbrev pub is_space : ℕ → Bool
+is_space b = b == 32
+
+-- a text that is not empty
+abbrev pub is_some_text : List ℕ → Bool
+is_some_text w = not (length w == 0)
 
 -- that many spaces, and then these bytes
 abbrev pub spaces : ℕ → List ℕ → List ℕ

@@ -1,5 +1,6 @@
 -- What the first pass remembers of the lines before.
 use Rattle.std.specs.Prelude.{ℕ, ◌+◌, ◌≡◌, ◌&&◌, ◌||◌, nat_le, nat_lt, Bool, if◌then◌else◌, Result, Ok, Err, List, [], ◌∷◌, ◌++◌, length}
+use Rattle.std.specs.Result.{result_map_both}
 use Rattle.tc_entry.specs.declared.limits.TheConstants.{ARGUMENTS, BEHAVIOURS}
 use Rattle.tc_step.specs.declared.limits.TheConstants.{STEPS}
 use Rattle.tc_line.specs.declared.kind.ScriptKind.{ScriptKind}
@@ -13,7 +14,11 @@ use Rattle.tc_script.specs.declared.counts.Counts.{Counts}
 use Rattle.tc_script.specs.declared.limits.TheConstants.{TEST_CASES}
 use Rattle.tc_line.specs.declared.line.Line.{Line}
 use Rattle.tc_line.specs.declared.line.Line.TheVariants as L
-use Rattle.tc_script.specs.FirstPass.{opened, cases_in, behaviours_in, steps_in, given, is_nothing}
+use Rattle.tc_script.specs.FirstPass.{at_next, opened, cases_in, behaviours_in, steps_in, given, ends_well}
+
+-- with the number of the line after these
+abbrev pub or_at : {A : Type 0} → List Line → Result A ScriptKind → Result A ScriptFault
+or_at past said = result_map_both (λ x. x) (at_next past) said
 
 -- what is remembered of these lines
 abbrev pub counts_of : List Line → Counts
@@ -81,7 +86,7 @@ counted s (L.Step call) = step_counted s (given call)
 
 -- the text may end here
 abbrev pub may_end : Counts → Bool
-may_end s = is_nothing s.state && nat_lt 0 s.cases
+may_end s = ends_well s.state s.cases
 
 -- what the pass made of the line after `past`, against what that line says: the lines found so far have the line more
 abbrev pub Takes : List Line → List Line → List Line → Result Counts ReadFault → Result Line ScriptFault → Type 0

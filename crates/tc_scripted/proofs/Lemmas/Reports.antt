@@ -267,4 +267,4 @@ pub report_is_course : ReportIsCourse
 report_is_course scripts c is = report_is_witness scripts c is.report is.made
 
 pub report_is_found : ReportIsFound
-report_is_found scripts found c all is = all c.verdict (c.history, report_is_course scripts c is)
+report_is_found scripts found c all is = all c.history c.verdict (report_is_course scripts c is)

@@ -14,9 +14,6 @@ returns-clause-sound c = rw c.new-2.ensures c.in_ok-extent.ensures.found.0.sound
 pub returns-clause-covered : goal.returns-clause-covered
 returns-clause-covered c = rw (c.new-2.ensures, c.new-3.ensures) c.in_ok-extent.ensures.found.2
 
-pub returns-clause-once : goal.returns-clause-once
-returns-clause-once c = rw c.new-2.ensures c.in_ok-extent.ensures.found.0.once
-
 pub returns-then-is_empty-clause-legal : goal.returns-then-is_empty-clause-legal
 returns-then-is_empty-clause-legal c = rw c.new.ensures (witnesses_legal c.args.scripts.now c.in_ok-found.found.witnesses.items c.in_ok-found.ensures.noted.0.sound)
 

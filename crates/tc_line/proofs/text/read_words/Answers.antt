@@ -2,7 +2,8 @@ use Rattle.std.proofs.Common.{rules, tests, ap, ◌∙◌}
 use Rattle.std.specs.Prelude.{filter}
 use Rattle.std.proofs.lemmas.Iterator.Consumers.{YieldsList-at, YieldsList-end}
 use Rattle.std.proofs.lemmas.Iterator.Splits.{YieldsList-from_slice_split}
-use Rattle.tc_line.specs.Text.{words, is_space, is_some_text}
+use Rattle.tc_line.specs.Text.{words}
+use Rattle.tc_line.specs.Inside.Indented.{is_space, is_some_text}
 use Rattle.tc_line.proofs.text.read_words.Goals as goal
 
 pub returns : goal.returns

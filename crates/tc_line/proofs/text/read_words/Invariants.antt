@@ -1,6 +1,6 @@
 use Rattle.std.proofs.Common.{◌≡◌, map}
 use Rattle.std.specs.Prelude.{filter}
-use Rattle.tc_line.specs.Text.{is_some_text}
+use Rattle.tc_line.specs.Inside.Indented.{is_some_text}
 use Rattle.tc_line.proofs.text.read_words.Given as goal
 
 abbrev pub invariant-loop-part : goal.invariant-loop-part

@@ -1,4 +1,4 @@
-use Rattle.std.proofs.Common.{rules, List, arith, suc}
+use Rattle.std.proofs.Common.{rules, List, arith}
 use Rattle.tc_line.specs.declared.line.Line.{Line}
 use Rattle.tc_script.proofs.FirstPass.{parsed_more, parsed_skips, parsed_fails, parsed_starts, fewer_left}
 use Rattle.tc_script.proofs.first_pass.parse.Goals as goal
@@ -10,10 +10,10 @@ pub loop-part-preserved : goal.loop-part-preserved
 loop-part-preserved c = parsed_more _ _ _ _ _ _ _ _ _ c.loop-part.invariant (search rules) c.in-Ok.ensures.taken
 
 pub loop-part-preserved-in-Skipped : goal.loop-part-preserved-in-Skipped
-loop-part-preserved-in-Skipped c = parsed_skips _ _ _ _ (suc c.in-Skipped.more) _ _ _ _ c.loop-part.invariant (search rules) (search rules) (omega arith)
+loop-part-preserved-in-Skipped c = parsed_skips _ _ _ _ c.in-Skipped.more _ _ _ _ c.loop-part.invariant (search rules) (search rules) (omega arith)
 
 pub loop-part-smaller-in-Skipped : goal.loop-part-smaller-in-Skipped
-loop-part-smaller-in-Skipped c = omega (arith, fewer_left (suc c.in-Skipped.more) c.loop-part.rest c.next_part.new.self (search rules))
+loop-part-smaller-in-Skipped c = omega (arith, fewer_left c.in-Skipped.more c.loop-part.rest c.next_part.new.self (search rules))
 
 pub returns-in-Err-clause-lines : goal.returns-in-Err-clause-lines
 returns-in-Err-clause-lines c = parsed_fails {V = List Line} (λ v. v) c.in-Err.fault _ c.take_line.new.found _ _ _ c.next_part.new.self _ _ c.loop-part.invariant (search rules) c.in-Err.ensures.taken

@@ -1,6 +1,6 @@
 use Rattle.std.proofs.Common.{suc, ◌≤◌, ◌-◌}
 use Rattle.tc_line.specs.Text.{lines}
-use Rattle.tc_line.specs.Skipping.{Skips}
+use Rattle.tc_line.specs.Inside.Skips.{Skips}
 use Rattle.tc_line.proofs.text.Lines.skip.Given as goal
 
 abbrev pub invariant-loop-more : goal.invariant-loop-more
