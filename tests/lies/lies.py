@@ -176,6 +176,54 @@ LIES = (
         ("fn gather<R: Threads + Wait, B: Callable>(", "fn gather<R: Threads + Wait + Copy + Send + 'static, B: Callable>("),
         ("fn run_made<R: Threads + Wait, B: Callable>(", "fn run_made<R: Threads + Wait + Copy + Send + 'static, B: Callable>("),
     ), "tc_exec_tests"),
+    Lie("jobs_one_by_one", (
+        ("pub(crate) fn work<R: Wait, B: Callable>(rt: &R, behaviour: B, ticket: Ticket) -> Handed",
+         "pub(crate) fn work<R: Wait, B: Callable>(rt: &R, turn: Arc<Mutex<u8>>, behaviour: B, ticket: Ticket) -> Handed"),
+        ("""\
+        Ok(pass) => act(rt, behaviour, pass),
+""", """\
+        Ok(pass) => {
+            let held = turn.lock(rt);
+            let handed = act(rt, behaviour, pass);
+            drop(held);
+            handed
+        }
+"""),
+        ("use tc_book::{Left, Pass, Ticket};", "use std::sync::{Arc, Mutex};\nuse tc_book::{Left, Pass, Ticket};"),
+        ("""\
+    rt: &R,
+    ticket: Ticket,
+    behaviour: B,
+) -> Option<Worker<B>>
+""", """\
+    rt: &R,
+    turn: Arc<Mutex<u8>>,
+    ticket: Ticket,
+    behaviour: B,
+) -> Option<Worker<B>>
+"""),
+        ("move || work(&rt, behaviour, ticket)", "move || work(&rt, turn, behaviour, ticket)"),
+        ("""\
+    gate: &mut G,
+    tickets: Vec<Ticket>,
+""", """\
+    gate: &mut G,
+    turn: Arc<Mutex<u8>>,
+    tickets: Vec<Ticket>,
+"""),
+        ("        let Some(worker) = worker_of(rt, ticket, behaviour) else {", """\
+        let Ok(next) = Arc::try_clone(&turn) else {
+            return false;
+        };
+        let Some(worker) = worker_of(rt, next, ticket, behaviour) else {"""),
+        ("use tc_book::Ticket;\n", "use std::sync::{Arc, Mutex};\nuse tc_book::Ticket;\n"),
+        ("    if !make_workers(rt, gate, tickets, jobs, &mut workers) {", """\
+    let Ok(turn) = Arc::new(alloc, Mutex::new(0u8)) else {
+        return Err(CaseError::NoMemory);
+    };
+    if !make_workers(rt, gate, turn, tickets, jobs, &mut workers) {"""),
+        ("use tc_book::{Pass, Shared, close_case, open_case};", "use std::sync::{Arc, Mutex};\nuse tc_book::{Pass, Shared, close_case, open_case};"),
+    ), "tc_exec_tests"),
     Lie("a_reply_that_differs_is_told_as_no_memory", (
         ("""        Err(CheckFault::Differs { .. }) => Err(CloseFault::Torn),""",
          """        Err(CheckFault::Differs { .. }) => Err(CloseFault::NoMemory),"""),
