@@ -1,18 +1,19 @@
 -- The results of a run are right.
-use Rattle.std.proofs.Common.{ℕ, Bool, Some, None, ◌≡◌, ◌∙◌, ◌-◌, ◌++◌, ◌∷◌, [], Option, List, All, length, map, take, arith, inl, refl, sym, ap, subst, append_assoc, slice_index_or}
+use Rattle.std.proofs.Common.{ℕ, Bool, Some, None, ◌≡◌, ◌∙◌, ◌-◌, ◌++◌, ◌∷◌, [], Option, List, All, length, map, take, arith, refl, sym, ap, subst, append_assoc, slice_index_or}
 use Rattle.std.specs.Prelude.{IfNone, IfSome, IsNone, IsSomeAnd, slice_get}
 use Rattle.std.specs.List.{AllZip}
 use Rattle.std.proofs.lemmas.List.Elements.{All-map, All-nil, All-cons, All-head, All-tail, All-take}
 use Rattle.tc_verdict.specs.declared.verdict.Verdict.{Verdict}
 use Rattle.tc_book.specs.Passes.{PassState}
+use Rattle.tc_case.specs.declared.refusal.CaseError.{CaseError}
 use Rattle.tc_exec.specs.declared.job.Back.{Back}
 use Rattle.tc_report.specs.declared.results.CampaignEnd.{CampaignEnd}
 use Rattle.tc_report.specs.declared.results.Finished.{Finished}
 use Rattle.tc_campaign.specs.declared.case.Case.{Case}
-use Rattle.tc_report.specs.Stopping.{IsBetter, IsMet}
+use Rattle.tc_report.specs.Stopping.{IsMet}
 use Rattle.tc_campaign.specs.Outline.{Outline, HasNames, outline_of}
-use Rattle.tc_campaign.specs.Campaign.{AreFinished, IsCalled, IsCutShort, IsEnding, IsObserved, IsOfCase}
-use Rattle.tc_campaign.specs.Inside.{HasBehaviours, IsReported, IsNamed, IsOf, IsSoFar, IsRun, WasRun}
+use Rattle.tc_campaign.specs.Campaign.{AreFinished, IsCalled, IsCutShort, IsEnding, IsObserved, IsOfCase, IsRefusal}
+use Rattle.tc_campaign.specs.Inside.{HasBehaviours, IsBetter, IsReported, IsNamed, IsOf, IsSoFar, IsRun, IsWhy, WasRun}
 use Rattle.tc_campaign.specs.Inside.IsRun.{complete, aborted, stopped, cut}
 use Rattle.tc_campaign.proofs.Places.{AllZip-pushed, AllZip-weaker, AllZip-begin, slice_get-behind, take-front, slice_get-last, All-slice_get}
 
@@ -41,12 +42,23 @@ next_is : (cases : List Outline) (stop_on : Option Verdict) (left : List Outline
     → slice_get left 0 ≡ slice_get cases (length finished)
 next_is cases stop_on left finished so = sym (slice_get-behind IsOf cases so.done left finished so.prefix so.each)
 
-ends_so : (cases : List Outline) (stop_on : Option Verdict) (finished : List Finished) (ending : CampaignEnd) → IsRun cases stop_on finished (Some ending)
-    → IsEnding stop_on (slice_get finished (length finished - 1)) (slice_get cases (length finished)) ending
-ends_so cases stop_on finished _ (complete _ so) = (last_better cases stop_on [] finished so, subst IsNone (next_is cases stop_on [] finished so) refl)
-ends_so cases stop_on finished ending (aborted _ c left _ so refused) =
-    rw refused.aborted (last_better cases stop_on (c ∷ left) finished so, subst (λ o. IsSomeAnd o (λ d. c.name ≡ d.name)) (next_is cases stop_on (c ∷ left) finished so) refl)
-ends_so cases stop_on _ _ (stopped finished f c left so is met) =
+-- the campaign was aborted at the next case, which can be refused so
+aborted_at : (threads : ℕ) (next : Option Outline) (c : Outline) (refused : CaseError) → Some c ≡ next → IfSome next (IsRefusal threads refused)
+    → IsSomeAnd next (λ d. (c.name ≡ d.name) × IsRefusal threads refused d)
+aborted_at threads next c refused is why =
+    subst (λ o. IsSomeAnd o (λ d. (c.name ≡ d.name) × IsRefusal threads refused d)) is (refl, subst (λ o. IfSome o (IsRefusal threads refused)) (sym is) why)
+
+ends_so : (cases : List Outline) (stop_on : Option Verdict) (threads : ℕ) (finished : List Finished) (ending : CampaignEnd) → IsRun cases stop_on finished (Some ending)
+    → IsWhy threads (slice_get cases (length finished)) ending
+    → IsEnding (λ f. IsMet stop_on f.report.verdict) (IsRefusal threads) (slice_get finished (length finished - 1)) (slice_get cases (length finished)) ending
+ends_so cases stop_on threads finished _ (complete _ so) why = (last_better cases stop_on [] finished so, subst IsNone (next_is cases stop_on [] finished so) refl)
+ends_so cases stop_on threads finished ending (aborted _ c left _ so refused) why =
+    rw refused.aborted (
+      last_better cases stop_on (c ∷ left) finished so,
+      aborted_at threads (slice_get cases (length finished)) c refused.why (next_is cases stop_on (c ∷ left) finished so)
+          (subst (IsWhy threads (slice_get cases (length finished))) refused.aborted why),
+    )
+ends_so cases stop_on threads _ _ (stopped finished f c left so is met) why =
     subst (λ o. IsSomeAnd o (λ g. (f.name ≡ g.name) × IsMet stop_on g.report.verdict)) (sym (slice_get-last finished f)) (refl, met)
 
 -- as many names as jobs
@@ -101,16 +113,21 @@ module _ {B O : Type 0} (outcome : B → PassState → Back → Type 0) (takes :
     finished = was.finished;
     run = record {
       each = are_finished (Some ending) was;
-      last = ends_so (map outline_of cases) stop_on was.finished ending was.run;
-      why = inl was.why;
+      last = ends_so (map outline_of cases) stop_on threads was.finished ending was.run was.why;
     };
-    why = was.why;
     torn = was.torn;
     taken = was.given;
   }
 
   cut_short : WasRun outcome takes stop_on threads cases before after None → IsCutShort outcome cases stop_on threads takes before after
-  cut_short was = record { finished = was.finished; each = are_finished None was; ended = was.given }
+  cut_short was = record {
+    others = was.given.others;
+    last = was.given.last;
+    each = subst (AreFinished outline_of (IsCalled outcome) cases stop_on threads) was.given.all (are_finished None was);
+    between = was.given.between;
+    taken = was.given.each;
+    ended = was.given.at_last;
+  }
 
   -- with an ending it was run to it, and each finished test case was given to the observer
   pub if_ended : (answer : Option CampaignEnd) → WasRun outcome takes stop_on threads cases before after answer

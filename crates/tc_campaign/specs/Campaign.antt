@@ -1,5 +1,5 @@
 -- Right results of a campaign.
-use Rattle.std.specs.Prelude.{ℕ, ◌≡◌, ◌<◌, ◌≤◌, ◌+◌, ◌-◌, ◌⊎◌, ⊤, Bool, Option, List, [], All, IfSome, IsNone, IsSomeAnd, length, map, take, slice_get}
+use Rattle.std.specs.Prelude.{ℕ, ◌≡◌, ◌<◌, ◌≤◌, ◌+◌, ◌-◌, ◌⊎◌, ◌++◌, ◌∷◌, Bool, Option, List, [], All, IfSome, IsNone, IsSomeAnd, length, map, take, slice_get, false}
 use Rattle.std.specs.List.{AllZip}
 use Rattle.tc_entry.specs.Limits.{IsBehaviours}
 use Rattle.tc_entry.specs.declared.limits.TheConstants.{BEHAVIOURS}
@@ -7,15 +7,16 @@ use Rattle.tc_verdict.specs.declared.verdict.Verdict.{Verdict}
 use Rattle.tc_book.specs.Passes.{PassState}
 use Rattle.tc_case.specs.declared.refusal.CaseError.{CaseError}
 use Rattle.tc_case.specs.declared.refusal.CaseError.TheVariants as C
+use Rattle.tc_case.specs.declared.refusal.CaseError.TheVariants.{NoMemory}
 use Rattle.tc_exec.specs.declared.job.Back.{Back}
 use Rattle.tc_exec.specs.Case.{IsCaseReport, AreCalled, IsHandedBack, IsMadeOf}
 use Rattle.tc_report.specs.declared.results.CampaignEnd.{CampaignEnd}
 use Rattle.tc_report.specs.declared.results.CampaignEnd.TheVariants as E
 use Rattle.tc_report.specs.declared.results.Finished.{Finished}
 use Rattle.tc_campaign.specs.declared.case.Case.{Case}
-use Rattle.tc_report.specs.Observers.{AreTaken, IsEndedAt}
+use Rattle.tc_report.specs.Observers.{AreTaken}
 use Rattle.tc_campaign.specs.Outline.{Outline, outline_of}
-use Rattle.tc_report.specs.Stopping.{IsBetter, IsMet}
+use Rattle.tc_report.specs.Stopping.{IsMet}
 
 -- a finished case has the name and the behaviour names of this case
 pub record IsOfCase (c : Outline) (f : Finished) : Type 0 where
@@ -28,12 +29,12 @@ abbrev pub IsCalled : {B : Type 0} → (B → PassState → Back → Type 0) →
 IsCalled outcome c f = AreCalled outcome c.jobs.items f.report × IsMadeOf outcome c.jobs.items f.report
 
 -- the last finished case, and the first that is not finished, agree with the ending. The campaign stopped after the
--- last finished case exactly if that one is stop_on or worse; otherwise it was aborted at the next case, or no case is
--- left.
-abbrev pub IsEnding : Option Verdict → Option Finished → Option Outline → CampaignEnd → Type 0
-IsEnding stop_on last next (E.StoppedAfter name) = IsSomeAnd last (λ f. (name ≡ f.name) × IsMet stop_on f.report.verdict)
-IsEnding stop_on last next (E.Aborted name why) = IfSome last (λ f. IsBetter stop_on f.report.verdict) × IsSomeAnd next (λ c. name ≡ c.name)
-IsEnding stop_on last next E.Complete = IfSome last (λ f. IsBetter stop_on f.report.verdict) × IsNone next
+-- last finished case exactly if that one stops it. Otherwise no case is left, or it was aborted at the next case, which
+-- can be refused so.
+abbrev pub IsEnding : (Finished → Type 0) → (CaseError → Outline → Type 0) → Option Finished → Option Outline → CampaignEnd → Type 0
+IsEnding Stops Refuses last next (E.StoppedAfter name) = IsSomeAnd last (λ f. (name ≡ f.name) × Stops f)
+IsEnding Stops Refuses last next (E.Aborted name why) = IfSome last (λ f. Stops f → ⊥) × IsSomeAnd next (λ c. (name ≡ c.name) × Refuses why c)
+IsEnding Stops Refuses last next E.Complete = IfSome last (λ f. Stops f → ⊥) × IsNone next
 
 -- a run of this case with that many worker threads can be refused so: if they are too few for 1 to 256 behaviours, only
 -- by NoThread
@@ -43,28 +44,18 @@ IsRefusal threads C.TooManyBehaviours c = BEHAVIOURS < c.jobs
 IsRefusal threads C.NoThread c = (1 < c.jobs) × (c.jobs ≤ BEHAVIOURS)
 IsRefusal threads why c = IsBehaviours c.jobs × (c.jobs ≤ threads + 1)
 
--- if the campaign was aborted, a run of the next case can be refused so
-abbrev pub IsWhy : ℕ → Option Outline → CampaignEnd → Type 0
-IsWhy threads next (E.Aborted name why) = IfSome next (IsRefusal threads why)
-IsWhy threads next ending = ⊤
-
 -- if the campaign was aborted for what the jobs of the next case handed back, each was called, did not run out of
 -- memory, and handed it back
 abbrev pub IsTornAt : {B : Type 0} → (B → PassState → Back → Type 0) → Option (Case B) → CampaignEnd → Type 0
 IsTornAt outcome next ending = (name : List ℕ) → ending ≡ E.Aborted name C.Torn → IfSome next (λ c. IsHandedBack outcome c.jobs.items)
-
--- the campaign was aborted because there was no room for its reports, and none of its cases was run
-abbrev pub IsWithoutRoom : List Finished → CampaignEnd → Type 0
-IsWithoutRoom finished (E.Aborted name why) = (finished ≡ []) × (why ≡ C.NoMemory)
-IsWithoutRoom finished ending = ⊥
 
 module _ {C : Type 0} (outline : C → Outline) (called : C → Finished → Type 0) (cases : List C) (stop_on : Option Verdict) (threads : ℕ) where
   -- these test cases were finished, the first of the list, and none except the last ended the campaign
   pub record AreFinished (finished : List Finished) : Type 0 where
     -- they have the names and behaviour names of the list, in order
     pub names : AllZip IsOfCase (take (length finished) (map outline cases)) finished
-    -- each but the last is better than stop_on
-    pub better : All (λ f. IsBetter stop_on f.report.verdict) (take (length finished - 1) finished)
+    -- at each but the last the stopping rule is not met
+    pub better : All (λ f. IsMet stop_on f.report.verdict → ⊥) (take (length finished - 1) finished)
     -- each report is of its own case, with as many behaviours as the case has jobs, and these were called
     pub reports : AllZip (λ c f. IsCaseReport c.jobs f.report) (take (length finished) (map outline cases)) finished
     pub calls : AllZip called (take (length finished) cases) finished
@@ -73,24 +64,30 @@ module _ {C : Type 0} (outline : C → Outline) (called : C → Finished → Typ
     pub threads_are : All (λ f. f.report.behaviours ≤ threads + 1) finished
     pub behaviours : All (λ f. IsBehaviours f.report.behaviours) finished
 
-  -- these test cases were finished, and the campaign ended so after them; it may have had no room for its reports
-  pub record IsRunTo (finished : List Finished) (ending : CampaignEnd) : Type 0 where
+  -- these test cases were finished, and the campaign ended so after them
+  pub record EndsSo (Refuses : CaseError → Outline → Type 0) (finished : List Finished) (ending : CampaignEnd) : Type 0 where
     pub each : AreFinished finished
-    pub last : IsEnding stop_on (slice_get finished (length finished - 1)) (slice_get (map outline cases) (length finished)) ending
-    pub why : IsWhy threads (slice_get (map outline cases) (length finished)) ending ⊎ IsWithoutRoom finished ending
+    pub last : IsEnding (λ f. IsMet stop_on f.report.verdict) Refuses
+        (slice_get finished (length finished - 1)) (slice_get (map outline cases) (length finished)) ending
+
+  -- the same; there may have been no room for its reports, and then none of its cases was run
+  abbrev pub IsRunTo : List Finished → CampaignEnd → Type 0
+  IsRunTo finished = EndsSo (λ why c. IsRefusal threads why c ⊎ ((finished ≡ []) × (why ≡ NoMemory))) finished
 
 module _ {B O : Type 0} (outcome : B → PassState → Back → Type 0) (cases : List (Case B)) (stop_on : Option Verdict) (threads : ℕ)
     (takes : O → Finished → O → Bool → Type 0) (before after : O) where
   -- the campaign was run to this end, and the observer was given each finished test case
   pub record IsObserved (ending : CampaignEnd) : Type 0 where
     pub finished : List Finished
-    pub run : IsRunTo outline_of (IsCalled outcome) cases stop_on threads finished ending
-    pub why : IsWhy threads (slice_get (map outline_of cases) (length finished)) ending
+    pub run : EndsSo outline_of (IsCalled outcome) cases stop_on threads (IsRefusal threads) finished ending
     pub torn : IsTornAt outcome (slice_get cases (length finished)) ending
     pub taken : AreTaken takes finished before after
 
   -- the campaign was run until the observer ended it, at the last finished test case
   pub record IsCutShort : Type 0 where
-    pub finished : List Finished
-    pub each : AreFinished outline_of (IsCalled outcome) cases stop_on threads finished
-    pub ended : IsEndedAt takes finished before after
+    pub others : List Finished
+    pub last : Finished
+    pub each : AreFinished outline_of (IsCalled outcome) cases stop_on threads (others ++ last ∷ [])
+    pub between : O
+    pub taken : AreTaken takes others before between
+    pub ended : takes between last after false

@@ -20,13 +20,9 @@ in_shard None cs = cs
 in_shard (Some s) cs = placed s 0 cs
 
 module _ {C : Type 0} (name_of : C → List ℕ) where
-  -- those whose names are asked for, in their order
-  abbrev pub named : List (List ℕ) → List C → List C
-  named only cs = filter (λ c. is_asked only (name_of c)) cs
-
-  -- the shard of those whose names are asked for
+  -- the shard of those whose names are asked for, in their order
   abbrev pub chosen : List (List ℕ) → Option ShardView → List C → List C
-  chosen only shard cs = in_shard shard (named only cs)
+  chosen only shard cs = in_shard shard (filter (λ c. is_asked only (name_of c)) cs)
 
   -- each pattern that is asked for matches the name of a test case
   abbrev pub have_names : List (List ℕ) → List C → Bool

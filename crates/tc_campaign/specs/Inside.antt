@@ -1,5 +1,5 @@
 -- What the functions inside of a campaign say, which no public clause names.
-use Rattle.std.specs.Prelude.{ℕ, ◌≡◌, ◌≤◌, ◌+◌, ◌++◌, ◌∷◌, [], Option, Some, None, Bool, true, false, Result, Ok, Err, List, All, IfSome, length, map, take, slice_get}
+use Rattle.std.specs.Prelude.{ℕ, ◌≡◌, ◌≤◌, ◌+◌, ◌++◌, ◌∷◌, [], ⊤, Option, Some, None, Bool, true, false, Result, Ok, Err, List, All, IfSome, filter, length, map, take, slice_get}
 use Rattle.tc_entry.specs.Limits.{IsBehaviours}
 use Rattle.tc_entry.specs.declared.limits.TheConstants.{BEHAVIOURS}
 use Rattle.tc_case.specs.declared.closed.Closed.{Closed}
@@ -13,13 +13,28 @@ use Rattle.tc_book.specs.Passes.{PassState}
 use Rattle.tc_report.specs.declared.results.CampaignEnd.{CampaignEnd}
 use Rattle.tc_report.specs.declared.results.CampaignEnd.TheVariants as E
 use Rattle.tc_report.specs.declared.results.Finished.{Finished}
-use Rattle.tc_report.specs.Observers.{AreTaken, IsEndedAt}
+use Rattle.tc_report.specs.Observers.{AreTaken}
 use Rattle.tc_campaign.specs.declared.case.Case.{Case}
 use Rattle.tc_campaign.specs.declared.step.Step.{Step}
 use Rattle.tc_campaign.specs.declared.step.Step.TheVariants as S
+use Rattle.tc_campaign.specs.Choosing.{is_asked}
 use Rattle.tc_campaign.specs.Outline.{Outline, outline_of}
-use Rattle.tc_report.specs.Stopping.{IsBetter, IsMet}
-use Rattle.tc_campaign.specs.Campaign.{IsCalled, IsOfCase, IsRefusal, IsTornAt, IsWhy}
+use Rattle.tc_report.specs.Inside.{IsEndedAt}
+use Rattle.tc_report.specs.Stopping.{IsMet}
+use Rattle.tc_campaign.specs.Campaign.{IsCalled, IsOfCase, IsRefusal, IsTornAt}
+
+-- the stopping rule is not met
+abbrev pub IsBetter : Option Verdict → Verdict → Type 0
+IsBetter stop_on v = IsMet stop_on v → ⊥
+
+-- if the campaign was aborted, a run of the next case can be refused so
+abbrev pub IsWhy : ℕ → Option Outline → CampaignEnd → Type 0
+IsWhy threads next (E.Aborted name why) = IfSome next (IsRefusal threads why)
+IsWhy threads next ending = ⊤
+
+-- those whose names are asked for, in their order
+abbrev pub named : {C : Type 0} → (C → List ℕ) → List (List ℕ) → List C → List C
+named name_of only cs = filter (λ c. is_asked only (name_of c)) cs
 
 -- the report of a finished case is one of a case with as many behaviours as this case has jobs
 abbrev pub IsReported : Outline → Finished → Type 0

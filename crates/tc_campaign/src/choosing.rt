@@ -2,7 +2,8 @@
 ghost use Rattle.std.specs.Prelude.{◌≡◌, ◌++◌, IfOk, OnOk};
 ghost use Rattle.std.specs.List.{list_any};
 ghost use Rattle.tc_entry.specs.Pattern.{matches};
-ghost use Rattle.tc_campaign.specs.Choosing.{case_name, chosen, have_names, is_asked as spec_asked, named as spec_named, placed};
+ghost use Rattle.tc_campaign.specs.Choosing.{case_name, chosen, have_names, is_asked as spec_asked, placed};
+ghost use Rattle.tc_campaign.specs.Inside.{named as spec_named};
 
 use crate::case::Case;
 use std::alloc::Global;

@@ -12,7 +12,11 @@ use Rattle.clap.specs.Walk.{Row, Text, first_of, row_of, rows_of, texts}
 use Rattle.clap.specs.declared.parser.matches.Found.{Found}
 use Rattle.clap.specs.declared.parser.matches.MatchedArg.{MatchedArg}
 use Rattle.clap.proofs.WalkLemmas.{find_row, first_value-rows, raw_values-rows}
-use Rattle.tc_command.specs.Asked.{words_of}
+use Rattle.std.specs.Prelude.{◌||◌, Bool, false, is_none, true}
+use Rattle.tc_command.specs.Asked.{lacks_junit, lacks_option, lacks_script, report_form_of, words_of}
+use Rattle.tc_command.specs.Inside.{lacks_form, lacks_script_of}
+use Rattle.tc_command.specs.declared.command.Subcommand.{Subcommand}
+use Rattle.tc_command.specs.declared.command.Subcommand.TheVariants as S
 
 -- the source of an option's value, by its row
 pub source_of : (f : Found) (id : Text) → option_and_then (λ (a : MatchedArg). a.source) (matched_of f id)
@@ -51,3 +55,21 @@ names_more words i d within so one =
 -- if all words are names, each is one
 pub name_at : (words : List (Bor Text)) (i : ℕ) (d : Bor Text) → i < length words → All IsPattern (map (λ w. w.now) words) → IsPattern (get_or words i d).now
 name_at words i d within all = subst IsPattern (get_or-map (λ (w : Bor Text). w.now) words i d d.now within) (all i d.now (subst (λ n. i < n) (sym (length-map words (λ (w : Bor Text). w.now))) within))
+
+-- which option is lacking, whatever the subcommand is
+pub lacks_rules : (s : Subcommand) (rows : List Row) → lacks_option s rows ≡ lacks_script_of s rows || (lacks_form s rows || lacks_junit rows)
+lacks_rules S.Run rows = refl
+lacks_rules S.Serve rows = refl
+lacks_rules S.Explore rows = refl
+lacks_rules S.Check rows = refl
+lacks_rules S.Report rows = refl
+lacks_rules S.Replay rows = refl
+
+-- a report that lacks no option has a form
+pub has_form : (s : Subcommand) (rows : List Row) → s ≡ S.Report → lacks_option s rows ≡ false → is_none (report_form_of rows) ≡ false
+has_form s rows is taken = go (lacks_script rows) (is_none (report_form_of rows)) (lacks_junit rows) (subst (λ t. lacks_option t rows ≡ false) is taken)
+  where
+    go : (a b d : Bool) → (a || (b || d)) ≡ false → b ≡ false
+    go true b d h = absurd (cc h)
+    go false true d h = absurd (cc h)
+    go false false d h = refl

@@ -1,11 +1,11 @@
 -- What the words are read as, by what the parse answered and what the options ask for.
 use Rattle.std.proofs.Common.{◌≡◌, ◌∙◌, true, sym, ap, subst, Bool, List, [], Result, Ok, Err, inl, inr}
 use Rattle.std.specs.Result.{IsErrAnd}
-use Rattle.clap.specs.Kinds.{Kinds}
+use Rattle.clap.specs.Kinds.{Kinds, or_else}
 use Rattle.clap.specs.Words.{App, HasKind, Row, Text, fault_of, is_simple_and_free, kind_of}
 use Rattle.clap.specs.declared.error.Error.{Error}
 use Rattle.clap.proofs.FaultLemmas.{first_fails, past}
-use Rattle.tc_command.specs.Asked.{Asks, HasBadWord, IsReadAs, faults, option_faults}
+use Rattle.tc_command.specs.Asked.{Asks, HasBadWord, IsReadAs, option_faults}
 use Rattle.tc_command.specs.Inside.{IsRefusedBy, IsTaken, IsToldBy}
 use Rattle.tc_command.specs.declared.command.Subcommand.{Subcommand}
 use Rattle.tc_command.specs.declared.read.Refused.{Refused}
@@ -27,7 +27,7 @@ parse_refuses at {command} {app} words line e is fit kinds =
 
 module _ (at : Bool) (found : Kinds) (line given : Subcommand × List Row) (none : [] ≡ found) (line_is : line ≡ given) where
   -- what the parse takes is refused for its options
-  faults_are : faults found given ≡ option_faults line
+  faults_are : or_else found (option_faults given) ≡ option_faults line
   faults_are = past found _ (sym none) ∙ sym (ap option_faults line_is)
 
   -- what its options ask for is read

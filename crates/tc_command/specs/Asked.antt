@@ -55,31 +55,20 @@ abbrev pub line_of : Option (Text × List Row) → Subcommand × List Row
 line_of None = (S.Run, [])
 line_of (Some p) = (subcommand_named p.0, p.1)
 
--- options of which each two exclude each other
+-- options of this subcommand of which each two exclude each other
 abbrev pub apart : Subcommand → List (Text × Text)
 apart S.Run =
     (codes "csv", codes "history") ∷ (codes "csv", codes "evidence") ∷ (codes "csv", codes "junit")
     ∷ (codes "history", codes "evidence") ∷ (codes "history", codes "junit") ∷ (codes "evidence", codes "junit")
     ∷ (codes "list", codes "csv") ∷ (codes "list", codes "history") ∷ (codes "list", codes "evidence") ∷ (codes "list", codes "junit")
-    ∷ (codes "list", codes "live")
-    ∷ (codes "list", codes "progress") ∷ (codes "list", codes "stop-on") ∷ (codes "junit", codes "live")
-    ∷ (codes "explain", codes "no-explain") ∷ []
-apart S.Check = (codes "script", codes "failed") ∷ (codes "explain", codes "no-explain") ∷ []
-apart S.Replay = (codes "explain", codes "no-explain") ∷ []
-apart S.Explore = (codes "history", codes "details") ∷ (codes "history", codes "locals") ∷ (codes "explain", codes "no-explain") ∷ []
+    ∷ (codes "list", codes "live") ∷ (codes "list", codes "progress") ∷ (codes "list", codes "stop-on") ∷ (codes "junit", codes "live") ∷ []
+apart S.Check = (codes "script", codes "failed") ∷ []
+apart S.Explore = (codes "history", codes "details") ∷ (codes "history", codes "locals") ∷ []
 apart S.Report =
     (codes "csv", codes "junit") ∷ (codes "csv", codes "html") ∷ (codes "csv", codes "summary")
     ∷ (codes "junit", codes "html") ∷ (codes "junit", codes "summary") ∷ (codes "html", codes "summary")
-    ∷ (codes "html", codes "failed") ∷ (codes "script", codes "failed") ∷ (codes "explain", codes "no-explain") ∷ []
+    ∷ (codes "html", codes "failed") ∷ (codes "script", codes "failed") ∷ []
 apart subcommand = []
-
--- both options of a pair are given
-abbrev pub are_both : List Row → Text × Text → Bool
-are_both rows p = is_given rows p.0 && is_given rows p.1
-
--- the name that the options give to a suite, if they give one
-abbrev pub suite_of : List Row → Option Text
-suite_of rows = first_of (codes "suite") rows
 
 -- the form that the options of `run` ask for
 abbrev pub form_of : List Row → Form
@@ -87,50 +76,35 @@ form_of rows =
     if is_given rows (codes "csv") then form.Csv
     else (if is_given rows (codes "history") then form.History
     else (if is_given rows (codes "evidence") then form.Evidence
-    else (if is_given rows (codes "junit") then form.Junit (suite_of rows) else form.Text)))
+    else (if is_given rows (codes "junit") then form.Junit (first_of (codes "suite") rows) else form.Text)))
 
 -- the form that the options of `report` ask for, if they ask for one
 abbrev pub report_form_of : List Row → Option ReportForm
 report_form_of rows =
     if is_given rows (codes "csv") then Some report_form.Csv
-    else (if is_given rows (codes "junit") then Some (report_form.Junit (suite_of rows))
+    else (if is_given rows (codes "junit") then Some (report_form.Junit (first_of (codes "suite") rows))
     else (if is_given rows (codes "html") then Some report_form.Html
     else (if is_given rows (codes "summary") then Some report_form.Summary else None)))
 
 -- a shard is chosen, or what is on a page, and there is no script
-abbrev pub lacks_its_script : List Row → Bool
-lacks_its_script rows =
-    (is_given rows (codes "shard") || (is_given rows (codes "only") && is_given rows (codes "html"))) && not (is_given rows (codes "script"))
-
--- the same, where a script may come before histories
-abbrev pub lacks_script : Subcommand → List Row → Bool
-lacks_script S.Check rows = lacks_its_script rows
-lacks_script S.Report rows = lacks_its_script rows
-lacks_script subcommand rows = false
-
--- a form is needed, and none is given
-abbrev pub lacks_form : Subcommand → List Row → Bool
-lacks_form S.Report rows = is_none (report_form_of rows)
-lacks_form subcommand rows = false
+abbrev pub lacks_script : List Row → Bool
+lacks_script rows = (is_given rows (codes "shard") || (is_given rows (codes "only") && is_given rows (codes "html"))) && not (is_given rows (codes "script"))
 
 -- a suite is named, and there is no report of it
 abbrev pub lacks_junit : List Row → Bool
 lacks_junit rows = is_given rows (codes "suite") && not (is_given rows (codes "junit"))
 
--- options are given without one that they need
-abbrev pub lacks_option : Subcommand × List Row → Bool
-lacks_option line = lacks_script line.0 line.1 || (lacks_form line.0 line.1 || lacks_junit line.1)
+-- options are given without one that they need: their script, a form of the report, or the report that a suite is of
+abbrev pub lacks_option : Subcommand → List Row → Bool
+lacks_option S.Check rows = lacks_script rows || lacks_junit rows
+lacks_option S.Report rows = lacks_script rows || (is_none (report_form_of rows) || lacks_junit rows)
+lacks_option subcommand rows = lacks_junit rows
 
 -- why options are refused; none if they are taken
 abbrev pub option_faults : Subcommand × List Row → Kinds
 option_faults line =
-    if list_any (are_both line.1) (apart line.0) then ArgumentConflict ∷ []
-    else (if lacks_option line then MissingRequiredArgument ∷ [] else [])
-
--- why arguments are refused, as the kinds of the first fault, or that they ask for help or the version: those that the
--- command finds, or those of the options; none if they are taken
-abbrev pub faults : Kinds → Subcommand × List Row → Kinds
-faults found line = or_else found (option_faults line)
+    if list_any (λ p. is_given line.1 p.0 && is_given line.1 p.1) ((codes "explain", codes "no-explain") ∷ apart line.0) then ArgumentConflict ∷ []
+    else (if lacks_option line.0 line.1 then MissingRequiredArgument ∷ [] else [])
 
 -- faults are explained: if that is asked for, and at a terminal unless it is declined
 abbrev pub is_explained : Bool → List Row → Bool
@@ -175,27 +149,26 @@ Asks at (S.Run, rows) (T.List c explains) = (is_given rows (codes "list") ≡ tr
 Asks at (S.Serve, rows) T.Serve = Unit {0}
 Asks at line task = ⊥
 
+-- the values of --shard and --only name something
+abbrev pub HasGoodChoice : List Row → Type 0
+HasGoodChoice rows = IsGood IsShardOf (first_of (codes "shard") rows) × All IsPattern (words_of (codes "only") rows)
+
 -- a value of these options names nothing, and it is the first: that of --shard, then those of --only, then that of
 -- --suite, and then that of --stop-on or --states
 abbrev pub HasBadWord : List Row → WordFault → Type 0
 HasBadWord rows W.Shard = IsBad IsShardOf (first_of (codes "shard") rows)
 HasBadWord rows W.Only = IsGood IsShardOf (first_of (codes "shard") rows) × (All IsPattern (words_of (codes "only") rows) → ⊥)
-HasBadWord rows W.StopOn =
-    IsGood IsShardOf (first_of (codes "shard") rows) × All IsPattern (words_of (codes "only") rows) × IfSome (suite_of rows) IsName
-    × IsBad IsRuleOf (first_of (codes "stop-on") rows)
-HasBadWord rows W.Suite =
-    IsGood IsShardOf (first_of (codes "shard") rows) × All IsPattern (words_of (codes "only") rows)
-    × (IfSome (suite_of rows) IsName → ⊥)
-HasBadWord rows W.States =
-    IsGood IsShardOf (first_of (codes "shard") rows) × All IsPattern (words_of (codes "only") rows)
-    × IsBad IsStatesOf (first_of (codes "states") rows)
+HasBadWord rows W.Suite = HasGoodChoice rows × (IfSome (first_of (codes "suite") rows) IsName → ⊥)
+HasBadWord rows W.StopOn = HasGoodChoice rows × IfSome (first_of (codes "suite") rows) IsName × IsBad IsRuleOf (first_of (codes "stop-on") rows)
+HasBadWord rows W.States = HasGoodChoice rows × IsBad IsStatesOf (first_of (codes "states") rows)
 
--- What a line is read as, in which the command finds these faults: the task that it asks for, or clap's error, of the
--- kind of its first fault. If it has none, it may be an option value that names nothing.
+-- What a line is read as, in which the command finds these faults: the task that it asks for, or clap's error. Its kind is that
+-- of its first fault, or that it asks for help or the version: the command's, or if it has none the options'. If it has none, it may be an
+-- option value that names nothing.
 abbrev pub IsReadAs : Bool → Kinds → Subcommand × List Row → Result Task Refused → Type 0
-IsReadAs at_terminal found line (Ok task) = (faults found line ≡ []) × Asks at_terminal line task
-IsReadAs at_terminal found line (Err (R.Line e)) = HasKind (faults found line) e
-IsReadAs at_terminal found line (Err (R.Word fault)) = (faults found line ≡ []) × HasBadWord line.1 fault
+IsReadAs at_terminal found line (Ok task) = (or_else found (option_faults line) ≡ []) × Asks at_terminal line task
+IsReadAs at_terminal found line (Err (R.Line e)) = HasKind (or_else found (option_faults line)) e
+IsReadAs at_terminal found line (Err (R.Word fault)) = (or_else found (option_faults line) ≡ []) × HasBadWord line.1 fault
 
 -- what the arguments of the program are read as
 abbrev pub IsReading : Bool → List Text → Result Task Refused → Type 0

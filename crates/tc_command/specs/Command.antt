@@ -1,5 +1,5 @@
 -- The program's command as a command line reads it: its subcommands, and their options.
-use Rattle.std.specs.Prelude.{List, [], ◌∷◌, ◌++◌, Some, true, codes}
+use Rattle.std.specs.Prelude.{List, [], ◌∷◌, ◌++◌, Some, true, codes, fold}
 use Rattle.clap.specs.Words.{App, Rule, Text, new_app, new_rule, with_rule, with_subcommand}
 use Rattle.clap.specs.declared.builder.action.ArgAction.TheVariants.{Append, Set, SetTrue}
 
@@ -14,11 +14,6 @@ word_rule name = record (new_rule name) { long = Some name; action = Some Set; v
 -- an option of this name, which takes one value, and may be given several times
 abbrev pub words_rule : Text → Rule
 words_rule name = record (new_rule name) { long = Some name; action = Some Append; value_names = 1 }
-
--- a command with these options more, in their order
-abbrev pub with_rules : App → List Rule → App
-with_rules app [] = app
-with_rules app (rule ∷ rules) = with_rules (with_rule app rule) rules
 
 -- the options of each command that reads a text whole: whether a fault of it is explained
 abbrev pub explaining : List Rule
@@ -37,41 +32,38 @@ run_options =
 
 -- `run` has these and those of its script: which test cases, and whether a fault is explained
 abbrev pub run : App
-run = with_rules (new_app (codes "run")) (run_options ++ flag_rule (codes "failed") ∷ explaining)
+run = fold with_rule (new_app (codes "run")) (run_options ++ flag_rule (codes "failed") ∷ explaining)
 
 -- the options of `explore`
 abbrev pub explore : App
-explore = with_rules (new_app (codes "explore")) (
+explore = fold with_rule (new_app (codes "explore")) (
     flag_rule (codes "history") ∷ flag_rule (codes "details") ∷ flag_rule (codes "locals") ∷ word_rule (codes "states")
     ∷ words_rule (codes "only") ∷ word_rule (codes "shard") ∷ flag_rule (codes "failed") ∷ explaining)
 
 -- the options of `report`
 abbrev pub report : App
-report = with_rules (new_app (codes "report")) (
+report = fold with_rule (new_app (codes "report")) (
     flag_rule (codes "csv") ∷ flag_rule (codes "junit") ∷ word_rule (codes "suite") ∷ flag_rule (codes "html") ∷ flag_rule (codes "summary")
     ∷ choosing)
 
 -- the options of `check`
 abbrev pub check : App
-check = with_rules (new_app (codes "check")) choosing
+check = fold with_rule (new_app (codes "check")) choosing
 
 -- the options of `replay`
 abbrev pub replay : App
-replay = with_rules (new_app (codes "replay")) explaining
+replay = fold with_rule (new_app (codes "replay")) explaining
 
 -- a command that prints its version
 abbrev pub with_version : App → App
 with_version app = record app { top = record app.top { has_version = true } }
 
--- a command with the subcommands that these commands are, in their order
-abbrev pub with_commands : App → List App → App
-with_commands app [] = app
-with_commands app (sub ∷ subs) = with_commands (with_subcommand app sub.top) subs
-
 -- the program's command prints its version, and has these six subcommands; `serve` has no option
 abbrev pub ttrun : App
-ttrun = with_commands (with_version (new_app (codes "ttrun"))) (run ∷ new_app (codes "serve") ∷ explore ∷ check ∷ report ∷ replay ∷ [])
+ttrun =
+    fold (λ app sub. with_subcommand app sub.top) (with_version (new_app (codes "ttrun")))
+    (run ∷ new_app (codes "serve") ∷ explore ∷ check ∷ report ∷ replay ∷ [])
 
 -- the command of a program with test cases of its own prints its version too, and has the options of their run
 abbrev pub cases : App
-cases = with_rules (with_version (new_app (codes "program"))) run_options
+cases = fold with_rule (with_version (new_app (codes "program"))) run_options

@@ -1,10 +1,10 @@
 -- What only the reading of the arguments needs: no public clause rests on a word of this file.
-use Rattle.std.specs.Prelude.{◌≡◌, ◌∷◌, [], Bool, List, codes, true}
+use Rattle.std.specs.Prelude.{◌≡◌, ◌∷◌, [], Bool, List, codes, false, is_none, true}
 use Rattle.clap.specs.Words.{App, Row, Rule, Text, app_of, kind_of, new_app, with_rule, with_subcommand}
 use Rattle.clap.specs.declared.builder.command.Command.{Command}
 use Rattle.clap.specs.declared.builder.command.Command.TheViews.{out-Command}
 use Rattle.clap.specs.declared.error.kind.ErrorKind.TheVariants.{ArgumentConflict, MissingRequiredArgument}
-use Rattle.tc_command.specs.Asked.{Asks, HasBadWord, option_faults}
+use Rattle.tc_command.specs.Asked.{Asks, HasBadWord, lacks_script, option_faults, report_form_of}
 use Rattle.tc_command.specs.Command.{check, explore, flag_rule, replay, report, run, word_rule, words_rule}
 use Rattle.tc_command.specs.declared.command.OptionRow.{OptionRow}
 use Rattle.tc_command.specs.declared.command.Subcommand.{Subcommand}
@@ -17,6 +17,17 @@ use Rattle.tc_command.specs.declared.refusal.Refusal.{Refusal}
 use Rattle.tc_command.specs.declared.refusal.Refusal.TheVariants as R
 use Rattle.tc_command.specs.declared.task.Task.{Task}
 use Rattle.tc_command.specs.declared.word.WordFault.{WordFault}
+
+-- a script may come before histories, and there is none though one is needed
+abbrev pub lacks_script_of : Subcommand → List Row → Bool
+lacks_script_of S.Check rows = lacks_script rows
+lacks_script_of S.Report rows = lacks_script rows
+lacks_script_of subcommand rows = false
+
+-- a form is needed, and none is given
+abbrev pub lacks_form : Subcommand → List Row → Bool
+lacks_form S.Report rows = is_none (report_form_of rows)
+lacks_form subcommand rows = false
 
 -- options are refused for this reason; if memory runs out, nothing is said about them
 abbrev pub IsRefusedBy : Subcommand × List Row → Refusal → Type 0

@@ -1,5 +1,5 @@
 -- The values of options, and what they name.
-use Rattle.std.specs.Prelude.{ℕ, ◌≡◌, ◌≤◌, ◌<◌, ◌+◌, ◌^◌, List, ◌∷◌, ◌++◌, Option, Some, None, codes}
+use Rattle.std.specs.Prelude.{ℕ, ◌≡◌, ◌≤◌, ◌<◌, ◌+◌, ◌^◌, List, ◌∷◌, ◌++◌, IsSomeAnd, MatchOption, Option, None, codes}
 use Rattle.std.specs.Fmt.{decimal}
 use Rattle.clap.specs.Words.{Text}
 use Rattle.tc_entry.specs.Shard.{IsShard, ShardView}
@@ -14,9 +14,7 @@ IsShardWord word s = (word ≡ decimal (s.place + 1) ++ (47 ∷ decimal s.shards
 
 -- the value of an option names this; without a value there is nothing
 abbrev pub IsNamed : {T : Type 0} → (Text → T → Type 0) → Option Text → Option T → Type 0
-IsNamed Names None None = Unit {0}
-IsNamed Names (Some word) (Some x) = Names word x
-IsNamed Names word x = ⊥
+IsNamed Names word x = MatchOption word (x ≡ None) (λ w. IsSomeAnd x (Names w))
 
 -- the shard is that of the value
 abbrev pub IsShardOf : Option Text → Option ShardView → Type 0
@@ -28,8 +26,7 @@ IsRuleOf = IsNamed (λ word v. word ≡ name_of v)
 
 -- that many states are looked at: those that the value names, from 1 to a million; without a value a hundred thousand
 abbrev pub IsStatesOf : Option Text → ℕ → Type 0
-IsStatesOf None n = n ≡ 100000
-IsStatesOf (Some word) n = (1 ≤ n) × (n ≤ 1000000) × (word ≡ decimal n)
+IsStatesOf word n = MatchOption word (n ≡ 100000) (λ w. (1 ≤ n) × (n ≤ 1000000) × (w ≡ decimal n))
 
 -- the value names nothing
 abbrev pub IsBad : {T : Type 0} → (Option Text → T → Type 0) → Option Text → Type 0

@@ -1,15 +1,14 @@
 //! The arguments, and the task that they ask for.
-ghost use Rattle.std.specs.Prelude.{◌≡◌, All, IfOk, IfErr, IfSome, List, OnOk, Some, codes, false, map, option_copied, string_bytes, true};
+ghost use Rattle.std.specs.Prelude.{◌≡◌, ◌&&◌, ◌∷◌, All, IfOk, IfErr, IfSome, List, OnOk, Some, codes, false, map, option_copied, string_bytes, true};
 ghost use Rattle.std.specs.List.{list_any};
 ghost use Rattle.clap.specs.Words.{FailsBy, Row, app_of, fault_of, first_of, found_of, is_simple, is_simple_and_free, rows_of, subcommand_of, subcommand_rows_of};
 ghost use Rattle.tc_entry.specs.Name.{IsName};
 ghost use Rattle.tc_entry.specs.Pattern.{IsPattern};
 ghost use Rattle.tc_command.specs.Command.{ttrun};
-ghost use Rattle.tc_command.specs.Asked.{Asks, AsksRun, Chooses, IsReading, apart as spec_apart, are_both, form_of, is_explained, is_given, lacks_script as spec_lacks, line_of};
-ghost use Rattle.tc_command.specs.Asked.{lacks_form as spec_lacks_form, lacks_option, report_form_of, subcommand_named as spec_named};
-ghost use Rattle.tc_command.specs.Asked.{suite_of, words_of};
+ghost use Rattle.tc_command.specs.Asked.{Asks, AsksRun, Chooses, IsReading, apart as spec_apart, form_of, is_explained, is_given, line_of};
+ghost use Rattle.tc_command.specs.Asked.{lacks_option, report_form_of, subcommand_named as spec_named, words_of};
 ghost use Rattle.tc_command.specs.Words.{IsGood, IsShardOf};
-ghost use Rattle.tc_command.specs.Inside.{IsBadWord, IsClash, IsLack, IsRefusedBy, IsTaken, IsWordRefused};
+ghost use Rattle.tc_command.specs.Inside.{IsBadWord, IsClash, IsLack, IsRefusedBy, IsTaken, IsWordRefused, lacks_form as spec_lacks_form, lacks_script_of as spec_lacks};
 ghost use Rattle.tc_command.specs.declared.command.Subcommand.TheVariants.{Check, Explore, Report, Run};
 ghost use Rattle.tc_command.specs.declared.word.WordFault.TheVariants as fault;
 
@@ -45,10 +44,12 @@ impl From<Error> for Refused {
 
 // Options of which each two exclude each other.
 fn apart(subcommand: Subcommand) -> &'static [(&'static str, &'static str)]
-    ensures { (rows : List Row) → list_any (λ p. are_both rows (p.0.now, p.1.now)) result.now ≡ list_any (are_both rows) (spec_apart subcommand) }
+    ensures { (rows : List Row) → list_any (λ p. is_given rows p.0.now && is_given rows p.1.now) result.now
+        ≡ list_any (λ p. is_given rows p.0 && is_given rows p.1) ((codes "explain", codes "no-explain") ∷ spec_apart subcommand) }
 {
     match subcommand {
         Subcommand::Run => &[
+            ("explain", "no-explain"),
             ("csv", "history"),
             ("csv", "evidence"),
             ("csv", "junit"),
@@ -63,14 +64,14 @@ fn apart(subcommand: Subcommand) -> &'static [(&'static str, &'static str)]
             ("list", "progress"),
             ("list", "stop-on"),
             ("junit", "live"),
-            ("explain", "no-explain"),
         ],
         Subcommand::Explore => &[
+            ("explain", "no-explain"),
             ("history", "details"),
             ("history", "locals"),
-            ("explain", "no-explain"),
         ],
         Subcommand::Report => &[
+            ("explain", "no-explain"),
             ("csv", "junit"),
             ("csv", "html"),
             ("csv", "summary"),
@@ -79,11 +80,9 @@ fn apart(subcommand: Subcommand) -> &'static [(&'static str, &'static str)]
             ("html", "summary"),
             ("html", "failed"),
             ("script", "failed"),
-            ("explain", "no-explain"),
         ],
-        Subcommand::Check => &[("script", "failed"), ("explain", "no-explain")],
-        Subcommand::Replay => &[("explain", "no-explain")],
-        Subcommand::Serve => &[],
+        Subcommand::Check => &[("explain", "no-explain"), ("script", "failed")],
+        Subcommand::Replay | Subcommand::Serve => &[("explain", "no-explain")],
     }
 }
 
@@ -100,8 +99,8 @@ fn refuse_both(
     options: &ArgMatches<'_>,
     pairs: &[(&'static str, &'static str)],
 ) -> Result<(), Refusal>
-    ensures none { OnOk result (list_any (λ p. are_both (rows_of (found_of options.now)) (p.0.now, p.1.now)) pairs.now ≡ false) }
-    ensures some { IfErr result (IsClash (list_any (λ p. are_both (rows_of (found_of options.now)) (p.0.now, p.1.now)) pairs.now)) }
+    ensures none { OnOk result (list_any (λ p. is_given (rows_of (found_of options.now)) p.0.now && is_given (rows_of (found_of options.now)) p.1.now) pairs.now ≡ false) }
+    ensures some { IfErr result (IsClash (list_any (λ p. is_given (rows_of (found_of options.now)) p.0.now && is_given (rows_of (found_of options.now)) p.1.now) pairs.now)) }
 {
     for (first, second) in pairs {
         if has_option(options, first) && has_option(options, second) {
@@ -128,16 +127,16 @@ fn word_of<'a>(options: &ArgMatches<'a>, id: &str) -> Option<&'a str>
 
 // The name that the options give to a suite, if they give one.
 fn suite(options: &ArgMatches<'_>) -> Result<Option<Name>, WordFault>
-    ensures taken { IfOk result (λ name. name ≡ suite_of (rows_of (found_of options.now))) }
-    ensures good { OnOk result (IfSome (suite_of (rows_of (found_of options.now))) IsName) }
-    ensures refused { IfErr result (λ f. (f ≡ fault.Suite) × (IfSome (suite_of (rows_of (found_of options.now))) IsName → ⊥)) }
+    ensures taken { IfOk result (λ name. name ≡ first_of (codes "suite") (rows_of (found_of options.now))) }
+    ensures good { OnOk result (IfSome (first_of (codes "suite") (rows_of (found_of options.now))) IsName) }
+    ensures refused { IfErr result (λ f. (f ≡ fault.Suite) × (IfSome (first_of (codes "suite") (rows_of (found_of options.now))) IsName → ⊥)) }
 {
     word::suite(word_of(options, "suite"))
 }
 
 // The form that the options of `run` ask for, with the name of the suite.
 fn form(options: &ArgMatches<'_>, suite: Option<Name>) -> Form
-    requires { suite ≡ suite_of (rows_of (found_of options.now)) }
+    requires { suite ≡ first_of (codes "suite") (rows_of (found_of options.now)) }
     ensures { result ≡ form_of (rows_of (found_of options.now)) }
 {
     if has_option(options, "csv") {
@@ -155,7 +154,7 @@ fn form(options: &ArgMatches<'_>, suite: Option<Name>) -> Form
 
 // The form that the options of `report` ask for, if they ask for one, with the name of the suite.
 fn report_form(options: &ArgMatches<'_>, suite: Option<Name>) -> Option<ReportForm>
-    requires { suite ≡ suite_of (rows_of (found_of options.now)) }
+    requires { suite ≡ first_of (codes "suite") (rows_of (found_of options.now)) }
     ensures { result ≡ report_form_of (rows_of (found_of options.now)) }
 {
     if has_option(options, "csv") {
@@ -342,9 +341,10 @@ fn lacks_form(subcommand: Subcommand, options: &ArgMatches<'_>) -> bool
 }
 
 // Refuses options without one that they need.
+#[tactic(auto, using(crate::proofs::Options::lacks_rules))]
 fn refuse_lack(subcommand: Subcommand, options: &ArgMatches<'_>) -> Result<(), Refusal>
-    ensures none { OnOk result (lacks_option (subcommand, rows_of (found_of options.now)) ≡ false) }
-    ensures some { IfErr result (IsLack (lacks_option (subcommand, rows_of (found_of options.now)))) }
+    ensures none { OnOk result (lacks_option subcommand (rows_of (found_of options.now)) ≡ false) }
+    ensures some { IfErr result (IsLack (lacks_option subcommand (rows_of (found_of options.now)))) }
 {
     if lacks_script(subcommand, options) {
         return Err(Refusal::NoScript);

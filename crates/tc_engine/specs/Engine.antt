@@ -6,7 +6,6 @@ use Rattle.std.specs.Str.{IsUtf8}
 use Rattle.tc_program.specs.declared.outcome.Outcome.{Outcome}
 use Rattle.tc_program.specs.Alone.{IsAnsweredAlone}
 use Rattle.tc_program.specs.Answer.{IsUnread}
-use Rattle.tc_program.specs.Streams.{Streams}
 
 -- the words of what is left of a line, if the first has these bytes before it; each word ends with a zero byte
 abbrev pub words_from : List ℕ → List ℕ → List (List ℕ)
@@ -17,16 +16,13 @@ words_from word (byte ∷ line) = if byte == 0 then word ∷ words_from [] line 
 abbrev pub words_of : List ℕ → List (List ℕ)
 words_of line = codes "ttrun" ∷ words_from [] line
 
--- two outputs that were empty, and hold this now
-abbrev pub written : List ℕ → List ℕ → Streams
-written output errors = record { before = Some []; after = Some output; untold = Some []; told = Some errors }
-
 -- This output, these errors and this status are what the program answers to the line and the input. No run is begun. Or the words
 -- are not available, since memory ran out or one is no text.
 pub record Answers (line input output errors : List ℕ) (status : ℕ) : Type 0 where
   pub outcome : Outcome
   pub status_is : status ≡ outcome.status
-  pub answered : IsAnsweredAlone (words_of line) (Some input) (written output errors) (Unit {0}) (output ≡ []) outcome
+  pub answered : IsAnsweredAlone (words_of line) (Some input)
+      (record { before = Some []; after = Some output; untold = Some []; told = Some errors }) (Unit {0}) (output ≡ []) outcome
       ⊎ ((kind : IoKind) × IsUnread kind (Some []) (Some errors) outcome × (output ≡ []) × ((kind ≡ OutOfMemory) ⊎ (All IsUtf8 (words_of line) → ⊥)))
 
 -- there are that many bytes, and if they have room, the room begins with them

@@ -22,8 +22,8 @@ use Rattle.tc_program.specs.declared.fault.RunFault.{RunFault}
 use Rattle.tc_program.specs.declared.fault.RunFault.TheVariants as F
 use Rattle.tc_program.specs.declared.reply.Answer.{Answer}
 use Rattle.tc_program.specs.Check.{AreAllLegal, Checks, IsChecked, IsIllegalLine, IsLegalLine, NameBlocks, RefusesBlocks, RefusesHistory, other_line}
-use Rattle.tc_program.specs.Choosing.{ChoosesEach, block_name, each, is_chosen, is_picked}
-use Rattle.tc_program.specs.Inside.{AreJudgedSo, Feeds, IsJudgement, NamesBlocksAt, RefusesNamesAt, judges_legal, judgement_line, line_by, of_text, picked_by}
+use Rattle.tc_program.specs.Choosing.{ChoosesEach, is_chosen}
+use Rattle.tc_program.specs.Inside.{AreJudgedSo, Feeds, IsJudgement, NamesBlocksAt, RefusesNamesAt, judges_legal, judgement_line, line_by, of_text, picked_by, each, is_picked, block_name}
 use Rattle.tc_program.specs.Made.{IsMade, IsMadeOfBlocks, IsSilent}
 use Rattle.tc_script.specs.Names.{Word}
 

@@ -6,9 +6,10 @@ use Rattle.std.specs.Prelude.{filter, if◌then◌else◌, map}
 use Rattle.tc_entry.specs.Pattern.{matches}
 use Rattle.tc_entry.specs.Shard.{ShardView, has_place}
 use Rattle.tc_campaign.specs.declared.case.Case.{Case}
-use Rattle.tc_campaign.specs.Choosing.{case_name, chosen, have_names, is_asked, named, placed}
+use Rattle.tc_campaign.specs.Choosing.{case_name, chosen, have_names, is_asked, placed}
+use Rattle.tc_campaign.specs.Inside.{named}
 use Rattle.tc_step.specs.Steps.{ScriptView}
-use Rattle.tc_program.specs.Choosing.{RefusesChoice, list_text, script_name}
+use Rattle.tc_program.specs.Choosing.{RefusesChoice}
 use Rattle.tc_program.specs.declared.fault.RunFault.{RunFault}
 use Rattle.tc_program.specs.declared.fault.RunFault.TheVariants as F
 use Rattle.tc_command.specs.declared.task.Choice.{Choice}
@@ -16,7 +17,7 @@ use Rattle.tc_script.specs.Campaign.{CampaignView, campaign}
 use Rattle.tc_script.specs.Law.{IsCase}
 use Rattle.tc_script.specs.Names.{Word, among, has_twice}
 use Rattle.tc_line.specs.Words.{is_text}
-use Rattle.tc_program.specs.Inside.{AreReady, AreReadyAs, IsCaseOf, RefusesNames, case_parts}
+use Rattle.tc_program.specs.Inside.{AreReady, AreReadyAs, IsCaseOf, RefusesNames, case_parts, list_text, script_name}
 use Rattle.tc_program.specs.Scripted.{CaseView}
 
 module _ {C : Type 0} (P : C → Type 0) where

@@ -1,14 +1,16 @@
 -- What is printed about a text that is refused.
 use Rattle.std.proofs.Common.{ℕ, ◌≡◌, ◌&&◌, Bool, true, false, List, Result, Ok, Err, IfOk, refl}
 use Rattle.std.specs.Global.{Vec}
-use Rattle.tc_text.specs.Said.{Line}
+use Rattle.std.specs.Prelude.{MatchBool}
+use Rattle.tc_text.specs.Said.{Line, TellsAmong}
 use Rattle.tc_text.proofs.Lemmas.Among.{among_some}
 use Rattle.tc_command.specs.declared.task.Task.{Task}
+use Rattle.tc_program.specs.Inside.{notes_of}
 use Rattle.tc_program.specs.declared.fault.RunFault.{RunFault}
-use Rattle.tc_program.specs.Explained.{IsToldOf, TellsIf, explains, is_of_text, notes_of, number_of, part_of}
+use Rattle.tc_program.specs.Explained.{IsToldOf, explains, is_of_text, number_of, part_of}
 use Rattle.tc_program.specs.Fault.{line_of}
 
-some_if : (b : Bool) (notes : List Line) (line : List ℕ) → (told : List ℕ) × TellsIf b notes line told
+some_if : (b : Bool) (notes : List Line) (line : List ℕ) → (told : List ℕ) × MatchBool b (TellsAmong notes line told) (told ≡ line)
 some_if true notes line = among_some notes line
 some_if false notes line = (line, refl)
 

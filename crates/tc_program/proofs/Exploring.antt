@@ -8,8 +8,8 @@ use Rattle.tc_campaign.specs.Inside.{AreDone}
 use Rattle.tc_campaign.specs.declared.case.Case.{Case}
 use Rattle.tc_command.specs.declared.task.ExploreOptions.{ExploreOptions}
 use Rattle.tc_step.specs.Steps.{ScriptView}
-use Rattle.tc_program.specs.Explore.{IsExplored, TellsLocals, TellsLocalsIf}
-use Rattle.tc_program.specs.Inside.{IsCaseOf, IsExploredOf}
+use Rattle.tc_program.specs.Explore.{IsExplored, TellsLocals}
+use Rattle.tc_program.specs.Inside.{IsCaseOf, IsExploredOf, TellsLocalsIf}
 use Rattle.tc_program.specs.Scripted.{CaseView}
 use Rattle.tc_program.specs.declared.explore.ExploredCase.{ExploredCase}
 

@@ -7,7 +7,8 @@ use Rattle.tc_line.specs.ScriptKind.{kind_text as script_kind_text}
 use Rattle.tc_program.specs.declared.fault.RunFault.{RunFault}
 use Rattle.tc_program.specs.declared.fault.RunFault.TheVariants as F
 use Rattle.tc_program.specs.Fault.{fault_text, place_text}
-use Rattle.tc_program.specs.Inside.{line_number, placed, words_of}
+use Rattle.tc_program.specs.Inside.{placed, words_of}
+use Rattle.tc_program.specs.Explained.{number_of}
 
 -- the number of a line, and the words after it
 at_place : (line : ℕ) (words : List ℕ) → place_text line ++ words ≡ codes "line " ++ (decimal line ++ (codes ": " ++ words))
@@ -16,7 +17,7 @@ at_place line words =
     append_assoc (codes "line ") (decimal line ++ codes ": ") words
     ∙ ap (λ l. codes "line " ++ l) (append_assoc (decimal line) (codes ": ") words)
 
-pub by_parts : (fault : RunFault) → placed (line_number fault) (words_of fault) ≡ fault_text fault
+pub by_parts : (fault : RunFault) → placed (number_of fault) (words_of fault) ≡ fault_text fault
 by_parts F.TooLong = refl
 by_parts F.Read = refl
 by_parts F.Write = refl

@@ -5,7 +5,7 @@ use Rattle.tc_evidence.specs.declared.block.Block.{Block}
 use Rattle.tc_evidence.specs.Line.{entries_of}
 use Rattle.tc_evidence.specs.Laws.{AreLegal, overall_of}
 use Rattle.tc_program.specs.Check.{AreAllLegal, Checks, IsIllegalLine, legal_line}
-use Rattle.tc_program.specs.Choosing.{each}
+use Rattle.tc_program.specs.Inside.{each}
 use Rattle.tc_program.specs.Report.{IsFirstIllegal}
 use Rattle.tc_program.proofs.Playing.{no_difference}
 

@@ -12,10 +12,10 @@ use Rattle.tc_script.specs.Campaign.{CampaignView}
 use Rattle.tc_script.specs.Law.{IsCase}
 use Rattle.tc_script.specs.Names.{Word, add, among}
 use Rattle.tc_step.specs.Steps.{ScriptView}
-use Rattle.tc_program.specs.Choosing.{AreChosen, script_name}
+use Rattle.tc_program.specs.Choosing.{AreChosen}
 use Rattle.tc_program.specs.Compared.{blocks_part, is_met, script_part}
-use Rattle.tc_program.specs.Inside.{AreReady, AreReadyAs, AreReadyToRun, HasSeen, IsCaseOf, names_with, shows_passed}
-use Rattle.tc_program.specs.Passed.{AreUnpassed, has_passed, is_passed}
+use Rattle.tc_program.specs.Inside.{AreReady, AreReadyAs, AreReadyToRun, HasSeen, IsCaseOf, names_with, shows_passed, is_passed, script_name}
+use Rattle.tc_program.specs.Passed.{AreUnpassed, has_passed}
 use Rattle.tc_program.specs.Scripted.{CaseView}
 use Rattle.tc_program.specs.declared.passed.Seen.{Seen}
 use Rattle.tc_program.proofs.Chosen.{all_filtered, distinct_filtered, zip_with}

@@ -12,8 +12,8 @@ use Rattle.tc_table.specs.Standing.{StandsFor}
 use Rattle.tc_table.proofs.Lemmas.Standing.{legal_for}
 use Rattle.tc_table.specs.Local.{overall}
 use Rattle.tc_program.specs.declared.replay.Replaying.{Replaying}
-use Rattle.tc_program.specs.Inside.{ArePlayed}
-use Rattle.tc_program.specs.Replay.{move_of, reply_line, Replays}
+use Rattle.tc_program.specs.Inside.{ArePlayed, move_of, reply_line}
+use Rattle.tc_program.specs.Replay.{Replays}
 use Rattle.tc_report.specs.Report.{verdict_line}
 use Rattle.tc_report.specs.Status.{verdict_status}
 

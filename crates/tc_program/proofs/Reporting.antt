@@ -10,7 +10,7 @@ use Rattle.tc_evidence.specs.declared.header.Kind.{Kind}
 use Rattle.tc_evidence.specs.Line.{entries_of}
 use Rattle.tc_evidence.specs.Laws.{history_of}
 use Rattle.tc_report.specs.declared.summary.Summary.{Summary}
-use Rattle.tc_report.specs.Status.{status_of_summaries, verdict_status, worst_of}
+use Rattle.tc_report.specs.Status.{verdict_status, worst_of}
 use Rattle.tc_report.specs.declared.results.CaseEnd.TheVariants as C
 use Rattle.tc_report.specs.Summary.{bare_summary, block_summary, case_summary, summary_of}
 use Rattle.tc_report.proofs.Lemmas.Agreeing.{one_same}
@@ -23,16 +23,16 @@ use Rattle.tc_program.specs.declared.judge.Judgement.TheVariants as J
 use Rattle.tc_program.specs.declared.report.Recorded.{Recorded}
 use Rattle.tc_program.specs.declared.report.ReportedBlock.{ReportedBlock}
 use Rattle.tc_program.specs.Check.{AreAllLegal, IsChecked, NameBlocks, RefusesBlocks}
-use Rattle.tc_program.specs.Choosing.{block_name, each, is_chosen, is_picked}
+use Rattle.tc_program.specs.Choosing.{is_chosen}
 use Rattle.tc_program.specs.Made.{IsMadeOfBlocks}
 use Rattle.tc_command.specs.declared.task.Choice.{Choice}
-use Rattle.tc_program.specs.Inside.{IsJudgement, IsPlayedTo, IsRecorded, NamesBlocksAt, Reports, Summarizes, WasRun, WereRun, case_if_picked, judges_legal, judgement_line, picked_by, reported_block}
+use Rattle.tc_program.specs.Inside.{IsJudgement, IsPlayedTo, IsRecorded, NamesBlocksAt, Reports, Summarizes, WasRun, WereRun, case_if_picked, judges_legal, judgement_line, picked_by, reported_block, each, is_picked, legal_case, block_name}
 use Rattle.tc_program.specs.declared.fault.RunFault.{RunFault}
 use Rattle.tc_program.specs.declared.fault.RunFault.TheVariants as F
 use Rattle.tc_command.specs.declared.task.ReportForm.{ReportForm}
 use Rattle.tc_program.specs.Report.{AnswersCases, IsFirstIllegal, IsForm, IsReport, IsReported, summaries_of, unreported}
 use Rattle.tc_program.specs.declared.reply.Answer.{Answer}
-use Rattle.tc_program.specs.WrittenHistories.{AreFoundLegal, found_legal, legal_case}
+use Rattle.tc_program.specs.WrittenHistories.{AreFoundLegal, found_legal}
 use Rattle.tc_program.proofs.Doing.{answer_of}
 use Rattle.tc_program.proofs.Checking.{AreJudgedAt, each_chosen, fed_more, illegal_said, legal_said, whole}
 use Rattle.tc_script.specs.Names.{Word}
@@ -152,7 +152,7 @@ pub legal_report : (form : ReportForm) (text : List ℕ) (ss : List Summary) (o 
     → o ≡ None → AnswersCases form text notes (ss ++ map (bare_summary C.Missing) names) a → Reports blocks chosen ss o → IsReport form text blocks chosen names notes a
 legal_report form text ss o names notes a blocks chosen none is made =
     let made = made_none ss o blocks chosen none made in
-    IsReport.legal made.0.0 (whole each blocks made.0.0 true made.0.1) (subst (λ l. AnswersCases form text notes (l ++ map (bare_summary C.Missing) names) a) made.1 is)
+    IsReport.legal (made.0.0, whole each blocks made.0.0 true made.0.1) (subst (λ l. AnswersCases form text notes (l ++ map (bare_summary C.Missing) names) a) made.1 is)
 
 -- what is made of a text, one of whose blocks is illegal
 pub illegal_report : (form : ReportForm) (text : List ℕ) (ss : List Summary) (o : Option Judgement) (j : Judgement) (names : List (List ℕ)) (notes : List ℕ) (a : Answer)
@@ -163,8 +163,7 @@ illegal_report form text ss o j names notes a blocks chosen some is made =
       before = made.before;
       behind = made.behind;
       place = made.place;
-      lines = made.lines;
-      legal = whole each made.before made.lines true made.legal;
+      legal = (made.lines, whole each made.before made.lines true made.legal);
       illegal = illegal_said made.block j made.illegal made.judged;
     } in
     IsReport.illegal made.block (judgement_line j) first is
@@ -172,7 +171,7 @@ illegal_report form text ss o j names notes a blocks chosen some is made =
 -- if the status says so, all blocks are legal
 reported_at : (form : ReportForm) (text : List ℕ) (blocks chosen : List Block) (names : List (List ℕ)) (notes : List ℕ) (a : Answer)
     → IsReport form text blocks chosen names notes a → a.status ≢ 3 → AreAllLegal blocks
-reported_at form text blocks chosen names notes a (IsReport.legal lines checks is) other = (lines, checks)
+reported_at form text blocks chosen names notes a (IsReport.legal all is) other = all
 reported_at form text blocks chosen names notes a (IsReport.illegal b line first is) other = absurd (other (ap (λ x. x.status) is))
 
 pub judged_at : (form : ReportForm) (test : Block → Bool) (text : List ℕ) (a : Answer) → IsReported form test text a → AreJudgedAt a.status text
@@ -187,7 +186,7 @@ not_refused V.Error = λ e. cc
 
 -- if all blocks are legal, the status does not say otherwise
 legal_at : (form : ReportForm) (text : List ℕ) (blocks chosen : List Block) (a : Answer) → AreAllLegal blocks → IsReport form text blocks chosen [] [] a → a.status ≢ 3
-legal_at form text blocks chosen a all (IsReport.legal lines checks is) =
+legal_at form text blocks chosen a all (IsReport.legal legal is) =
     subst (λ n. n ≢ 3) (sym is.2) (not_refused (worst_of (summaries_of chosen [])))
 legal_at form text blocks chosen a all (IsReport.illegal b line first is) = absurd (none_found blocks b line all first)
 
@@ -203,9 +202,9 @@ reported_names form choice only text a same made named = (
 
 -- an answer of these parts
 pub answer_made : (form : ReportForm) (text notes lent : List ℕ) (ss : List Summary) (out told : List ℕ) (status : ℕ) → IsForm form text ss out → told ≡ notes → lent ≡ notes
-    → status ≡ (if length lent == 0 then status_of_summaries ss else 3) → AnswersCases form text notes ss (answer_of out told status)
+    → status ≡ (if length lent == 0 then verdict_status (worst_of ss) else 3) → AnswersCases form text notes ss (answer_of out told status)
 answer_made form text notes lent ss out told status out_is told_is same status_is =
-    (out_is, told_is, status_is ∙ ap (λ l. if length l == 0 then status_of_summaries ss else 3) same)
+    (out_is, told_is, status_is ∙ ap (λ l. if length l == 0 then verdict_status (worst_of ss) else 3) same)
 
 -- ---- blocks that a run writes
 
@@ -231,7 +230,7 @@ module _ (kind : Kind) (r : Results) (ran : WereRun kind r) where
   -- the report of what a run wrote: none of it is illegal
   reported_so : (form : ReportForm) (a : Answer) → IsReport form (blocks_text kind r) (blocks_of kind 1 r.finished) (filter each (blocks_of kind 1 r.finished)) [] [] a
       → AnswersCases form (blocks_text kind r) [] (map case_summary r.finished) a
-  reported_so form a (IsReport.legal lines checks is) =
+  reported_so form a (IsReport.legal legal is) =
       let blocks = blocks_of kind 1 r.finished in
       subst (λ l. AnswersCases form (blocks_text kind r) [] l a)
       (append-nil (map summary_at (filter each blocks)) ∙ (ap (map summary_at) (filter_each blocks) ∙ summaries_written kind 1 r.finished ran.each)) is

@@ -19,7 +19,7 @@ use Rattle.tc_report.specs.declared.results.Finished.{Finished}
 use Rattle.tc_report.specs.declared.results.Results.{Results}
 use Rattle.tc_report.specs.Ending.{abort_text}
 use Rattle.tc_report.specs.Inside.{form_text}
-use Rattle.tc_report.specs.Live.{LiveState, closing_text, opening_text}
+use Rattle.tc_report.specs.Live.{closing_text, opening_text}
 use Rattle.tc_report.specs.Output.{LeavesPrefix}
 use Rattle.tc_report.specs.Progress.{IsToldBy}
 use Rattle.tc_report.specs.Status.{ending_status, results_status}
@@ -38,9 +38,8 @@ use Rattle.tc_command.specs.declared.task.RunOptions.{RunOptions}
 use Rattle.tc_program.specs.declared.fault.RunFault.{RunFault}
 use Rattle.tc_program.specs.declared.outcome.Outcome.{Outcome}
 use Rattle.tc_program.specs.Output.{live_form, text_of}
-use Rattle.tc_program.specs.Inside.{AreGiven}
-use Rattle.tc_program.specs.Limits.{worker_limit}
-use Rattle.tc_program.specs.Run.{IsLeft, IsRun, IsUnwritten, first_fault, results_text}
+use Rattle.tc_program.specs.Inside.{AreGiven, first_fault, worker_limit}
+use Rattle.tc_program.specs.Run.{IsLeft, IsRun, IsUnwritten, results_text}
 use Rattle.tc_program.specs.Streams.{Streams}
 use Rattle.tc_program.specs.Stderr.{IsTold}
 use Rattle.tc_program.proofs.Doing.{keeps_same}
@@ -135,55 +134,55 @@ module _ {B : Type 0} (outcome : B → PassState → Back → Type 0) (cases : L
         (subst (λ t. IsToldBy options.progress streams.untold t [] (Ok tt)) (sym nothing) (nothing_of options.progress streams.untold))
         (opening_left form streams.before streams.after fault E.Complete left)
 
-    module _ {O : Type 0} (state : O → LiveState) (name : O → GName) (before after : O)
-        (form_is : (state before).form ≡ form) (opening : Appends streams.before (state before).out (opening_text form))
-        (tally : (state before).tally ≡ tally_of_cases []) (worst : (state before).worst ≡ V.None)
-        (finished : List Finished) (answer : Option CampaignEnd) (given : AreGiven outcome (Takes state name) cases options before after finished answer) where
-      first : IsAt form streams.before [] (state before)
-      first = begun form streams.before (state before) form_is opening tally worst
+    module _ {W : Type 0} (contents : W → Option (List ℕ)) (before after : LiveWriter W)
+        (form_is : before.form ≡ form) (opening : Appends streams.before (contents before.writer.now) (opening_text form))
+        (tally : before.tally ≡ tally_of_cases []) (worst : before.worst ≡ V.None)
+        (finished : List Finished) (answer : Option CampaignEnd) (given : AreGiven outcome (Takes contents) cases options before after finished answer) where
+      first : IsAt contents form streams.before [] before
+      first = begun contents form streams.before before form_is opening tally worst
 
       -- the writer is the same one
-      pub named_still : name after ≡ name before
+      pub named_still : name_of after ≡ name_of before
       named_still = go answer given
         where
-          go : (a : Option CampaignEnd) → AreGiven outcome (Takes state name) cases options before after finished a → name after ≡ name before
-          go (Some ending) given = (all_at state name form streams.before [] finished before after first given.1).1
-          go None given = (ended_at state name form streams.before finished before after first given.1).1
+          go : (a : Option CampaignEnd) → AreGiven outcome (Takes contents) cases options before after finished a → name_of after ≡ name_of before
+          go (Some ending) given = (all_at contents form streams.before [] finished before after first given.1).1
+          go None given = (ended_at contents form streams.before finished before after first given.1).1
 
       -- a test case, or what follows all, was not written whole
       pub live_left : (telling : Result (Unit {0}) OutFault) (fault : OutFault)
           → IsToldBy options.progress streams.untold streams.told finished telling
-          → IfNone answer (streams.after ≡ (state after).out)
-          → IfSome answer (λ e. LeavesPrefix (state after).out streams.after (closing_text (state after).form (state after).tally e) fault)
+          → IfNone answer (streams.after ≡ (contents after.writer.now))
+          → IfSome answer (λ e. LeavesPrefix (contents after.writer.now) streams.after (closing_text after.form after.tally e) fault)
           → IsUnwritten outline_of (IsCalled outcome) cases options streams fault
       live_left telling fault told cut part = go answer given cut part
         where
-          go : (a : Option CampaignEnd) → AreGiven outcome (Takes state name) cases options before after finished a
-              → IfNone a (streams.after ≡ (state after).out)
-              → IfSome a (λ e. LeavesPrefix (state after).out streams.after (closing_text (state after).form (state after).tally e) fault)
+          go : (a : Option CampaignEnd) → AreGiven outcome (Takes contents) cases options before after finished a
+              → IfNone a (streams.after ≡ (contents after.writer.now))
+              → IfSome a (λ e. LeavesPrefix (contents after.writer.now) streams.after (closing_text after.form after.tally e) fault)
               → IsUnwritten outline_of (IsCalled outcome) cases options streams fault
           go (Some ending) given cut part =
               cut_up (record { finished = finished; ending = ending }) telling fault given.0.each told
-              (closing_left state name form streams.before before after first finished ending given.1 streams.after fault part)
+              (closing_left contents form streams.before before after first finished ending given.1 streams.after fault part)
           go None given cut part =
               cut_up (record { finished = finished; ending = E.Complete }) telling fault given.0 told
               (subst (λ now. AppendsPrefix streams.before now (form_text form (record { finished = finished; ending = E.Complete }))) (sym cut)
-              (case_left state name form streams.before before after first finished E.Complete given.1))
+              (case_left contents form streams.before before after first finished E.Complete given.1))
 
       -- all was written, and what is due on standard error was printed
       pub live_done : (between : Option (List ℕ)) (telling : Result (Unit {0}) OutFault) (ending : CampaignEnd) (ended : Outcome)
           → IsToldBy options.progress streams.untold between finished telling → answer ≡ Some ending
-          → Appends (state after).out streams.after (closing_text (state after).form (state after).tally ending)
-          → ended.status ≡ ending_status ending (state after).worst
+          → Appends (contents after.writer.now) streams.after (closing_text after.form after.tally ending)
+          → ended.status ≡ ending_status ending after.worst
           → EndsTold between streams.told ending telling ended.told → IsRun outline_of (IsCalled outcome) cases options streams ended
       live_done between telling ending ended told is out status line =
-          let had : AreGiven outcome (Takes state name) cases options before after finished (Some ending) =
-          subst (AreGiven outcome (Takes state name) cases options before after finished) is given in
+          let had : AreGiven outcome (Takes contents) cases options before after finished (Some ending) =
+          subst (AreGiven outcome (Takes contents) cases options before after finished) is given in
           let r : Results = record { finished = finished; ending = ending } in
           whole_done streams between r telling ended had.0 told
-          (status ∙ status_at state name form streams.before before after first finished ending had.1)
+          (status ∙ status_at contents form streams.before before after first finished ending had.1)
           (subst (Appends streams.before streams.after) (live_text options.live options.form form (map case_name cases) r same)
-          (all_written state name form streams.before before after first finished ending had.1 streams.after out)) line
+          (all_written contents form streams.before before after first finished ending had.1 streams.after out)) line
 
   -- nothing was run or written, since memory ran out
   pub unrun_left : (streams : Streams) → streams.after ≡ streams.before → streams.told ≡ streams.untold

@@ -24,11 +24,12 @@ use Rattle.tc_report.specs.declared.results.Finished.{Finished}
 use Rattle.tc_report.specs.declared.results.Results.{Results}
 use Rattle.tc_campaign.specs.declared.case.Case.{Case}
 use Rattle.tc_campaign.specs.Outline.{Outline, HasNames, outline_of}
-use Rattle.tc_campaign.specs.Campaign.{AreFinished, IsCalled, IsEnding, IsOfCase, IsRunTo, IsWhy, IsWithoutRoom}
+use Rattle.tc_campaign.specs.Campaign.{AreFinished, IsCalled, IsEnding, IsOfCase, IsRefusal as RefusesCase, IsRunTo}
 use Rattle.tc_campaign.specs.Inside.{IsReported}
 use Rattle.tc_report.specs.Output.{LeavesPrefix}
+use Rattle.tc_report.specs.Stopping.{IsMet}
+use Rattle.tc_case.specs.declared.refusal.CaseError.TheVariants as C
 use Rattle.tc_program.specs.Output.{live_form, text_of}
-use Rattle.tc_program.specs.Limits.{worker_limit}
 use Rattle.tc_command.specs.declared.task.RunOptions.{RunOptions}
 use Rattle.tc_report.specs.declared.fault.OutFault.{OutFault}
 use Rattle.tc_program.specs.Fault.{line_of, of_output}
@@ -39,7 +40,7 @@ use Rattle.tc_program.specs.Passed.{AreToRun}
 use Rattle.tc_program.specs.Program.{RunsCases}
 use Rattle.tc_program.specs.Streams.{Streams}
 use Rattle.tc_program.specs.Scripted.{CaseView, IsScripted, scripts_of, script_outline}
-use Rattle.tc_program.specs.Inside.{IsCaseOf, names_of}
+use Rattle.tc_program.specs.Inside.{IsCaseOf, names_of, worker_limit}
 
 count : (c : CaseView) (k : Case ScriptView) → IsCaseOf c k → vec_len k.jobs ≡ length c.1
 count c k is = omega (arith, ap length is.jobs, length-map c.1 (λ b. b.1))
@@ -121,8 +122,8 @@ module _ (cs : List CaseView) (ks : List (Case ScriptView)) (stop_on : Option Ve
       → IsRunTo script_outline IsScripted cs stop_on threads fs ending
   results fs ending are = record {
     each = finished fs are.each;
-    last = subst (λ os. IsEnding stop_on (slice_get fs (length fs - 1)) (slice_get os (length fs)) ending) same are.last;
-    why = subst (λ os. IsWhy threads (slice_get os (length fs)) ending ⊎ IsWithoutRoom fs ending) same are.why;
+    last = subst (λ os. IsEnding (λ f. IsMet stop_on f.report.verdict) (λ why c. RefusesCase threads why c ⊎ ((fs ≡ []) × (why ≡ C.NoMemory)))
+        (slice_get fs (length fs - 1)) (slice_get os (length fs)) ending) same are.last;
   }
 
 module _ (o : RunOptions) (text : List ℕ) (cs : List CaseView) (ks : List (Case ScriptView)) (chosen : AreToRun o.choice text cs) (lawful : All (λ c. IsCase c.1) cs)

@@ -1,5 +1,5 @@
 -- What was printed about a campaign, and what the observer after it was given.
-use Rattle.std.proofs.Common.{Bool, true, ℕ, ◌≡◌, List, [], Option, Some, None, Result, sym, subst}
+use Rattle.std.proofs.Common.{Bool, true, ℕ, ◌≡◌, ◌++◌, ◌∷◌, List, [], Option, Some, None, Result, sym, subst}
 use Rattle.std.specs.Prelude.{IfNone, IfSome}
 use Rattle.tc_book.specs.Passes.{PassState}
 use Rattle.tc_exec.specs.declared.job.Back.{Back}
@@ -11,9 +11,9 @@ use Rattle.tc_report.specs.Progress.{HasTold, IsToldBy}
 use Rattle.tc_report.proofs.Lemmas.Telling.{AreSame, Takes, all_told, ended_told}
 use Rattle.tc_campaign.specs.declared.case.Case.{Case}
 use Rattle.tc_campaign.specs.Campaign.{IsCutShort, IsObserved}
+use Rattle.tc_campaign.proofs.Lemmas.Keeping.{ended_at, run_to}
 use Rattle.tc_command.specs.declared.task.RunOptions.{RunOptions}
-use Rattle.tc_program.specs.Inside.{WasTold}
-use Rattle.tc_program.specs.Limits.{worker_limit}
+use Rattle.tc_program.specs.Inside.{WasTold, worker_limit}
 
 module _ {B O : Type 0} (outcome : B → PassState → Back → Type 0) (cases : List (Case B)) (options : RunOptions)
     (takes : O → Finished → O → Bool → Type 0) (before after : O) (answer : Option CampaignEnd)
@@ -28,8 +28,8 @@ module _ {B O : Type 0} (outcome : B → PassState → Back → Type 0) (cases :
       go : (a : Option CampaignEnd) → IfSome a (IsObserved outcome cases options.stop_on worker_limit takes before after)
           → IfNone a (IsCutShort outcome cases options.stop_on worker_limit takes before after)
           → WasTold outcome takes cases options before after untold told a line
-      go (Some ending) seen none = record { finished = seen.finished; given = (seen.run, seen.taken); told_of = each seen.finished }
-      go None some short = record { finished = short.finished; given = (short.each, short.ended); told_of = each short.finished }
+      go (Some ending) seen none = record { finished = seen.finished; given = (run_to seen, seen.taken); told_of = each seen.finished }
+      go None some short = let all = short.others ++ short.last ∷ [] in record { finished = all; given = (short.each, ended_at short); told_of = each all }
 
 module _ {B O E C : Type 0} (outcome : B → PassState → Back → Type 0) (cases : List (Case B)) (options : RunOptions)
     (contents : E → Option (List ℕ)) (takes : O → Finished → O → Bool → Type 0) (start : Option (List ℕ)) (before after : Progress O E C)
@@ -43,7 +43,7 @@ module _ {B O E C : Type 0} (outcome : B → PassState → Back → Type 0) (cas
       go : (a : Option CampaignEnd) → IfSome a (IsObserved outcome cases options.stop_on worker_limit (Takes contents takes) before after)
           → IfNone a (IsCutShort outcome cases options.stop_on worker_limit (Takes contents takes) before after) → AreSame contents takes before after
       go (Some ending) seen none = (all_told contents takes start [] seen.finished before after fresh seen.taken).2
-      go None some short = (ended_told contents takes start short.finished before after fresh short.ended).2
+      go None some short = (ended_told contents takes start (short.others ++ short.last ∷ []) before after fresh (ended_at short)).2
 
   -- a campaign that a `Progress` observes is reported, and the observer after it was given the same
   pub was_told : (first last : O) (now : Option (List ℕ)) (line : Result (Unit {0}) OutFault) → options.progress ≡ true
@@ -62,7 +62,8 @@ module _ {B O E C : Type 0} (outcome : B → PassState → Back → Type 0) (cas
           → WasTold outcome takes cases options before.observer.now after.observer.now start now a line
       go (Some ending) seen none =
           let all = all_told contents takes start [] seen.finished before after fresh seen.taken in
-          record { finished = seen.finished; given = (seen.run, all.0); told_of = told seen.finished all.1 }
+          record { finished = seen.finished; given = (run_to seen, all.0); told_of = told seen.finished all.1 }
       go None some short =
-          let all = ended_told contents takes start short.finished before after fresh short.ended in
-          record { finished = short.finished; given = (short.each, all.0); told_of = told short.finished all.1 }
+          let fs = short.others ++ short.last ∷ [] in
+          let all = ended_told contents takes start fs before after fresh (ended_at short) in
+          record { finished = fs; given = (short.each, all.0); told_of = told fs all.1 }

@@ -23,13 +23,13 @@ use Rattle.tc_evidence.proofs.Lemmas.WrittenEvidence.{written_evidence}
 use Rattle.tc_case.specs.Report.{IsOneHistory}
 use Rattle.tc_report.specs.declared.results.Finished.{Finished}
 use Rattle.tc_report.specs.declared.results.Results.{Results}
-use Rattle.tc_report.specs.Blocks.{blocks_text, case_block, case_lines, header_of, namings}
+use Rattle.tc_report.specs.Blocks.{blocks_text, case_block, header_of}
+use Rattle.tc_report.specs.Inside.{case_lines, namings}
 use Rattle.tc_campaign.specs.Outline.{Outline}
 use Rattle.tc_campaign.specs.Inside.{IsReported}
 use Rattle.tc_program.specs.Check.{Checks, legal_line}
-use Rattle.tc_program.specs.Choosing.{each}
-use Rattle.tc_program.specs.WrittenHistories.{legal_case, AreReported}
-use Rattle.tc_program.specs.Inside.{FitsItsTypes, WasRun, WereRun}
+use Rattle.tc_program.specs.WrittenHistories.{AreReported}
+use Rattle.tc_program.specs.Inside.{FitsItsTypes, WasRun, WereRun, each, legal_case}
 use Rattle.tc_program.proofs.Legal.{AreRight, IsRight, block_line, only_legal}
 
 -- the block of a finished test case, which begins in this line

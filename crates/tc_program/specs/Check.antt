@@ -14,7 +14,6 @@ use Rattle.tc_evidence.specs.Line.{entries_of}
 use Rattle.tc_evidence.specs.Laws.{AreLegal, overall_of}
 use Rattle.tc_evidence.specs.Text.{AreEvidence, IsEvidenceFault}
 use Rattle.tc_campaign.specs.Choosing.{have_names}
-use Rattle.tc_program.specs.Choosing.{block_name, each}
 use Rattle.tc_program.specs.declared.fault.RunFault.{RunFault}
 use Rattle.tc_program.specs.declared.fault.RunFault.TheVariants as F
 use Rattle.tc_program.specs.Fault.{place_text}
@@ -74,13 +73,13 @@ RefusesHistory text fault = ⊥
 
 -- all of these blocks are legal
 abbrev pub AreAllLegal : List Block → Type 0
-AreAllLegal blocks = (lines : List ℕ) × Checks each blocks lines true
+AreAllLegal blocks = (lines : List ℕ) × Checks (λ b. true) blocks lines true
 
 -- each of these patterns matches the name of a block of the text, if all its blocks are legal
 abbrev pub NameBlocks : List (List ℕ) → List ℕ → Type 0
-NameBlocks only text = (all : List Block) → AreEvidence text all → AreAllLegal all → have_names block_name only all ≡ true
+NameBlocks only text = (all : List Block) → AreEvidence text all → AreAllLegal all → have_names (λ b. b.header.name) only all ≡ true
 
 -- the text is refused as one of histories and evidence; or all its blocks are legal, and some pattern matches the name of none
 abbrev pub RefusesBlocks : List (List ℕ) → List ℕ → RunFault → Type 0
-RefusesBlocks only text F.Only = (all : List Block) × AreEvidence text all × AreAllLegal all × (have_names block_name only all ≡ false)
+RefusesBlocks only text F.Only = (all : List Block) × AreEvidence text all × AreAllLegal all × (have_names (λ b. b.header.name) only all ≡ false)
 RefusesBlocks only text fault = RefusesHistory text fault

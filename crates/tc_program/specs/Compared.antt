@@ -15,7 +15,7 @@ use Rattle.tc_line.specs.Words.{is_text}
 use Rattle.tc_script.specs.Campaign.{CampaignView}
 use Rattle.tc_script.specs.Names.{Word}
 use Rattle.tc_program.specs.Check.{HoldsOfBlocks, IsChecked, RefusesHistory}
-use Rattle.tc_program.specs.Choosing.{AreChosen, RefusesChoice, each}
+use Rattle.tc_program.specs.Choosing.{AreChosen, RefusesChoice}
 use Rattle.tc_program.specs.declared.fault.RunFault.{RunFault}
 use Rattle.tc_program.specs.declared.fault.RunFault.TheVariants as F
 use Rattle.tc_program.specs.Scripted.{CaseView, scripts_of}
@@ -110,7 +110,7 @@ pub record IsCheckedAgainst (choice : Choice) (text out : List ℕ) (status : �
   pub chosen : AreChosen choice (script_part text) cases
   pub lines : List ℕ
   pub checked : ℕ
-  pub are_checked : IsChecked each (blocks_part text) lines checked
+  pub are_checked : IsChecked (λ b. true) (blocks_part text) lines checked
   pub notes : List ℕ
   pub compared : (blocks : List Block) → AreEvidence (blocks_part text) blocks → IsCompared cases blocks notes
   pub out_is : out ≡ lines ++ notes

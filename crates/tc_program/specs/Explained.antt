@@ -1,8 +1,9 @@
 -- What is printed about a text that is refused.
-use Rattle.std.specs.Prelude.{ℕ, Bool, true, false, ◌≡◌, ◌&&◌, Option, Some, None, if◌then◌else◌, List, []}
+use Rattle.std.specs.Prelude.{ℕ, Bool, MatchBool, true, false, ◌≡◌, ◌&&◌, Option, Some, None, if◌then◌else◌, List, []}
+use Rattle.std.specs.Option.{option_map_or}
 use Rattle.tc_text.specs.declared.fault.TextFault.TheVariants as X
 use Rattle.tc_explain.specs.Explanation.{explanation}
-use Rattle.tc_text.specs.Said.{Line, TellsAmong}
+use Rattle.tc_text.specs.Said.{TellsAmong}
 use Rattle.tc_command.specs.declared.task.Task.{Task}
 use Rattle.tc_command.specs.declared.task.Task.TheVariants as T
 use Rattle.tc_program.specs.declared.fault.RunFault.{RunFault}
@@ -39,27 +40,17 @@ number_of (F.Text (X.At line kind)) = Some line
 number_of (F.Script fault) = Some fault.line
 number_of fault = None
 
--- what is explained of the text at least, if something is
-abbrev pub notes_of : Option ℕ → List ℕ → List Line
-notes_of None text = []
-notes_of (Some number) text = explanation text number
-
--- the fault is one of the text
+-- the fault is one of the text, by which it is refused
 abbrev pub is_of_text : RunFault → Bool
-is_of_text (F.Text fault) = true
-is_of_text (F.Script fault) = true
-is_of_text F.Only = true
-is_of_text fault = false
+is_of_text F.NoMemory = false
+is_of_text fault = true
 
--- by whether a fault is explained, this is only its line, or that and lines after it, among which are these
-abbrev pub TellsIf : Bool → List Line → List ℕ → List ℕ → Type 0
-TellsIf true notes line told = TellsAmong notes line told
-TellsIf false notes line told = told ≡ line
-
--- this is printed for the text of a task that has this fault: its line, and what is explained of the text
+-- this is printed for the text of a task that has this fault: its line, and if it is explained lines after it, among which are
+-- those that explain the line of the text
 abbrev pub IsToldOf : Task → List ℕ → RunFault → List ℕ → Type 0
 IsToldOf task text fault told =
-    TellsIf (explains task && is_of_text fault) (notes_of (number_of fault) (part_of task fault text)) (line_of fault) told
+    MatchBool (explains task && is_of_text fault)
+    (TellsAmong (option_map_or (explanation (part_of task fault text)) (number_of fault) []) (line_of fault) told) (told ≡ line_of fault)
 
 -- the outcome of a task whose text has this fault: that is printed
 abbrev pub IsExplained : Task → List ℕ → RunFault → Option (List ℕ) → Option (List ℕ) → Outcome → Type 0

@@ -1,5 +1,5 @@
 -- What `explore` writes: the overall verdicts that were found of each test case of a script, or the histories that witness them.
-use Rattle.std.specs.Prelude.{ℕ, ◌≡◌, ◌==◌, ◌≤◌, if◌then◌else◌, Bool, true, false, List, [], ◌++◌, length}
+use Rattle.std.specs.Prelude.{MatchBool, ℕ, ◌≡◌, ◌==◌, ◌≤◌, if◌then◌else◌, Bool, List, [], ◌++◌, length}
 use Rattle.std.specs.List.{AllZip, flat_map, list_any}
 use Rattle.tc_command.specs.declared.task.ExploreOptions.{ExploreOptions}
 use Rattle.tc_script.specs.Campaign.{CampaignView}
@@ -29,15 +29,11 @@ pub record TellsLocals (states : ℕ) (scripts : List ScriptView) (before after 
   pub undecided : locals.ending ≡ E.Undecided → 1 ≤ length scripts → locals.states ≡ most_states scripts states
   pub told : TellsAmong (locals_lines locals) before after
 
--- the same, if they are asked for
-abbrev pub TellsLocalsIf : Bool → ℕ → List ScriptView → List ℕ → List ℕ → Type 0
-TellsLocalsIf true states scripts before after = TellsLocals states scripts before after
-TellsLocalsIf false states scripts before after = after ≡ before
-
--- what is printed after the line of a test case: its local verdicts, and its details
+-- what is printed after the line of a test case: its local verdicts, and its details, if they are asked for
 abbrev pub TellsAfter : ExploreOptions → List ScriptView → Explored → List ℕ → Type 0
 TellsAfter o scripts e text =
-    (middle : List ℕ) × TellsLocalsIf o.locals o.states scripts [] middle × TellsAmong (if o.details then of_details scripts e else []) middle text
+    (middle : List ℕ) × MatchBool o.locals (TellsLocals o.states scripts [] middle) (middle ≡ [])
+    × TellsAmong (if o.details then of_details scripts e else []) middle text
 
 -- A test case was explored, and each verdict that was found has one witness: a complete course of its scripts, which is legal.
 -- If the search says that it is complete, the verdict of each complete course of its scripts was found. If it says that it is
@@ -58,8 +54,7 @@ pub record IsExplored (o : ExploreOptions) (c : CaseView) (e : ExploredCase) : T
 
 -- what is written of a test case: its line and its details, or the histories of its witnesses
 abbrev pub told_of : Bool → ExploredCase → List ℕ
-told_of false e = explored_line e.name e.explored ++ e.details
-told_of true e = witnesses_text e.name e.behaviours e.explored
+told_of histories e = if histories then witnesses_text e.name e.behaviours e.explored else explored_line e.name e.explored ++ e.details
 
 -- some test case has this status
 abbrev pub has_status : ℕ → List ExploredCase → Bool

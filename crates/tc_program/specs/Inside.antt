@@ -1,6 +1,9 @@
 -- What the functions inside of the program say, which no public clause names.
-use Rattle.std.specs.Prelude.{ℕ, ◌≡◌, ◌≢◌, ◌⊎◌, ◌&&◌, ◌≤◌, ◌+◌, nat_lt, slice_get, slice_index_or, All, Bool, true, false, Option, Some, None, Result, Ok, Err, MatchResult, List, [], ◌∷◌, ◌++◌, length, map, reverse, take, codes, filter, if◌then◌else◌, not}
+use Rattle.std.specs.Prelude.{ℕ, ◌≡◌, ◌≢◌, ◌⊎◌, ◌&&◌, ◌≤◌, ◌+◌, nat_lt, slice_get, slice_index_or, All, Bool, MatchBool, true, false, Option, Some, None, Result, Ok, Err, MatchResult, List, [], ◌∷◌, ◌++◌, length, map, reverse, take, codes, filter, if◌then◌else◌, not}
 use Rattle.std.specs.List.{AllZip, flat_map}
+use Rattle.std.specs.Option.{option_map_or}
+use Rattle.std.specs.Result.{result_and, result_map_both}
+use Rattle.tc_explain.specs.Explanation.{explanation}
 use Rattle.tc_entry.specs.declared.limits.TheConstants.{BEHAVIOURS}
 use Rattle.tc_script.specs.Names.{Word, add, among, has_twice}
 use Rattle.tc_program.specs.Compared.{AreJudged, IsCompared, IsJudged, is_late, is_met, missing}
@@ -8,7 +11,7 @@ use Rattle.tc_program.specs.declared.compare.Comparing.{Comparing}
 use Rattle.tc_program.specs.declared.compare.Comparison.{Comparison}
 use Rattle.tc_program.specs.declared.compare.Wrong.{Wrong}
 use Rattle.tc_program.specs.declared.passed.Seen.{Seen}
-use Rattle.tc_program.specs.Passed.{AreToRun, is_passed}
+use Rattle.tc_program.specs.Passed.{AreToRun}
 use Rattle.tc_verdict.specs.declared.verdict.Verdict.{Verdict}
 use Rattle.tc_stream.specs.declared.input.InputFault.{InputFault}
 use Rattle.tc_stream.specs.declared.input.InputFault.TheVariants as I
@@ -41,8 +44,9 @@ use Rattle.tc_report.specs.declared.fault.OutFault.{OutFault}
 use Rattle.tc_report.specs.declared.results.Results.{Results}
 use Rattle.tc_report.specs.declared.results.CampaignEnd.{CampaignEnd}
 use Rattle.tc_report.specs.declared.results.Finished.{Finished}
-use Rattle.tc_report.specs.Blocks.{case_lines, header_of}
-use Rattle.tc_report.specs.Observers.{AreTaken, IsEndedAt}
+use Rattle.tc_report.specs.Blocks.{header_of}
+use Rattle.tc_report.specs.Observers.{AreTaken}
+use Rattle.tc_report.specs.Inside.{IsEndedAt, case_lines}
 use Rattle.tc_report.specs.Progress.{IsToldBy}
 use Rattle.tc_book.specs.Passes.{PassState}
 use Rattle.tc_exec.specs.declared.job.Back.{Back}
@@ -55,7 +59,7 @@ use Rattle.tc_explore.specs.Details.{details as of_details}
 use Rattle.tc_text.specs.Said.{Line}
 use Rattle.tc_program.specs.Alone.{IsNotBegun}
 use Rattle.tc_program.specs.Input.{IsRead}
-use Rattle.tc_program.specs.Limits.{limit_of, worker_limit}
+use Rattle.tc_program.specs.Limits.{limit_of}
 use Rattle.tc_program.specs.declared.fault.RunFault.{RunFault}
 use Rattle.tc_program.specs.declared.fault.RunFault.TheVariants as F
 use Rattle.tc_program.specs.declared.judge.Difference.{Difference}
@@ -70,7 +74,6 @@ use Rattle.tc_program.specs.declared.judge.Judgement.TheVariants as J
 use Rattle.tc_text.specs.Spelling.{reply_text}
 use Rattle.tc_verdict.specs.Verdict.{name_of}
 use Rattle.tc_entry.specs.declared.reply.Reply.{Reply}
-use Rattle.tc_program.specs.Replay.{move_of, reply_line}
 use Rattle.tc_program.specs.Scripted.{CaseView, scripts_of}
 use Rattle.tc_script.specs.Names.{Word}
 use Rattle.tc_program.specs.Streams.{Streams, held}
@@ -84,24 +87,66 @@ use Rattle.tc_command.specs.declared.task.Task.TheVariants as Tasks
 use Rattle.tc_script.specs.Campaign.{CampaignView}
 use Rattle.tc_script.specs.Law.{IsCase}
 use Rattle.tc_program.specs.Answer.{IsRefused}
-use Rattle.tc_campaign.specs.Choosing.{have_names}
-use Rattle.tc_program.specs.Choosing.{AreChosen, block_name, each}
-use Rattle.tc_program.specs.Explore.{IsExplored}
+use Rattle.tc_campaign.specs.Choosing.{have_names, is_asked}
+use Rattle.tc_program.specs.Choosing.{AreChosen, is_passing}
+use Rattle.tc_program.specs.Explore.{IsExplored, TellsLocals}
 use Rattle.tc_program.specs.declared.explore.ExploredCase.{ExploredCase}
 use Rattle.tc_program.specs.Made.{IsMade}
 use Rattle.tc_program.specs.Program.{IsDone}
-use Rattle.tc_program.specs.Fault.{line_of}
+use Rattle.tc_program.specs.Fault.{line_of, of_output}
 use Rattle.tc_program.specs.Stderr.{IsRefusal, IsTold}
 use Rattle.tc_program.specs.declared.reply.Answer.{Answer}
 use Rattle.tc_report.specs.Summary.{block_summary}
 use Rattle.tc_report.specs.declared.summary.Summary.{Summary}
 use Rattle.tc_program.specs.Output.{LeavesUnwritten}
 
--- the number of the line of the input that has a fault, if it is one of a line
-abbrev pub line_number : RunFault → Option ℕ
-line_number (F.Text (T.At line kind)) = Some line
-line_number (F.Script fault) = Some fault.line
-line_number fault = None
+-- the name of a test case of a script
+abbrev pub script_name : CaseView → Word
+script_name c = c.0
+
+-- the name of a block
+abbrev pub block_name : Block → Word
+block_name b = b.header.name
+
+-- the caller, and the call
+abbrev pub move_of : Entry → Move
+move_of e = (e.caller, e.op)
+
+-- the line of a reply
+abbrev pub reply_line : Entry → List ℕ
+reply_line e = reply_text e.reply ++ (10 ∷ [])
+
+-- the list of test cases: a line with the name of each
+abbrev pub list_text : {C : Type 0} → (C → List ℕ) → List C → List ℕ
+list_text name_of cases = flat_map (λ c. name_of c ++ (10 ∷ [])) cases
+
+-- what has this name and this verdict is picked
+abbrev pub is_picked : List Word → Bool → Word → Verdict → Bool
+is_picked only failed name v = is_asked only name && not (failed && is_passing v)
+
+-- each block is chosen
+abbrev pub each : Block → Bool
+each b = true
+
+-- the verdict of the block is none or pass
+abbrev pub is_passed : Block → Bool
+is_passed b = is_passing b.verdict
+
+-- the first fault, of the lines about test cases as they finish, and of the line after them
+abbrev pub first_fault : Result (Unit {0}) OutFault → Result (Unit {0}) RunFault → Result (Unit {0}) RunFault
+first_fault telling line = result_and (result_map_both (λ x. x) of_output telling) line
+
+-- a test case is legal: its name, how many entries it has, its verdict
+abbrev pub legal_case : Finished → List ℕ
+legal_case f = legal_line f.name (length f.report.history) f.report.verdict
+
+-- what is explained of the text at least, if something is
+abbrev pub notes_of : Option ℕ → List ℕ → List Line
+notes_of number text = option_map_or (explanation text) number []
+
+-- the workers of a test case
+abbrev pub worker_limit : ℕ
+worker_limit = BEHAVIOURS
 
 -- the words that name a fault
 abbrev pub words_of : RunFault → List ℕ
@@ -291,6 +336,10 @@ IsExploredOf o k e = (c : CaseView) → IsCaseOf c k → IsExplored o c e
 -- a test case has as few jobs as it may have
 abbrev pub HasFewJobs : Case ScriptView → Type 0
 HasFewJobs k = length k.jobs.items ≤ BEHAVIOURS
+
+-- the lines of local verdicts of these scripts, if they are asked for
+abbrev pub TellsLocalsIf : Bool → ℕ → List ScriptView → List ℕ → List ℕ → Type 0
+TellsLocalsIf asked states scripts before after = MatchBool asked (TellsLocals states scripts before after) (after ≡ before)
 
 -- the details of a test case with these scripts, if they are asked for
 abbrev pub details_if : Bool → List ScriptView → Explored → List Line

@@ -17,7 +17,3 @@ abbrev pub limit_of : Task → ℕ
 limit_of (T.Check choice explains) = HISTORY_LIMIT
 limit_of (T.Report form choice explains) = HISTORY_LIMIT
 limit_of task = if has_blocks task then HISTORY_LIMIT else SCRIPT_LIMIT
-
--- the workers of a test case
-abbrev pub worker_limit : ℕ
-worker_limit = 256

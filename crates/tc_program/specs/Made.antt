@@ -1,5 +1,6 @@
 -- What a task makes of its text, and what a call over a reader and a writer returns.
-use Rattle.std.specs.Prelude.{ℕ, ◌≡◌, ◌⊎◌, List, [], MatchResult, Option, Some, None, Result, Ok, Err}
+use Rattle.std.specs.Prelude.{ℕ, ◌≡◌, ◌⊎◌, List, [], ◌∷◌, ◌++◌, MatchResult, Option, Some, None, Result, Ok, Err}
+use Rattle.std.specs.List.{flat_map}
 use Rattle.std.specs.Io.KnownBytes.{Appends, Keeps}
 use Rattle.tc_stream.specs.Output.{AppendsPrefix}
 use Rattle.tc_command.specs.declared.task.Choice.{Choice}
@@ -10,17 +11,18 @@ use Rattle.tc_program.specs.declared.fault.RunFault.TheVariants as F
 use Rattle.tc_program.specs.declared.reply.Answer.{Answer}
 use Rattle.tc_program.specs.Check.{IsChecked, NameBlocks, RefusesBlocks}
 use Rattle.tc_program.specs.Compared.{IsCheckedAgainst, IsReportedAgainst, RefusesAgainst}
-use Rattle.tc_program.specs.Choosing.{is_chosen, list_text, script_name}
+use Rattle.tc_program.specs.Choosing.{is_chosen}
 use Rattle.tc_program.specs.Explore.{Explores}
 use Rattle.tc_program.specs.Input.{IsRead, IsUnread}
 use Rattle.tc_program.specs.Limits.{limit_of}
 use Rattle.tc_program.specs.Passed.{AreToRun, RefusesRun}
 use Rattle.tc_program.specs.Replay.{RefusesMoves, Replays}
 use Rattle.tc_program.specs.Report.{IsReported}
+use Rattle.tc_program.specs.Scripted.{CaseView}
 
--- the answer is the list of the test cases that would be run
+-- the answer is the list of the test cases that would be run: a line with the name of each
 abbrev pub IsListed : {C : Type 0} → (C → List ℕ) → (List C → Type 0) → Answer → Type 0
-IsListed {C} name_of AreToBeRun a = (cases : List C) × AreToBeRun cases × (a ≡ record { out = list_text name_of cases; told = []; status = 0 })
+IsListed {C} name_of AreToBeRun a = (cases : List C) × AreToBeRun cases × (a ≡ record { out = flat_map (λ c. name_of c ++ (10 ∷ [])) cases; told = []; status = 0 })
 
 -- an answer of which nothing is printed, with such an output and status
 abbrev pub IsSilent : (List ℕ → ℕ → Type 0) → Answer → Type 0
@@ -40,7 +42,7 @@ IsMade (T.Compare None choice e) text made = MatchResult made (IsSilent (IsCheck
 IsMade (T.Compare (Some form) choice e) text made = MatchResult made (IsReportedAgainst form choice text) (RefusesAgainst choice text)
 IsMade (T.Report form choice e) text made = IsMadeOfBlocks choice text (IsReported form (is_chosen choice) text) made
 IsMade (T.Explore o) text made = MatchResult made (IsSilent (Explores o text)) (RefusesRun o.choice text)
-IsMade (T.List choice e) text made = MatchResult made (IsListed script_name (AreToRun choice text)) (RefusesRun choice text)
+IsMade (T.List choice e) text made = MatchResult made (IsListed (λ (c : CaseView). c.0) (AreToRun choice text)) (RefusesRun choice text)
 IsMade (T.Run o) text made = MatchResult made (λ a. ⊥) (RefusesRun o.choice text)
 IsMade T.Serve text made = ⊥
 

@@ -5,24 +5,20 @@ use Rattle.tc_evidence.specs.declared.block.Block.{Block}
 use Rattle.tc_script.specs.Campaign.{CampaignView}
 use Rattle.tc_script.specs.Names.{Word}
 use Rattle.tc_program.specs.Check.{HoldsOfBlocks}
-use Rattle.tc_program.specs.Choosing.{AreChosen, RefusesChoice, is_passing, script_name}
+use Rattle.tc_program.specs.Choosing.{AreChosen, RefusesChoice, is_passing}
 use Rattle.tc_program.specs.Compared.{RefusesAgainst, blocks_part, is_met, script_part}
 use Rattle.tc_program.specs.declared.fault.RunFault.{RunFault}
 
--- the verdict of the block is none or pass
-abbrev pub is_passed : Block → Bool
-is_passed b = is_passing b.verdict
-
--- one of the blocks of this name has such a verdict, and none has another
+-- one of the blocks of this name has the verdict none or pass, and none has another
 abbrev pub has_passed : List Block → Word → Bool
-has_passed blocks name = is_met (filter is_passed blocks) name && not (is_met (filter (λ b. not (is_passed b)) blocks) name)
+has_passed blocks name = is_met (filter (λ b. is_passing b.verdict) blocks) name && not (is_met (filter (λ b. not (is_passing b.verdict)) blocks) name)
 
 -- the text is a script, and histories and evidence after it; these are the chosen test cases of the script but those that
 -- have passed by the blocks
 pub record AreUnpassed (choice : Choice) (text : List ℕ) (cases : CampaignView) : Type 0 where
   pub all : CampaignView
   pub chosen : AreChosen choice (script_part text) all
-  pub are : HoldsOfBlocks (blocks_part text) (λ blocks. cases ≡ filter (λ c. not (has_passed (reverse blocks) (script_name c))) all)
+  pub are : HoldsOfBlocks (blocks_part text) (λ blocks. cases ≡ filter (λ c. not (has_passed (reverse blocks) c.0)) all)
 
 -- these are the test cases that a run is asked for: the chosen ones, without those that have passed if it is asked for
 abbrev pub AreToRun : Choice → List ℕ → CampaignView → Type 0

@@ -3,7 +3,7 @@ use Rattle.std.specs.Prelude.{ℕ, ◌≡◌, List, [], ◌∷◌, ◌++◌, map
 use Rattle.std.specs.List.{flat_map}
 use Rattle.tc_entry.specs.declared.entry.Entry.{Entry}
 use Rattle.tc_text.specs.Spelling.{reply_text}
-use Rattle.tc_text.specs.MoveList.{Move, IsListFault, IsMoveList}
+use Rattle.tc_text.specs.MoveList.{IsListFault, IsMoveList}
 use Rattle.tc_table.specs.Legal.{IsLegal}
 use Rattle.tc_table.specs.Local.{overall}
 use Rattle.tc_report.specs.Report.{verdict_line}
@@ -11,22 +11,14 @@ use Rattle.tc_report.specs.Status.{verdict_status}
 use Rattle.tc_program.specs.declared.fault.RunFault.{RunFault}
 use Rattle.tc_program.specs.declared.fault.RunFault.TheVariants as F
 
--- the caller, and the call
-abbrev pub move_of : Entry → Move
-move_of e = (e.caller, e.op)
-
--- the line of a reply
-abbrev pub reply_line : Entry → List ℕ
-reply_line e = reply_text e.reply ++ (10 ∷ [])
-
 -- The text is a list of moves, and there is a history of them in which each reply is the component table's. The output is a line for each
 -- reply, and then the overall verdict; the status is that of the verdict.
 pub record Replays (text out : List ℕ) (status : ℕ) : Type 0 where
   pub behaviours : ℕ
   pub history : List Entry
-  pub list : IsMoveList text behaviours (map move_of history)
+  pub list : IsMoveList text behaviours (map (λ e. (e.caller, e.op)) history)
   pub legal : IsLegal behaviours (reverse history)
-  pub out_is : out ≡ flat_map reply_line history ++ verdict_line (overall (reverse history))
+  pub out_is : out ≡ flat_map (λ e. reply_text e.reply ++ (10 ∷ [])) history ++ verdict_line (overall (reverse history))
   pub status_is : status ≡ verdict_status (overall (reverse history))
 
 -- a text is refused as a list of moves; if memory runs out, nothing is said about it

@@ -1,5 +1,5 @@
 -- What `report` writes of histories and evidence, and of them the chosen.
-use Rattle.std.specs.Prelude.{ℕ, Bool, ◌≡◌, ◌==◌, true, if◌then◌else◌, List, [], ◌∷◌, ◌++◌, codes, filter, length, map}
+use Rattle.std.specs.Prelude.{ℕ, Bool, ◌≡◌, ◌==◌, if◌then◌else◌, List, [], ◌∷◌, ◌++◌, codes, filter, length, map}
 use Rattle.tc_command.specs.declared.command.TheConstants.{VERSION}
 use Rattle.tc_command.specs.declared.task.ReportForm.{ReportForm}
 use Rattle.tc_command.specs.declared.task.ReportForm.TheVariants as Forms
@@ -9,13 +9,12 @@ use Rattle.tc_page.specs.Page.{page_of}
 use Rattle.tc_report.specs.declared.summary.Summary.{Summary}
 use Rattle.tc_report.specs.Csv.{csv_of}
 use Rattle.tc_report.specs.Junit.{junit_of}
-use Rattle.tc_report.specs.Status.{status_of_summaries}
+use Rattle.tc_report.specs.Status.{verdict_status, worst_of}
 use Rattle.tc_report.specs.Summary.{bare_summary, block_summary}
 use Rattle.tc_report.specs.SummaryText.{IsSummary}
 use Rattle.tc_report.specs.declared.results.CaseEnd.TheVariants as C
 use Rattle.tc_program.specs.declared.reply.Answer.{Answer}
-use Rattle.tc_program.specs.Check.{Checks, HoldsOfBlocks, IsIllegalLine}
-use Rattle.tc_program.specs.Choosing.{each}
+use Rattle.tc_program.specs.Check.{AreAllLegal, HoldsOfBlocks, IsIllegalLine}
 
 -- this is the form of blocks by their text and the summaries of their test cases
 abbrev pub IsForm : ReportForm → List ℕ → List Summary → List ℕ → Type 0
@@ -27,7 +26,7 @@ IsForm Forms.Summary text ss out = IsSummary ss out
 -- this is answered for test cases, with these lines for standard error: their form, and their status, or 3 if there is a line
 abbrev pub AnswersCases : ReportForm → List ℕ → List ℕ → List Summary → Answer → Type 0
 AnswersCases form text notes ss a =
-    IsForm form text ss a.out × (a.told ≡ notes) × (a.status ≡ (if length notes == 0 then status_of_summaries ss else 3))
+    IsForm form text ss a.out × (a.told ≡ notes) × (a.status ≡ (if length notes == 0 then verdict_status (worst_of ss) else 3))
 
 -- what is answered if a block is not legal: nothing is written, its line of `check` is printed, and the status is 3
 abbrev pub unreported : List ℕ → Answer
@@ -38,8 +37,7 @@ pub record IsFirstIllegal (blocks : List Block) (b : Block) (line : List ℕ) : 
   pub before : List Block
   pub behind : List Block
   pub place : blocks ≡ before ++ b ∷ behind
-  pub lines : List ℕ
-  pub legal : Checks each before lines true
+  pub legal : AreAllLegal before
   pub illegal : IsIllegalLine b line
 
 -- the test cases of blocks, and after them those of these names, of which there is none
@@ -49,8 +47,7 @@ summaries_of blocks missing = map (λ b. block_summary (history_of b)) blocks ++
 -- What is answered for blocks of a text, some of them chosen, and missing test cases, with lines for standard error: `check`
 -- finds each block legal, or this is the first that it does not.
 pub data IsReport (form : ReportForm) (text : List ℕ) (blocks chosen : List Block) (missing : List (List ℕ)) (notes : List ℕ) (a : Answer) : Type 0 where
-  legal : (lines : List ℕ) → Checks each blocks lines true
-      → AnswersCases form text notes (summaries_of chosen missing) a → IsReport form text blocks chosen missing notes a
+  legal : AreAllLegal blocks → AnswersCases form text notes (summaries_of chosen missing) a → IsReport form text blocks chosen missing notes a
   illegal : (b : Block) (line : List ℕ) → IsFirstIllegal blocks b line → a ≡ unreported line → IsReport form text blocks chosen missing notes a
 
 -- this is answered for the chosen blocks of the text

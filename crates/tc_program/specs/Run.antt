@@ -1,5 +1,6 @@
 -- The run of a campaign, and what is written of it.
-use Rattle.std.specs.Prelude.{ℕ, ◌≡◌, Bool, List, Option, Some, None, Result, Ok, Err, map}
+use Rattle.std.specs.Prelude.{ℕ, ◌≡◌, Bool, List, Option, Some, None, Result, map}
+use Rattle.std.specs.Result.{result_and, result_map_both}
 use Rattle.std.specs.Io.KnownBytes.{Appends}
 use Rattle.tc_stream.specs.Output.{AppendsPrefix}
 use Rattle.tc_campaign.specs.Outline.{Outline}
@@ -17,24 +18,19 @@ use Rattle.tc_program.specs.declared.fault.RunFault.{RunFault}
 use Rattle.tc_program.specs.declared.outcome.Outcome.{Outcome}
 use Rattle.tc_program.specs.Fault.{of_output}
 use Rattle.tc_program.specs.Output.{live_form, text_of}
-use Rattle.tc_program.specs.Limits.{worker_limit}
+use Rattle.tc_entry.specs.declared.limits.TheConstants.{BEHAVIOURS}
 use Rattle.tc_program.specs.Streams.{Streams}
 use Rattle.tc_program.specs.Stderr.{IsTold}
 
--- the first fault, of the lines about test cases as they finish, and of the line after them
-abbrev pub first_fault : Result (Unit {0}) OutFault → Result (Unit {0}) RunFault → Result (Unit {0}) RunFault
-first_fault (Ok done) line = line
-first_fault (Err fault) line = Err (of_output fault)
-
--- by this answer a run has printed what is due of its test cases as they finish, and after it the line for a campaign
--- that was aborted
+-- by this answer, which has the first fault, a run has printed what is due of its test cases as they finish, and after it the
+-- line for a campaign that was aborted
 pub record TellsRun (progress : Bool) (r : Results) (untold told : Option (List ℕ)) (answer : Result (Unit {0}) RunFault) : Type 0 where
   pub between : Option (List ℕ)
   pub telling : Result (Unit {0}) OutFault
   pub cases_told : IsToldBy progress untold between r.finished telling
   pub line : Result (Unit {0}) RunFault
   pub line_told : IsTold between told (abort_text r.ending) line
-  pub first : answer ≡ first_fault telling line
+  pub first : answer ≡ result_and (result_map_both (λ x. x) of_output telling) line
 
 -- the text of the results of these cases, in the form asked for
 abbrev pub results_text : {C : Type 0} → (C → Outline) → List C → RunOptions → Results → List ℕ
@@ -44,7 +40,7 @@ module _ {C : Type 0} (outline : C → Outline) (called : C → Finished → Typ
   -- these cases were run under these options, and the results were given
   pub record IsRun (streams : Streams) (outcome : Outcome) : Type 0 where
     pub results : Results
-    pub right : IsRunTo outline called cases options.stop_on worker_limit results.finished results.ending
+    pub right : IsRunTo outline called cases options.stop_on BEHAVIOURS results.finished results.ending
     -- the outcome has their status
     pub status : outcome.status ≡ results_status results
     -- their text was written in the form asked for
@@ -56,10 +52,10 @@ module _ {C : Type 0} (outline : C → Outline) (called : C → Finished → Typ
   -- prefix of it is out, and the fault may have ended the campaign.
   abbrev pub IsLeft : Option LiveForm → Streams → Results → OutFault → Type 0
   IsLeft None s r fault =
-      IsRunTo outline called cases options.stop_on worker_limit r.finished r.ending
+      IsRunTo outline called cases options.stop_on BEHAVIOURS r.finished r.ending
       × LeavesPrefix s.before s.after (results_text outline cases options r) fault
   IsLeft (Some form) s r fault =
-      AreFinished outline called cases options.stop_on worker_limit r.finished × AppendsPrefix s.before s.after (results_text outline cases options r)
+      AreFinished outline called cases options.stop_on BEHAVIOURS r.finished × AppendsPrefix s.before s.after (results_text outline cases options r)
 
   -- these cases were run under these options, and the text of the results was not written whole; what is due of them was
   -- printed, or not all of it

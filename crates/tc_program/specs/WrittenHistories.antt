@@ -1,7 +1,6 @@
 -- What `check` says of the histories and the evidence that `run` writes.
 use Rattle.std.specs.Prelude.{ℕ, ◌≡◌, ◌≢◌, Bool, List, [], All, Ok, length, map, take}
 use Rattle.std.specs.List.{AllZip, flat_map}
-use Rattle.tc_report.specs.declared.results.Finished.{Finished}
 use Rattle.tc_report.specs.declared.results.Results.{Results}
 use Rattle.tc_entry.specs.Limits.{IsBehaviours}
 use Rattle.tc_campaign.specs.Outline.{Outline}
@@ -25,13 +24,9 @@ pub record AreReported (cases : List Outline) (r : Results) : Type 0 where
   pub reports : AllZip (λ c f. IsCaseReport c.jobs f.report) (take (length r.finished) cases) r.finished
   pub behaviours : All (λ f. IsBehaviours f.report.behaviours) r.finished
 
--- a test case is legal: its name, how many entries it has, its verdict
-abbrev pub legal_case : Finished → List ℕ
-legal_case f = legal_line f.name (length f.report.history) f.report.verdict
-
--- what `check` answers for the results: each is legal
+-- what `check` answers for the results: each is legal, with its name, how many entries it has, and its verdict
 abbrev pub found_legal : Results → Answer
-found_legal r = record { out = flat_map legal_case r.finished; told = []; status = 0 }
+found_legal r = record { out = flat_map (λ f. legal_line f.name (length f.report.history) f.report.verdict) r.finished; told = []; status = 0 }
 
 -- this text of the results is checked and reported so, whatever else is asked for, and refused only if memory runs out
 pub record AreFoundLegal (text : List ℕ) (r : Results) : Type 0 where

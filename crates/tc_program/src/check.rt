@@ -3,8 +3,8 @@ ghost use Rattle.std.specs.Prelude.{◌≡◌, Bool, IfOk, IfErr, if◌then◌el
 ghost use Rattle.tc_command.specs.declared.task.Choice.{Choice as AnyChoice};
 ghost use Rattle.tc_command.specs.declared.task.Task.TheVariants.{Check};
 ghost use Rattle.tc_program.specs.Check.{IsChecked, RefusesHistory};
-ghost use Rattle.tc_program.specs.Choosing.{ChoosesEach, is_chosen, is_picked};
-ghost use Rattle.tc_program.specs.Inside.{AreJudgedSo, IsPlayed, picked_by};
+ghost use Rattle.tc_program.specs.Choosing.{ChoosesEach, is_chosen};
+ghost use Rattle.tc_program.specs.Inside.{AreJudgedSo, IsPlayed, picked_by, is_picked};
 ghost use Rattle.tc_program.specs.Made.{Does, IsMadeOfBlocks, IsSilent};
 
 use crate::check_lines::picked_lines;

@@ -4,8 +4,7 @@ ghost use Rattle.std.specs.List.{flat_map};
 ghost use Rattle.tc_text.specs.Spelling.{reply_text};
 ghost use Rattle.tc_verdict.specs.Verdict.{name_of};
 ghost use Rattle.tc_program.specs.Check.{gives_text, legal_line, other_line};
-ghost use Rattle.tc_program.specs.Choosing.{is_picked as spec_picked};
-ghost use Rattle.tc_program.specs.Inside.{judgement_line, line_by};
+ghost use Rattle.tc_program.specs.Inside.{judgement_line, line_by, is_picked as spec_picked};
 
 use crate::fault::append_place;
 use crate::judge::Judgement;

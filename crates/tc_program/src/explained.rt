@@ -3,7 +3,8 @@ ghost use Rattle.std.specs.Prelude.{◌≡◌, [], IfOk, OnOk};
 ghost use Rattle.std.specs.Option.{option_map};
 ghost use Rattle.tc_explain.specs.Explanation.{explanation};
 ghost use Rattle.tc_text.specs.Said.{TellsAmong};
-ghost use Rattle.tc_program.specs.Explained.{IsExplained, IsToldOf, explains as spec_explains, is_of_text as spec_of_text, notes_of, number_of, part_by as spec_part_by, part_of as spec_part_of};
+ghost use Rattle.tc_program.specs.Explained.{IsExplained, IsToldOf, explains as spec_explains, is_of_text as spec_of_text, number_of, part_by as spec_part_by, part_of as spec_part_of};
+ghost use Rattle.tc_program.specs.Inside.{notes_of};
 
 use crate::fault::{RunFault, fault_line};
 use crate::limits::has_blocks;
@@ -194,10 +195,7 @@ fn append_why(
 fn is_of_text(fault: RunFault) -> bool
     ensures { result ≡ spec_of_text fault }
 {
-    matches!(
-        fault,
-        RunFault::Text(_) | RunFault::Script(_) | RunFault::Only
-    )
+    !matches!(fault, RunFault::NoMemory)
 }
 
 // The fault's line, and after it what is explained of the text.

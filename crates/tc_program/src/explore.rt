@@ -4,8 +4,8 @@ ghost use Rattle.std.specs.List.{AllZip, flat_map};
 ghost use Rattle.tc_entry.specs.declared.limits.TheConstants.{BEHAVIOURS};
 ghost use Rattle.tc_explore.specs.Found.{AreLegal};
 ghost use Rattle.tc_text.specs.Said.{TellsAmong};
-ghost use Rattle.tc_program.specs.Inside.{HasFewJobs, IsExploredOf, details_if};
-ghost use Rattle.tc_program.specs.Explore.{Explores, TellsAfter, TellsLocals, TellsLocalsIf, has_status as status_in, status_of_all, told_of};
+ghost use Rattle.tc_program.specs.Inside.{HasFewJobs, IsExploredOf, details_if, TellsLocalsIf};
+ghost use Rattle.tc_program.specs.Explore.{Explores, TellsAfter, TellsLocals, has_status as status_in, status_of_all, told_of};
 ghost use Rattle.tc_program.specs.Passed.{RefusesRun};
 
 use crate::fault::RunFault;

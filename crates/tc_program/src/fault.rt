@@ -1,9 +1,10 @@
 //! The faults of the program, and their lines on standard error.
 ghost use Rattle.std.specs.Prelude.{◌≡◌, ◌++◌, IfOk, OnOk, OnErr, Some};
 ghost use Rattle.std.specs.Io.{StartsWith};
-ghost use Rattle.tc_report.specs.Ending.{abort_text, aborted_line, is_aborted};
+ghost use Rattle.tc_report.specs.Ending.{abort_text, aborted_text, is_aborted};
 ghost use Rattle.tc_program.specs.Fault.{fault_text, line_of, place_text, said};
-ghost use Rattle.tc_program.specs.Inside.{line_number, of_input as spec_input, placed, words_of};
+ghost use Rattle.tc_program.specs.Inside.{of_input as spec_input, placed, words_of};
+ghost use Rattle.tc_program.specs.Explained.{number_of};
 
 use std::alloc::{AllocError, AllocFailed, Global};
 use std::fmt;
@@ -124,7 +125,7 @@ impl From<TextFault> for RunFault {
 impl RunFault {
     // The number of the line that has the fault, if it is one of a line of the input.
     fn line(&self) -> Option<usize>
-        ensures { result ≡ line_number self.now }
+        ensures { result ≡ number_of self.now }
     {
         match self {
             RunFault::Text(TextFault::At { line, .. }) => Some(*line),
@@ -186,7 +187,7 @@ pub(crate) fn append_place(out: &mut Vec<u8>, line: usize) -> Result<(), NoMemor
 
 // Appends the text of the fault; if memory runs out, a part of it.
 fn append_fault(out: &mut Vec<u8>, fault: &RunFault) -> Result<(), NoMemory>
-    ensures ok { OnOk result (out.new.items ≡ out.old.items ++ placed (line_number fault.now) (words_of fault.now)) }
+    ensures ok { OnOk result (out.new.items ≡ out.old.items ++ placed (number_of fault.now) (words_of fault.now)) }
     ensures err { OnErr result (StartsWith out.new.items out.old.items) }
 {
     if let Some(line) = fault.line() {
@@ -197,7 +198,7 @@ fn append_fault(out: &mut Vec<u8>, fault: &RunFault) -> Result<(), NoMemory>
 
 // Appends the whole line; if memory runs out, a part of it.
 fn append_line(out: &mut Vec<u8>, fault: &RunFault) -> Result<(), NoMemory>
-    ensures ok { OnOk result (out.new.items ≡ out.old.items ++ said (placed (line_number fault.now) (words_of fault.now))) }
+    ensures ok { OnOk result (out.new.items ≡ out.old.items ++ said (placed (number_of fault.now) (words_of fault.now))) }
     ensures err { OnErr result (StartsWith out.new.items out.old.items) }
 {
     append_text(out, "ttrun: ")?;
@@ -223,7 +224,7 @@ pub fn fault_line(fault: &RunFault, out: &mut Vec<u8>) -> Result<(), NoMemory>
 
 // Appends the line for a campaign that was aborted; if memory runs out, a part of it.
 fn append_abort(out: &mut Vec<u8>, name: &Name, why: CaseError) -> Result<(), NoMemory>
-    ensures ok { OnOk result (out.new.items ≡ out.old.items ++ aborted_line name.now why) }
+    ensures ok { OnOk result (out.new.items ≡ out.old.items ++ said (aborted_text name.now why)) }
     ensures err { OnErr result (StartsWith out.new.items out.old.items) }
 {
     append_text(out, "ttrun: ")?;

@@ -2,8 +2,7 @@
 ghost use Rattle.std.specs.Prelude.{◌≡◌, [], IfOk, IfErr};
 ghost use Rattle.std.specs.List.{flat_map};
 ghost use Rattle.tc_campaign.specs.Choosing.{case_name};
-ghost use Rattle.tc_program.specs.Choosing.{list_text as text_of_list, script_name};
-ghost use Rattle.tc_program.specs.Inside.{case_line};
+ghost use Rattle.tc_program.specs.Inside.{case_line, list_text as text_of_list, script_name};
 ghost use Rattle.tc_program.specs.Made.{IsListed};
 ghost use Rattle.tc_program.specs.Passed.{AreToRun, RefusesRun};
 

@@ -2,8 +2,8 @@
 ghost use Rattle.std.specs.Prelude.{◌≡◌, ◌++◌, IfOk, IfErr, OnOk, [], filter, not, reverse};
 ghost use Rattle.tc_script.specs.Names.{add, among};
 ghost use Rattle.tc_program.specs.Compared.{RefusesAgainst};
-ghost use Rattle.tc_program.specs.Inside.{AreReadyAs, AreReadyToRun, HasSeen, kept_unless, names_with, shows_passed};
-ghost use Rattle.tc_program.specs.Passed.{AreUnpassed, RefusesRun, is_passed};
+ghost use Rattle.tc_program.specs.Inside.{AreReadyAs, AreReadyToRun, HasSeen, kept_unless, names_with, shows_passed, is_passed};
+ghost use Rattle.tc_program.specs.Passed.{AreUnpassed, RefusesRun};
 
 use crate::cases::{chosen_cases, with_jobs};
 use crate::compare::{chosen_before, read_blocks};

@@ -3,8 +3,7 @@ ghost use Rattle.std.specs.Prelude.{◌≡◌, IfErr, OnOk};
 ghost use Rattle.std.specs.List.{list_any};
 ghost use Rattle.tc_campaign.specs.Choosing.{have_names, is_asked as spec_asked};
 ghost use Rattle.tc_entry.specs.Pattern.{matches};
-ghost use Rattle.tc_program.specs.Choosing.{block_name, is_picked as spec_picked};
-ghost use Rattle.tc_program.specs.Inside.{NamesBlocksAt, RefusesNamesAt};
+ghost use Rattle.tc_program.specs.Inside.{NamesBlocksAt, RefusesNamesAt, is_picked as spec_picked, block_name};
 
 use crate::compare::read_blocks;
 use crate::fault::RunFault;

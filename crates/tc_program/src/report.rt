@@ -5,11 +5,11 @@ ghost use Rattle.tc_evidence.specs.Line.{entry_of};
 ghost use Rattle.tc_evidence.specs.Text.{AreEvidence};
 ghost use Rattle.tc_evidence.specs.declared.block.Block.{Block as AnyBlock};
 ghost use Rattle.tc_program.specs.Check.{RefusesHistory};
-ghost use Rattle.tc_program.specs.Choosing.{is_chosen, is_picked as spec_picked};
-ghost use Rattle.tc_program.specs.Inside.{IsRecorded, Reports, Summarizes, case_if_picked, illegal_line, judgement_line, picked_by};
+ghost use Rattle.tc_program.specs.Choosing.{is_chosen};
+ghost use Rattle.tc_program.specs.Inside.{IsRecorded, Reports, Summarizes, case_if_picked, illegal_line, judgement_line, picked_by, is_picked as spec_picked};
 ghost use Rattle.tc_program.specs.Made.{IsMadeOfBlocks};
 ghost use Rattle.tc_program.specs.Report.{AnswersCases, IsForm, IsReport, IsReported, unreported};
-ghost use Rattle.tc_report.specs.Status.{status_of_summaries};
+ghost use Rattle.tc_report.specs.Status.{verdict_status, worst_of};
 ghost use Rattle.tc_report.specs.Summary.{bare_summary as bare};
 ghost use Rattle.tc_report.specs.declared.results.CaseEnd.TheVariants.{Missing};
 
@@ -214,7 +214,7 @@ fn add_missing(alloc: Global, cases: &mut Vec<Summary>, missing: &[Name]) -> Res
 
 // The status of test cases, or 3 if there are lines for standard error.
 fn status_with(notes: &[u8], cases: &[Summary]) -> u8
-    ensures { result ≡ (if length notes.now == 0 then status_of_summaries cases.now else 3) }
+    ensures { result ≡ (if length notes.now == 0 then verdict_status (worst_of cases.now) else 3) }
 {
     if notes.is_empty() {
         worst_status(cases)

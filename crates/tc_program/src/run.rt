@@ -13,7 +13,7 @@ ghost use Rattle.tc_report.specs.Status.{ending_status};
 ghost use Rattle.tc_report.specs.Tally.{tally_of_cases};
 ghost use Rattle.tc_program.specs.Output.{live_form as spec_form};
 ghost use Rattle.tc_program.specs.Inside.{WasTold};
-ghost use Rattle.tc_program.specs.Limits.{worker_limit};
+ghost use Rattle.tc_entry.specs.declared.limits.TheConstants.{BEHAVIOURS as MOST_BEHAVIOURS};
 ghost use Rattle.tc_program.specs.Run.{IsRun, IsUnwritten};
 ghost use Rattle.tc_program.specs.Streams.{held};
 
@@ -117,7 +117,7 @@ where
     requires names { All HasNames cases.items }
     requires none { kept.finished.items ≡ [] }
     requires room { vec_len cases ≤ vec_capacity kept.finished }
-    ensures run { IsRunTo outline_of (IsCalled B.outcome) cases.items options.now.stop_on worker_limit result.0.finished result.0.ending }
+    ensures run { IsRunTo outline_of (IsCalled B.outcome) cases.items options.now.stop_on MOST_BEHAVIOURS result.0.finished result.0.ending }
     ensures told { IsToldBy options.now.progress (E.contents errors.old) (E.contents errors.new)
         result.0.finished result.1 }
 {
@@ -141,7 +141,7 @@ fn run_or_not<R, B: Callable, E: Write>(
 where
     R: Threads + Wait + Clock + Copy + Send + 'static,
     requires names { All HasNames cases.items }
-    ensures run { IsRunTo outline_of (IsCalled B.outcome) cases.items options.now.stop_on worker_limit result.0.finished result.0.ending }
+    ensures run { IsRunTo outline_of (IsCalled B.outcome) cases.items options.now.stop_on MOST_BEHAVIOURS result.0.finished result.0.ending }
     ensures told { IsToldBy options.now.progress (E.contents errors.old) (E.contents errors.new)
         result.0.finished result.1 }
 {
@@ -259,7 +259,7 @@ where
         (held W.contents writer.old writer.new E.contents errors.old errors.new)) }
     ensures refused { IfErr result (IsUnwritten outline_of (IsCalled B.outcome) cases.items options.now
         (held W.contents writer.old writer.new E.contents errors.old errors.new)) }
-    ensures workers { THREADS ≡ worker_limit }
+    ensures workers { THREADS ≡ MOST_BEHAVIOURS }
 {
     match names_of(alloc, cases.as_slice()) {
         Ok(names) => run_named(rt, alloc, cases, options, names.as_slice(), writer, errors),

@@ -3,7 +3,7 @@ ghost use Rattle.std.specs.Prelude.{◌≡◌, IfOk, List, Result, ℕ};
 ghost use Rattle.tc_report.specs.Ending.{abort_text};
 ghost use Rattle.tc_program.specs.Fault.{line_of, said};
 ghost use Rattle.tc_program.specs.declared.fault.RunFault.{RunFault as AnyFault};
-ghost use Rattle.tc_program.specs.Run.{first_fault};
+ghost use Rattle.tc_program.specs.Inside.{first_fault};
 ghost use Rattle.tc_program.specs.Stderr.{IsRefusal, IsTold};
 
 use crate::fault::{RunFault, fault_line, line_with};

@@ -8,9 +8,8 @@ use Rattle.tc_verdict.specs.declared.verdict.Verdict.TheVariants as V
 use Rattle.tc_report.specs.declared.results.Finished.{Finished}
 use Rattle.tc_verdict.specs.Verdict.{level_of}
 use Rattle.tc_report.specs.declared.results.Tally.{Tally}
-use Rattle.tc_report.specs.Inside.{one_if, tally_with}
-use Rattle.tc_report.specs.Live.{IsOneMore}
-use Rattle.tc_report.specs.Tally.{cases_of, tally_of_cases}
+use Rattle.tc_report.specs.Inside.{IsOneMore, cases_of, one_if, tally_with}
+use Rattle.tc_report.specs.Tally.{tally_of_cases}
 
 abbrev counted : List Finished → ℕ
 counted cases = cases_of V.None cases + cases_of V.Pass cases + cases_of V.Inconc cases + cases_of V.Fail cases + cases_of V.Error cases

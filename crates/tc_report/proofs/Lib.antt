@@ -9,4 +9,3 @@ pub mod Overalls
 pub mod Plain
 pub mod Wording
 pub mod Writing
-mod WorkedTexts

@@ -16,7 +16,7 @@ use Rattle.tc_report.specs.declared.results.CaseEnd.{CaseEnd}
 use Rattle.tc_report.specs.declared.results.CaseEnd.TheVariants as C
 use Rattle.tc_report.specs.declared.summary.Summary.{Summary}
 use Rattle.tc_report.specs.Inside.{csv_line}
-use Rattle.tc_report.specs.Csv.{counts_of, end_word, row_fields}
+use Rattle.tc_report.specs.Csv.{counts_of, end_word}
 
 -- no byte of the field calls for quotes
 abbrev pub IsUnquoted : List ℕ → Type 0
@@ -59,7 +59,8 @@ counts-unquoted (n ∷ ns) rest digits plain =
     All-cons IsUnquoted (decimal n) (map decimal ns ++ rest) (decimal-unquoted n (All-head IsBoundedDecimal n ns digits))
     (counts-unquoted ns rest (All-tail IsBoundedDecimal n ns digits) plain)
 
-pub fields-unquoted : (s : Summary) → IsName s.name → All IsBoundedDecimal (counts_of s.locals) → All IsUnquoted (row_fields s)
+pub fields-unquoted : (s : Summary) → IsName s.name → All IsBoundedDecimal (counts_of s.locals)
+    → All IsUnquoted (s.name ∷ (map decimal (counts_of s.locals) ++ end_word s.ending ∷ []))
 fields-unquoted s named digits =
     let last = All-cons IsUnquoted (end_word s.ending) [] (end-unquoted s.ending) (All-nil IsUnquoted) in
     All-cons IsUnquoted s.name (map decimal (counts_of s.locals) ++ end_word s.ending ∷ []) (name-unquoted s.name named)

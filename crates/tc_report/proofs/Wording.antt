@@ -1,12 +1,13 @@
 -- Words that a text holds, one after another, and the test cases that are shown in a summary.
 use Rattle.std.proofs.Common.{ℕ, ◌≡◌, ◌∙◌, ◌+◌, ◌<◌, nat_lt, true, false, List, [], ◌∷◌, ◌++◌, if◌then◌else◌, codes, length, map, take, get_or, refl, sym, ap, subst, append_assoc}
+use Rattle.std.specs.List.{AllZip, concat}
 use Rattle.std.proofs.lemmas.List.{append-nil, map-append, take_more}
 use Rattle.std.proofs.lemmas.List.Elements.{filter-append}
 use Rattle.tc_text.specs.Said.{Holds, Line, ends_word}
 use Rattle.tc_report.specs.Csv.{end_word}
-use Rattle.tc_report.specs.Inside.{AddsShown, AddsWords}
+use Rattle.tc_report.specs.Inside.{AddsShown, AddsWords, AreShown}
 use Rattle.tc_report.specs.Status.{counted_as, verdict_status}
-use Rattle.tc_report.specs.SummaryText.{AreShown, IsShown, IsSummary, by_verdicts, counts_text, failed_of, why}
+use Rattle.tc_report.specs.SummaryText.{IsShown, IsSummary, by_verdicts, counts_text, failed_of, why}
 use Rattle.tc_report.specs.declared.summary.Summary.{Summary}
 
 -- ---- words
@@ -139,6 +140,13 @@ shown_taken ss i s a b c within h k =
 
 pub ruleset shown_rules = (none_shown, shown_if, shown_unless)
 
+-- the text of each
+parts_of : (ss : List Summary) (text : List ℕ) → AreShown ss text → (parts : List (List ℕ)) × (text ≡ concat parts) × AllZip IsShown ss parts
+parts_of [] text is = ([], is, tt)
+parts_of (s ∷ ss) text h = let more = parts_of ss h.1 h.4 in (h.0 ∷ more.0, h.2 ∙ ap (λ l. h.0 ++ l) more.1, (h.3, more.2))
+
 -- the counts and the test cases that failed
 pub is_summary : (ss : List Summary) (a b c : List ℕ) → a ≡ [] → b ≡ a ++ counts_text ss → AddsShown (failed_of ss) b c → IsSummary ss c
-is_summary ss a b c empty counts shown = (shown.0, shown.1 ∙ ap (λ l. l ++ shown.0) (counts ∙ ap (λ l. l ++ counts_text ss) empty), shown.2)
+is_summary ss a b c empty counts shown =
+    let parts = parts_of (failed_of ss) shown.0 shown.2 in
+    (parts.0, shown.1 ∙ ap (λ l. l ++ shown.0) (counts ∙ ap (λ l. l ++ counts_text ss) empty) ∙ ap (λ l. counts_text ss ++ l) parts.1, parts.2)

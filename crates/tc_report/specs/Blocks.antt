@@ -1,6 +1,6 @@
 -- The histories and the evidence of a campaign: a block for each finished test case.
-use Rattle.std.specs.Prelude.{ℕ, ◌+◌, List, [], ◌∷◌, ◌++◌, map, take}
-use Rattle.std.specs.List.{flat_map}
+use Rattle.std.specs.Prelude.{ℕ, List, [], ◌++◌, map, take}
+use Rattle.std.specs.List.{enumerate_from, flat_map}
 use Rattle.tc_evidence.specs.declared.header.Header.{Header}
 use Rattle.tc_evidence.specs.declared.header.Kind.{Kind}
 use Rattle.tc_evidence.specs.declared.header.Kind.TheVariants as K
@@ -14,23 +14,14 @@ use Rattle.tc_report.specs.declared.results.Finished.{Finished}
 abbrev pub header_of : Kind → Finished → Header
 header_of kind f = record { kind = kind; name = f.name; behaviours = f.report.behaviours }
 
--- a line for the name of each behaviour, from that of this run on
-abbrev pub namings : ℕ → List (List ℕ) → List Line
-namings run [] = []
-namings run (name ∷ names) = L.Named (record { 0 = run }) name ∷ namings (run + 1) names
-
--- the names in that block: in evidence those of the behaviours of the test case, in a history none
+-- the names in that block: in evidence those of the behaviours of the test case by their runs, in a history none
 abbrev pub name_lines : Kind → Finished → List Line
-name_lines K.Evidence f = namings 0 (take f.report.behaviours f.names)
+name_lines K.Evidence f = map (λ p. L.Named (record { 0 = p.0 }) p.1) (enumerate_from 0 (take f.report.behaviours f.names))
 name_lines kind f = []
 
--- the lines inside that block: the names, and then the entries
-abbrev pub case_lines : Kind → Finished → List Line
-case_lines kind f = name_lines kind f ++ map L.Entry f.report.history
-
--- that block, with its overall verdict
+-- that block: the names, the entries and the overall verdict
 abbrev pub case_block : Kind → Finished → List ℕ
-case_block kind f = block_text (header_of kind f) (case_lines kind f) f.report.verdict
+case_block kind f = block_text (header_of kind f) (name_lines kind f ++ map L.Entry f.report.history) f.report.verdict
 
 -- the block of each finished test case
 abbrev pub blocks_text : Kind → Results → List ℕ

@@ -2,7 +2,6 @@
 use Rattle.std.specs.Prelude.{ℕ, nat_lt, if◌then◌else◌, Option, None, List, [], ◌++◌, codes, length, reverse, slice_get, take}
 use Rattle.std.specs.Option.{option_and_then, option_map, option_map_or}
 use Rattle.std.specs.Fmt.{decimal}
-use Rattle.tc_text.specs.Spelling.{op_text, reply_text}
 use Rattle.tc_verdict.specs.Verdict.{level_of}
 use Rattle.tc_entry.specs.declared.comp.Comp.{Comp}
 use Rattle.tc_entry.specs.declared.entry.Entry.{Entry}
@@ -12,7 +11,7 @@ use Rattle.tc_case.specs.Parts.{part}
 use Rattle.tc_report.specs.declared.cause.Cause.{Cause}
 use Rattle.tc_report.specs.declared.results.CaseEnd.{CaseEnd}
 use Rattle.tc_report.specs.declared.results.CaseEnd.TheVariants as C
-use Rattle.tc_report.specs.Report.{shown_op}
+use Rattle.tc_report.specs.Report.{call_text}
 
 -- the entry at this place of a history, and its caller: the component of the run, its name, the entries of the run, and how
 -- many of them come before
@@ -42,11 +41,7 @@ named_text name c = decimal c ++ option_map_or (λ n. codes " " ++ n) name []
 unfoldable pub comp_text : Option (List ℕ) → Comp → List ℕ
 comp_text name c = codes " on component " ++ named_text name c.0
 
--- a call, and its reply
-unfoldable pub call_text : Entry → List ℕ
-call_text e = op_text (shown_op e.op) ++ (codes " -> " ++ reply_text e.reply)
-
 -- what decided the verdict: the run, its component, the call
 unfoldable pub cause_text : Cause → List ℕ
 cause_text c =
-    codes "run " ++ (decimal c.entry.caller.0 ++ (option_map_or (comp_text c.name) c.comp [] ++ (codes ": " ++ call_text c.entry)))
+    codes "run " ++ (decimal c.entry.caller.0 ++ (option_map_or (comp_text c.name) c.comp [] ++ (codes ": " ++ call_text c.entry.op c.entry.reply)))

@@ -16,8 +16,7 @@ header_text = codes "testcase,components,none,pass,inconc,fail,error,verdict\n"
 
 -- how many components a test case has, and how many of them have each local verdict
 abbrev pub counts_of : List Verdict → List ℕ
-counts_of locals =
-    length locals ∷ count_of V.None locals ∷ count_of V.Pass locals ∷ count_of V.Inconc locals ∷ count_of V.Fail locals ∷ count_of V.Error locals ∷ []
+counts_of locals = length locals ∷ map (λ v. count_of v locals) (V.None ∷ V.Pass ∷ V.Inconc ∷ V.Fail ∷ V.Error ∷ [])
 
 -- the word for the end of a test case: its overall verdict, or that it is not over, has no report, is missing or was not run
 abbrev pub end_word : CaseEnd → List ℕ
@@ -27,13 +26,9 @@ end_word (C.Aborted why) = codes "aborted"
 end_word C.Missing = codes "missing"
 end_word C.NotRun = codes "notrun"
 
--- a test case: its name, the counts, and its end
-abbrev pub row_fields : Summary → List (List ℕ)
-row_fields s = s.name ∷ (map decimal (counts_of s.locals) ++ end_word s.ending ∷ [])
-
--- the line of a test case: its fields with a comma between them, and LF
+-- the line of a test case: its name, the counts, and its end, with a comma between them, and LF
 abbrev pub row_line : Summary → List ℕ
-row_line s = join_with_byte 44 (row_fields s) ++ (10 ∷ [])
+row_line s = join_with_byte 44 (s.name ∷ (map decimal (counts_of s.locals) ++ end_word s.ending ∷ [])) ++ (10 ∷ [])
 
 -- the header, and a line for each test case
 abbrev pub csv_of : List Summary → List ℕ

@@ -9,26 +9,18 @@ use Rattle.tc_report.specs.declared.results.CampaignEnd.TheVariants as E
 abbrev pub aborted_text : List ℕ → CaseError → List ℕ
 aborted_text name why = codes "aborted at " ++ (name ++ (codes ": " ++ refusal_text why))
 
--- the ending, without its LF
-abbrev pub ending_text : CampaignEnd → List ℕ
-ending_text E.Complete = codes "complete"
-ending_text (E.StoppedAfter name) = codes "stopped after " ++ name
-ending_text (E.Aborted name why) = aborted_text name why
-
 -- the last line of the text report
 abbrev pub ending_line : CampaignEnd → List ℕ
-ending_line ending = ending_text ending ++ (10 ∷ [])
+ending_line E.Complete = codes "complete\n"
+ending_line (E.StoppedAfter name) = codes "stopped after " ++ (name ++ (10 ∷ []))
+ending_line (E.Aborted name why) = aborted_text name why ++ (10 ∷ [])
 
 -- whether a case was refused
 abbrev pub is_aborted : CampaignEnd → Bool
 is_aborted (E.Aborted name why) = true
 is_aborted ending = false
 
--- the line on standard error that says so
-abbrev pub aborted_line : List ℕ → CaseError → List ℕ
-aborted_line name why = codes "ttrun: " ++ (aborted_text name why ++ (10 ∷ []))
-
--- that line, if a case was refused
+-- the line on standard error that says so, if a case was refused
 abbrev pub abort_text : CampaignEnd → List ℕ
-abort_text (E.Aborted name why) = aborted_line name why
+abort_text (E.Aborted name why) = codes "ttrun: " ++ (aborted_text name why ++ (10 ∷ []))
 abort_text ending = []

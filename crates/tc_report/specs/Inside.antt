@@ -1,16 +1,22 @@
 -- What the functions inside say, which no public clause names.
-use Rattle.std.specs.Prelude.{ℕ, ◌≡◌, ◌+◌, ◌==◌, Bool, true, false, Option, List, [], ◌∷◌, ◌++◌, filter, map, slice_get}
+use Rattle.std.specs.Prelude.{ℕ, ◌≡◌, ◌+◌, ◌==◌, Bool, true, false, MatchOption, Option, List, [], ◌∷◌, ◌++◌, filter, length, map, slice_get}
 use Rattle.std.specs.Global.{Vec}
 use Rattle.csv.specs.declared.writer.Writer.{Writer}
 use Rattle.csv.specs.Writing.{default_writer, writer_setup, fields_written, has_written, writer_under, writer_pending}
 use Rattle.tc_report.specs.Cause.{named_text}
 use Rattle.tc_report.specs.Csv.{csv_of, header_text}
 use Rattle.std.specs.List.{enumerate_from, flat_map, join_with_byte}
-use Rattle.std.specs.Option.{option_and_then}
+use Rattle.std.specs.Option.{option_and_then, option_map_or}
 use Rattle.tc_report.specs.declared.live_form.LiveForm.{LiveForm}
 use Rattle.tc_report.specs.Summary.{case_summary}
 use Rattle.tc_report.specs.Report.{report_text}
-use Rattle.tc_report.specs.Blocks.{blocks_text}
+use Rattle.tc_report.specs.Blocks.{blocks_text, name_lines}
+use Rattle.tc_report.specs.Tally.{tally_of_cases}
+use Rattle.tc_entry.specs.declared.comp.Comp.{Comp}
+use Rattle.tc_entry.specs.declared.entry.Entry.{Entry}
+use Rattle.tc_table.specs.Deciding.{name_in}
+use Rattle.tc_table.specs.History.{created}
+use Rattle.tc_evidence.specs.declared.header.Kind.{Kind}
 use Rattle.tc_report.specs.declared.results.Results.{Results}
 use Rattle.tc_report.specs.declared.live_form.LiveForm.TheVariants as F
 use Rattle.tc_evidence.specs.declared.header.Kind.TheVariants as K
@@ -19,9 +25,13 @@ use Rattle.tc_report.specs.declared.results.Tally.{Tally}
 use Rattle.tc_verdict.specs.declared.verdict.Verdict.{Verdict}
 use Rattle.tc_verdict.specs.declared.verdict.Verdict.TheVariants as V
 use Rattle.tc_verdict.specs.Verdict.{level_of}
+use Rattle.tc_evidence.specs.declared.line.Line.{Line as BlockLine}
+use Rattle.tc_evidence.specs.declared.line.Line.TheVariants as L
 use Rattle.tc_report.specs.Live.{opening_text, part_text}
-use Rattle.tc_report.specs.Progress.{Names}
-use Rattle.tc_report.specs.SummaryText.{AreShown}
+use Rattle.tc_report.specs.Observers.{AreTaken}
+use Rattle.tc_report.specs.declared.fault.OutFault.{OutFault}
+use Rattle.tc_report.specs.Progress.{Names, Prints, failed}
+use Rattle.tc_report.specs.SummaryText.{IsShown}
 use Rattle.tc_report.specs.declared.summary.Summary.{Summary}
 use Rattle.tc_text.specs.Said.{Holds, Line, ends_word}
 
@@ -55,6 +65,36 @@ form_text F.Evidence r = blocks_text K.Evidence r
 abbrev pub text_so_far : LiveForm → List Finished → List ℕ
 text_so_far form fs = opening_text form ++ flat_map (part_text form) fs
 
+-- if the one is the tally of some test cases, the other is that of them and one more
+abbrev pub IsOneMore : Tally → Finished → Tally → Type 0
+IsOneMore before f after = (fs : List Finished) → before ≡ tally_of_cases fs → after ≡ tally_of_cases (fs ++ f ∷ [])
+
+-- the name that a Create gave to the component that it made, if it gave one
+abbrev pub made_name : Entry → List (Option (List ℕ))
+made_name e = option_map_or (λ (c : Comp). name_in e.op ∷ []) (created e.op e.reply) []
+
+-- the lines inside the block of a finished test case: the names, and then the entries
+abbrev pub case_lines : Kind → Finished → List BlockLine
+case_lines kind f = name_lines kind f ++ map L.Entry f.report.history
+
+-- how many of the test cases have the overall verdict v
+abbrev pub cases_of : Verdict → List Finished → ℕ
+cases_of v cases = length (filter (λ f. level_of f.report.verdict == level_of v) cases)
+
+-- a line for the name of each behaviour, from that of this run on
+abbrev pub namings : ℕ → List (List ℕ) → List BlockLine
+namings run names = map (λ p. L.Named (record { 0 = p.0 }) p.1) (enumerate_from run names)
+
+module _ {O : Type 0} (takes : O → Finished → O → Bool → Type 0) where
+  -- the observer was given each of these test cases once, in their order, and ended the campaign at the last
+  pub record IsEndedAt (fs : List Finished) (before after : O) : Type 0 where
+    pub others : List Finished
+    pub last : Finished
+    pub all : fs ≡ others ++ last ∷ []
+    pub between : O
+    pub each : AreTaken takes others before between
+    pub at_last : takes between last after false
+
 -- one if it is so, otherwise none
 abbrev pub one_if : Bool → ℕ
 one_if true = 1
@@ -71,6 +111,10 @@ tally_with t v = record {
   error = t.error + one_if (level_of v == level_of V.Error);
 }
 
+-- so far each of these was reported, and a text has those that have failed; or a line was not printed whole
+abbrev pub IsSoFar : Option OutFault → Option (List ℕ) → List Finished → Option (List ℕ) → List ℕ → Type 0
+IsSoFar fault start fs now again = MatchOption fault (Prints fs start now × Names (failed fs) again) (λ _. Prints [] start now)
+
 -- a text is appended that has the name and the verdict of each of these test cases
 abbrev pub Adds : List Finished → List ℕ → List ℕ → Type 0
 Adds fs before after = (text : List ℕ) × (after ≡ before ++ text) × Names fs text
@@ -78,6 +122,11 @@ Adds fs before after = (text : List ℕ) × (after ≡ before ++ text) × Names 
 -- a text is appended before which a word ends, and which holds these words
 abbrev pub AddsWords : Line → List ℕ → List ℕ → Type 0
 AddsWords words before after = (text : List ℕ) × (after ≡ before ++ text) × (ends_word text ≡ true) × Holds words text
+
+-- these are shown, in their order
+abbrev pub AreShown : List Summary → List ℕ → Type 0
+AreShown [] text = text ≡ []
+AreShown (s ∷ ss) text = (part : List ℕ) × (others : List ℕ) × (text ≡ part ++ others) × IsShown s part × AreShown ss others
 
 -- a text is appended in which these test cases are shown
 abbrev pub AddsShown : List Summary → List ℕ → List ℕ → Type 0

@@ -33,10 +33,6 @@ counts_text ss =
     number_text (codes " tests=\"") (length ss) ++ (number_text (codes " failures=\"") (with_status 1 ss) ++
     number_text (codes " errors=\"") (with_status 2 ss))
 
--- the name of the suite, by the one that was given
-abbrev pub suite_name : Option (List ℕ) → List ℕ
-suite_name suite = unwrap_or suite (codes "ttrun")
-
 -- the first tag of the suite with this name, without its counts
 unfoldable pub suite_tag : List ℕ → List ℕ
 suite_tag suite = codes ">\n<testsuite name=\"" ++ (suite ++ codes "\"")
@@ -76,7 +72,7 @@ name_tag suite name = codes "<testcase name=\"" ++ (name ++ (codes "\" classname
 
 -- the local verdict of each component, and the last tag of a test case
 unfoldable pub locals_element : List Verdict → List ℕ
-locals_element locals = codes "<system-out>\n" ++ (local_lines 0 locals ++ codes "</system-out>\n</testcase>\n")
+locals_element locals = codes "<system-out>\n" ++ (local_lines locals ++ codes "</system-out>\n</testcase>\n")
 
 -- a test case: its name, how it ended and why, and the local verdict of each component
 abbrev pub case_element : List ℕ → Summary → List ℕ
@@ -85,5 +81,5 @@ case_element suite s = name_tag suite s.name ++ (end_element s.ending s.cause ++
 -- the suite of the name that was given, if one was, with all test cases
 abbrev pub junit_of : List ℕ → Option (List ℕ) → List Summary → List ℕ
 junit_of version suite ss =
-    let name = suite_name suite in
+    let name = unwrap_or suite (codes "ttrun") in
     head_text name ss ++ (version_text version ++ (flat_map (case_element name) ss ++ codes "</testsuite>\n</testsuites>\n"))

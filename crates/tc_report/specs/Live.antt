@@ -1,10 +1,8 @@
 -- The text of a campaign that is written as its test cases finish.
-use Rattle.std.specs.Prelude.{ℕ, ◌≡◌, Bool, true, false, List, [], ◌∷◌, ◌++◌, Option, Some}
+use Rattle.std.specs.Prelude.{ℕ, ◌≡◌, Bool, true, false, List, [], ◌∷◌, ◌++◌, IsSomeAnd, Option}
 use Rattle.std.specs.Io.KnownBytes.{Appends}
-use Rattle.tc_verdict.specs.declared.verdict.Verdict.{Verdict}
 use Rattle.tc_verdict.specs.Verdict.{worse}
 use Rattle.tc_evidence.specs.declared.header.Kind.TheVariants as K
-use Rattle.tc_report.specs.declared.fault.OutFault.{OutFault}
 use Rattle.tc_report.specs.declared.live_form.LiveForm.{LiveForm}
 use Rattle.tc_report.specs.declared.live_form.LiveForm.TheVariants as F
 use Rattle.tc_report.specs.declared.live.LiveWriter.{LiveWriter}
@@ -36,42 +34,23 @@ abbrev pub closing_text : LiveForm → Tally → CampaignEnd → List ℕ
 closing_text F.Text tally ending = tally_line tally ++ ending_line ending
 closing_text form tally ending = []
 
--- if the one is the tally of some test cases, the other is that of them and one more
-abbrev pub IsOneMore : Tally → Finished → Tally → Type 0
-IsOneMore before f after = (fs : List Finished) → before ≡ tally_of_cases fs → after ≡ tally_of_cases (fs ++ f ∷ [])
-
--- the state of a live writer: its form, what its writer holds, the test cases that it has counted, their worst verdict,
--- and why it has ended the campaign
-pub record LiveState : Type 0 where
-  pub form : LiveForm
-  pub out : Option (List ℕ)
-  pub tally : Tally
-  pub worst : Verdict
-  pub fault : Option OutFault
-
 module _ {W : Type 0} (contents : W → Option (List ℕ)) where
-  -- the state of a live writer
-  abbrev pub state_of : LiveWriter W → LiveState
-  state_of l = record { form = l.form; out = contents l.writer.now; tally = l.tally; worst = l.worst; fault = l.fault }
+  -- the test case was written and counted, and the campaign was not ended for it
+  pub record IsWritten (before : LiveWriter W) (f : Finished) (after : LiveWriter W) : Type 0 where
+    pub form : after.form ≡ before.form
+    pub out : Appends (contents before.writer.now) (contents after.writer.now) (part_text before.form f)
+    pub tally : (fs : List Finished) → before.tally ≡ tally_of_cases fs → after.tally ≡ tally_of_cases (fs ++ f ∷ [])
+    pub worst : after.worst ≡ worse before.worst f.report.verdict
+    pub fault : after.fault ≡ before.fault
 
--- the test case was written and counted, and the campaign was not ended for it
-pub record IsWritten (before : LiveState) (f : Finished) (after : LiveState) : Type 0 where
-  pub form : after.form ≡ before.form
-  pub out : Appends before.out after.out (part_text before.form f)
-  pub tally : IsOneMore before.tally f after.tally
-  pub worst : after.worst ≡ worse before.worst f.report.verdict
-  pub fault : after.fault ≡ before.fault
+  -- the test case was not written whole, and the fault says what is out of it; it is not counted
+  pub record IsUnwritten (before : LiveWriter W) (f : Finished) (after : LiveWriter W) : Type 0 where
+    pub form : after.form ≡ before.form
+    pub uncounted : after.tally ≡ before.tally
+    pub unjudged : after.worst ≡ before.worst
+    pub left : IsSomeAnd after.fault (LeavesPrefix (contents before.writer.now) (contents after.writer.now) (part_text before.form f))
 
--- the test case was not written whole, and the fault says what is out of it; it is not counted
-pub record IsUnwritten (before : LiveState) (f : Finished) (after : LiveState) : Type 0 where
-  pub form : after.form ≡ before.form
-  pub fault : OutFault
-  pub why : after.fault ≡ Some fault
-  pub uncounted : after.tally ≡ before.tally
-  pub unjudged : after.worst ≡ before.worst
-  pub left : LeavesPrefix before.out after.out (part_text before.form f) fault
-
--- what a test case does to a live writer, by whether the campaign continues
-abbrev pub Writes : LiveState → Finished → LiveState → Bool → Type 0
-Writes before f after true = IsWritten before f after
-Writes before f after false = IsUnwritten before f after
+  -- what a test case does to a live writer, by whether the campaign continues
+  abbrev pub Writes : LiveWriter W → Finished → LiveWriter W → Bool → Type 0
+  Writes before f after true = IsWritten before f after
+  Writes before f after false = IsUnwritten before f after

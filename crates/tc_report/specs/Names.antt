@@ -10,13 +10,9 @@ use Rattle.tc_table.specs.History.{created}
 use Rattle.tc_report.specs.declared.results.CaseEnd.{CaseEnd}
 use Rattle.tc_report.specs.declared.results.CaseEnd.TheVariants as C
 
--- the name that a Create gave to the component that it made, if it gave one
-abbrev pub made_name : Entry → List (Option (List ℕ))
-made_name e = option_map_or (λ (c : Comp). name_in e.op ∷ []) (created e.op e.reply) []
-
--- the names of the components of a history by their numbers; the main component has none
+-- the names of the components of a history by their numbers, as a Create that made one gave it; the main component has none
 abbrev pub comp_names : List Entry → List (Option (List ℕ))
-comp_names history = None ∷ flat_map made_name history
+comp_names history = None ∷ flat_map (λ e. option_map_or (λ (c : Comp). name_in e.op ∷ []) (created e.op e.reply) []) history
 
 -- what is said of them for a test case with this end: nothing if its verdict is none or pass
 abbrev pub names_of : CaseEnd → List Entry → List (Option (List ℕ))

@@ -1,6 +1,6 @@
 -- The observer, which is given each finished test case. It says by `takes` what one test case does to it, and how it is
 -- answered.
-use Rattle.std.specs.Prelude.{◌≡◌, Bool, true, false, List, [], ◌∷◌, ◌++◌}
+use Rattle.std.specs.Prelude.{◌≡◌, Bool, true, List, [], ◌∷◌}
 use Rattle.tc_report.specs.declared.results.Finished.{Finished}
 
 module _ {O : Type 0} (takes : O → Finished → O → Bool → Type 0) where
@@ -8,12 +8,3 @@ module _ {O : Type 0} (takes : O → Finished → O → Bool → Type 0) where
   abbrev pub AreTaken : List Finished → O → O → Type 0
   AreTaken [] before after = after ≡ before
   AreTaken (f ∷ fs) before after = (between : O) × takes before f between true × AreTaken fs between after
-
-  -- the observer was given each of these test cases once, in their order, and ended the campaign at the last
-  pub record IsEndedAt (fs : List Finished) (before after : O) : Type 0 where
-    pub others : List Finished
-    pub last : Finished
-    pub all : fs ≡ others ++ last ∷ []
-    pub between : O
-    pub each : AreTaken others before between
-    pub at_last : takes between last after false

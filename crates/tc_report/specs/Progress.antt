@@ -1,5 +1,5 @@
 -- What matters of what is printed about test cases as they begin and finish. No clause spells it.
-use Rattle.std.specs.Prelude.{ℕ, ◌≡◌, nat_lt, Bool, true, false, List, [], ◌∷◌, ◌++◌, Option, Some, None, Result, Ok, Err, codes, filter}
+use Rattle.std.specs.Prelude.{ℕ, ◌≡◌, nat_lt, Bool, true, false, List, [], ◌∷◌, ◌++◌, MatchOption, Option, Result, Ok, Err, codes, filter}
 use Rattle.std.specs.Io.KnownBytes.{Appends, Keeps}
 use Rattle.tc_verdict.specs.Verdict.{name_of}
 use Rattle.tc_entry.specs.Name.{is_name_byte}
@@ -32,15 +32,11 @@ IsToldBy false before after fs answer = (answer ≡ Ok tt) × Keeps before after
 IsToldBy true before after fs (Ok done) = Prints (fs ++ failed fs) before after
 IsToldBy true before after fs (Err fault) = Prints [] before after
 
--- so far each of these was reported, and a text has those that have failed; or a line was not printed whole
-abbrev pub IsSoFar : Option OutFault → Option (List ℕ) → List Finished → Option (List ℕ) → List ℕ → Type 0
-IsSoFar None start fs now again = Prints fs start now × Names (failed fs) again
-IsSoFar (Some fault) start fs now again = Prints [] start now
-
 module _ {O E C : Type 0} (contents : E → Option (List ℕ)) where
-  -- the same by the state of a `Progress`
+  -- so far each of these was reported, and those that have failed are kept; or a line was not printed whole
   abbrev pub HasTold : Option (List ℕ) → List Finished → Progress O E C → Type 0
-  HasTold start fs p = IsSoFar p.fault start fs (contents p.writer.now) p.failed.now.items
+  HasTold start fs p =
+      MatchOption p.fault (Prints fs start (contents p.writer.now) × Names (failed fs) p.failed.now.items) (λ _. Prints [] start (contents p.writer.now))
 
   -- one more is reported
   abbrev pub Tells : Progress O E C → Finished → Progress O E C → Type 0

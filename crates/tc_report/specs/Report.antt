@@ -1,6 +1,6 @@
 -- The text report of a campaign.
-use Rattle.std.specs.Prelude.{ℕ, ◌+◌, List, [], ◌∷◌, ◌++◌, codes, slice_get, unwrap_or}
-use Rattle.std.specs.List.{flat_map}
+use Rattle.std.specs.Prelude.{ℕ, List, [], ◌∷◌, ◌++◌, codes, slice_get, unwrap_or}
+use Rattle.std.specs.List.{enumerate_from, flat_map}
 use Rattle.std.specs.Fmt.{decimal}
 use Rattle.tc_verdict.specs.declared.verdict.Verdict.{Verdict}
 use Rattle.tc_verdict.specs.Verdict.{name_of}
@@ -21,14 +21,14 @@ abbrev pub shown_op : Op → Op
 shown_op (O.Wake killed target) = O.Wait killed target
 shown_op op = op
 
--- the line of an operation and its reply
-abbrev pub call_line : Op → Reply → List ℕ
-call_line op reply = codes "  " ++ (op_text (shown_op op) ++ (codes " -> " ++ (reply_text reply ++ (10 ∷ []))))
+-- a call, and its reply
+abbrev pub call_text : Op → Reply → List ℕ
+call_text op reply = op_text (shown_op op) ++ (codes " -> " ++ reply_text reply)
 
--- what is shown of a call: nothing if it was parked
+-- the line of a call: none if it was parked
 abbrev pub shown_call : Op → Reply → List ℕ
 shown_call op R.Parked = []
-shown_call op reply = call_line op reply
+shown_call op reply = codes "  " ++ (call_text op reply ++ (10 ∷ []))
 
 -- what is shown of an entry
 abbrev pub shown_entry : Entry → List ℕ
@@ -43,27 +43,19 @@ run_line names log =
 abbrev pub run_text : List (List ℕ) → RunLog → List ℕ
 run_text names log = run_line names log ++ flat_map shown_entry log.entries
 
--- the line of a component's local verdict
-abbrev pub local_line : ℕ → Verdict → List ℕ
-local_line comp v = codes "local " ++ (decimal comp ++ (codes " " ++ (name_of v ++ (10 ∷ []))))
-
--- the lines of local verdicts, from that of this component on
-abbrev pub local_lines : ℕ → List Verdict → List ℕ
-local_lines comp [] = []
-local_lines comp (v ∷ vs) = local_line comp v ++ local_lines (comp + 1) vs
+-- the lines of local verdicts, each with the number of its component
+abbrev pub local_lines : List Verdict → List ℕ
+local_lines vs = flat_map (λ p. codes "local " ++ (decimal p.0 ++ (codes " " ++ (name_of p.1 ++ (10 ∷ []))))) (enumerate_from 0 vs)
 
 -- the line of an overall verdict
 abbrev pub verdict_line : Verdict → List ℕ
 verdict_line v = codes "verdict " ++ (name_of v ++ (10 ∷ []))
 
--- the line that names a test case
-abbrev pub case_line : List ℕ → List ℕ
-case_line name = codes "testcase " ++ (name ++ (10 ∷ []))
-
--- a finished test case: its runs by their numbers, the local verdicts, and the overall verdict
+-- a finished test case: its name, its runs by their numbers, the local verdicts, and the overall verdict
 abbrev pub case_text : Finished → List ℕ
 case_text f =
-    case_line f.name ++ (flat_map (run_text f.names) f.report.logs ++ (local_lines 0 f.report.locals ++ verdict_line f.report.verdict))
+    (codes "testcase " ++ (f.name ++ (10 ∷ [])))
+    ++ (flat_map (run_text f.names) f.report.logs ++ (local_lines f.report.locals ++ verdict_line f.report.verdict))
 
 -- each finished test case, the tally and the ending
 abbrev pub report_text : Results → List ℕ

@@ -1,14 +1,14 @@
 -- The exit status for test cases, by how they ended.
-use Rattle.std.specs.Prelude.{ℕ, List, map}
+use Rattle.std.specs.Prelude.{ℕ, if◌then◌else◌, List, map}
 use Rattle.tc_verdict.specs.declared.verdict.Verdict.{Verdict}
 use Rattle.tc_verdict.specs.declared.verdict.Verdict.TheVariants as V
 use Rattle.tc_verdict.specs.Verdict.{worst}
 use Rattle.tc_report.specs.declared.results.CampaignEnd.{CampaignEnd}
-use Rattle.tc_report.specs.declared.results.CampaignEnd.TheVariants as E
 use Rattle.tc_report.specs.declared.results.CaseEnd.{CaseEnd}
 use Rattle.tc_report.specs.declared.results.CaseEnd.TheVariants as C
 use Rattle.tc_report.specs.declared.results.Results.{Results}
 use Rattle.tc_report.specs.declared.summary.Summary.{Summary}
+use Rattle.tc_report.specs.Ending.{is_aborted}
 use Rattle.tc_report.specs.Summary.{case_summary}
 
 -- the status for a verdict
@@ -21,8 +21,7 @@ verdict_status V.Error = 2
 
 -- the status for an ending, if this is the worst verdict
 abbrev pub ending_status : CampaignEnd → Verdict → ℕ
-ending_status (E.Aborted name why) v = 3
-ending_status ending v = verdict_status v
+ending_status ending v = if is_aborted ending then 3 else verdict_status v
 
 -- the verdict that an end counts as: a test case that is not over, is missing, or has no report, counts as error, and one
 -- that was not run as none
@@ -34,10 +33,6 @@ counted_as ending = V.Error
 -- the worst of the verdicts that the test cases count as, none if there is no test case
 abbrev pub worst_of : List Summary → Verdict
 worst_of ss = worst (map (λ s. counted_as s.ending) ss)
-
--- the status for that verdict
-abbrev pub status_of_summaries : List Summary → ℕ
-status_of_summaries ss = verdict_status (worst_of ss)
 
 -- 3 if the campaign was aborted, otherwise the status for the finished test cases
 abbrev pub results_status : Results → ℕ

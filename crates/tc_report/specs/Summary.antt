@@ -26,9 +26,7 @@ summary_with name locals ending history =
 
 -- the test case of this name, with these entries
 abbrev pub summary_of : List ℕ → List Entry → Summary
-summary_of name history =
-    let past = reverse history in
-    summary_with name (map (local past) (comps past)) (end_of past) history
+summary_of name history = summary_with name (map (local (reverse history)) (comps (reverse history))) (end_of (reverse history)) history
 
 -- the test case of a block of a history text
 abbrev pub block_summary : Block → Summary
@@ -36,9 +34,7 @@ block_summary b = summary_of b.name b.entries
 
 -- a finished test case, by its report
 abbrev pub case_summary : Finished → Summary
-case_summary f =
-    let r = f.report in
-    summary_with f.name r.locals (C.Over r.verdict) r.history
+case_summary f = summary_with f.name f.report.locals (C.Over f.report.verdict) f.report.history
 
 -- the test case of this name that ended so, without a local verdict
 abbrev pub bare_summary : CaseEnd → List ℕ → Summary

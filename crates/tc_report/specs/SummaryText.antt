@@ -1,7 +1,7 @@
 -- What matters of the summary of test cases, a page for a person: the counts, and of each test case that failed its name, how it
 -- ended, why, and its components by their local verdicts. No clause spells the rest.
 use Rattle.std.specs.Prelude.{ℕ, ◌≡◌, ◌==◌, nat_lt, if◌then◌else◌, true, Option, Some, List, [], ◌∷◌, ◌++◌, codes, filter, length, map, slice_get}
-use Rattle.std.specs.List.{enumerate_from, flat_map}
+use Rattle.std.specs.List.{AllZip, concat, enumerate_from, flat_map}
 use Rattle.std.specs.Option.{option_and_then}
 use Rattle.std.specs.Fmt.{decimal}
 use Rattle.std.specs.Str.{bytes_eq}
@@ -13,21 +13,15 @@ use Rattle.tc_verdict.specs.Verdict.{level_of, name_of}
 use Rattle.tc_report.specs.Cause.{cause_text, named_text}
 use Rattle.tc_report.specs.Csv.{end_word}
 use Rattle.tc_report.specs.Status.{counted_as, verdict_status}
-use Rattle.tc_report.specs.Tally.{tally_line}
+use Rattle.tc_report.specs.Tally.{tally_by, tally_line}
 use Rattle.tc_report.specs.declared.cause.Cause.{Cause}
 use Rattle.tc_report.specs.declared.results.CaseEnd.{CaseEnd}
 use Rattle.tc_report.specs.declared.results.CaseEnd.TheVariants as C
-use Rattle.tc_report.specs.declared.results.Tally.{Tally}
 use Rattle.tc_report.specs.declared.summary.Summary.{Summary}
 
 -- how many of the test cases ended with this word
 abbrev pub ended : List ℕ → List Summary → ℕ
 ended word ss = length (filter (λ s. bytes_eq (end_word s.ending) word) ss)
-
--- the test cases by their overall verdicts
-abbrev pub tally_of : List Summary → Tally
-tally_of ss =
-    record { cases = length ss; none = ended (codes "none") ss; pass = ended (codes "pass") ss; inconc = ended (codes "inconc") ss; fail = ended (codes "fail") ss; error = ended (codes "error") ss }
 
 -- the line of those that have none, if there are some
 abbrev pub other_line : List ℕ → List Summary → List ℕ
@@ -36,7 +30,7 @@ other_line word ss = if ended word ss == 0 then [] else word ++ (codes " " ++ (d
 -- the counts
 unfoldable pub counts_text : List Summary → List ℕ
 counts_text ss =
-    tally_line (tally_of ss) ++ (other_line (codes "unfinished") ss ++ (other_line (codes "aborted") ss
+    tally_line (tally_by (length ss) (λ v. ended (name_of v) ss)) ++ (other_line (codes "unfinished") ss ++ (other_line (codes "aborted") ss
     ++ (other_line (codes "missing") ss ++ other_line (codes "notrun") ss)))
 
 -- the components with this local verdict, each with its name if it has one
@@ -65,15 +59,10 @@ IsShown s text =
     (rest : List ℕ) × (text ≡ codes "\n" ++ (s.name ++ (codes ": " ++ (end_word s.ending ++ rest))))
     × (ends_word rest ≡ true) × Holds (why s.ending s.cause ++ by_verdicts s.names s.locals) rest
 
--- these are shown, in their order
-abbrev pub AreShown : List Summary → List ℕ → Type 0
-AreShown [] text = text ≡ []
-AreShown (s ∷ ss) text = (part : List ℕ) × (others : List ℕ) × (text ≡ part ++ others) × IsShown s part × AreShown ss others
-
 -- those that failed: those whose status is not 0
 abbrev pub failed_of : List Summary → List Summary
 failed_of ss = filter (λ s. nat_lt 0 (verdict_status (counted_as s.ending))) ss
 
--- the counts, and the test cases that failed
+-- the counts, and after them the test cases that failed, each of which is shown
 abbrev pub IsSummary : List Summary → List ℕ → Type 0
-IsSummary ss text = (shown : List ℕ) × (text ≡ counts_text ss ++ shown) × AreShown (failed_of ss) shown
+IsSummary ss text = (shown : List (List ℕ)) × (text ≡ counts_text ss ++ concat shown) × AllZip IsShown (failed_of ss) shown

@@ -11,20 +11,20 @@ use Rattle.tc_report.specs.declared.results.Tally.{Tally}
 abbrev pub count_of : Verdict → List Verdict → ℕ
 count_of v verdicts = length (filter (λ w. level_of w == level_of v) verdicts)
 
--- how many of the test cases have the overall verdict v
-abbrev pub cases_of : Verdict → List Finished → ℕ
-cases_of v cases = length (filter (λ f. level_of f.report.verdict == level_of v) cases)
+-- the tally of that many test cases, by how many have each overall verdict
+abbrev pub tally_by : ℕ → (Verdict → ℕ) → Tally
+tally_by cases having = record {
+  cases = cases;
+  none = having V.None;
+  pass = having V.Pass;
+  inconc = having V.Inconc;
+  fail = having V.Fail;
+  error = having V.Error;
+}
 
 -- these test cases by their overall verdicts
 abbrev pub tally_of_cases : List Finished → Tally
-tally_of_cases fs = record {
-  cases = length fs;
-  none = cases_of V.None fs;
-  pass = cases_of V.Pass fs;
-  inconc = cases_of V.Inconc fs;
-  fail = cases_of V.Fail fs;
-  error = cases_of V.Error fs;
-}
+tally_of_cases fs = tally_by (length fs) (λ v. length (filter (λ f. level_of f.report.verdict == level_of v) fs))
 
 -- the line of a tally
 abbrev pub tally_line : Tally → List ℕ

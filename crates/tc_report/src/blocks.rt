@@ -5,7 +5,8 @@ ghost use Rattle.std.specs.Io.KnownBytes.{Appends};
 ghost use Rattle.tc_evidence.specs.declared.header.Kind.TheVariants.{Evidence, History2};
 ghost use Rattle.tc_evidence.specs.Block.{ended, header_text};
 ghost use Rattle.tc_evidence.specs.Line.{line_text, naming_text};
-ghost use Rattle.tc_report.specs.Blocks.{blocks_text, case_block, header_of, name_lines, namings};
+ghost use Rattle.tc_report.specs.Blocks.{blocks_text, case_block, header_of, name_lines};
+ghost use Rattle.tc_report.specs.Inside.{namings};
 ghost use Rattle.tc_report.specs.Output.{LeavesPrefix};
 
 use crate::fault::OutFault;

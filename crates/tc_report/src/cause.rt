@@ -5,6 +5,7 @@ ghost use Rattle.tc_case.specs.Parts.{is_by, part};
 ghost use Rattle.tc_entry.specs.declared.comp.Comp.{Comp as AnyComp};
 ghost use Rattle.tc_table.specs.Deciding.{name_of as spec_name};
 ghost use Rattle.tc_report.specs.Cause as spec;
+ghost use Rattle.tc_report.specs.Report.{call_text};
 
 use crate::report::append_op;
 use crate::results::CaseEnd;
@@ -169,9 +170,8 @@ fn append_on(out: &mut Vec<u8>, cause: &Cause) -> Result<(), NoMemory>
 }
 
 // Appends a call, and its reply.
-#[tactic(auto, unfolding(crate::specs::Cause::call_text))]
 fn append_call(out: &mut Vec<u8>, entry: &Entry) -> Result<(), NoMemory>
-    ensures { OnOk result (out.new.items ≡ out.old.items ++ spec.call_text entry.now) }
+    ensures { OnOk result (out.new.items ≡ out.old.items ++ call_text entry.now.op entry.now.reply) }
 {
     append_op(out, &entry.op)?;
     append_text(out, " -> ")?;

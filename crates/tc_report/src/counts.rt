@@ -1,8 +1,7 @@
 //! Counting verdicts.
 ghost use Rattle.std.specs.Prelude.{◌≡◌, ◌+◌, IfOk, IfSome};
-ghost use Rattle.tc_report.specs.Inside.{one_if, tally_with};
-ghost use Rattle.tc_report.specs.Live.{IsOneMore};
-ghost use Rattle.tc_report.specs.Tally.{cases_of as spec_cases, count_of as spec_count, tally_of_cases};
+ghost use Rattle.tc_report.specs.Inside.{IsOneMore, cases_of as spec_cases, one_if, tally_with};
+ghost use Rattle.tc_report.specs.Tally.{count_of as spec_count, tally_of_cases};
 
 use crate::results::{Finished, Results, Tally};
 use tc_entry::{NoMemory, Verdict};

@@ -3,7 +3,8 @@ ghost use Rattle.std.specs.Prelude.{◌≡◌, ◌++◌, OnOk, OnErr, IfOk};
 ghost use Rattle.std.specs.Io.{StartsWith};
 ghost use Rattle.std.specs.Io.KnownBytes.{Appends};
 ghost use Rattle.tc_stream.specs.Output.{AppendsPrefix};
-ghost use Rattle.tc_report.specs.Ending.{abort_text, aborted_line, aborted_text, ending_line, is_aborted};
+ghost use Rattle.tc_report.specs.declared.results.CampaignEnd.TheVariants.{Aborted};
+ghost use Rattle.tc_report.specs.Ending.{abort_text, aborted_text, ending_line, is_aborted};
 
 use crate::output::write_both;
 use crate::results::{CampaignEnd, Results};
@@ -42,8 +43,8 @@ pub(crate) fn append_ending(out: &mut Vec<u8>, ending: &CampaignEnd) -> Result<(
 
 // Writes which case was refused, and why, as a line; if the writer fails, a prefix of it.
 fn write_aborted<W: Write>(writer: &mut W, name: &Name, why: CaseError) -> Result<(), WriteFault>
-    ensures all { OnOk result (Appends (W.contents writer.old) (W.contents writer.new) (aborted_line name.now why)) }
-    ensures part { OnErr result (AppendsPrefix (W.contents writer.old) (W.contents writer.new) (aborted_line name.now why)) }
+    ensures all { OnOk result (Appends (W.contents writer.old) (W.contents writer.new) (abort_text (Aborted name.now why))) }
+    ensures part { OnErr result (AppendsPrefix (W.contents writer.old) (W.contents writer.new) (abort_text (Aborted name.now why))) }
 {
     write_both(writer, b"ttrun: aborted at ", name.bytes())?;
     write_both(writer, b": ", why.text().as_bytes())?;

@@ -1,5 +1,5 @@
 //! The JUnit report.
-ghost use Rattle.std.specs.Prelude.{◌≡◌, ◌==◌, ◌++◌, filter, length, IfOk, IfErr, OnOk, Some};
+ghost use Rattle.std.specs.Prelude.{◌≡◌, ◌==◌, ◌++◌, codes, filter, length, unwrap_or, IfOk, IfErr, OnOk, Some};
 ghost use Rattle.tc_verdict.specs.Verdict.{level_of};
 ghost use Rattle.tc_report.specs.declared.summary.Summary.{Summary as AnySummary};
 ghost use Rattle.std.specs.Io.KnownBytes.{Appends};
@@ -85,7 +85,7 @@ fn append_counts(out: &mut Vec<u8>, cases: &[Summary]) -> Result<(), NoMemory>
 
 // The name of the suite, by the one that was given.
 fn suite_name(suite: &Option<Name>) -> &[u8]
-    ensures { result.now ≡ spec.suite_name suite.now }
+    ensures { result.now ≡ unwrap_or suite.now (codes "ttrun") }
 {
     match suite {
         Some(name) => name.bytes(),

@@ -3,7 +3,8 @@ ghost use Rattle.std.specs.Prelude.{◌≡◌, [], None, OnOk, OnErr, IfOk, IfEr
 ghost use Rattle.std.specs.Io.KnownBytes.{Appends};
 ghost use Rattle.tc_verdict.specs.declared.verdict.Verdict.TheVariants.{None as NoVerdict};
 ghost use Rattle.tc_verdict.specs.Verdict.{worse};
-ghost use Rattle.tc_report.specs.Live.{IsOneMore, Writes, closing_text as spec_closing, opening_text as spec_opening, part_text as spec_part, state_of};
+ghost use Rattle.tc_report.specs.Live.{Writes, closing_text as spec_closing, opening_text as spec_opening, part_text as spec_part};
+ghost use Rattle.tc_report.specs.Inside.{IsOneMore};
 ghost use Rattle.tc_report.specs.Status.{ending_status as spec_status};
 ghost use Rattle.tc_report.specs.Output.{LeavesPrefix};
 ghost use Rattle.tc_report.specs.Tally.{tally_of_cases};
@@ -160,7 +161,7 @@ impl<'a, W: Write> LiveWriter<'a, W> {
 
 impl<W: Write> Observer for LiveWriter<'_, W> {
     ghost takes = { λ before f after goes_on.
-        Writes (state_of W.contents before) f (state_of W.contents after) goes_on
+        Writes W.contents before f after goes_on
         × (after.writer.ghost_name ≡ before.writer.ghost_name) };
 
     fn take(&mut self, case: Finished) -> bool {

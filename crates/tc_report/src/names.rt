@@ -2,6 +2,7 @@
 ghost use Rattle.std.specs.Prelude.{◌≡◌, ◌++◌, IfOk, OnOk};
 ghost use Rattle.std.specs.List.{flat_map};
 ghost use Rattle.tc_table.specs.Deciding.{name_in as spec_name};
+ghost use Rattle.tc_report.specs.Inside.{made_name};
 ghost use Rattle.tc_report.specs.Names as spec;
 
 use crate::results::CaseEnd;
@@ -21,7 +22,7 @@ fn name_in(op: &Op) -> Option<Name>
 
 // Adds the name of the component that the entry made, if it made one.
 fn add_made(names: &mut Vec<Option<Name>>, entry: &Entry) -> Result<(), NoMemory>
-    ensures { OnOk result (names.new.items ≡ names.old.items ++ spec.made_name entry.now) }
+    ensures { OnOk result (names.new.items ≡ names.old.items ++ made_name entry.now) }
 {
     if created(&entry.op, entry.reply).is_some() {
         names.push(name_in(&entry.op))?;
@@ -31,7 +32,7 @@ fn add_made(names: &mut Vec<Option<Name>>, entry: &Entry) -> Result<(), NoMemory
 
 // Adds the names of the components that entries made.
 fn add_all_made(names: &mut Vec<Option<Name>>, history: &[Entry]) -> Result<(), NoMemory>
-    ensures { OnOk result (names.new.items ≡ names.old.items ++ flat_map spec.made_name history.now) }
+    ensures { OnOk result (names.new.items ≡ names.old.items ++ flat_map made_name history.now) }
 {
     for entry in history {
         add_made(names, entry)?;

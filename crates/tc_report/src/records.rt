@@ -5,7 +5,7 @@ ghost use Rattle.std.specs.Fmt.{IsBoundedDecimal, decimal};
 ghost use Rattle.std.specs.Io.KnownBytes.{Appends};
 ghost use Rattle.csv.specs.Records.{fields_of, partial_of};
 ghost use Rattle.tc_entry.specs.Name.{IsName};
-ghost use Rattle.tc_report.specs.Csv.{counts_of, csv_of, end_word as spec_word, header_text, row_fields, row_line};
+ghost use Rattle.tc_report.specs.Csv.{counts_of, csv_of, end_word as spec_word, header_text, row_line};
 ghost use Rattle.tc_report.specs.Summary.{case_summary};
 ghost use Rattle.tc_report.specs.Output.{LeavesPrefix};
 ghost use Rattle.tc_report.specs.Inside.{IsBetweenRecords, IsStarted, written_by};
@@ -65,7 +65,7 @@ fn push_counts(alloc: Global, row: &mut ByteRecord, locals: &[Verdict]) -> Resul
 fn push_fields(alloc: Global, row: &mut ByteRecord, case: &Summary) -> Result<(), NoMemory>
     requires none { fields_of row.old ≡ [] }
     requires partial { partial_of row.old ≡ [] }
-    ensures fields { OnOk result (fields_of row.new ≡ row_fields case.now) }
+    ensures fields { OnOk result (fields_of row.new ≡ case.now.name ∷ (map decimal (counts_of case.now.locals) ++ spec_word case.now.ending ∷ [])) }
     ensures name { OnOk result (IsName case.now.name) }
     ensures digits { OnOk result (All IsBoundedDecimal (counts_of case.now.locals)) }
 {

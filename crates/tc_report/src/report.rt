@@ -1,12 +1,13 @@
 //! The text report.
-ghost use Rattle.std.specs.Prelude.{◌≡◌, ◌++◌, OnOk, OnErr, IfErr, IfSome, [], slice_get, unwrap_or};
+ghost use Rattle.std.specs.Prelude.{◌≡◌, ◌++◌, ◌∷◌, OnOk, OnErr, IfErr, IfSome, [], codes, slice_get, unwrap_or};
 ghost use Rattle.std.specs.List.{flat_map};
 ghost use Rattle.std.specs.Io.{StartsWith};
 ghost use Rattle.std.specs.Io.KnownBytes.{Appends};
 ghost use Rattle.tc_report.specs.Output.{LeavesPrefix};
-ghost use Rattle.tc_report.specs.Report.{call_line, case_line, case_text, local_line, local_lines, report_text, run_line, run_text, shown_entry, shown_op, verdict_line};
+ghost use Rattle.tc_report.specs.Report.{call_text, case_text, local_lines, report_text, run_line, run_text, shown_entry, shown_op, verdict_line};
 ghost use Rattle.tc_report.specs.Tally.{tally_line};
 ghost use Rattle.tc_text.specs.Spelling.{op_text};
+ghost use Rattle.tc_verdict.specs.Verdict.{name_of as spec_name};
 ghost use Rattle.std.specs.Fmt.{decimal};
 ghost use Rattle.tc_entry.specs.declared.op.Op.TheVariants as ops;
 ghost use Rattle.tc_entry.specs.declared.reply.Reply.TheVariants as replies;
@@ -41,7 +42,7 @@ pub(crate) fn append_op(out: &mut Vec<u8>, op: &Op) -> Result<(), NoMemory>
 
 // What is shown of a setting that was carried out.
 fn set_line(setting: UserVerdict) -> &'static str
-    ensures { result.now ≡ call_line (ops.SetVerdict setting) replies.Ok }
+    ensures { result.now ≡ codes "  " ++ (call_text (ops.SetVerdict setting) replies.Ok ++ 10 ∷ []) }
 {
     match setting {
         UserVerdict::None => "  setverdict none -> ok\n",
@@ -53,7 +54,7 @@ fn set_line(setting: UserVerdict) -> &'static str
 
 // What is shown of a getverdict and the verdict that it got.
 fn got_line(verdict: Verdict) -> &'static str
-    ensures { result.now ≡ call_line ops.GetVerdict (replies.Local verdict) }
+    ensures { result.now ≡ codes "  " ++ (call_text ops.GetVerdict (replies.Local verdict) ++ 10 ∷ []) }
 {
     match verdict {
         Verdict::None => "  getverdict -> none\n",
@@ -142,7 +143,8 @@ fn append_runs(out: &mut Vec<u8>, names: &[Name], logs: &[RunLog]) -> Result<(),
 
 // Appends the line of a component's local verdict.
 fn append_local(out: &mut Vec<u8>, comp: usize, verdict: Verdict) -> Result<(), NoMemory>
-    ensures { OnOk result (out.new.items ≡ out.old.items ++ local_line comp verdict) }
+    ensures { OnOk result (out.new.items ≡ out.old.items
+        ++ (codes "local " ++ (decimal comp ++ (codes " " ++ (spec_name verdict ++ 10 ∷ []))))) }
 {
     append_text(out, "local ")?;
     append_number(out, comp as u64)?;
@@ -154,7 +156,7 @@ fn append_local(out: &mut Vec<u8>, comp: usize, verdict: Verdict) -> Result<(), 
 
 /// Appends the line of each component's local verdict.
 pub(crate) fn append_locals(out: &mut Vec<u8>, locals: &[Verdict]) -> Result<(), NoMemory>
-    ensures { OnOk result (out.new.items ≡ out.old.items ++ local_lines 0 locals.now) }
+    ensures { OnOk result (out.new.items ≡ out.old.items ++ local_lines locals.now) }
 {
     for (comp, verdict) in locals.iter().enumerate() {
         append_local(out, comp, *verdict)?;
@@ -164,7 +166,7 @@ pub(crate) fn append_locals(out: &mut Vec<u8>, locals: &[Verdict]) -> Result<(),
 
 // Appends the line that names a test case.
 fn append_name(out: &mut Vec<u8>, name: &Name) -> Result<(), NoMemory>
-    ensures { OnOk result (out.new.items ≡ out.old.items ++ case_line name.now) }
+    ensures { OnOk result (out.new.items ≡ out.old.items ++ (codes "testcase " ++ (name.now ++ 10 ∷ []))) }
 {
     append_text(out, "testcase ")?;
     out.extend_from_slice(name.bytes())?;

@@ -1,6 +1,6 @@
 //! The exit status.
 ghost use Rattle.std.specs.Prelude.{◌≡◌, map};
-ghost use Rattle.tc_report.specs.Status.{counted_as as spec_counted, ending_status as spec_ending, results_status, status_of_summaries, verdict_status as spec_status, worst_of as spec_worst};
+ghost use Rattle.tc_report.specs.Status.{counted_as as spec_counted, ending_status as spec_ending, results_status, verdict_status as spec_status, worst_of as spec_worst};
 ghost use Rattle.tc_report.specs.Summary.{case_summary};
 
 use crate::results::{CampaignEnd, CaseEnd, Finished, Results};
@@ -74,7 +74,7 @@ pub fn status_of(results: &Results) -> u8
 /// The exit status: 0 if the worst overall verdict is none or pass, 1 if it is inconc or fail, 2 if it is error. A test
 /// case that is not over, is missing, or has no report, counts as error. It takes no memory.
 pub fn worst_status(cases: &[Summary]) -> u8
-    ensures { result ≡ status_of_summaries cases.now }
+    ensures { result ≡ spec_status (spec_worst cases.now) }
 {
     verdict_status(worst_of(cases))
 }

@@ -1,11 +1,12 @@
 //! The summary of test cases, a page for a person.
-ghost use Rattle.std.specs.Prelude.{◌≡◌, ◌++◌, ◌∷◌, [], IfOk, OnOk, codes, map};
+ghost use Rattle.std.specs.Prelude.{◌≡◌, ◌++◌, ◌∷◌, [], IfOk, OnOk, codes, length, map};
 ghost use Rattle.tc_case.specs.Refusals.{refusal_text};
 ghost use Rattle.tc_verdict.specs.Verdict.{name_of as spec_name};
 ghost use Rattle.tc_report.specs.Cause.{cause_text};
 ghost use Rattle.tc_report.specs.Csv.{end_word as end_text};
 ghost use Rattle.tc_report.specs.Inside.{AddsShown, AddsWords, member_text as spec_member, numbers_with};
 ghost use Rattle.tc_report.specs.SummaryText as spec;
+ghost use Rattle.tc_report.specs.Tally.{tally_by};
 
 use crate::cause::{Cause, append_named};
 use crate::records::end_word;
@@ -32,7 +33,7 @@ fn ended(cases: &[Summary], word: &str) -> usize
 
 // The test cases by their overall verdicts.
 fn tally_of(cases: &[Summary]) -> Tally
-    ensures { result ≡ spec.tally_of cases.now }
+    ensures { result ≡ tally_by (length cases.now) (λ v. spec.ended (spec_name v) cases.now) }
 {
     Tally {
         cases: cases.len(),
@@ -369,7 +370,6 @@ fn append_all_failed(alloc: Global, out: &mut Vec<u8>, cases: &[Summary]) -> Res
 
 /// The summary of these test cases, a page for a person: their counts, and then each that failed. It has what decided its
 /// verdict, at most five calls of the run before that, and the local verdicts of its components.
-#[tactic(auto, using(crate::proofs::Wording::is_summary))]
 pub fn summary_report(alloc: Global, cases: &[Summary]) -> Result<Vec<u8>, NoMemory>
     ensures { IfOk result (λ v. spec.IsSummary cases.now v.items) }
 {

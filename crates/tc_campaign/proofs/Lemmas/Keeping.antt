@@ -1,11 +1,12 @@
 -- What a campaign leaves with an observer that has room for all its test cases, and one that has no room for them.
-use Rattle.std.proofs.Common.{ℕ, zero, suc, ◌≡◌, ◌≤◌, ◌∷◌, [], List, Option, Some, length, map, take, arith, inl, inr, refl, sym, subst, ◌∙◌}
-use Rattle.std.specs.Prelude.{IfSome, slice_get}
+use Rattle.std.proofs.Common.{ℕ, zero, suc, ◌≡◌, ◌≤◌, ◌∷◌, ◌++◌, [], Bool, List, Option, Some, None, length, map, take, arith, inl, inr, refl, sym, subst, ◌∙◌}
+use Rattle.std.specs.Prelude.{◌⊎◌, IfSome, slice_get}
 use Rattle.std.specs.Vec.{vec_capacity}
 use Rattle.std.proofs.lemmas.List.Elements.{All-nil}
 use Rattle.std.proofs.lemmas.Slice.Zip.{AllZip-long}
 use Rattle.tc_verdict.specs.declared.verdict.Verdict.{Verdict}
 use Rattle.tc_book.specs.Passes.{PassState}
+use Rattle.tc_case.specs.declared.refusal.CaseError.{CaseError}
 use Rattle.tc_case.specs.declared.refusal.CaseError.TheVariants as C
 use Rattle.tc_exec.specs.declared.job.Back.{Back}
 use Rattle.tc_report.specs.declared.kept.Kept.{Kept}
@@ -13,17 +14,42 @@ use Rattle.tc_report.specs.declared.results.CampaignEnd.{CampaignEnd}
 use Rattle.tc_report.specs.declared.results.CampaignEnd.TheVariants as E
 use Rattle.tc_report.specs.declared.results.Finished.{Finished}
 use Rattle.tc_report.specs.Kept.{Keeps}
-use Rattle.tc_report.specs.Observers.{AreTaken, IsEndedAt}
+use Rattle.tc_report.specs.Observers.{AreTaken}
+use Rattle.tc_report.specs.Inside.{IsEndedAt}
 use Rattle.tc_report.proofs.Lemmas.Keeping.{are_kept, never_ended}
 use Rattle.tc_campaign.specs.declared.case.Case.{Case}
-use Rattle.tc_campaign.specs.Outline.{outline_of}
-use Rattle.tc_campaign.specs.Campaign.{AreFinished, IsCalled, IsCutShort, IsObserved, IsRunTo, IsTornAt}
+use Rattle.tc_report.specs.Stopping.{IsMet}
+use Rattle.tc_campaign.specs.Outline.{Outline, outline_of}
+use Rattle.tc_campaign.specs.Campaign.{AreFinished, IsCalled, IsCutShort, IsEnding, IsObserved, IsRefusal, IsRunTo, IsTornAt}
 use Rattle.tc_campaign.specs.Inside.{HasBehaviours, IsUnrun}
 
 take_short : {A : Type 0} (n : ℕ) (xs : List A) → length (take n xs) ≤ length xs
 take_short zero xs = omega arith
 take_short (suc n) [] = omega arith
 take_short (suc n) (x ∷ xs) = omega (arith, take_short n xs)
+
+-- an ending for which a case can be refused is one for which it can be refused so or otherwise
+may_end : (Stops : Finished → Type 0) (Refuses Also : CaseError → Outline → Type 0) (last : Option Finished) (next : Option Outline) (ending : CampaignEnd)
+    → IsEnding Stops Refuses last next ending → IsEnding Stops (λ why c. Refuses why c ⊎ Also why c) last next ending
+may_end Stops Refuses Also last next E.Complete ends = ends
+may_end Stops Refuses Also last next (E.StoppedAfter name) ends = ends
+may_end Stops Refuses Also last None (E.Aborted name why) ends = absurd ends.1
+may_end Stops Refuses Also last (Some c) (E.Aborted name why) ends = (ends.0, (ends.1.0, inl ends.1.1))
+
+-- a campaign that was observed is one that was run
+pub run_to : {B O : Type 0} {outcome : B → PassState → Back → Type 0} {cases : List (Case B)} {stop_on : Option Verdict} {threads : ℕ}
+    {takes : O → Finished → O → Bool → Type 0} {before after : O} {ending : CampaignEnd} (seen : IsObserved outcome cases stop_on threads takes before after ending)
+    → IsRunTo outline_of (IsCalled outcome) cases stop_on threads seen.finished ending
+run_to {B} {O} {outcome} {cases} {stop_on} {threads} {takes} {before} {after} {ending} seen = record {
+  each = seen.run.each;
+  last = may_end (λ f. IsMet stop_on f.report.verdict) (IsRefusal threads) (λ why c. (seen.finished ≡ []) × (why ≡ C.NoMemory)) _ _ ending seen.run.last;
+}
+
+-- an observer that cut a campaign short has ended it
+pub ended_at : {B O : Type 0} {outcome : B → PassState → Back → Type 0} {cases : List (Case B)} {stop_on : Option Verdict} {threads : ℕ}
+    {takes : O → Finished → O → Bool → Type 0} {before after : O} (cut : IsCutShort outcome cases stop_on threads takes before after)
+    → IsEndedAt takes (cut.others ++ cut.last ∷ []) before after
+ended_at cut = record { others = cut.others; last = cut.last; all = refl; between = cut.between; each = cut.taken; at_last = cut.ended }
 
 module _ {B : Type 0} (outcome : B → PassState → Back → Type 0) (cases : List (Case B)) (stop_on : Option Verdict) (threads : ℕ) where
   pub none_finished : AreFinished outline_of (IsCalled outcome) cases stop_on threads []
@@ -54,7 +80,7 @@ module _ {B : Type 0} (outcome : B → PassState → Back → Type 0) (cases : L
 
   module _ (before after : Kept) (none : before.finished.items ≡ []) (room : length cases ≤ vec_capacity before.finished) where
     pub not_cut : IsCutShort outcome cases stop_on threads Keeps before after → ⊥
-    not_cut cut = not_ended before after none room cut.finished cut.each cut.ended
+    not_cut cut = not_ended before after none room (cut.others ++ cut.last ∷ []) cut.each (ended_at cut)
 
     module _ (answer : Option CampaignEnd) (ending : CampaignEnd) (is : answer ≡ Some ending)
         (observed : IfSome answer (IsObserved outcome cases stop_on threads Keeps before after)) where
@@ -65,7 +91,7 @@ module _ {B : Type 0} (outcome : B → PassState → Back → Type 0) (cases : L
       same = sym (all_are_kept before after none room seen.finished seen.run.each seen.taken)
 
       pub kept_run : IsRunTo outline_of (IsCalled outcome) cases stop_on threads after.finished.items ending
-      kept_run = subst (λ fs. IsRunTo outline_of (IsCalled outcome) cases stop_on threads fs ending) same seen.run
+      kept_run = subst (λ fs. IsRunTo outline_of (IsCalled outcome) cases stop_on threads fs ending) same (run_to seen)
 
       pub kept_torn : IsTornAt outcome (slice_get cases (length after.finished.items)) ending
       kept_torn = subst (λ fs. IsTornAt outcome (slice_get cases (length fs)) ending) same seen.torn
@@ -77,8 +103,8 @@ module _ {B : Type 0} (outcome : B → PassState → Back → Type 0) (finished 
   unrun_run cases stop_on threads is = subst (λ fs. IsRunTo outline_of (IsCalled outcome) cases stop_on threads fs ending) (sym none) (go cases is)
     where
       go : (cs : List (Case B)) → IsUnrun (map outline_of cs) ending → IsRunTo outline_of (IsCalled outcome) cs stop_on threads [] ending
-      go [] is = rw is (record { each = none_finished outcome [] stop_on threads; last = (tt, refl); why = inl tt })
-      go (c ∷ cs) is = rw is (record { each = none_finished outcome (c ∷ cs) stop_on threads; last = (tt, refl); why = inr (refl, refl) })
+      go [] is = rw is (record { each = none_finished outcome [] stop_on threads; last = (tt, refl) })
+      go (c ∷ cs) is = rw is (record { each = none_finished outcome (c ∷ cs) stop_on threads; last = (tt, (refl, inr (refl, refl))) })
 
   pub unrun_torn : (cases : List (Case B)) → IsUnrun (map outline_of cases) ending → IsTornAt outcome (slice_get cases (length finished)) ending
   unrun_torn cases is = subst (λ fs. IsTornAt outcome (slice_get cases (length fs)) ending) (sym none) (go cases is)

@@ -6,9 +6,9 @@ use Rattle.tc_verdict.specs.declared.verdict.Verdict.{Verdict}
 use Rattle.tc_report.specs.declared.results.CampaignEnd.{CampaignEnd}
 use Rattle.tc_report.specs.declared.results.CampaignEnd.TheVariants as E
 use Rattle.tc_report.specs.declared.results.Finished.{Finished}
-use Rattle.tc_report.specs.Stopping.{IsBetter, IsMet}
+use Rattle.tc_report.specs.Stopping.{IsMet}
 use Rattle.tc_campaign.specs.Outline.{Outline}
-use Rattle.tc_campaign.specs.Inside.{AreDone, HasThreads, IsAbortedAt, IsOf, IsSoFar, IsRun}
+use Rattle.tc_campaign.specs.Inside.{AreDone, HasThreads, IsAbortedAt, IsBetter, IsOf, IsSoFar, IsRun}
 use Rattle.tc_campaign.specs.Inside.IsRun.{complete, aborted, stopped, cut}
 use Rattle.tc_campaign.proofs.Places.{AllZip-pushed, AllZip-begin}
 

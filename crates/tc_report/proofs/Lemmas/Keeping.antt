@@ -5,7 +5,8 @@ use Rattle.std.specs.Vec.{vec_capacity}
 use Rattle.tc_report.specs.declared.kept.Kept.{Kept}
 use Rattle.tc_report.specs.declared.results.Finished.{Finished}
 use Rattle.tc_report.specs.Kept.{Keeps}
-use Rattle.tc_report.specs.Observers.{AreTaken, IsEndedAt}
+use Rattle.tc_report.specs.Inside.{IsEndedAt}
+use Rattle.tc_report.specs.Observers.{AreTaken}
 
 -- if there is room for them, those that it was given are kept after the others, and the room stays
 all_kept : (fs : List Finished) (before after : Kept) → AreTaken Keeps fs before after → length before.finished.items + length fs ≤ vec_capacity before.finished

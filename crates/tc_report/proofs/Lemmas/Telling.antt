@@ -8,10 +8,10 @@ use Rattle.tc_text.specs.Said.{ends_word}
 use Rattle.tc_report.specs.declared.fault.OutFault.{OutFault}
 use Rattle.tc_report.specs.declared.progress.Progress.{Progress}
 use Rattle.tc_report.specs.declared.results.Finished.{Finished}
-use Rattle.tc_report.specs.Inside.{Adds, AddsWords}
-use Rattle.tc_report.specs.Observers.{AreTaken, IsEndedAt}
+use Rattle.tc_report.specs.Inside.{Adds, AddsWords, IsEndedAt, IsSoFar}
+use Rattle.tc_report.specs.Observers.{AreTaken}
 use Rattle.tc_report.specs.Output.{LeavesPrefix}
-use Rattle.tc_report.specs.Progress.{HasTold, IsSoFar, IsToldBy, Names, Prints, Tells, failed, told}
+use Rattle.tc_report.specs.Progress.{HasTold, IsToldBy, Names, Prints, Tells, failed, told}
 use Rattle.tc_report.specs.Status.{verdict_status}
 use Rattle.tc_report.proofs.Writing.{appends_both, left_is_prefix}
 

@@ -1,8 +1,7 @@
 use Rattle.std.proofs.Common.{◌∙◌}
 use Rattle.std.specs.List.{flat_map}
 use Rattle.std.proofs.Common.{ap}
-use Rattle.tc_program.specs.Choosing.{is_picked}
-use Rattle.tc_program.specs.Inside.{line_by}
+use Rattle.tc_program.specs.Inside.{line_by, is_picked}
 use Rattle.tc_program.proofs.Checking.{all_checked}
 use Rattle.tc_program.proofs.check.check_lines.Goals as goal
 

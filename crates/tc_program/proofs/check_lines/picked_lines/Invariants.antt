@@ -1,7 +1,6 @@
 use Rattle.std.proofs.Common.{◌≡◌, take}
 use Rattle.std.specs.List.{flat_map}
-use Rattle.tc_program.specs.Choosing.{is_picked}
-use Rattle.tc_program.specs.Inside.{line_by}
+use Rattle.tc_program.specs.Inside.{line_by, is_picked}
 use Rattle.tc_program.proofs.check_lines.picked_lines.Given as goal
 
 -- what is printed for those so far

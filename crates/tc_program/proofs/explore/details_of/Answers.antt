@@ -1,5 +1,5 @@
 use Rattle.std.proofs.Common.{List, ℕ, subst}
-use Rattle.tc_program.specs.Explore.{TellsLocalsIf}
+use Rattle.tc_program.specs.Inside.{TellsLocalsIf}
 use Rattle.tc_program.proofs.explore.details_of.Goals as goal
 
 pub returns : goal.returns

@@ -1,6 +1,6 @@
 use Rattle.std.proofs.Common.{◌∙◌, [], ap}
 use Rattle.tc_campaign.specs.Choosing.{case_name}
-use Rattle.tc_program.specs.Choosing.{list_text}
+use Rattle.tc_program.specs.Inside.{list_text}
 use Rattle.tc_program.proofs.Chosen.{same_lines}
 use Rattle.tc_program.proofs.Doing.{answer_of}
 use Rattle.tc_program.proofs.listing.list_text.Goals as goal

@@ -1,6 +1,6 @@
 use Rattle.std.proofs.Common.{◌∙◌}
 use Rattle.tc_campaign.specs.Choosing.{case_name}
-use Rattle.tc_program.specs.Choosing.{list_text}
+use Rattle.tc_program.specs.Inside.{list_text}
 use Rattle.tc_program.proofs.Doing.{silent_answer}
 use Rattle.tc_program.proofs.listing.listed.Goals as goal
 

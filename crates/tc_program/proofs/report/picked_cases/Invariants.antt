@@ -1,8 +1,7 @@
 use Rattle.std.proofs.Common.{◌≡◌, ◌++◌, length}
 use Rattle.std.specs.List.{flat_map}
 use Rattle.std.specs.Vec.Iter.{into_iter_items, into_iter_len}
-use Rattle.tc_program.specs.Choosing.{is_picked}
-use Rattle.tc_program.specs.Inside.{case_if_picked}
+use Rattle.tc_program.specs.Inside.{case_if_picked, is_picked}
 use Rattle.tc_program.proofs.report.picked_cases.Given as goal
 
 -- those that are picked so far, and those of the rest, are those of all

@@ -1,4 +1,4 @@
-use Rattle.tc_program.specs.Choosing.{is_picked}
+use Rattle.tc_program.specs.Inside.{is_picked}
 use Rattle.tc_program.proofs.Reporting.{picked_reports}
 use Rattle.tc_program.proofs.report.read_reported.Goals as goal
 

@@ -1,6 +1,5 @@
 use Rattle.std.proofs.Common.{[], filter, subst}
-use Rattle.tc_program.specs.Choosing.{is_picked}
-use Rattle.tc_program.specs.Inside.{picked_by}
+use Rattle.tc_program.specs.Inside.{picked_by, is_picked}
 use Rattle.tc_program.specs.Report.{IsReport}
 use Rattle.tc_program.proofs.report.report_picked.Goals as goal
 

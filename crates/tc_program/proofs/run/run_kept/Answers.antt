@@ -5,8 +5,7 @@ use Rattle.tc_report.specs.Progress.{IsToldBy}
 use Rattle.tc_campaign.specs.Campaign.{IsCalled, IsRunTo}
 use Rattle.tc_campaign.specs.Outline.{outline_of}
 use Rattle.tc_campaign.proofs.Lemmas.Keeping.{all_are_kept, not_ended}
-use Rattle.tc_program.specs.Inside.{AreGiven}
-use Rattle.tc_program.specs.Limits.{worker_limit}
+use Rattle.tc_program.specs.Inside.{AreGiven, worker_limit}
 use Rattle.tc_program.proofs.run.run_kept.Goals as goal
 
 pub unreachable-requires : goal.unreachable-requires

@@ -1,4 +1,4 @@
-use Rattle.tc_program.specs.Limits.{worker_limit}
+use Rattle.tc_program.specs.Inside.{worker_limit}
 use Rattle.tc_program.proofs.Running.{untold}
 use Rattle.tc_program.proofs.run.run_or_not.Goals as goal
 

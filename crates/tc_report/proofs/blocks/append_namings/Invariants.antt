@@ -2,7 +2,7 @@ use Rattle.std.proofs.Common.{◌≡◌, ◌≤◌, ◌+◌, ◌++◌, length}
 use Rattle.std.specs.List.{flat_map}
 use Rattle.tc_evidence.specs.Block.{ended}
 use Rattle.tc_evidence.specs.Line.{line_text}
-use Rattle.tc_report.specs.Blocks.{namings}
+use Rattle.tc_report.specs.Inside.{namings}
 use Rattle.tc_report.proofs.blocks.append_namings.Given as goal
 
 -- with the lines that are left all are appended, and their runs are numbers of runs

@@ -1,5 +1,5 @@
 use Rattle.std.proofs.Common.{subst, sym}
-use Rattle.tc_report.specs.Progress.{IsSoFar}
+use Rattle.tc_report.specs.Inside.{IsSoFar}
 use Rattle.tc_report.proofs.Lemmas.Telling.{so_begun, so_cut}
 use Rattle.tc_report.proofs.progress.Progress.begin.Goals as goal
 

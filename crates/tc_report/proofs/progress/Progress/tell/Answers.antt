@@ -1,5 +1,5 @@
 use Rattle.std.proofs.Common.{◌++◌, ◌∷◌, [], subst, sym}
-use Rattle.tc_report.specs.Progress.{IsSoFar}
+use Rattle.tc_report.specs.Inside.{IsSoFar}
 use Rattle.tc_report.proofs.Lemmas.Telling.{so_cut, so_told}
 use Rattle.tc_report.proofs.progress.Progress.tell.Goals as goal
 
