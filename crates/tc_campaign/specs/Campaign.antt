@@ -70,7 +70,7 @@ module _ {C : Type 0} (outline : C → Outline) (called : C → Finished → Typ
     pub last : IsEnding (λ f. IsMet stop_on f.report.verdict) Refuses
         (slice_get finished (length finished - 1)) (slice_get (map outline cases) (length finished)) ending
 
-  -- the same; there may have been no room for its reports, and then none of its cases was run
+  -- the same; there may have been no room for its reports, and then none is finished
   abbrev pub IsRunTo : List Finished → CampaignEnd → Type 0
   IsRunTo finished = EndsSo (λ why c. IsRefusal threads why c ⊎ ((finished ≡ []) × (why ≡ NoMemory))) finished
 
