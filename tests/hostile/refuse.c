@@ -1,8 +1,9 @@
 /* Refuses memory, threads and devices to the program that it is loaded into by LD_PRELOAD, and counts what was asked for.
 
    REFUSE_PLAN=growth:N refuses the Nth growth, a call of malloc, calloc, realloc or an aligned one; thread:N the Nth call of
-   pthread_create; read:N the Nth read; write:N the Nth write to standard output. With .. behind N each one behind it is refused
-   too. Without a plan nothing is refused. Where REFUSE_NARROW is set each read and each write moves one byte at most.
+   pthread_create; read:N the Nth read; write:N the Nth write to standard output. A read or a write fails as one that was
+   interrupted where N is odd. With .. behind N each one behind it is refused too. Without a plan nothing is refused. Where
+   REFUSE_NARROW is set each read and each write moves one byte at most.
    REFUSE_COUNTS names a file of 40 bytes, in which five numbers of 8 bytes are kept: growths, threads, reads and writes that were
    asked for, and refusals.
 
@@ -141,7 +142,7 @@ static size_t narrowed(size_t size) {
 
 ssize_t read(int file, void *into, size_t size) {
     if (refuses(READ)) {
-        errno = EIO;
+        errno = plans[READ].first % 2 ? EINTR : EIO;
         return -1;
     }
     return syscall(SYS_read, file, into, narrowed(size));
@@ -149,7 +150,7 @@ ssize_t read(int file, void *into, size_t size) {
 
 ssize_t write(int file, const void *from, size_t size) {
     if (file == 1 && refuses(WRITE)) {
-        errno = ENOSPC;
+        errno = plans[WRITE].first % 2 ? EINTR : ENOSPC;
         return -1;
     }
     return syscall(SYS_write, file, from, narrowed(size));
