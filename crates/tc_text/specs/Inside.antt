@@ -1,7 +1,8 @@
 -- What only the way the texts are read needs: no public clause names a word of this file.
-use Rattle.std.specs.Prelude.{ℕ, ◌≡◌, ◌≢◌, ◌<◌, ◌≤◌, ◌++◌, codes, length, Bool, true, false, if◌then◌else◌, List, [], ◌∷◌, Option, Some, None, MatchOption, slice_get}
+use Rattle.std.specs.Prelude.{ℕ, ◌≡◌, ◌≢◌, ◌<◌, ◌≤◌, ◌+◌, ◌-◌, ◌*◌, ◌^◌, ◌++◌, codes, length, take, Bool, true, false, if◌then◌else◌, List, [], ◌∷◌, Option, Some, None, MatchOption, slice_get}
 use Rattle.std.specs.Borrow.{Bor}
 use Rattle.std.specs.Char.{is_ascii_digit}
+use Rattle.std.specs.Str.{all_ascii_digits}
 use Rattle.std.specs.Fmt.{decimal}
 use Rattle.tc_verdict.specs.UserVerdict.{given}
 use Rattle.tc_verdict.specs.Verdict.{name_of}
@@ -29,6 +30,18 @@ BeginsWithE text = slice_get text 0 ≡ Some 101
 -- no digit comes first
 abbrev pub NoDigitFirst : List ℕ → Type 0
 NoDigitFirst text = (b : ℕ) (rest : List ℕ) → text ≡ b ∷ rest → is_ascii_digit b ≡ true → ⊥
+
+-- the number that digits write after those of n
+abbrev pub read_on : ℕ → List ℕ → ℕ
+read_on n [] = n
+read_on n (c ∷ cs) = read_on (10 * n + (c - 48)) cs
+
+-- the bytes up to the place are digits, and write the number
+pub record Counted (text : List ℕ) (place number : ℕ) : Type 0 where
+  pub within : place ≤ length text
+  pub digits : all_ascii_digits (take place text) ≡ true
+  pub value : number ≡ read_on 0 (take place text)
+  pub fits : number < 2 ^ 32
 
 -- the first words of a wait or a wake
 abbrev pub IsWait : Status → Type 0

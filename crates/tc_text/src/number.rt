@@ -2,7 +2,7 @@
 ghost use Rattle.std.specs.Prelude.{◌≡◌, ◌<◌, ◌≤◌, ◌+◌, ◌^◌, ◌++◌, ◌⊎◌, ℕ, List, true, false, length, drop, slice_index, Some, IfSome, IfNone};
 ghost use Rattle.std.specs.Fmt.{decimal};
 ghost use Rattle.tc_text.specs.Reading.{EndsNumber, Takes};
-ghost use Rattle.tc_text.specs.Inside.{NoDigitFirst};
+ghost use Rattle.tc_text.specs.Inside.{Counted, NoDigitFirst};
 
 // The value of the digit at a place of the text, if there is one.
 #[inline(always)]
@@ -30,9 +30,26 @@ fn is_spelling(digits: &[u8]) -> bool
     }
 }
 
-/// The number that the text begins with, and what follows it.
+// The number, and what follows its digits, which are up to this place, if they are its spelling.
 #[inline(always)]
-pub fn take_number(text: &[u8]) -> Option<(u32, &[u8])>
+fn spelled_to(text: &[u8], end: usize, number: u32) -> Option<(u32, &[u8])>
+    requires counted { Counted text.now end number }
+    requires ended { NoDigitFirst (drop end text.now) }
+    ensures spelled { IfSome result (λ r. text.now ≡ decimal r.0 ++ r.1.now) }
+    ensures fits { IfSome result (λ r. r.0 < 2 ^ 32) }
+    ensures only { (n : ℕ) (rest : List ℕ) → n < 2 ^ 32 → EndsNumber rest → text.now ≡ decimal n ++ rest → Takes result n rest }
+{
+    let (digits, rest) = text.split_at(end);
+    if is_spelling(digits) {
+        Some((number, rest))
+    } else {
+        None
+    }
+}
+
+// The number that the text begins with, and what follows it.
+#[inline(never)]
+fn take_long_number(text: &[u8]) -> Option<(u32, &[u8])>
     ensures spelled { IfSome result (λ r. text.now ≡ decimal r.0 ++ r.1.now) }
     ensures fits { IfSome result (λ r. r.0 < 2 ^ 32) }
     ensures only { (n : ℕ) (rest : List ℕ) → n < 2 ^ 32 → EndsNumber rest → text.now ≡ decimal n ++ rest → Takes result n rest }
@@ -46,11 +63,42 @@ pub fn take_number(text: &[u8]) -> Option<(u32, &[u8])>
         }
         end += 1;
     }
-    let (digits, rest) = text.split_at(end);
-    if is_spelling(digits) {
-        Some((number as u32, rest))
-    } else {
-        None
+    spelled_to(text, end, number as u32)
+}
+
+// How many digits the text begins with, and their number, if there are at most three.
+#[inline(always)]
+fn few_digits(text: &[u8]) -> Option<(usize, u32)>
+    ensures counted { IfSome result (λ r. Counted text.now r.0 r.1) }
+    ensures ended { IfSome result (λ r. NoDigitFirst (drop r.0 text.now)) }
+{
+    let Some(first) = digit_at(text, 0) else {
+        return Some((0, 0));
+    };
+    let one = first as u32;
+    let Some(second) = digit_at(text, 1) else {
+        return Some((1, one));
+    };
+    let two = one * 10 + second as u32;
+    let Some(third) = digit_at(text, 2) else {
+        return Some((2, two));
+    };
+    match digit_at(text, 3) {
+        Some(_) => None,
+        None => Some((3, two * 10 + third as u32)),
+    }
+}
+
+/// The number that the text begins with, and what follows it. Most numbers have few digits.
+#[inline(always)]
+pub fn take_number(text: &[u8]) -> Option<(u32, &[u8])>
+    ensures spelled { IfSome result (λ r. text.now ≡ decimal r.0 ++ r.1.now) }
+    ensures fits { IfSome result (λ r. r.0 < 2 ^ 32) }
+    ensures only { (n : ℕ) (rest : List ℕ) → n < 2 ^ 32 → EndsNumber rest → text.now ≡ decimal n ++ rest → Takes result n rest }
+{
+    match few_digits(text) {
+        Some((end, number)) => spelled_to(text, end, number),
+        None => take_long_number(text),
     }
 }
 

@@ -8,12 +8,7 @@ use Rattle.std.proofs.lemmas.Str.Parse.{IsNumeralModel, numerals_by_fold, digit_
 use Rattle.std.proofs.lemmas.List.{take_more, take-append-drop}
 use Rattle.std.proofs.lemmas.Bool.Decides.{nat_tests}
 use Rattle.tc_text.specs.Reading.{EndsNumber}
-use Rattle.tc_text.specs.Inside.{NoDigitFirst}
-
--- the number that digits write after those of n
-abbrev pub read_on : ℕ → List ℕ → ℕ
-read_on n [] = n
-read_on n (c ∷ cs) = read_on (10 * n + (c - 48)) cs
+use Rattle.tc_text.specs.Inside.{Counted, NoDigitFirst, read_on}
 
 own : IsNumeralModel (λ ds. all_ascii_digits ds ≡ true) (read_on 0)
 own = numerals_by_fold _ (search rules) read_on (search rules)
@@ -45,13 +40,6 @@ digit_above : (b : ℕ) → is_ascii_digit b ≡ true → b < 48 → ⊥
 digit_above b digit low = grind (arith, nat_tests)
 
 -- ---- how far the digits are read
-
--- the bytes up to the place are digits, and write the number
-pub record Counted (text : List ℕ) (place number : ℕ) : Type 0 where
-  pub within : place ≤ length text
-  pub digits : all_ascii_digits (take place text) ≡ true
-  pub value : number ≡ read_on 0 (take place text)
-  pub fits : number < 2 ^ 32
 
 pub counted_none : (text : List ℕ) → Counted text 0 0
 counted_none text = record { within = omega arith; digits = refl; value = refl; fits = omega arith }
