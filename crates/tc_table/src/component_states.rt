@@ -112,6 +112,7 @@ impl ComponentStates {
         self.states.as_slice()
     }
 
+    #[inline(always)]
     pub fn get(&self, i: usize) -> ComponentState
         requires { i < length self.now }
         ensures { result ≡ slice_index_or self.now i result }
@@ -137,6 +138,7 @@ impl ComponentStates {
     }
 
     /// Changes the state of component i, whose local verdict gets no better.
+    #[inline(always)]
     pub fn set(&mut self, i: usize, state: ComponentState)
         requires within { i < length self.old }
         requires no_better { level_of (slice_index_or self.old i state).local ≤ level_of state.local }

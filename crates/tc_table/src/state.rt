@@ -92,6 +92,7 @@ impl CaseState {
     }
 
     /// Makes a call, and returns its reply. Only a Create can run out of memory; then the state stays as it was.
+    #[inline(always)]
     pub fn play(&mut self, caller: Run, op: Op) -> Result<Reply, NoMemory>
         ensures behaviours { self.new.behaviours ≡ self.old.behaviours }
         ensures reply { IfOk result (λ r. IsReply self.old caller op r) }
@@ -111,6 +112,7 @@ impl CaseState {
 
     /// Takes in an entry whose reply is the table's. If the reply is another, it takes in nothing, and returns the
     /// table's reply. Only a Create can run out of memory; then the state stays as it was.
+    #[inline(always)]
     pub fn play_entry(&mut self, entry: &Entry) -> Result<Option<Reply>, NoMemory>
         ensures behaviours { self.new.behaviours ≡ self.old.behaviours }
         ensures same { IfOk result (λ other. IfNone other (IsReply self.old entry.now.caller entry.now.op entry.now.reply)) }
@@ -132,6 +134,7 @@ impl CaseState {
 
     /// The reply that `play` would give now.
     #[tactic(auto, using(crate::proofs::Lemmas::Kept::kept_rules, crate::proofs::Lemmas::Kept::wait_rules), unfolding(crate::specs::Answers::answer, crate::specs::Faults::fault, crate::specs::Standing::StandsFor))]
+    #[inline(always)]
     pub fn would(&self, caller: Run, op: &Op) -> Reply
         ensures { IsReply self.now caller op.now result }
     {

@@ -84,6 +84,7 @@ fn later(start: Option<Run>, last: Option<Run>) -> Option<Run>
 
 /// What is known of a component after one more entry, whose caller is on component own.
 #[tactic(auto, unfolding(crate::specs::Inside::Step::next_state))]
+#[inline(always)]
 fn next_state(own: Option<Comp>, entry: &Entry, comp: u32, state: ComponentState) -> ComponentState
     ensures { result ≡ step.next_state own entry.now comp state }
 {
@@ -175,6 +176,7 @@ fn take_in_all(states: &mut ComponentStates, own: Option<Comp>, entry: &Entry)
 }
 
 /// The same, for an entry that touches only one component.
+#[inline(always)]
 fn take_in_one(states: &mut ComponentStates, own: Option<Comp>, entry: &Entry, comp: Comp)
     requires settled { step.IsSettled states.old }
     requires touched { step.touched own entry.now ≡ changed.One comp }
@@ -242,6 +244,7 @@ fn take_in_many(states: &mut ComponentStates, own: Option<Comp>, entry: &Entry)
 
 /// Brings what is known of the components up to one more entry.
 #[tactic(auto, using(crate::proofs::Elsewhere::none_changed))]
+#[inline(always)]
 pub fn take_in(states: &mut ComponentStates, own: Option<Comp>, entry: &Entry)
     requires settled { step.IsSettled states.old }
     ensures as_many { length states.new ≡ length states.old }
@@ -255,6 +258,7 @@ pub fn take_in(states: &mut ComponentStates, own: Option<Comp>, entry: &Entry)
 }
 
 /// Whether the call asks or waits: without an error, it changes no component and starts no run.
+#[inline(always)]
 pub fn asks(op: &Op) -> bool
     ensures { result ≡ step.asks op.now }
 {
@@ -272,6 +276,7 @@ pub fn asks(op: &Op) -> bool
 
 /// What is known of a run after one more entry.
 #[tactic(auto, unfolding(crate::specs::Inside::Step::next_run))]
+#[inline(always)]
 fn next_run(entry: &Entry, run: u16, state: RunState) -> RunState
     ensures { result ≡ step.next_run entry.now run state }
 {
@@ -317,6 +322,7 @@ pub fn take_in_caller(runs: &mut Vec<RunState>, entry: &Entry)
 }
 
 /// Brings what is known of the runs up to one more entry: it changes its caller and the run that it starts.
+#[inline(always)]
 pub fn take_in_runs(runs: &mut Vec<RunState>, entry: &Entry)
     ensures as_many { length runs.new.items ≡ length runs.old.items }
     ensures each { (b : ℕ) → step.IsNextRun entry.now b runs.old.items runs.new.items }

@@ -31,6 +31,7 @@ impl CaseState {
 
     /// The reply to a call that is no error, by a run on component own.
     #[tactic(auto, using(crate::proofs::Lemmas::Kept::kept_rules, crate::proofs::Lemmas::Kept::wait_rules), unfolding(crate::specs::Standing::StandsFor))]
+    #[inline(always)]
     pub(crate) fn plain_answer(&self, caller: Run, own: Comp, op: &Op) -> Reply
         requires on { (past : List Entry) → StandsFor self.now past → history.comp_of past caller.0 ≡ Some own }
         requires within { own.0 < length self.now.states }

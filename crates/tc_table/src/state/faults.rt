@@ -20,6 +20,7 @@ impl CaseState {
     }
 
     /// Whether all components that the call names exist.
+    #[inline(always)]
     pub(crate) fn names_exist(&self, op: &Op) -> bool
         ensures { result ≡ tests.all_below (faults.names op.now) (length self.now.states) }
     {
@@ -32,6 +33,7 @@ impl CaseState {
         }
     }
 
+    #[inline(always)]
     pub(crate) fn target_exists(&self, target: Target) -> bool
         ensures { result ≡ tests.all_below (faults.target_names target) (length self.now.states) }
     {
@@ -66,6 +68,7 @@ impl CaseState {
 
     /// The dynamic error of a call, if it is one.
     #[tactic(auto, using(crate::proofs::Lemmas::Kept::kept_rules, crate::proofs::Lemmas::Kept::below_rules), unfolding(crate::specs::Faults::fault, crate::specs::Standing::StandsFor))]
+    #[inline(always)]
     pub(crate) fn fault(&self, caller: Run, op: &Op) -> Option<Fault>
         ensures known { is_none result ≡ true → tests.all_below (faults.names op.now) (length self.now.states) ≡ true }
         ensures is { (past : List Entry) → StandsFor self.now past → result ≡ faults.fault self.now.behaviours past caller.0 op.now }
@@ -100,6 +103,7 @@ fn group_target(group: Group) -> Target
 }
 
 /// The target of a call that has one.
+#[inline(always)]
 fn target_of(op: &Op) -> Option<Target>
     ensures { result ≡ faults.target_of op.now }
 {
@@ -114,6 +118,7 @@ fn target_of(op: &Op) -> Option<Target>
 }
 
 /// Whether a call is about Any or All.
+#[inline(always)]
 fn asks_many(op: &Op) -> bool
     ensures { result ≡ faults.asks_many op.now }
 {

@@ -21,6 +21,7 @@ impl CaseState {
     }
 
     /// The component that a run is on.
+    #[inline(always)]
     pub(crate) fn comp_of(&self, run: Run) -> Option<Comp>
         ensures is { (past : List Entry) → StandsFor self.now past → result ≡ history.comp_of past run.0 }
         ensures within { IfSome result (λ c. c.0 < length self.now.states) }
@@ -34,6 +35,7 @@ impl CaseState {
     }
 
     /// Whether components are running.
+    #[inline(always)]
     pub(crate) fn running(&self, target: Target) -> bool
         requires { tests.all_below (faults.target_names target) (length self.now.states) ≡ true }
         ensures { (past : List Entry) → StandsFor self.now past → result ≡ status.running past target }
@@ -47,6 +49,7 @@ impl CaseState {
     }
 
     /// Whether components are not killed.
+    #[inline(always)]
     pub(crate) fn alive(&self, target: Target) -> bool
         requires { tests.all_below (faults.target_names target) (length self.now.states) ≡ true }
         ensures { (past : List Entry) → StandsFor self.now past → result ≡ status.alive past target }
@@ -60,6 +63,7 @@ impl CaseState {
     }
 
     /// Whether components are stopped or killed.
+    #[inline(always)]
     pub(crate) fn done(&self, target: Target) -> bool
         requires { tests.all_below (faults.target_names target) (length self.now.states) ≡ true }
         ensures { (past : List Entry) → StandsFor self.now past → result ≡ status.done past target }
@@ -73,6 +77,7 @@ impl CaseState {
     }
 
     /// Whether components are killed.
+    #[inline(always)]
     pub(crate) fn killed(&self, target: Target) -> bool
         requires { tests.all_below (faults.target_names target) (length self.now.states) ≡ true }
         ensures { (past : List Entry) → StandsFor self.now past → result ≡ status.killed past target }

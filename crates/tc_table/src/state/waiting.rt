@@ -16,6 +16,7 @@ use tc_verdict::Run;
 #[tactic(auto, using(crate::proofs::Lemmas::Kept::kept_rules), unfolding(crate::specs::Standing::StandsFor))]
 impl CaseState {
     /// The component of a run that is active.
+    #[inline(always)]
     pub(crate) fn active_on(&self, caller: Run) -> Option<Comp>
         ensures active { (past : List Entry) → StandsFor self.now past → tests.IsThereIfActive past caller.0 result }
         ensures on { (past : List Entry) → StandsFor self.now past → IfSome result (λ c. history.comp_of past caller.0 ≡ Some c) }
@@ -39,6 +40,7 @@ impl CaseState {
 
     /// Whether what is awaited has come.
     #[tactic(auto, using(crate::proofs::Lemmas::Kept::kept_rules, crate::proofs::Lemmas::Kept::wait_rules), unfolding(crate::specs::Waiting::holds, crate::specs::Standing::StandsFor))]
+    #[inline(always)]
     pub(crate) fn holds(&self, awaited: Awaited) -> bool
         requires { tests.all_below (faults.target_names awaited.target) (length self.now.states) ≡ true }
         ensures { (past : List Entry) → StandsFor self.now past → result ≡ waits.holds past awaited }
