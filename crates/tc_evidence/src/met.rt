@@ -4,9 +4,11 @@ ghost use Rattle.tc_evidence.specs.declared.line.Line.{Line as AnyLine};
 ghost use Rattle.tc_evidence.specs.declared.line.Line.TheVariants as lines;
 ghost use Rattle.tc_evidence.specs.Line.{is_about, is_met as met};
 ghost use Rattle.tc_evidence.specs.Met.{AreMet};
+ghost use Rattle.tc_history.specs.Text.{short_entry};
 
 use crate::line::Line;
-use tc_entry::{BEHAVIOURS, Entry, Op, Run};
+use tc_entry::{BEHAVIOURS, Entry, Op, Reply, Run};
+use tc_text::ShortOp;
 
 /// The runs of a test case that some line of it is about.
 #[derive(Drop)]
@@ -42,6 +44,15 @@ impl MetRuns {
         if let Op::Start { run, .. } = &entry.op {
             self.add(*run);
         }
+    }
+
+    /// Adds the caller of the entry, whose operation is a short one.
+    #[inline(always)]
+    pub(crate) fn add_short(&mut self, caller: Run, op: ShortOp, reply: Reply)
+        ensures { (ls : List AnyLine) → AreMet self.old ls → AreMet self.new (lines.Entry (short_entry caller op reply) ∷ ls) }
+    {
+        self.add(caller);
+        let _ = (op, reply);
     }
 
     /// Adds the run of a line that was refused.

@@ -19,7 +19,7 @@ use crate::met::MetRuns;
 use crate::note::take_note;
 use crate::taking::TakesEvidence;
 use std::alloc::Global;
-use tc_entry::{Entry, NoMemory, Sequence, Verdict};
+use tc_entry::{NoMemory, Sequence, Verdict};
 use tc_history::{Block as History, take_end_line, take_entry_line, take_short_line};
 use tc_text::{TextFault, TextKind};
 
@@ -89,13 +89,8 @@ fn take_line<'a, H: TakesEvidence>(
     let Some(((caller, short, reply), rest)) = take_short_line(text) else {
         return take_any_line::<H>(alloc, kind, behaviours, met, begun, text, line);
     };
-    let entry = Entry {
-        caller,
-        op: short.op(),
-        reply,
-    };
-    met.add_entry(&entry);
-    H::take_entry(begun, line, entry)?;
+    met.add_short(caller, short, reply);
+    H::take_short(begun, line, caller, short, reply)?;
     Ok(Some(rest))
 }
 

@@ -5,12 +5,14 @@ ghost use Rattle.tc_evidence.specs.declared.header.Header.{Header as AnyHeader};
 ghost use Rattle.tc_evidence.specs.declared.line.Line.{Line as AnyLine};
 ghost use Rattle.tc_evidence.specs.declared.line.Line.TheVariants as lines;
 ghost use Rattle.tc_evidence.specs.Text.{IsHeader};
+ghost use Rattle.tc_history.specs.Text.{short_entry};
 
 use crate::block::Block;
 use crate::header::Header;
 use crate::line::Line;
 use std::alloc::Global;
-use tc_entry::{Entry, NoMemory, Sequence, Verdict};
+use tc_entry::{Entry, NoMemory, Reply, Run, Sequence, Verdict};
+use tc_text::ShortOp;
 
 /// What is made of blocks, line by line.
 pub trait TakesEvidence: Sized {
@@ -42,6 +44,25 @@ pub trait TakesEvidence: Sized {
             → opens first_line h before begun.old → opens first_line h (before ++ lines.Entry entry ∷ []) begun.new) }
     {
         Self::take(begun, line, Line::Entry(entry))
+    }
+
+    /// Takes the next line of the block, which has this number, if it is an entry with a short operation.
+    fn take_short(
+        begun: &mut Self::Begun,
+        line: usize,
+        caller: Run,
+        op: ShortOp,
+        reply: Reply,
+    ) -> Result<(), NoMemory>
+        ensures { OnOk result ((first_line : ℕ) (h : AnyHeader) (before : List AnyLine) → line ≡ first_line + length before + 1
+            → opens first_line h before begun.old → opens first_line h (before ++ lines.Entry (short_entry caller op reply) ∷ []) begun.new) }
+    {
+        let entry = Entry {
+            caller,
+            op: op.op(),
+            reply,
+        };
+        Self::take_entry(begun, line, entry)
     }
 
     /// Takes the block, whose last line has this number and this verdict.

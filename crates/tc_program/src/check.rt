@@ -21,7 +21,8 @@ use std::io::{Read, Write};
 use tc_command::Choice;
 use tc_entry::{Pattern, Sequence};
 use tc_evidence::{Header, Line, TakesEvidence, read_evidence_into};
-use tc_table::{Entry, NoMemory, Verdict};
+use tc_table::{Entry, NoMemory, Reply, Run, Verdict};
+use tc_text::ShortOp;
 
 /// The judgements of blocks, up to the first that is not legal.
 #[derive(Drop)]
@@ -54,6 +55,17 @@ impl TakesEvidence for Checking {
 
     fn take_entry(begun: &mut Playing, line: usize, entry: Entry) -> Result<(), NoMemory> {
         begun.play(line, &entry)
+    }
+
+    #[inline(always)]
+    fn take_short(
+        begun: &mut Playing,
+        line: usize,
+        caller: Run,
+        op: ShortOp,
+        reply: Reply,
+    ) -> Result<(), NoMemory> {
+        begun.play_short(line, caller, op, reply)
     }
 
     fn close(&mut self, begun: Playing, line: usize, verdict: Verdict) -> Result<(), NoMemory> {

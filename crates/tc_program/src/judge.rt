@@ -1,16 +1,19 @@
 //! What the table says of a block.
-ghost use Rattle.std.specs.Prelude.{◌≡◌, [], ℕ, IfOk, OnOk, reverse};
+ghost use Rattle.std.specs.Prelude.{◌≡◌, [], ℕ, Some, IfOk, OnOk, is_some, reverse};
+ghost use Rattle.tc_history.specs.Text.{short_entry};
 ghost use Rattle.tc_evidence.specs.Text.{IsHeader};
 ghost use Rattle.tc_evidence.specs.declared.line.Line.TheVariants as lines;
 ghost use Rattle.tc_table.specs.Standing.{StandsFor};
 ghost use Rattle.tc_report.specs.Summary.{summary_of};
 ghost use Rattle.tc_program.specs.Inside.{IsPlayed, JudgesPlayed, PlaysNext, judges_legal};
 
+use crate::short::play_short;
 use std::alloc::Global;
 use tc_entry::Name;
 use tc_evidence::{Header, Line};
 use tc_report::{Summary, summary_of_state};
-use tc_table::{CaseState, Entry, NoMemory, Reply, Verdict};
+use tc_table::{CaseState, Entry, NoMemory, Reply, Run, Verdict};
+use tc_text::ShortOp;
 
 /// What the table says of a block, with all that is printed of it.
 #[derive(Debug, Drop)]
@@ -64,7 +67,23 @@ pub(crate) struct Playing {
     difference: Option<Difference>,
 }
 
+// An entry in this line, with another reply than the table's.
+#[inline(always)]
+fn differing(line: usize, given: Reply, reply: Reply) -> Option<Difference>
+    ensures { result ≡ Some (record { line = line; given = given; reply = reply }) }
+{
+    Some(Difference { line, given, reply })
+}
+
 impl Playing {
+    // Whether an entry had another reply than the table's.
+    #[inline(always)]
+    fn has_differed(&self) -> bool
+        ensures { result ≡ is_some self.now.difference }
+    {
+        self.difference.is_some()
+    }
+
     /// A block with this first line, with no line below it yet.
     pub(crate) fn new(alloc: Global, header: Header) -> Result<Playing, NoMemory>
         requires { IsHeader header }
@@ -84,15 +103,38 @@ impl Playing {
     pub(crate) fn play(&mut self, line: usize, entry: &Entry) -> Result<(), NoMemory>
         ensures { OnOk result (PlaysNext line (lines.Entry entry.now) self.old self.new) }
     {
-        if self.difference.is_some() {
+        if self.has_differed() {
             return Ok(());
         }
         if let Some(reply) = self.state.play_entry(entry)? {
             let given = entry.reply;
-            self.difference = Some(Difference { line, given, reply });
+            self.difference = differing(line, given, reply);
         } else {
             // There are fewer entries than lines.
             self.entries = self.entries.saturating_add(1);
+        }
+        Ok(())
+    }
+
+    /// The same, if its operation is a short one.
+    #[inline(always)]
+    pub(crate) fn play_short(
+        &mut self,
+        line: usize,
+        caller: Run,
+        op: ShortOp,
+        given: Reply,
+    ) -> Result<(), NoMemory>
+        ensures { OnOk result (PlaysNext line (lines.Entry (short_entry caller op given)) self.old self.new) }
+    {
+        if self.has_differed() {
+            return Ok(());
+        }
+        let reply = play_short(&mut self.state, caller, op)?;
+        if reply.same(&given) {
+            self.entries = self.entries.saturating_add(1);
+        } else {
+            self.difference = differing(line, given, reply);
         }
         Ok(())
     }

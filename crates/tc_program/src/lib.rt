@@ -29,6 +29,7 @@ mod report;
 pub mod run;
 pub mod script;
 mod serve;
+mod short;
 mod split;
 mod stderr;
 pub mod stop_on;

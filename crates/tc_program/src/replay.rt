@@ -12,12 +12,13 @@ use crate::input::read_text;
 use crate::limits::SCRIPT_LIMIT;
 use crate::made::write_answer;
 use crate::reply::Answer;
+use crate::short::play_short;
 use std::alloc::Global;
 use std::io::{Read, Write};
 use tc_entry::Sequence;
 use tc_report::{append_verdict, verdict_status};
 use tc_table::{CaseState, NoMemory, Op, Reply, Run, Verdict};
-use tc_text::{TakesMoves, read_moves_into, write_reply};
+use tc_text::{ShortOp, TakesMoves, read_moves_into, write_reply};
 
 // Appends the reply's line; if memory runs out, a part of it.
 fn append_reply(out: &mut Vec<u8>, reply: Reply) -> Result<(), NoMemory>
@@ -47,6 +48,13 @@ impl TakesMoves for Replaying {
     fn take(&mut self, one: (Run, Op)) -> Result<(), NoMemory> {
         let (caller, op) = one;
         let reply = self.state.play(caller, op)?;
+        append_reply(&mut self.out, reply)?;
+        Ok(())
+    }
+
+    #[inline(always)]
+    fn take_short(&mut self, caller: Run, op: ShortOp) -> Result<(), NoMemory> {
+        let reply = play_short(&mut self.state, caller, op)?;
         append_reply(&mut self.out, reply)?;
         Ok(())
     }

@@ -91,6 +91,13 @@ pub trait TakesMoves: Sized {
     /// Takes the next move.
     fn take(&mut self, one: (Run, Op)) -> Result<(), NoMemory>
         ensures { OnOk result ((n : ℕ) (moves : List AnyMove) → stands n moves self.old → stands n (moves ++ one ∷ []) self.new) };
+
+    /// Takes the next move, if its operation is a short one.
+    fn take_short(&mut self, caller: Run, op: ShortOp) -> Result<(), NoMemory>
+        ensures { OnOk result ((n : ℕ) (moves : List AnyMove) → stands n moves self.old → stands n (moves ++ (caller, op_of op) ∷ []) self.new) }
+    {
+        self.take((caller, op.op()))
+    }
 }
 
 impl TakesMoves for MoveList {
@@ -116,7 +123,7 @@ fn take_next<'a, T: TakesMoves>(made: &mut T, text: &'a [u8]) -> Result<Option<&
         (λ rest. IsMoveTakenBy T.stands text.now made.old made.new rest.now)) }
 {
     if let Some(((caller, short), rest)) = take_short_line(text) {
-        made.take((caller, short.op()))?;
+        made.take_short(caller, short)?;
         return Ok(Some(rest));
     }
     let Some((one, rest)) = take_move_line(text) else {
