@@ -30,7 +30,7 @@ FLOORS = {
     "calls on a pass": (32, 11),
     "last calls on a pass": (270, 140),
     "closed cases": (2, 14),
-    "runs and campaigns": (2, 85),
+    "runs and campaigns": (3, 160),
     "calls that take no memory": (70, 0),
 }
 COUNTS = re.compile(r"(.*): (\d+) calls, (\d+) refused, (\d+) answered all the same")

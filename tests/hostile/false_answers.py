@@ -5,7 +5,7 @@ from typing import Callable, Iterator, List, Tuple
 
 from outcomes import NO_MEMORY, Task, judged
 from refusing import Ran
-from sweeps import Sweep, text
+from sweeps import Sweep, sweep, text
 
 SCRIPT = text("testcase a;behaviour main;setverdict pass;end;end;testcase b;behaviour main;end;end")
 FIRST = text("testcase a;run 0 main on 0;  setverdict pass -> ok;  finish -> ok;local 0 pass;verdict pass")
@@ -124,6 +124,29 @@ def judged_answers() -> Sweep:
     return done
 
 
+class FalseProgram:
+    """Answers as a program that is refused a thread for its second test case, and says this of it."""
+
+    def __init__(self, why: str) -> None:
+        self.why = why.encode()
+
+    def run(self, words: List[str], given: bytes = b"", plan: str = "") -> Ran:
+        """Only the first thread is refused."""
+        if plan != "thread:1":
+            return Ran(WHOLE, b"", 0, threads=1, refused=0)
+        return Ran(ABORTED.replace(b"no memory", self.why), AT_B.replace(b"no memory", self.why), 3, threads=1, refused=1)
+
+
+def judged_sweeps() -> Sweep:
+    """A program that is refused a thread must not say that memory ran out."""
+    done = Sweep("false answers to a refused thread", runs=2)
+    for why, is_right in (("no thread", True), ("no memory", False)):
+        faults = sweep(FalseProgram(why), "ttrun", PLAIN, "thread", "", 1).faults
+        if (not faults) != is_right:
+            done.faults.append(f"{why}: {faults}")
+    return done
+
+
 def jobs() -> List[Callable[[], Sweep]]:
-    """The one test."""
-    return [judged_answers]
+    """Both tests."""
+    return [judged_answers, judged_sweeps]

@@ -91,9 +91,22 @@ def slow(refusing: Refusing, program: str, task: Task, wanted: Ran) -> Sweep:
     return done
 
 
+def tried_again(refusing: Refusing) -> Sweep:
+    """Has each read and write fail of a program that tries an interrupted one again, and of one that does not: exactly the first is
+    found out."""
+    done, task = Sweep("a program that tries again", runs=4), Task("eight_bytes", ("replay",), b"abcdefg\n")
+    for flags, is_wrong in ((["-DAGAIN"], True), ([], False)):
+        program = refusing.built("again", flags)
+        for what in ("read", "write"):
+            found = failing(refusing, program, task, what, 1).faults
+            if bool(found) != is_wrong:
+                done.faults.append(f"{what}s, {flags}: {found}")
+    return done
+
+
 def jobs(refusing: Refusing, program: str, is_whole: bool) -> List[Callable[[], Sweep]]:
     """All tests; in the gate every so manyth read or write fails."""
-    found: List[Callable[[], Sweep]] = []
+    found: List[Callable[[], Sweep]] = [lambda: tried_again(refusing)]
     for task in narrow_tasks():
         found += [lambda task=task, what=what: failing(refusing, program, task, what, 1 if is_whole else 37) for what in ("read", "write")]
     script = Task("the_longest_script", ("run", "--csv"), padded_script(MOST_BYTES_OF_A_SCRIPT))

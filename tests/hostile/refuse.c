@@ -4,12 +4,13 @@
    pthread_create; read:N the Nth read; write:N the Nth write to standard output. A read or a write fails as one that was
    interrupted where N is odd. With .. behind N each one behind it is refused too. Without a plan nothing is refused. Where
    REFUSE_NARROW is set each read and each write moves one byte at most.
-   REFUSE_COUNTS names a file of 40 bytes, in which five numbers of 8 bytes are kept: growths, threads, reads and writes that were
-   asked for, and refusals.
+   REFUSE_COUNTS names a file of 48 bytes, in which six numbers of 8 bytes are kept: growths, threads, reads and writes that were
+   asked for, refusals, and how many bytes the growth asks for that was refused last.
 
    A program can say itself what is refused, by asking for MARK bytes and some more, which nothing else asks for. MARK + 1 + N,
    with N below 2^20, refuses the Nth growth from then on, counted from 0; 2^20 more refuses each one from the Nth on; 2^21 more
-   in place of that the Nth thread. MARK itself ends this: it is given where nothing was refused since, and else refused. */
+   in place of that the Nth thread; 3 * 2^20 more each growth that asks for N bytes or more. MARK itself ends this: it is given where
+   nothing was refused since, and else refused. */
 #define _GNU_SOURCE
 #include <dlfcn.h>
 #include <errno.h>
@@ -32,7 +33,7 @@ extern void *__libc_memalign(size_t, size_t);
 
 typedef _Atomic unsigned long count;
 
-enum kind { GROWTH, THREAD, READ, WRITE, REFUSED, KINDS };
+enum kind { GROWTH, THREAD, READ, WRITE, REFUSED, BYTES, KINDS };
 
 static const char *const names[] = {"growth:", "thread:", "read:", "write:"};
 
@@ -47,18 +48,33 @@ struct plan {
 };
 
 static struct plan plans[REFUSED];
+/* From how many bytes on each growth is refused, whatever its number; 0 if none is. */
+static count large;
 static count refused_since;
 static int is_narrow;
 
-static int refuses(enum kind kind) {
+static int is_planned(enum kind kind) {
     struct plan *plan = &plans[kind];
     unsigned long at = atomic_fetch_add(&plan->asked, 1) + 1, first = plan->first;
     atomic_fetch_add(&counts[kind], 1);
-    if (first == 0 || (plan->goes_on ? at < first : at != first))
-        return 0;
+    return first != 0 && (plan->goes_on ? at >= first : at == first);
+}
+
+static int refuse(void) {
     atomic_fetch_add(&counts[REFUSED], 1);
     atomic_fetch_add(&refused_since, 1);
     return 1;
+}
+
+static int refuses(enum kind kind) {
+    return is_planned(kind) && refuse();
+}
+
+static int refuses_growth(size_t size) {
+    if (!is_planned(GROWTH) && (large == 0 || size < large))
+        return 0;
+    counts[BYTES] = size;
+    return refuse();
 }
 
 static void set_plan(enum kind kind, unsigned long first, int goes_on) {
@@ -72,55 +88,58 @@ static void *marked(size_t size) {
     size_t behind = size - MARK;
     set_plan(GROWTH, 0, 0);
     set_plan(THREAD, 0, 0);
+    large = 0;
     if (behind == 0)
         return refused_since ? NULL : __libc_malloc(1);
     refused_since = 0;
     behind -= 1;
     if (behind < 2 * STEP)
         set_plan(GROWTH, behind % STEP + 1, behind >= STEP);
-    else
+    else if (behind < 3 * STEP)
         set_plan(THREAD, behind % STEP + 1, 0);
+    else
+        large = behind % STEP;
     return NULL;
 }
 
 static int is_mark(size_t size) {
-    return size >= MARK && size < MARK + 3 * STEP + 1;
+    return size >= MARK && size < MARK + 4 * STEP + 1;
 }
 
 /* The block, or none where this growth is refused. */
-#define GROWN(block)               \
-    do {                           \
-        if (refuses(GROWTH)) {     \
-            errno = ENOMEM;        \
-            return NULL;           \
-        }                          \
-        return (block);            \
+#define GROWN(size, block)           \
+    do {                             \
+        if (refuses_growth(size)) {  \
+            errno = ENOMEM;          \
+            return NULL;             \
+        }                            \
+        return (block);              \
     } while (0)
 
 void *malloc(size_t size) {
     if (is_mark(size))
         return marked(size);
-    GROWN(__libc_malloc(size));
+    GROWN(size, __libc_malloc(size));
 }
 
 void *calloc(size_t number, size_t size) {
-    GROWN(__libc_calloc(number, size));
+    GROWN(number * size, __libc_calloc(number, size));
 }
 
 void *realloc(void *block, size_t size) {
-    GROWN(__libc_realloc(block, size));
+    GROWN(size, __libc_realloc(block, size));
 }
 
 void *memalign(size_t align, size_t size) {
-    GROWN(__libc_memalign(align, size));
+    GROWN(size, __libc_memalign(align, size));
 }
 
 void *aligned_alloc(size_t align, size_t size) {
-    GROWN(__libc_memalign(align, size));
+    GROWN(size, __libc_memalign(align, size));
 }
 
 int posix_memalign(void **into, size_t align, size_t size) {
-    void *block = refuses(GROWTH) ? NULL : __libc_memalign(align, size);
+    void *block = refuses_growth(size) ? NULL : __libc_memalign(align, size);
     if (block == NULL)
         return ENOMEM;
     *into = block;

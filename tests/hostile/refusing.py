@@ -18,13 +18,13 @@ HERE = os.path.dirname(os.path.abspath(__file__))
 TOP = os.path.dirname(os.path.dirname(HERE))
 # A run that has not ended after that many seconds hangs.
 SECONDS = 60
-COUNTS = struct.Struct("=5Q")
+COUNTS = struct.Struct("=6Q")
 
 
 @dataclass
 class Ran:
-    """What a run gave, what it asked for, and how much of that it was refused, -1 if that is not known. A status below 0 is a
-    signal's."""
+    """What a run gave, what it asked for, how much of that it was refused, -1 if that is not known, and how many bytes the growth asked
+    for that was refused last. A status below 0 is a signal's."""
 
     output: bytes
     errors: bytes
@@ -34,15 +34,24 @@ class Ran:
     reads: int = 0
     writes: int = 0
     refused: int = -1
+    bytes: int = 0
     is_late: bool = False
 
 
 class Refusing:
-    """The library, built once; each run of a program has a file of its own for what is counted."""
+    """The library, built once by a compiler of C; each run of a program has a file of its own for what is counted."""
 
-    def __init__(self, folder: str, library: str) -> None:
+    def __init__(self, folder: str, compiler: str) -> None:
         self.folder = folder
-        self.library = library
+        self.compiler = compiler
+        self.library = self.built("refuse", ["-shared", "-fPIC", "-ldl"])
+
+    def built(self, name: str, flags: List[str]) -> str:
+        """What the file of C with this name is compiled to."""
+        out = os.path.join(self.folder, "".join([name, *flags]))
+        words = [self.compiler, "-std=gnu11", "-O1", "-Wall", "-Wextra", "-o", out, os.path.join(HERE, f"{name}.c"), *flags]
+        subprocess.run(words, check=True)
+        return out
 
     def run(self, words: List[str], given: bytes = b"", plan: str = "", is_narrow: bool = False, seconds: int = SECONDS) -> Ran:
         """Runs the words with the input under a plan; by narrow devices one byte goes at a time."""
@@ -56,7 +65,7 @@ class Refusing:
                 variables["REFUSE_NARROW"] = "1"
             ran = ended(words, source, seconds, variables)
             with mmap.mmap(kept.fileno(), COUNTS.size) as counts:
-                ran.growths, ran.threads, ran.reads, ran.writes, ran.refused = COUNTS.unpack(counts[:COUNTS.size])
+                ran.growths, ran.threads, ran.reads, ran.writes, ran.refused, ran.bytes = COUNTS.unpack(counts[:COUNTS.size])
             return ran
 
 
@@ -100,7 +109,4 @@ def refusing() -> Iterator[Optional[Refusing]]:
         yield None
         return
     with tempfile.TemporaryDirectory(prefix="refuse-") as folder:
-        library = os.path.join(folder, "refuse.so")
-        words = [found, "-std=gnu11", "-O1", "-Wall", "-Wextra", "-shared", "-fPIC", "-o", library]
-        subprocess.run([*words, os.path.join(HERE, "refuse.c"), "-ldl"], check=True)
-        yield Refusing(folder, library)
+        yield Refusing(folder, found)

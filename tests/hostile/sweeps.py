@@ -143,6 +143,29 @@ def sweep(refusing: Refusing, program: str, task: Task, what: str, behind: str, 
     return done
 
 
+def first_abort(refusing: Refusing, words: List[str], count: int, done: Sweep) -> Ran:
+    """What comes of that many test cases, run by these words, with the first growth refused by which the campaign is aborted."""
+    script = text(";".join(f"testcase t{at};behaviour main;setverdict pass;end;end" for at in range(count)))
+    for number in range(1, refusing.run(words, script).growths + 1):
+        ran = refusing.run(words, script, f"growth:{number}")
+        done.runs, done.refused = done.runs + 1, done.refused + ran.refused
+        if ran.errors == b"ttrun: aborted at t0: no memory\n":
+            return ran
+    done.faults.append(f"{count} test cases are never aborted at the first")
+    return Ran(b"", b"", 0)
+
+
+def room_before_the_first(refusing: Refusing, program: str) -> Sweep:
+    """The first growth of a campaign is the room for the reports of all its test cases, for three times as many thrice as large. A live
+    run has no such room: its first growth is one of the first test case."""
+    done = Sweep("the room for all reports is made first")
+    for words, is_room in ((("run",), True), (("run", "--live"), False)):
+        few, many = (first_abort(refusing, [program, *words], count, done).bytes for count in (2, 6))
+        if (many == 3 * few) != is_room:
+            done.faults.append(f"{' '.join(words)}: {few} bytes are refused to two test cases, {many} to six")
+    return done
+
+
 def limits(is_whole: bool) -> Iterator[int]:
     """Limits of address space in kibibytes, from ample memory down to none."""
     yield from range(640_000, 40_000, -10_000 if is_whole else -60_000)
@@ -183,7 +206,7 @@ def large_tasks() -> List[Task]:
 
 
 # Tasks of which each growth is refused in the gate too: the first abort of a run is judged, and the witnesses of a search are written.
-WHOLE = (("verdicts", ("run",)), ("supervisor", ("explore", "--history")))
+WHOLE = (("verdicts", ("run",)), ("restart", ("run",)), ("supervisor", ("explore", "--history")))
 
 
 def jobs(refusing: Refusing, program: str, is_whole: bool) -> List[Callable[[], Sweep]]:
@@ -194,4 +217,5 @@ def jobs(refusing: Refusing, program: str, is_whole: bool) -> List[Callable[[], 
             is_each = not behind and ((task.name, task.words) in WHOLE or any(map(task.has, EACH)))
             step = 1 if is_whole or is_each else stride
             found.append(lambda task=task, what=what, behind=behind, step=step: sweep(refusing, program, task, what, behind, step))
+    found.append(lambda: room_before_the_first(refusing, program))
     return found + [lambda task=task: falling(program, task, is_whole) for task in large_tasks()]

@@ -10,8 +10,8 @@ Exempt = Tuple[Tuple[str, ...], str]
 
 # Each growth of these is refused in turn by the sweeps of the whole program, which goes through them in each of its tasks.
 REFUSED_BY_THE_PROGRAM = ("explain", "html_page", "read_task", "read_cases_task", "answer", "answer_cases", "carry_out", "tc_program::replay",
-                          "check", "take_script", "run_cases", "give", "fault_line", "abort_line", "Progress::end", "serve",
-                          "run_case_with", "run_campaign_with", "choose", "read_evidence", "Block::history",
+                          "check", "take_script", "run_cases", "give", "fault_line", "abort_line", "serve",
+                          "run_case_with", "choose", "read_evidence", "Block::history",
                           "explore_locals", "Locals::append_lines", "append_unknown", "explore", "Explored::append_line", "Explored::append_witnesses",
                           "Explored::append_details", "is_course", "read_campaign", "Script::run")
 # The tasks by which nothing else refuses these calls each growth: in the gate too each one is refused.

@@ -541,6 +541,47 @@ pub fn append_entries(out: &mut Vec<u8>, entries: &[Entry]) -> Result<(), NoMemo
     Ok(())
 """),
     ), "tc_parts_tests"),
+    Lie("a_torn_case_of_a_campaign_is_told_as_without_threads", (
+        ("""\
+    let answer = run_case_with(rt, alloc, jobs, threads, &mut Everyone);
+""", """\
+    let is_alone = jobs.len() == 1;
+    let answer = match run_case_with(rt, alloc, jobs, threads, &mut Everyone) {
+        Err(CaseError::Torn) if !is_alone => Err(CaseError::NoThread),
+        answer => answer,
+    };
+"""),
+    ), "tc_campaign_tests"),
+    Lie("an_interrupted_read_is_tried_again", (
+        ("""\
+        let result = self.reader.read(buf);
+""", """\
+        let mut result = self.reader.read(buf);
+        if let Err(fault) = &result && matches!(fault.kind(), io::ErrorKind::Interrupted) {
+            result = self.reader.read(buf);
+        }
+"""),
+    ), "tc_parts_tests"),
+    Lie("an_interrupted_write_is_tried_again", (
+        ("""\
+        let result = self.writer.write(buf);
+""", """\
+        let mut result = self.writer.write(buf);
+        if let Err(fault) = &result && matches!(fault.kind(), io::ErrorKind::Interrupted) {
+            result = self.writer.write(buf);
+        }
+"""),
+    ), "tc_parts_tests"),
+    Lie("a_write_that_would_block_is_tried_again", (
+        ("""\
+        let result = self.writer.write(buf);
+""", """\
+        let mut result = self.writer.write(buf);
+        if let Err(fault) = &result && matches!(fault.kind(), io::ErrorKind::WouldBlock) {
+            result = self.writer.write(buf);
+        }
+"""),
+    ), "tc_parts_tests"),
     Lie("an_interrupted_flush_is_taken", (
         ("""\
     match writer.flush() {

@@ -6,13 +6,16 @@ use crate::cases::call_on;
 use crate::tells::{tell_closed, tell_finished, tell_number};
 use crate::trial::Trial;
 use std::alloc::Global;
-use std::sync::Wait;
+use std::io;
+use std::sync::atomic::{AtomicBool, Ordering};
+use std::sync::{Arc, Wait};
 use std::thread::Threads;
+use std::time::{Clock, Duration};
 use tc_book::{Halt, Pass};
-use tc_campaign::{Case, have_all, run_campaign};
+use tc_campaign::{Case, have_all, run_campaign, run_campaign_with};
 use tc_entry::{BEHAVIOURS, Name, Pattern};
 use tc_exec::{Back, Callable, CaseError, Job, run_case};
-use tc_report::{CampaignEnd, Results};
+use tc_report::{CampaignEnd, Kept, OutFault, Progress, Results};
 use tc_text::read_move;
 
 /// The names of the two test cases.
@@ -159,6 +162,135 @@ fn run_kept<R: Threads + Wait + Copy + Send + 'static>(rt: &R, trial: &mut Trial
     }
 }
 
+/// How many test cases have reports that take more room together than all that a test case asks for at once.
+const MANY: usize = 1_000;
+
+/// How many bytes are between the two.
+const BETWEEN: u16 = 60_000;
+
+/// A behaviour that notes that it was called.
+#[derive(Drop)]
+struct Notes {
+    called: Arc<AtomicBool>,
+}
+
+impl Callable for Notes {
+    ghost outcome = { λ _ _ _. ⊤ };
+
+    fn call(self, pass: Pass) -> Back {
+        self.called.store(true, Ordering::SeqCst);
+        Back::after(pass, Ok(()))
+    }
+}
+
+/// The first test case, with a behaviour that notes that it was called.
+fn noting(alloc: Global, called: &Arc<AtomicBool>) -> Option<Case<Notes>>
+    ensures { IfSome result HasNames }
+{
+    let called = Arc::try_clone(called).ok()?;
+    let name = Name::read(NAMES.first()?)?;
+    let names = vec![in alloc; name.copy()].ok()?;
+    let jobs = vec![in alloc; Notes { called }].ok()?;
+    Some(Case { name, names, jobs })
+}
+
+/// As many such test cases.
+fn many(alloc: Global, called: &Arc<AtomicBool>) -> Option<Vec<Case<Notes>>>
+    ensures { IfSome result (λ v. All HasNames v.items) }
+{
+    let mut cases = Vec::new(alloc);
+    for _ in 0..MANY {
+        cases.push(noting(alloc, called)?).ok()?;
+    }
+    Some(cases)
+}
+
+/// The run of a campaign that is refused the room for its reports, and nothing else: no behaviour is called.
+fn run_without_room<R: Threads + Wait + Copy + Send + 'static>(rt: &R, trial: &mut Trial) {
+    let alloc = trial.alloc;
+    if let Ok(called) = Arc::new(alloc, AtomicBool::new(false))
+        && let Some(cases) = many(alloc, &called)
+        && trial.begin_large("run_campaign", BETWEEN)
+    {
+        let results = run_campaign(rt, alloc, cases, None, 0);
+        let is_called = called.load(Ordering::SeqCst);
+        let is_empty = results.finished.as_slice().is_empty();
+        trial.end_large(!is_called && is_empty && is_ending(&results.ending, 0));
+    }
+}
+
+/// A clock that says no time.
+#[derive(Drop)]
+struct NoClock;
+
+impl Clock for NoClock {
+    fn monotonic(&self) -> io::Result<Duration> {
+        Err(io::Error::from(io::ErrorKind::Unsupported))
+    }
+
+    fn since_1970(&self) -> io::Result<Duration> {
+        self.monotonic()
+    }
+}
+
+/// Runs the test cases with one that reports them: whether the campaign is complete, and why not all was printed, if it is so.
+fn run_reported<R: Threads + Wait + Copy + Send + 'static>(
+    rt: &R,
+    alloc: Global,
+    cases: Vec<Case<Caller<R>>>,
+    progress: &mut Progress<'_, Kept, Vec<u8>, NoClock>,
+) -> (bool, Result<(), OutFault>)
+    requires { All HasNames cases.items }
+{
+    let ending = run_campaign_with(rt, alloc, cases, None, 0, progress);
+    let told = progress.end();
+    (matches!(ending, Some(CampaignEnd::Complete)), told)
+}
+
+/// The run of a campaign that is reported; there is room for its results and for what is printed, so that no write fails.
+fn run_with_room<R: Threads + Wait + Copy + Send + 'static>(
+    rt: &R,
+    trial: &mut Trial,
+    cases: Vec<Case<Caller<R>>>,
+    kept: &mut Kept,
+    lines: &mut Vec<u8>,
+    failed: &mut Vec<u8>,
+)
+    requires { All HasNames cases.items }
+{
+    let alloc = trial.alloc;
+    trial.begin("run_campaign_with Progress::end");
+    let (is_complete, told) = run_reported(
+        rt,
+        alloc,
+        cases,
+        &mut Progress::new(alloc, &NoClock, &[], None, kept, lines, failed),
+    );
+    trial.holds(told != Err(OutFault::Write));
+    if told.is_ok() && is_complete {
+        let _ = trial.out.extend_from_slice(lines);
+    } else {
+        trial.refuse_part();
+    }
+    trial.end_call();
+    trial.end();
+}
+
+/// Makes that room, and runs the campaign.
+fn run_told<R: Threads + Wait + Copy + Send + 'static>(rt: &R, trial: &mut Trial) {
+    let alloc = trial.alloc;
+    if let Some(cases) = cases(rt, alloc)
+        && let Ok(mut kept) = Kept::with_room(alloc, NAMES.len())
+        && let Ok(mut lines) = Vec::with_capacity(alloc, 1_000)
+    {
+        let mut failed = Vec::new(alloc);
+        run_with_room(rt, trial, cases, &mut kept, &mut lines, &mut failed);
+        drop(failed);
+        drop(lines);
+        drop(kept);
+    }
+}
+
 /// What is asked of test cases before they are run, and runs that are refused, or run nothing, before they take memory.
 pub(crate) fn ask<R: Threads + Wait + Copy + Send + 'static>(rt: &R, trial: &mut Trial) {
     if let Some((cases, pattern)) = cases(rt, trial.alloc).zip(Pattern::read("second")) {
@@ -174,8 +306,10 @@ pub(crate) fn ask<R: Threads + Wait + Copy + Send + 'static>(rt: &R, trial: &mut
     run_idle(rt, trial, 3, false);
 }
 
-/// The run of a test case of one behaviour, and of a campaign.
+/// The run of a test case of one behaviour, and of campaigns: of one that has no room for its reports, and of one that is reported.
 pub(crate) fn run<R: Threads + Wait + Copy + Send + 'static>(rt: &R, trial: &mut Trial) {
     run_idle(rt, trial, 1, true);
     run_kept(rt, trial);
+    run_without_room(rt, trial);
+    run_told(rt, trial);
 }

@@ -109,14 +109,19 @@ impl Called<Piece> for LiveWriter<'_, Vec<u8>> {
     }
 }
 
+/// The opening and the closing by this writer.
+fn write_both(trial: &mut Trial, live: &mut LiveWriter<'_, Vec<u8>>) {
+    trial.begin("LiveWriter::begin LiveWriter::end");
+    call_again(trial, live, &Piece::Opening);
+    call_again(trial, live, &Piece::Closing);
+    trial.end();
+}
+
 /// The opening and the closing in a form; there is room for what is written.
 fn write_pieces(trial: &mut Trial, form: LiveForm) {
     if let Ok(mut text) = Vec::with_capacity(trial.alloc, 10_000) {
-        let mut live = LiveWriter::new(trial.alloc, form, &mut text);
-        trial.begin("LiveWriter::begin LiveWriter::end");
-        call_again(trial, &mut live, &Piece::Opening);
-        call_again(trial, &mut live, &Piece::Closing);
-        trial.end();
+        write_both(trial, &mut LiveWriter::new(trial.alloc, form, &mut text));
+        drop(text);
     }
 }
 

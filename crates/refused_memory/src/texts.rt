@@ -97,12 +97,17 @@ fn write_one(trial: &mut Trial, text: &Text<'_>) {
     }
 }
 
+/// Appends the move of a line.
+fn write_line(trial: &mut Trial, line: &str) {
+    if let Some((run, op)) = read_move(line.as_bytes()) {
+        write_one(trial, &Text::Move(run, &op));
+    }
+}
+
 /// The writers of each of the moves, of a history, of a reply, of a move without its caller, of words and of a number.
 pub(crate) fn write(trial: &mut Trial, stock: &Stock) {
     for line in MOVES.lines() {
-        if let Some((run, op)) = read_move(line.as_bytes()) {
-            write_one(trial, &Text::Move(run, &op));
-        }
+        write_line(trial, line);
     }
     write_one(trial, &Text::Op(&Op::StopCase));
     write_one(trial, &Text::Block(stock.table.history()));

@@ -7,6 +7,9 @@ const MARK: usize = 0x100_0000_0000;
 /// So much more refuses each growth from then on.
 const EACH: usize = 0x10_0000;
 
+/// So much more refuses each growth from then on that asks for the rest, or for more bytes.
+const LARGE: usize = 0x30_0000;
+
 /// How many bytes a text has at most.
 const ROOM: usize = 0x10_0000;
 
@@ -143,6 +146,22 @@ impl Trial {
         if self.number.is_some() {
             self.ask(MARK + 1 + EACH);
         }
+    }
+
+    /// Each growth of that many bytes or more is refused from here on to these calls. Whether it is.
+    pub(crate) fn begin_large(&mut self, names: &'static str, bytes: u16) -> bool {
+        self.names = names;
+        if self.number.is_some() {
+            self.ask(MARK + 1 + LARGE + usize::from(bytes));
+        }
+        self.is_begun
+    }
+
+    /// No growth is refused from here on, and one was; the calls answered as they should.
+    pub(crate) fn end_large(&mut self, is_right: bool) {
+        self.is_begun = false;
+        let is_met = given(self.alloc, MARK).is_none();
+        self.holds(is_met && is_right);
     }
 
     /// Asks the library for this many bytes, if there is one.

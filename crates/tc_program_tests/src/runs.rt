@@ -9,6 +9,7 @@ use std::test::Fail;
 use std::thread::Threads;
 use std::time::Clock;
 use std::{io, str};
+use tc_program::check::check;
 use tc_program::fault::RunFault;
 use tc_program::stop_on::stop_word;
 use tc_stream::devices::SlowReader;
@@ -146,8 +147,8 @@ fn words_without_memory(rt: HostRuntime) -> Result<(), Fail> {
     is_shown(&rt, rt.alloc(), words, b"x\n", "3ttrun: no memory;")
 }
 
-/// What a task writes on this input.
-fn written<R: Threads + Wait + Clock + Copy + Send + 'static>(
+/// What a task writes on this input, which has the status 0.
+fn written<R: Abort + Threads + Wait + Clock + Copy + Send + 'static>(
     rt: &R,
     alloc: Global,
     line: &str,
@@ -159,6 +160,7 @@ fn written<R: Threads + Wait + Clock + Copy + Send + 'static>(
     let mut told = Vec::new(alloc);
     let outcome = carry_out(rt, alloc, &task, &mut reader, &mut written, &mut told);
     outcome.told?;
+    is(rt, line, outcome.status, 0);
     Ok(written)
 }
 
@@ -173,6 +175,16 @@ fn are_legal<R: Abort>(rt: &R, text: &str) {
     is(rt, text, lines.next(), None);
 }
 
+/// Checks that these are the blocks of two test cases that pass, and are legal.
+fn are_checked<R: Abort>(rt: &R, alloc: Global, blocks: &[u8]) -> Result<(), Fail> {
+    let mut reader = blocks;
+    let mut lines = Vec::new(alloc);
+    let answer = check(alloc, &mut reader, &mut lines);
+    is(rt, "the answer", answer, Ok(0));
+    are_legal(rt, str::from_utf8(lines.as_slice())?);
+    Ok(())
+}
+
 /// Checks how the blocks of the stored run begin that a task writes, and that they are legal.
 fn are_written<R: Abort + Threads + Wait + Clock + Copy + Send + 'static>(
     rt: &R,
@@ -183,13 +195,11 @@ fn are_written<R: Abort + Threads + Wait + Clock + Copy + Send + 'static>(
     let input = in_lines(alloc, STORED)?;
     let blocks = written(rt, alloc, line, input.as_slice())?;
     holds(rt, start, blocks.as_slice().starts_with(start.as_bytes()));
-    let checked = written(rt, alloc, "ttrun check", blocks.as_slice())?;
-    are_legal(rt, str::from_utf8(checked.as_slice())?);
-    Ok(())
+    are_checked(rt, alloc, blocks.as_slice())
 }
 
 #[test]
-fn blocks_of_the_stored_run(rt: HostRuntime) -> Result<(), Fail> {
+fn histories_refused_and_checked(rt: HostRuntime) -> Result<(), Fail> {
     let history = "history 2 t_pass 2\n0 create ";
     are_written(&rt, rt.alloc(), "ttrun run --history", history)?;
     let evidence = "evidence 1 t_pass 2\nbehaviour 0 main\nbehaviour 1 worker\n0 create ";
