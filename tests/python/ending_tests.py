@@ -239,6 +239,39 @@ def who_hangs_says_nothing_more_once_it_wakes(place: Place) -> None:
 
 
 @test
+def a_case_that_another_behaviour_ends(place: Place) -> None:
+    """A main behaviour that hangs in its device is not waited for: the test case is over, and the result names it."""
+    wakes = threading.Event()
+    ends: List[Callable[[Run], object]] = [lambda run: run.stop(0), lambda run: run.kill(0), lambda run: run.stop_case()]
+    with place.server() as server:
+        for end in ends:
+
+            def main(run: Run, it: Callable[[Run], object] = end) -> None:
+                run.start(run.create(), it)
+                wakes.wait(30)
+
+            result = timed(lambda: server.run("t_ended", main), 10)
+            same((result.hung, result.is_timed_out), (("run 0 main",), False))
+            place.reach("entries", len(legal(result).entries), 3)
+    wakes.set()
+
+
+@test
+def nothing_comes_after_a_stop_of_the_case(place: Place) -> None:
+    """The behaviour that stops the test case is ended by it."""
+    reached: List[Run] = []
+
+    def main(run: Run) -> None:
+        run.stop_case("enough")
+        reached.append(run)
+
+    with place.server() as server:
+        result = server.run("t_stop", main)
+    same((result.verdict, result.raised, reached), ("error", (), []))
+    place.reach("entries", len(legal(result).entries), 1)
+
+
+@test
 def ended_is_no_exception(place: Place) -> None:
     """A behaviour that catches each Exception ends all the same if it is stopped."""
     tries = []
