@@ -72,6 +72,18 @@ void late(Server& server) {
     show(server.run("t", [](Run& run) { run.set_verdict("pass"); }, Seconds(20)));
 }
 
+// The main behaviour hangs, and another one ends the test case.
+void ends(Server& server) {
+    const int mtc = 0;
+    const std::vector<filskeam::Behaviour> all = {
+        [mtc](Run& it) { it.stop(mtc); }, [mtc](Run& it) { it.kill(mtc); }, [](Run& it) { it.stop_case(); }};
+    for (const auto& end : all)
+        show(server.run("t", [end](Run& run) {
+            run.start(run.create(), "ends", end);
+            hang(run);
+        }));
+}
+
 void waits(Server& server) {
     show(server.run("t", [](Run& run) {
         int it = run.create();
@@ -243,7 +255,7 @@ void speed(Server& server) {
 
 int main(int count, char** words_given) {
     const std::map<std::string, void (*)(Server&)> cases = {
-        {"raises", raises}, {"watchdog", watchdog}, {"late", late}, {"waits", waits}, {"stops", stops},
+        {"raises", raises}, {"watchdog", watchdog}, {"late", late}, {"ends", ends}, {"waits", waits}, {"stops", stops},
         {"words", words}, {"loses", loses}, {"random", random_cases}, {"reports", reports}, {"leaves", leaves}, {"meets", meets}, {"speed", speed},
     };
     int status = 0;

@@ -198,6 +198,18 @@ def a_case_past_its_time_out(place: Place) -> str:
 
 
 @test
+def a_case_that_another_behaviour_ends(place: Place) -> str:
+    """A main behaviour that hangs is not waited for, and named."""
+    began = time.monotonic()
+    shown, _ = place.bench("ends")
+    hold(time.monotonic() - began < 20, "it took too long")
+    same([(it.is_timed_out, it.hung) for it in shown], [(False, ["run 0 main"])] * 3)
+    for it in shown:
+        it.block()
+    return f"{len(shown)} test cases"
+
+
+@test
 def waits_with_a_time_out(place: Place) -> str:
     """They hold or are late, and nobody waits in the table."""
     (shown,), _ = place.bench("waits")
