@@ -30,6 +30,7 @@ LIES = (
     Lie("a_dynamic_error_is_not_kept", HEADER, "            note(run, \"DynamicError: \" + std::string(error.what()), false);\n", "            (void)error;\n",
         "what_a_behaviour_throws_stops_the_case"),
     Lie("a_time_out_stops_only_the_main_component", HEADER, "exchange(\"stopcase\"", "exchange(\"stop 0\"", "a_case_past_its_time_out"),
+    Lie("any_status_of_a_server_is_passed_on", HEADER, " && WEXITSTATUS(status_) <= 3", "", "a_status_that_no_server_has"),
     Lie("a_kill_of_the_main_component_ends_nothing", HEADER, ' || line.text == "kill 0"', "", "a_case_that_another_behaviour_ends"),
     Lie("a_stop_of_the_main_component_ends_nothing", HEADER, ' || line.text == "stop 0"', "", "a_case_that_another_behaviour_ends"),
     Lie("who_hangs_is_not_named", HEADER, "hung_.push_back(it->text());", "(void)it;", "a_watchdog_kills_who_hangs"),

@@ -198,6 +198,15 @@ def a_case_past_its_time_out(place: Place) -> str:
 
 
 @test
+def a_status_that_no_server_has(place: Place) -> str:
+    """It counts as 3."""
+    shown, text = place.bench("waits", ["sh", "-c", '"$@"; exit 9', "sh", *place.command])
+    same([it.fault for it in shown], [""])
+    hold(text.endswith("status 3\n"), text[-100:])
+    return f"{len(shown)} test cases"
+
+
+@test
 def a_case_that_another_behaviour_ends(place: Place) -> str:
     """A main behaviour that hangs is not waited for, and named."""
     began = time.monotonic()
