@@ -84,6 +84,40 @@ void ends(Server& server) {
         }));
 }
 
+// All calls, and each status of a component: not started, stopped, killed, running.
+void calls(Server& server) {
+    show(server.run("t", [](Run& run) {
+        const int pump = run.create("pump", true), other = run.create();
+        const auto ask = [&run](int it) { run.running(it), run.alive(it), run.done(it), run.killed(it); };
+        ask(pump);
+        run.start(pump, "worker", [](Run&) {});
+        run.wait_done(pump);
+        ask(pump);
+        run.kill(pump);
+        ask(pump);
+        run.start(other, "worker", [](Run& it) { it.sleep(Seconds(1000)); });
+        ask(other);
+        run.stop(other);
+        ask(other);
+        run.wait_killed(other);
+        run.set_verdict("pass");
+        run.get_verdict();
+    }));
+}
+
+// How many thousandths of a second a sleep takes, and a wait in vain.
+void seconds(Server& server) {
+    show(server.run("t", [](Run& run) {
+        const int it = run.create();
+        for (bool is_wait : {false, true}) {
+            const auto began = std::chrono::steady_clock::now();
+            if (is_wait) run.wait_done(it, Seconds(1.5)); else run.sleep(Seconds(1.5));
+            const Seconds took = std::chrono::steady_clock::now() - began;
+            run.log(std::to_string(static_cast<int>(1000 * took.count())) + " thousandths");
+        }
+    }));
+}
+
 void waits(Server& server) {
     show(server.run("t", [](Run& run) {
         int it = run.create();
@@ -255,7 +289,7 @@ void speed(Server& server) {
 
 int main(int count, char** words_given) {
     const std::map<std::string, void (*)(Server&)> cases = {
-        {"raises", raises}, {"watchdog", watchdog}, {"late", late}, {"ends", ends}, {"waits", waits}, {"stops", stops},
+        {"raises", raises}, {"watchdog", watchdog}, {"late", late}, {"ends", ends}, {"calls", calls}, {"seconds", seconds}, {"waits", waits}, {"stops", stops},
         {"words", words}, {"loses", loses}, {"random", random_cases}, {"reports", reports}, {"leaves", leaves}, {"meets", meets}, {"speed", speed},
     };
     int status = 0;
