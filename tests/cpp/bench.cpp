@@ -66,7 +66,9 @@ void watchdog(Server& server) {
 
 void late(Server& server) {
     server.run("warm", [](Run&) {});
-    show(server.run("t", alone(hang), Seconds(0.5)));
+    const Result first = server.run("t", alone(hang), Seconds(0.5));
+    show(first);
+    std::cout << first.report();
     show(server.run("t", hang, Seconds(0.5)));
     show(server.run("t", [](Run& run) { while (true) run.sleep(Seconds(0.01)); }, Seconds(0.5)));
     show(server.run("t", [](Run& run) { run.set_verdict("pass"); }, Seconds(20)));

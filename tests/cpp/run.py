@@ -188,10 +188,11 @@ def a_watchdog_kills_who_hangs(place: Place) -> str:
 def a_case_past_its_time_out(place: Place) -> str:
     """It ends in error, and who hangs is named: a worker, the main one; or nobody."""
     began = time.monotonic()
-    shown, _ = place.bench("late")
+    shown, text = place.bench("late")
     hold(time.monotonic() - began < 20, "it took too long")
     same([(it.verdict, it.is_timed_out, it.hung) for it in shown],
          [("error", True, ["run 1 worker"]), ("error", True, ["run 0 main"]), ("error", True, []), ("pass", False, [])])
+    hold("\nthe test case took longer than it may\nhas not returned: run 1 worker\n" in text, text)
     for it in shown:
         it.block()
     return f"{len(shown)} test cases"

@@ -270,6 +270,8 @@ def what_was_raised_is_in_its_order(place: Place) -> None:
     with place.server() as server:
         result = timed(lambda: server.run("t_order", main, timeout=30), 20)
     same([(it.run, type(it.exception)) for it in result.raised], [(1, TimeoutError), (0, ValueError)])
+    told = [it for it in result.report().splitlines() if it.startswith("raised by ")]
+    same([it.split(" (")[0] for it in told], ["raised by run 1 no_answer: TimeoutError: no answer from 10.0.0.7", "raised by run 0 main: ValueError: second"])
     place.reach("exceptions", len(result.raised), 2)
 
 

@@ -47,6 +47,8 @@ LIES = (
     Lie("done_is_asked_as_killed", "filskeam/bench.py", 'return self._is("done", target)', 'return self._is("killed", target)', "each_call_has_its_word"),
     Lie("the_last_exception_is_the_first", "filskeam/bench.py", "self._raised.append(Raised(run.number, run.behaviour, raised))",
         "self._raised.insert(0, Raised(run.number, run.behaviour, raised))", "what_was_raised_is_in_its_order"),
+    Lie("a_report_does_not_say_what_was_raised", "filskeam/evidence.py", '        lines += [f"raised by {it}" for it in self.raised]\n', "",
+        "what_was_raised_is_in_its_order"),
     Lie("a_sleep_is_half_as_long", "filskeam/bench.py", "deadline = time.monotonic() + seconds\n", "deadline = time.monotonic() + 0.5 * seconds\n",
         "a_sleep_and_a_time_out_take_their_seconds"),
     Lie("a_time_out_is_twice_as_long", "filskeam/bench.py", "deadline = time.monotonic() + timeout\n", "deadline = time.monotonic() + 2 * timeout\n",
