@@ -86,6 +86,14 @@ void ends(Server& server) {
         }));
 }
 
+// A dynamic error ends the test case, and with it a behaviour that sleeps.
+void errs(Server& server) {
+    show(server.run("t", [](Run& run) {
+        run.start(run.create(), "worker", [](Run& it) { it.sleep(Seconds(1000)); });
+        run.stop(7);
+    }));
+}
+
 // All calls, and each status of a component: not started, stopped, killed, running.
 void calls(Server& server) {
     show(server.run("t", [](Run& run) {
@@ -291,7 +299,7 @@ void speed(Server& server) {
 
 int main(int count, char** words_given) {
     const std::map<std::string, void (*)(Server&)> cases = {
-        {"raises", raises}, {"watchdog", watchdog}, {"late", late}, {"ends", ends}, {"calls", calls}, {"seconds", seconds}, {"waits", waits}, {"stops", stops},
+        {"raises", raises}, {"watchdog", watchdog}, {"late", late}, {"ends", ends}, {"errs", errs}, {"calls", calls}, {"seconds", seconds}, {"waits", waits}, {"stops", stops},
         {"words", words}, {"loses", loses}, {"random", random_cases}, {"reports", reports}, {"leaves", leaves}, {"meets", meets}, {"speed", speed},
     };
     int status = 0;

@@ -36,6 +36,8 @@ LIES = (
         "a_case_past_its_time_out"),
     Lie("a_report_does_not_say_who_hangs", HEADER, '    for (const auto& it : hung) text += "has not returned: " + it + "\\n";\n', "",
         "a_case_past_its_time_out"),
+    Lie("a_dynamic_error_is_no_news", HEADER, 'return is_error(line.reply) || (line.reply == "ok" && (verb', 'return (line.reply == "ok" && (verb',
+        "a_dynamic_error_ends_who_sleeps"),
     Lie("a_sleep_is_half_as_long", HEADER, "inline void Run::sleep(Seconds limit) {\n", "inline void Run::sleep(Seconds limit) {\n    limit /= 2;\n",
         "a_sleep_and_a_time_out_take_their_seconds"),
     Lie("a_time_out_is_twice_as_long", HEADER, "inline bool Run::wait(const std::string& status, const Target& target, Seconds limit) {\n",

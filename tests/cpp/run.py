@@ -199,6 +199,14 @@ def a_case_past_its_time_out(place: Place) -> str:
 
 
 @test
+def a_dynamic_error_ends_who_sleeps(place: Place) -> str:
+    """It is news, as a stop is."""
+    (shown,), _ = place.bench("errs")
+    same((shown.why, shown.hung), ("run 0 main on mtc: stop 7 -> error no-component", []))
+    return f"{len(shown.block().entries)} entries"
+
+
+@test
 def each_call_has_its_word(place: Place) -> str:
     """Also each status of a component at each of its phases."""
     (shown,), _ = place.bench("calls")
