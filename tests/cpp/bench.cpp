@@ -78,7 +78,7 @@ void late(Server& server) {
 void ends(Server& server) {
     const int mtc = 0;
     const std::vector<filskeam::Behaviour> all = {
-        [mtc](Run& it) { it.stop(mtc); }, [mtc](Run& it) { it.kill(mtc); }, [](Run& it) { it.stop_case(); }};
+        [mtc](Run& it) { it.stop(mtc); }, [mtc](Run& it) { it.kill(mtc); }, [](Run& it) { it.stop_case(); }, [](Run& it) { it.stop(7); }};
     for (const auto& end : all)
         show(server.run("t", [end](Run& run) {
             run.start(run.create(), "ends", end);
@@ -91,6 +91,19 @@ void errs(Server& server) {
     show(server.run("t", [](Run& run) {
         run.start(run.create(), "worker", [](Run& it) { it.sleep(Seconds(1000)); });
         run.stop(7);
+    }));
+}
+
+// A second verdict that is no worse, and a remark that another call has had since.
+void whys(Server& server) {
+    show(server.run("t", [](Run& run) {
+        run.set_verdict("fail", "first");
+        run.set_verdict("fail", "second");
+    }));
+    show(server.run("t", [](Run& run) {
+        run.log("early");
+        run.get_verdict();
+        run.set_verdict("fail");
     }));
 }
 
@@ -299,7 +312,7 @@ void speed(Server& server) {
 
 int main(int count, char** words_given) {
     const std::map<std::string, void (*)(Server&)> cases = {
-        {"raises", raises}, {"watchdog", watchdog}, {"late", late}, {"ends", ends}, {"errs", errs}, {"calls", calls}, {"seconds", seconds}, {"waits", waits}, {"stops", stops},
+        {"raises", raises}, {"watchdog", watchdog}, {"late", late}, {"ends", ends}, {"errs", errs}, {"whys", whys}, {"calls", calls}, {"seconds", seconds}, {"waits", waits}, {"stops", stops},
         {"words", words}, {"loses", loses}, {"random", random_cases}, {"reports", reports}, {"leaves", leaves}, {"meets", meets}, {"speed", speed},
     };
     int status = 0;

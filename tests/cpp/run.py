@@ -207,6 +207,14 @@ def a_dynamic_error_ends_who_sleeps(place: Place) -> str:
 
 
 @test
+def why_is_the_first_that_made_the_verdict(place: Place) -> str:
+    """A reason is of the next call of its run only."""
+    shown, _ = place.bench("whys")
+    same([it.why for it in shown], ["run 0 main on mtc: setverdict fail: first", "run 0 main on mtc: setverdict fail"])
+    return f"{len(shown)} test cases"
+
+
+@test
 def each_call_has_its_word(place: Place) -> str:
     """Also each status of a component at each of its phases."""
     (shown,), _ = place.bench("calls")
@@ -244,7 +252,7 @@ def a_case_that_another_behaviour_ends(place: Place) -> str:
     began = time.monotonic()
     shown, _ = place.bench("ends")
     hold(time.monotonic() - began < 20, "it took too long")
-    same([(it.is_timed_out, it.hung) for it in shown], [(False, ["run 0 main"])] * 3)
+    same([(it.is_timed_out, it.hung) for it in shown], [(False, ["run 0 main"])] * 4)
     for it in shown:
         it.block()
     return f"{len(shown)} test cases"
