@@ -232,6 +232,30 @@ LIES = (
     Lie("the_first_step_is_told_as_not_seen", (
         ("""append_step(&mut step, &steps[before])?;""", """append_step(&mut step, &steps[0])?;"""),
     ), "tc_explore_tests"),
+    Lie("a_large_piece_is_not_flushed", (
+        ("""\
+    write_made(writer, text)?;
+    match writer.flush() {
+""", """\
+    write_made(writer, text)?;
+    if 4_096 < text.len() {
+        return Ok(());
+    }
+    match writer.flush() {
+"""),
+    ), "tc_campaign_tests"),
+    Lie("many_answers_are_not_flushed", (
+        ("""\
+    write_whole(writer, text)?;
+    match writer.flush() {
+""", """\
+    write_whole(writer, text)?;
+    if 4_096 < text.len() {
+        return Ok(());
+    }
+    match writer.flush() {
+"""),
+    ), "tc_parts_tests"),
     Lie("flushed_before_it_is_written", (
         ("""\
     write_made(writer, text)?;
