@@ -66,10 +66,79 @@ void watchdog(Server& server) {
 
 void late(Server& server) {
     server.run("warm", [](Run&) {});
-    show(server.run("t", alone(hang), Seconds(0.5)));
+    const Result first = server.run("t", alone(hang), Seconds(0.5));
+    show(first);
+    std::cout << first.report();
     show(server.run("t", hang, Seconds(0.5)));
     show(server.run("t", [](Run& run) { while (true) run.sleep(Seconds(0.01)); }, Seconds(0.5)));
     show(server.run("t", [](Run& run) { run.set_verdict("pass"); }, Seconds(20)));
+}
+
+// The main behaviour hangs, and another one ends the test case.
+void ends(Server& server) {
+    const int mtc = 0;
+    const std::vector<filskeam::Behaviour> all = {
+        [mtc](Run& it) { it.stop(mtc); }, [mtc](Run& it) { it.kill(mtc); }, [](Run& it) { it.stop_case(); }, [](Run& it) { it.stop(7); }};
+    for (const auto& end : all)
+        show(server.run("t", [end](Run& run) {
+            run.start(run.create(), "ends", end);
+            std::this_thread::sleep_for(std::chrono::seconds(10));
+        }));
+}
+
+// A dynamic error ends the test case, and with it a behaviour that sleeps.
+void errs(Server& server) {
+    show(server.run("t", [](Run& run) {
+        run.start(run.create(), "worker", [](Run& it) { it.sleep(Seconds(1000)); });
+        run.stop(7);
+    }));
+}
+
+// A second verdict that is no worse, and a remark that another call has had since.
+void whys(Server& server) {
+    show(server.run("t", [](Run& run) {
+        run.set_verdict("fail", "first");
+        run.set_verdict("fail", "second");
+    }));
+    show(server.run("t", [](Run& run) {
+        run.log("early");
+        run.get_verdict();
+        run.set_verdict("fail");
+    }));
+}
+
+// All calls, and each status of a component: not started, stopped, killed, running.
+void calls(Server& server) {
+    show(server.run("t", [](Run& run) {
+        const int pump = run.create("pump", true), other = run.create();
+        const auto ask = [&run](int it) { run.running(it), run.alive(it), run.done(it), run.killed(it); };
+        ask(pump);
+        run.start(pump, "worker", [](Run&) {});
+        run.wait_done(pump);
+        ask(pump);
+        run.kill(pump);
+        ask(pump);
+        run.start(other, "worker", [](Run& it) { it.sleep(Seconds(1000)); });
+        ask(other);
+        run.stop(other);
+        ask(other);
+        run.wait_killed(other);
+        run.set_verdict("pass");
+        run.get_verdict();
+    }));
+}
+
+// How many thousandths of a second a sleep takes, and a wait in vain.
+void seconds(Server& server) {
+    show(server.run("t", [](Run& run) {
+        const int it = run.create();
+        for (bool is_wait : {false, true}) {
+            const auto began = std::chrono::steady_clock::now();
+            if (is_wait) run.wait_done(it, Seconds(1.5)); else run.sleep(Seconds(1.5));
+            const Seconds took = std::chrono::steady_clock::now() - began;
+            run.log(std::to_string(static_cast<int>(1000 * took.count())) + " thousandths");
+        }
+    }));
 }
 
 void waits(Server& server) {
@@ -243,7 +312,7 @@ void speed(Server& server) {
 
 int main(int count, char** words_given) {
     const std::map<std::string, void (*)(Server&)> cases = {
-        {"raises", raises}, {"watchdog", watchdog}, {"late", late}, {"waits", waits}, {"stops", stops},
+        {"raises", raises}, {"watchdog", watchdog}, {"late", late}, {"ends", ends}, {"errs", errs}, {"whys", whys}, {"calls", calls}, {"seconds", seconds}, {"waits", waits}, {"stops", stops},
         {"words", words}, {"loses", loses}, {"random", random_cases}, {"reports", reports}, {"leaves", leaves}, {"meets", meets}, {"speed", speed},
     };
     int status = 0;

@@ -188,10 +188,71 @@ def a_watchdog_kills_who_hangs(place: Place) -> str:
 def a_case_past_its_time_out(place: Place) -> str:
     """It ends in error, and who hangs is named: a worker, the main one; or nobody."""
     began = time.monotonic()
-    shown, _ = place.bench("late")
+    shown, text = place.bench("late")
     hold(time.monotonic() - began < 20, "it took too long")
     same([(it.verdict, it.is_timed_out, it.hung) for it in shown],
          [("error", True, ["run 1 worker"]), ("error", True, ["run 0 main"]), ("error", True, []), ("pass", False, [])])
+    hold("\nthe test case took longer than it may\nhas not returned: run 1 worker\n" in text, text)
+    for it in shown:
+        it.block()
+    return f"{len(shown)} test cases"
+
+
+@test
+def a_dynamic_error_ends_who_sleeps(place: Place) -> str:
+    """It is news, as a stop is."""
+    (shown,), _ = place.bench("errs")
+    same((shown.why, shown.hung), ("run 0 main on mtc: stop 7 -> error no-component", []))
+    return f"{len(shown.block().entries)} entries"
+
+
+@test
+def why_is_the_first_that_made_the_verdict(place: Place) -> str:
+    """A reason is of the next call of its run only."""
+    shown, _ = place.bench("whys")
+    same([it.why for it in shown], ["run 0 main on mtc: setverdict fail: first", "run 0 main on mtc: setverdict fail"])
+    return f"{len(shown)} test cases"
+
+
+@test
+def each_call_has_its_word(place: Place) -> str:
+    """Also each status of a component at each of its phases."""
+    (shown,), _ = place.bench("calls")
+    told = ((1, "false true false false"), (1, "false true true false"), (1, "false false true true"), (2, "true true false false"), (2, "false false true true"))
+    asked = [[f"0 {status} {it} -> {answer}" for status, answer in zip(("running", "alive", "done", "killed"), answers.split())] for it, answers in told]
+    wanted = ["0 create alive named pump -> made 1", "0 create -> made 2", *asked[0], "0 start 1 1 -> ok", *asked[1], "0 kill 1 -> ok", *asked[2],
+              "0 start 2 2 -> ok", *asked[3], "0 stop 2 -> ok", *asked[4], "0 setverdict pass -> ok", "0 getverdict -> pass", "0 finish -> ok"]
+    entries = [it for it in shown.block().entries if it.startswith("0 ")]
+    same([it for it in entries if not it.startswith(("0 wait", "0 wake"))], wanted)
+    same({" ".join(it.split()[1:4]) for it in entries if it.startswith("0 wait")}, {"wait done 1", "wait killed 2"})
+    return f"{len(entries)} entries"
+
+
+@test
+def a_sleep_and_a_time_out_take_their_seconds(place: Place) -> str:
+    """Not fewer, and not twice as many."""
+    (shown,), _ = place.bench("seconds")
+    took = [int(it) for it in re.findall(r"(?m)^0 # (\d+) thousandths$", shown.evidence)]
+    hold(len(took) == 2 and all(1500 <= it < 2900 for it in took), f"they took {took} thousandths")
+    return f"{took} thousandths"
+
+
+@test
+def a_status_that_no_server_has(place: Place) -> str:
+    """It counts as 3."""
+    shown, text = place.bench("waits", ["sh", "-c", '"$@"; exit 9', "sh", *place.command])
+    same([it.fault for it in shown], [""])
+    hold(text.endswith("status 3\n"), text[-100:])
+    return f"{len(shown)} test cases"
+
+
+@test
+def a_case_that_another_behaviour_ends(place: Place) -> str:
+    """A main behaviour that hangs is not waited for, and named."""
+    began = time.monotonic()
+    shown, _ = place.bench("ends")
+    hold(time.monotonic() - began < 20, "it took too long")
+    same([(it.is_timed_out, it.hung) for it in shown], [(False, ["run 0 main"])] * 4)
     for it in shown:
         it.block()
     return f"{len(shown)} test cases"

@@ -98,6 +98,7 @@ LIES = (
     Lie("a_gate_on_a_changed_tree", RELEASE, "[ \"$(recorded tree)\" = clean ] ||", "true ||", "no_release_of_another_tree"),
     Lie("another_program", RELEASE, "[ \"$(recorded program)\" = \"$(sum_of \"$program\")\" ] ||", "true ||", "no_release_of_another_program"),
     Lie("an_archive_with_the_time_of_day", RELEASE, "--mtime=\"@$(git log -1 --format=%ct)\" ", "", "the_same_bytes_again"),
+    Lie("an_archive_with_the_rights_of_its_maker", RELEASE, " --mode=u+rw,go=rX", "", "the_same_bytes_again"),
     Lie("an_archive_without_the_table", RELEASE, " tests/program/table.py)", ")", "the_archive_reads_logs_of_titan"),
     Lie("an_archive_without_the_page", RELEASE, " page/viewer.html", "", "an_archive_is_what_it_says"),
     Lie("an_archive_without_the_clients", RELEASE, " clients tests/", " clients/titan tests/", "an_archive_is_what_it_says"),

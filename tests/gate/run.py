@@ -28,7 +28,8 @@ PARTS = ("tests/claims/check.py", "tests/gate/run.py", "tests/wrapper/run.py", "
 # The words that a part is run with, if it has any.
 WORDS = {"rt": "ci", **{f"tests/{it}/run.py": "--server crates/ttrun/out/ttrun serve" for it in ("serve", "python", "cpp")}}
 RECORD = "crates/ttrun/out/ttrun.gate"
-LEFT = ("crates/ttrun/out/ttrun", "crates/ttrun/out/ttrun.sources", RECORD, "crates/refused_memory/out/refused_memory")
+LEFT = ("crates/ttrun/out/ttrun", "crates/ttrun/out/ttrun.sources", RECORD, "crates/refused_memory/out/refused_memory",
+        "crates/car_window/out/car_window")
 # How many tests each part passes where a test says nothing else.
 NUMBERS = {part: number for number, part in enumerate(PARTS, 1)}
 PASSING = {part: f"echo '{number} passed, 0 failed'" for part, number in NUMBERS.items()}
@@ -39,7 +40,7 @@ DEAF = "trap '' TERM; echo '3 passed, 0 failed'; exec sleep 90"
 SECONDS = 60
 TESTS: Dict[str, Callable[[str], None]] = {}
 # There are no fewer tests.
-FEWEST = 23
+FEWEST = 24
 
 
 class Fault(Exception):
@@ -156,7 +157,7 @@ def a_part_that_is_killed(room: str) -> None:
 @test
 def a_part_that_counts_nothing(room: str) -> None:
     for text in ("exit 0", "exit 1", "echo 'all is well'", "echo '7 passed, 0 failed'; echo behind it", "echo '7 passed, 0 failed '",
-                 "echo 'about 7 passed, 0 failed'", "echo '7 passed, no failed'", "echo '7 passed, 0 failed' >&2"):
+                 "echo 'about 7 passed, 0 failed'", "echo '7 passed, no failed'", "echo '7 passed, 0 failed' >&2", "echo '0 passed, 0 failed'"):
         _, errors = run(room, status=1, last=counted(1, wrapper=0), wrapper=text)
         hold("counts no failure" in errors, f"{text}: {errors}")
 
@@ -168,6 +169,7 @@ def a_part_that_skips_some(room: str) -> None:
     hold(lines[-3:-1] == wanted and errors.splitlines()[-2:] == wanted, f"it does not say at its end what is skipped: {lines[-4:]}, {errors}")
     hold("SKIPPED" not in "".join(run(room)[0]), "it says of a part that skips nothing that it skips some")
     run(room, status=1, last=counted(1, page=1), page="echo '1 passed, 1 failed, 3 skipped'; exit 1")
+    run(room, last=counted(play=0), play="echo '0 passed, 0 failed, 14 skipped'")
     run(room, status=1, last=counted(1, page=0), page="echo '8 passed, 0 failed, some skipped'")
 
 
@@ -353,6 +355,38 @@ def something_is_missing(room: str) -> None:
         if gone:
             os.rename(f"{tools}/{gone}.gone", f"{tools}/{gone}")
     hold(not os.path.exists(os.path.join(room, "calls")), "a part was run")
+
+
+def integrate(room: str, status: int, processors: int) -> Tuple[List[str], str]:
+    """Runs what continuous integration runs, where apt-get installs nothing and the gate ends so: what was called, and standard error."""
+    for name, text in (("gate", f"exit {status}"), ("bin/apt-get", "exit 100")):
+        write_program(os.path.join(room, name), f'#!/usr/bin/env bash\necho "{name} $*" >> "{room}/calls"\n{text}\n')
+    write_program(os.path.join(room, "bin/nproc"), f"#!/usr/bin/env bash\necho {processors}\n")
+    ran = subprocess.run([f"{room}/.ci/run"], cwd="/", env={"PATH": f"{room}/bin:{room}/tools"}, capture_output=True, text=True,
+                         timeout=SECONDS, check=False)
+    calls = calls_of(room)
+    os.remove(os.path.join(room, "calls"))
+    hold(ran.returncode == status, f"status {status} is wanted: {ran}")
+    return calls, ran.stderr
+
+
+@test
+def what_continuous_integration_runs(room: str) -> None:
+    os.mkdir(os.path.join(room, ".ci"))
+    shutil.copy2(os.path.join(TOP, ".ci/run"), os.path.join(room, ".ci"))
+    os.mkdir(os.path.join(room, "tools"))
+    for name in ("bash", "dirname", "timeout"):
+        os.symlink(f"/usr/bin/{name}", os.path.join(room, "tools", name))
+    wanted = ["bin/apt-get update", *(f"bin/apt-get install --yes --no-install-recommends {it}" for it in ("nodejs", "chromium", "firefox-esr"))]
+    for status, processors, jobs in ((0, 64, 4), (1, 2, 2), (3, 4, 4)):
+        calls, errors = integrate(room, status, processors)
+        hold(calls[:4] == wanted and calls[-1] == f"gate --jobs {jobs}", f"{calls}")
+        lacking = [it for it in ("nodejs", "chromium", "firefox-esr") if f"this could not be installed: {it}\n" not in errors]
+        hold(not lacking and "apt-get update failed" in errors, f"{errors}")
+    for name in ("node", "chromium", "firefox"):
+        write_program(os.path.join(room, "bin", name), "#!/usr/bin/env bash\n")
+    asked = [it for it in integrate(room, 1, 8)[0] if "install" in it and "pytest" not in it]
+    hold(not asked, f"what is there is installed: {asked}")
 
 
 def faults_in(judge: Callable[[str], None]) -> List[str]:

@@ -217,11 +217,12 @@ LIES = (
         };
         let Some(worker) = worker_of(rt, next, ticket, behaviour) else {"""),
         ("use tc_book::Ticket;\n", "use std::sync::{Arc, Mutex};\nuse tc_book::Ticket;\n"),
-        ("    if !make_workers(rt, gate, tickets, jobs, &mut workers) {", """\
+        ("    let (mut workers, gathered) = room_for(alloc, count)?;", """\
     let Ok(turn) = Arc::new(alloc, Mutex::new(0u8)) else {
         return Err(CaseError::NoMemory);
     };
-    if !make_workers(rt, gate, turn, tickets, jobs, &mut workers) {"""),
+    let (mut workers, gathered) = room_for(alloc, count)?;"""),
+        ("    if !make_workers(rt, gate, tickets, jobs, &mut workers) {", "    if !make_workers(rt, gate, turn, tickets, jobs, &mut workers) {"),
         ("use tc_book::{Pass, Shared, close_case, open_case};", "use std::sync::{Arc, Mutex};\nuse tc_book::{Pass, Shared, close_case, open_case};"),
     ), "tc_exec_tests"),
     Lie("a_reply_that_differs_is_told_as_no_memory", (
@@ -231,6 +232,30 @@ LIES = (
     Lie("the_first_step_is_told_as_not_seen", (
         ("""append_step(&mut step, &steps[before])?;""", """append_step(&mut step, &steps[0])?;"""),
     ), "tc_explore_tests"),
+    Lie("a_large_piece_is_not_flushed", (
+        ("""\
+    write_made(writer, text)?;
+    match writer.flush() {
+""", """\
+    write_made(writer, text)?;
+    if 4_096 < text.len() {
+        return Ok(());
+    }
+    match writer.flush() {
+"""),
+    ), "tc_campaign_tests"),
+    Lie("many_answers_are_not_flushed", (
+        ("""\
+    write_whole(writer, text)?;
+    match writer.flush() {
+""", """\
+    write_whole(writer, text)?;
+    if 4_096 < text.len() {
+        return Ok(());
+    }
+    match writer.flush() {
+"""),
+    ), "tc_parts_tests"),
     Lie("flushed_before_it_is_written", (
         ("""\
     write_made(writer, text)?;
@@ -384,6 +409,41 @@ LIES = (
     if scripts.is_empty() {
 """),
     ), shown="jobs_searched"),
+    Lie("local_verdicts_of_many_are_starved", (
+        ("""\
+    for (comp, verdict) in locals.iter().enumerate() {
+        append_local(out, comp, *verdict)?;
+""", """\
+    if 256 < locals.len() {
+        return Err(NoMemory);
+    }
+    for (comp, verdict) in locals.iter().enumerate() {
+        append_local(out, comp, *verdict)?;
+"""),
+    ), shown="a_thousand_components"),
+    Lie("a_summary_of_many_components_is_starved", (
+        ("""\
+    let mut room = room;
+    for comp in members {
+""", """\
+    if 256 < members.len() {
+        return Err(NoMemory);
+    }
+    let mut room = room;
+    for comp in members {
+"""),
+    ), shown="a_thousand_components"),
+    Lie("local_verdicts_of_late_components_are_not_told", (
+        ("""        for comp in 0..self.found.as_slice().len() / 5 + 1 {
+""", """        if 1_280 < self.found.as_slice().len() {
+            return Err(NoMemory);
+        }
+        for comp in 0..self.found.as_slice().len() / 5 + 1 {
+"""),
+    ), shown="a_thousand_components"),
+    Lie("a_longer_line_is_looked_at", (
+        ("""pub(crate) const LINE_BYTES: usize = 209;""", """pub(crate) const LINE_BYTES: usize = 250;"""),
+    ), shown="a_line_of_209_bytes"),
     Lie("many_sleepers_are_starved", (
         ("""\
     let place = place_of(sleepers.as_slice(), run);

@@ -214,6 +214,33 @@ def long_case() -> Iterator[Case]:
                text(f"legal t {66 * 1003 + 2} pass"))
 
 
+def most_components() -> Iterator[Case]:
+    """A test case of as many components as may be, in what else is done with it."""
+    script = single([*(f"create p{at}" for at in range(999)), "setverdict fail"])
+    calls = [*(f"create -> made {at}" for at in range(1, 1000)), "setverdict fail -> ok", "finish -> ok"]
+    entries, shown = many_of(*(f"0 {it}" for it in calls)), many_of(*(f"  {it}" for it in calls))
+    local = many_of("local 0 fail", *(f"local {at} none" for at in range(1, 1000)))
+    block = f"history 2 t 1\n{entries}end fail\n"
+    report = f"testcase t\nrun 0 main on 0\n{shown}{local}verdict fail\ncases 1 none 0 pass 0 inconc 0 fail 1 error 0\ncomplete\n".encode()
+    cause = "run 0 on component 0: setverdict fail -> ok"
+    evidence = f"evidence 1 t 1\nbehaviour 0 main\n{entries}end fail\n".encode()
+    for words, wanted in ((("run",), report), (("run", "--live"), report), (("run", "--history"), block.encode()), (("run", "--evidence"), evidence),
+                          (("run", "--junit"), SomeText((cause, shown, local)))):
+        yield Case("_".join(["a_thousand_components", *(it.strip("-") for it in words)]), words, script, wanted, status=1)
+    record = (CSV_HEADER + "t,1000,999,0,0,1,0,fail\n").encode()
+    for form, wanted in (("csv", record), ("junit", SomeText((cause, shown, local))), ("html", SomeText((block,))),
+                         ("summary", SomeText((f"t: fail\n  {cause}\n  after:\n", "  fail: 0\n  none: 1, 2, 3,", " 998, 999\n")))):
+        yield Case(f"a_thousand_components_report_{form}", ("report", f"--{form}"), block.encode(), wanted, status=1)
+    yield Case("a_thousand_components_checked", ("check",), block.encode(), text("legal t 1001 fail"))
+    yield Case("a_thousand_components_compared", ("check", "--script"), script + block.encode(), text("legal t 1001 fail"))
+    for words, wanted in ((), text("t fail complete")), (("--history",), block.encode()), (("--details",), SomeText(("t fail complete\n", "998 none, 999 none\n"))):
+        yield Case("_".join(["a_thousand_components_searched", *(it.strip("-") for it in words)]), ("explore", *words), script, wanted)
+    late = single([*(f"create p{at}" for at in range(998)), "start p997 w", "stop p997"])[:-len("end\n")] + text("behaviour w;setverdict pass;end;end")
+    yield Case("a_thousand_components_searched_for_locals", ("explore", "--locals"), late, b"t none pass complete\n  local 998: none or pass\n", status=1)
+    moves = many_of("case t 1", *(f"0 {it.split(' -> ')[0]}" for it in calls), "end")
+    yield Case("a_thousand_components_served", ("serve",), moves.encode(), f"evidence 1 t 1\n{entries}end fail\n".encode(), status=1)
+
+
 def crowded() -> Iterator[Case]:
     """As many test cases as may be, all of which fail, in what else is done with them."""
     names = [f"t{at}" for at in range(1000)]
@@ -270,4 +297,4 @@ def refused() -> Iterator[Case]:
 
 def cases() -> List[Case]:
     """All of them, except for the search of many states."""
-    return [*longest(), *counted(), *long_report(), *long_case(), *crowded(), *refused()]
+    return [*longest(), *counted(), *long_report(), *long_case(), *most_components(), *crowded(), *refused()]

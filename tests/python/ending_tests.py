@@ -239,6 +239,58 @@ def who_hangs_says_nothing_more_once_it_wakes(place: Place) -> None:
 
 
 @test
+def a_case_that_another_behaviour_ends(place: Place) -> None:
+    """A main behaviour that hangs in its device is not waited for: the test case is over, and the result names it."""
+    wakes = threading.Event()
+    ends: List[Callable[[Run], object]] = [lambda run: run.stop(0), lambda run: run.kill(0), lambda run: run.stop_case()]
+    with place.server() as server:
+        for end in ends:
+
+            def main(run: Run, it: Callable[[Run], object] = end) -> None:
+                run.start(run.create(), it)
+                wakes.wait(30)
+
+            result = timed(lambda: server.run("t_ended", main), 10)
+            same((result.hung, result.is_timed_out), (("run 0 main",), False))
+            place.reach("entries", len(legal(result).entries), 3)
+    wakes.set()
+
+
+@test
+def what_was_raised_is_in_its_order(place: Place) -> None:
+    """The first exception is the first in the result."""
+
+    def main(run: Run) -> None:
+        run.start(run.create(), no_answer)
+        try:
+            run.sleep(FOR_EVER)
+        except Ended:
+            raise ValueError("second") from None
+
+    with place.server() as server:
+        result = timed(lambda: server.run("t_order", main, timeout=30), 20)
+    same([(it.run, type(it.exception)) for it in result.raised], [(1, TimeoutError), (0, ValueError)])
+    told = [it for it in result.report().splitlines() if it.startswith("raised by ")]
+    same([it.split(" (")[0] for it in told], ["raised by run 1 no_answer: TimeoutError: no answer from 10.0.0.7", "raised by run 0 main: ValueError: second"])
+    place.reach("exceptions", len(result.raised), 2)
+
+
+@test
+def nothing_comes_after_a_stop_of_the_case(place: Place) -> None:
+    """The behaviour that stops the test case is ended by it."""
+    reached: List[Run] = []
+
+    def main(run: Run) -> None:
+        run.stop_case("enough")
+        reached.append(run)
+
+    with place.server() as server:
+        result = server.run("t_stop", main)
+    same((result.verdict, result.raised, reached), ("error", (), []))
+    place.reach("entries", len(legal(result).entries), 1)
+
+
+@test
 def ended_is_no_exception(place: Place) -> None:
     """A behaviour that catches each Exception ends all the same if it is stopped."""
     tries = []
@@ -333,6 +385,49 @@ def a_wait_may_have_a_time_out(place: Place) -> None:
     same(waits, ["0 wait killed all -> matched"])
     hold(len(result.evidence.splitlines()) < 25, "it asks too often")
     place.reach("waits", len(found), 5)
+
+
+@test
+def a_sleep_and_a_time_out_take_their_seconds(place: Place) -> None:
+    """Not fewer, and not twice as many."""
+    took: List[float] = []
+
+    def main(run: Run) -> None:
+        it = run.create()
+        for call in (lambda: run.sleep(1.5), lambda: run.wait_done(it, timeout=1.5)):
+            began = time.monotonic()
+            call()
+            took.append(time.monotonic() - began)
+
+    with place.server() as server:
+        same(server.run("t_seconds", main, timeout=30).verdict, "none")
+    hold(all(1.5 <= it < 2.9 for it in took), f"they took {took} seconds")
+    place.reach("waits", len(took), 2)
+
+
+@test
+def a_wait_with_a_time_out_misses_no_end(place: Place) -> None:
+    """What it waits for ends after it was asked, and before the answer is looked at: the wait learns of it all the same."""
+    ends, found = threading.Event(), []
+
+    def main(run: Run) -> None:
+        asks, it = run._is, run.create()
+        run.start(it, lambda worker: ends.wait(20))
+
+        def asks_slowly(status: str, target: object) -> bool:
+            answer, before = asks(status, target), run._case._changes
+            ends.set()
+            while not answer and run._case._changes == before:
+                time.sleep(0.001)
+            return answer
+
+        run._is = asks_slowly
+        found.append(run.wait_done(it, timeout=8))
+
+    with place.server() as server:
+        result = timed(lambda: server.run("t_missed", main, timeout=30), 6)
+    same((result.verdict, found), ("none", [True]))
+    place.reach("entries", len(legal(result).entries), 6)
 
 
 @test

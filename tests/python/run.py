@@ -31,7 +31,7 @@ import server_tests
 import word_tests
 from lanes import lanes
 
-FEWEST = 48
+FEWEST = 54
 # Tests that change what the whole process has, or measure: they run one by one, after the others.
 ALONE = ("the_program_is_found", "the_plugin_shows_what_failed", "the_file_of_the_evidence_is_emptied", "calls_in_a_second")
 

@@ -224,13 +224,16 @@ def the_evidence_goes_into_a_file(place: Place) -> None:
 
 @test
 def statuses_are_those_of_the_server(place: Place) -> None:
-    """0, 1 or 2 by the worst verdict."""
+    """0, 1 or 2 by the worst verdict; any other counts as 3."""
     for verdicts, status in ((["none", "pass"], 0), (["inconc", "pass"], 1), (["fail"], 1), (["pass", "error", "fail"], 2)):
         with place.server() as server:
             for verdict in verdicts:
                 server.run("t", lambda run: run.stop_case() if verdict == "error" else run.set_verdict(verdict))
             same(server.close(), status)
             same(server.close(), status, "a second time")
+    with place.server(command=["sh", "-c", '"$@"; exit 9', "sh", *place.command]) as server:
+        server.run("t", lambda run: run.set_verdict("pass"))
+        same(server.close(), 3, "a status that no server has:")
     place.reach("statuses", 4, 4)
 
 

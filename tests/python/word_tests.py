@@ -5,7 +5,7 @@ import functools
 from typing import Callable, List, Tuple
 
 from filskeam import Case, Run
-from kit import Place, hold, holds_word, legal, named, raises, same, test
+from kit import FOR_EVER, Place, hold, holds_word, legal, named, raises, same, test
 
 
 def nothing(run: Run) -> None:
@@ -22,6 +22,46 @@ WRONG: Tuple[Callable[[Run], object], ...] = (
     lambda run: run.alive([1]), lambda run: run.done("none"), lambda run: run.killed(""), lambda run: run.start("any", nothing),
     lambda run: run.start(1, 7), lambda run: run.start(1, nothing, "x"), lambda run: run.start(1, nothing, 0, 0, 0, 0, 0),
 )
+
+
+STATUSES = ("running", "alive", "done", "killed")
+
+
+@test
+def each_call_has_its_word(place: Place) -> None:
+    """All calls, and each status of a component: not started, stopped, killed, running."""
+
+    def ask(run: Run, it: int) -> None:
+        for call in (run.running, run.alive, run.done, run.killed):
+            call(it)
+
+    def main(run: Run) -> None:
+        pump, other = run.create("pump", alive=True), run.create()
+        ask(run, pump)
+        run.start(pump, nothing)
+        run.wait_done(pump)
+        ask(run, pump)
+        run.kill(pump)
+        ask(run, pump)
+        run.start(other, lambda worker: worker.sleep(FOR_EVER))
+        ask(run, other)
+        run.stop(other)
+        ask(run, other)
+        run.wait_killed(other)
+        run.set_verdict("pass")
+        run.get_verdict()
+
+    with place.server() as server:
+        result = server.run("t_calls", main, timeout=30)
+    told = [(1, "false true false false"), (1, "false true true false"), (1, "false false true true"), (2, "true true false false"),
+            (2, "false false true true")]
+    asked = [[f"0 {status} {it} -> {answer}" for status, answer in zip(STATUSES, answers.split())] for it, answers in told]
+    wanted = ["0 create alive named pump -> made 1", "0 create -> made 2", *asked[0], "0 start 1 1 -> ok", *asked[1], "0 kill 1 -> ok", *asked[2],
+              "0 start 2 2 -> ok", *asked[3], "0 stop 2 -> ok", *asked[4], "0 setverdict pass -> ok", "0 getverdict -> pass", "0 finish -> ok"]
+    entries = [it for it in legal(result).entries if it.startswith("0 ")]
+    same([it for it in entries if not it.startswith(("0 wait", "0 wake"))], wanted)
+    same({" ".join(it.split()[1:4]) for it in entries if it.startswith("0 wait")}, {"wait done 1", "wait killed 2"})
+    place.reach("entries", len(entries), len(wanted) + 2)
 
 
 @test

@@ -37,6 +37,7 @@ LIES = (
     Lie("a_name_may_come_twice", "reference.py", "        self.met.add(asked.run)\n", "        self.met |= {asked.run} if asked.is_remark else set()\n", "a_name_twice"),
     Lie("names_are_not_read", "reference.py", " and int(naming[1]) <= MOST_RUN and is_name(naming[2])", " and int(naming[1]) <= MOST_RUN", "a_behaviour_called_all"),
     Lie("a_late_name_is_no_run", "reference.py", "raise Refused(\"late name\")", "raise Refused(\"no such run\")", "a_name_twice"),
+    Lie("a_longer_line_is_looked_at", "reference.py", "MOST_BYTES_OF_A_LINE = 208", "MOST_BYTES_OF_A_LINE = 249", "a_line_of_209_bytes"),
     Lie("a_move_without_a_case_is_bad", "reference.py", "raise Refused(\"no test case is open\")", "raise Refused(\"bad line\")", "a_move_outside_a_case"),
     Lie("a_number_goes_on", "reference.py", "(?![0-\\xff])", "", "a_number_and_letters"),
     Lie("a_number_is_a_word", "reference.py", "(?![0-\\xff])", "(?= |$)", "a_number_and_letters"),

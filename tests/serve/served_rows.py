@@ -186,6 +186,8 @@ BYTES: List[Row] = [
     Row("a_remark_of_201_bytes", b"case t 2\n0 # " + b"x" * 201 + b"\n0 finish\nend\n", HEAD + b"0 ! bad remark\n" + TAIL, b"", 3),
     Row("the_longest_line", b"case t 256\n255 # " + b"~" * 200 + b"\n0 finish\nend\n",
         b"evidence 1 t 256\n255 # " + b"~" * 200 + b"\n" + TAIL, b"", 0),
+    Row("a_line_of_208_bytes", b"case t 2\n65535 # " + b"~" * 200 + b"\n0 finish\nend\n", HEAD + TAIL, b"ttrun: line 2: no such run\n", 3),
+    Row("a_line_of_209_bytes", b"case t 2\n65535 # " + b"~" * 201 + b"\n0 finish\nend\n", HEAD + TAIL, b"ttrun: line 2: line too long\n", 3),
     Row("a_line_of_100000_bytes_of_a_run", b"case t 2\n1 " + b"x" * 100_000 + b"\n0 finish\nend\n", HEAD + b"1 ! line too long\n" + TAIL, b"", 3),
     Row("a_line_of_100000_bytes_of_nobody", b"case t 2\n" + b"x" * 100_000 + b"\n0 finish\nend\n", HEAD + TAIL, b"ttrun: line 2: line too long\n", 3),
     Row("a_number_of_100000_digits", b"case t 2\n" + b"1" * 100_000 + b" finish\n0 finish\nend\n", HEAD + TAIL, b"ttrun: line 2: line too long\n", 3),

@@ -148,6 +148,15 @@ def a_ttrun_that_refuses_is_believed(place: Place) -> None:
 
 
 @test
+def a_ttrun_that_ends_badly_is_not_believed(place: Place) -> None:
+    """Also if its line says that the order is legal."""
+    stand_in = write(place, "ttrun", ["#!/bin/sh", "cat > /dev/null", "echo 'legal t_late 7 pass'", "exit 3"])
+    os.chmod(stand_in, 0o755)
+    ran = command(place, "audit", log("pumps-full.merged"), "--only", "t_late", "--program", stand_in)
+    hold(ran.status == 3 and "check refuses" in ran.lines[-1], ran.lines)
+
+
+@test
 def without_ttrun_it_says_so(place: Place) -> None:
     nowhere = Place(place.room, os.path.join(place.room, "none"))
     ran = command(nowhere, "flaky", log("pumps-full.merged"))
@@ -228,6 +237,40 @@ def no_letter_of_a_log_moves_the_cursor(place: Place) -> None:
 
 
 @test
+def a_word_moves_no_cursor_either(place: Place) -> None:
+    ran = command(place, "audit", log("pumps-full.merged"), "--only", "\x1b[2J\r")
+    same((ran.status, ran.errors), (3, "ttrun-titan: no test case ?[2J? is in the logs\n"))
+
+
+@test
+def nobody_reads_what_is_printed(place: Place) -> None:
+    """The status is that of a refusal, and no verdict's."""
+    reads, writes = os.pipe()
+    os.close(reads)
+    words = [sys.executable, os.path.join(CLIENT, "ttrun-titan"), "audit", log("pumps-full.merged"), "--unchecked", "--only", "t_error"]
+    ran = subprocess.run(words, stdout=writes, stderr=subprocess.PIPE, check=False)
+    os.close(writes)
+    same((ran.returncode, ran.stderr), (3, b""))
+
+
+@test
+def one_execution_is_chosen(place: Place) -> None:
+    for chosen, wanted in (("t_first#2", ["t_first#2"]), ("t_first", ["t_first", "t_first#2"])):
+        ran = command(place, "audit", log("pumps-full.merged"), "--only", chosen, "--history", "kept")
+        hold(ran.status < 3, ran.errors)
+        same(list(rows_of(ran)), wanted)
+        with open(os.path.join(place.room, "kept"), encoding="utf-8") as file:
+            same(re.findall(r"(?m)^history 2 (\w+) ", file.read()), [it.replace("#", "_") for it in wanted])
+
+
+@test
+def what_was_not_decided_is_no_pass(place: Place) -> None:
+    for word in ("audit", "flaky"):
+        ran = command(place, word, log("pumps-full.merged"), "--only", "t_late", "--states", "1")
+        hold(ran.status == 3 and ran.lines[-1] == "1 test case: 1 undecided", (ran.status, ran.lines))
+
+
+@test
 def junit_has_every_test_case(place: Place) -> None:
     for words, wanted in ((["flaky"], None), (["audit"], 0)):
         ran = command(place, *words, log("pumps-full.merged"), "--junit", "x.xml")
@@ -237,6 +280,15 @@ def junit_has_every_test_case(place: Place) -> None:
         same((len(suite), suite.get("tests"), suite.get("failures"), suite.get("errors")), (20, "20", str(failures), "0"))
         hold(failures > 0 if wanted is None else failures == wanted, failures)
         hold(suite[0].get("name") == "t_restart" and ran.status == (1 if failures else 0), suite[0].attrib)
+
+
+@test
+def junit_counts_what_was_not_decided(place: Place) -> None:
+    command(place, "flaky", log("pumps-full.merged"), "--states", "1", "--junit", "x.xml")
+    root = ElementTree.parse(os.path.join(place.room, "x.xml")).getroot()
+    errors = sum(it.find("error") is not None for it in root[0])
+    hold(errors > 0, "each search ends with one state")
+    same((root.get("errors"), root[0].get("errors")), (str(errors), str(errors)))
 
 
 @test

@@ -26,7 +26,7 @@ import search_tests
 import titan_tests
 
 # There are no fewer tests, those of Titan itself left out.
-FEWEST = 40
+FEWEST = 46
 
 
 def main() -> int:

@@ -26,7 +26,7 @@ from tree import LARGE, SECONDS, STARTING, Ran, Tree, hold
 Test = Callable[[Tree], None]
 TESTS: Dict[str, Test] = {}
 # There are no fewer tests.
-FEWEST = 73
+FEWEST = 78
 # A change that many seconds ago, by its file times, came before the program was built.
 OLD = 1000
 
@@ -461,6 +461,34 @@ def a_quota_of_processors(tree: Tree) -> None:
 
 
 @test
+def an_older_group_of_processes(tree: Tree) -> None:
+    group = os.path.join(tree.room, "sys/fs/cgroup")
+    tree.write(f"{group}/cpu/cpu.cfs_quota_us", "100000\n")
+    tree.write(f"{group}/cpu/cpu.cfs_period_us", "100000\n")
+    hold(begins_with(tree, "")[0] == ["tc_low 1", "tc_high 1", "tc_aside 1", "ttrun 1"], f"{tree.calls()}")
+    tree.write(f"{group}/cpu/cpu.cfs_quota_us", "-1\n")
+    tree.write(f"{group}/memory/memory.limit_in_bytes", "9000000000\n")
+    tree.write(f"{group}/memory/memory.stat", "rss 1\ntotal_rss 5000000000\n")
+    found = begins_with(tree, "4")
+    hold(found == (["tc_low 2", "tc_high 2", "tc_aside 2", "ttrun 2"], False), f"{found}")
+
+
+@test
+def more_processors_than_a_crate_is_checked_with(tree: Tree) -> None:
+    found, _ = begins_with(tree, "20")
+    hold(found == ["tc_low 8", "tc_high 8", "tc_aside 8", "ttrun 8"], f"{found}")
+
+
+@test
+def a_chain_of_crates(tree: Tree) -> None:
+    tree.write("crates.txt", "tc_low:\ntc_high: tc_low\ntc_aside: tc_high\nttrun: tc_aside\n")
+    built(tree)
+    hold(begins_of(tree) == ["tc_low 2", "tc_high 2", "tc_aside 2", "ttrun 2"], f"{tree.calls()}")
+    hold_runs(tree, 1)
+    hold(is_built_again(tree, lambda: tree.write("crates/tc_low/src/src of.rt", "-- changed\n", OLD)), "the lowest was changed")
+
+
+@test
 def the_longest_chain_comes_first(tree: Tree) -> None:
     tree.write("crates.txt", "tc_low:\ntc_high: tc_low\ntc_aside:\nttrun: tc_high tc_aside tc_low\n")
     tree.write("crates/tc_aside/src/more.rt", LARGE[:len(LARGE) // 2])
@@ -534,6 +562,17 @@ def a_file_system_without_links(tree: Tree) -> None:
     tree.write("crates/tc_high/src/src of.rt", "-- changed\n")
     hold(is_built_again(tree, lambda: None), "a source was changed")
     hold([it for it in tree.calls() if it.startswith("built tc_low")] == ["built tc_low"], f"{tree.calls()}")
+
+
+@test
+def a_file_system_without_locks(tree: Tree) -> None:
+    with STARTING, open(tree.path("tools/first_build.py"), encoding="utf-8") as it:
+        text = it.read()
+    hold("fcntl.flock(folder," in text, "it takes no locks")
+    tree.write("tools/first_build.py", text.replace("fcntl.flock(folder,", "fcntl.flock(1_000_000,"))
+    ran = tree.call("a", NO_LOCKS="yes")
+    hold(ran.status == 0 and ran.output == b"<a>" and not any("waiting" in it for it in ran.lines()), f"{ran}")
+    hold_runs(tree, 1)
 
 
 @test
@@ -707,9 +746,22 @@ def a_narrow_terminal(tree: Tree) -> None:
 
 
 @test
+def a_terminal_of_no_width(tree: Tree) -> None:
+    names = [f"tc_{at}_{'x' * 40}" for at in range(2)]
+    for it in names:
+        tree.write(f"crates/{it}/src/src of.rt", "-- a source\n")
+    tree.write("crates.txt", "".join(f"{it}:\n" for it in names) + f"ttrun: {' '.join(names)}\n")
+    parts = tree.at_terminal("sum", columns=0, FAKE_PAUSE="0.6").output.decode().split("\r\n")[1].split("\r\x1b[K")
+    hold(max(map(len, parts[1:-1])) == 79, f"it is taken for another than one of 80 columns: {parts}")
+
+
+@test
 def a_terminal_that_cannot_write_over(tree: Tree) -> None:
     ran = tree.at_terminal("sum", TERM="dumb", FAKE_PAUSE="0.6")
     hold(b"\x1b" not in ran.output and ran.output.count(b"crates built") == 3, f"{ran}")
+    os.remove(tree.program)
+    ran = tree.at_terminal("sum", TERM="", FAKE_PAUSE="0.6")
+    hold(b"\x1b" not in ran.output and b"4 crates built" in ran.output, f"{ran}")
 
 
 @test

@@ -34,6 +34,7 @@ name=${PWD##*/}
 tell() { echo "$*" >> "$FAKE_FOLDER/calls"; }
 trap 'tell "ended $name"; exit 1' INT TERM HUP
 uses() { sed -n "s/^$1://p" ../../crates.txt | tr ' ' '\n' | grep '^tc_'; }
+below() { uses "$1" | while read -r it; do echo "$it"; below "$it"; done; }
 stamp() {
     {
         find "../$1/src" "../$1/specs" "../$1/proofs" -type f | LC_ALL=C sort | xargs -d '\n' cat
@@ -64,9 +65,14 @@ nice > "$FAKE_FOLDER/nice of $name"
 readlink /proc/$PPID/fd/* | grep -q '/ttrun.lock$' && tell "fault: what builds holds the wrapper's lock"
 for it in "$name" $(uses "$name"); do
     exec {held}< "../$it"
-    flock -n "$held" || { echo "rt: waiting for another rt to finish in $it"; tell "$name waits for another rt"; flock "$held"; }
-    [ "$it" = "$name" ] && continue
+    [ -n "${NO_LOCKS:-}" ] || flock -n "$held" || { echo "rt: waiting for another rt to finish in $it"; tell "$name waits for another rt"; flock "$held"; }
+done
+for it in $(below "$name" | sort -u); do
     [ "$(cat "../$it/out/rlib/stamp" 2> /dev/null)" = "$(stamp "$it")" ] || tell "fault: $it is not built below $name"
+done
+[ -s ../../HANDLES ] || tell "fault: there is no HANDLES above $name"
+for it in $(sed -nE 's/^([a-z_]+)[ :].*/\1/p' ../../crates.txt); do
+    [ -d "../$it/src" ] || tell "fault: crates.txt above $name lists $it, which is not there"
 done
 is_here() { [ "$name" = "${FAKE_AT:-ttrun}" ]; }
 if [ "$verb" = run ] || [ "$(cat out/rlib/stamp 2> /dev/null)" != "$(stamp "$name")" ]; then
@@ -115,8 +121,13 @@ SORT = """#!/usr/bin/env bash
 [ "${LC_ALL:-}" = C ] || [ -z "${OTHER_TOOLS:-}" ] || exec /usr/bin/sort -r "$@"
 exec /usr/bin/sort "$@"
 """
-# If SHORT_WAIT names a file, the first wait for a lock ends at once, as one does whose time is over, and leaves it.
+# If SHORT_WAIT names a file, the first wait for a lock ends at once, as one does whose time is over, and leaves it. If NO_LOCKS is
+# set there is none, as in some file systems.
 FLOCK = """#!/usr/bin/env bash
+if [ -n "${NO_LOCKS:-}" ]; then
+    echo "flock: $2: no locks available" >&2
+    exit 71
+fi
 if [ "$1" = -w ] && [ -n "${SHORT_WAIT:-}" ] && [ ! -e "$SHORT_WAIT" ]; then
     : > "$SHORT_WAIT"
     exit 1
@@ -180,6 +191,7 @@ class Tree:
                 self.write(f"crates/{crate}/{part}/{part} of.{ending}", f"-- {crate} {part}\n")
         self.write("crates/tc_high/src/more.rt", LARGE)
         self.write("crates.txt", CRATES)
+        self.write("HANDLES", "Handles allowed: none.\n")
         self.program = self.path("crates/ttrun/out/ttrun")
         with STARTING:
             self.add_programs()

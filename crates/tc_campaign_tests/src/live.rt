@@ -7,7 +7,9 @@ use std::io;
 use std::io::Write;
 use std::process::Abort;
 use std::test::Fail;
-use tc_campaign::{CampaignEnd, LiveForm, LiveWriter, Observer, OutFault};
+use tc_book::Sequence;
+use tc_campaign::{CampaignEnd, Finished, LiveForm, LiveWriter, Observer, OutFault};
+use tc_entry::{UserVerdict, Verdict};
 use tc_stream::devices::{NarrowWriter, WriteFailure};
 
 /// Takes all bytes, and notes how many there were at each flush; the flush of this number fails, counted from 0. A flush of an
@@ -142,6 +144,26 @@ fn each_piece_is_flushed(rt: HostRuntime) -> Result<(), Fail> {
     for form in FORMS {
         flush_each_piece(&rt, rt.alloc(), form)?;
     }
+    Ok(())
+}
+
+/// Whether the test case is written.
+fn take_one<W: Write>(alloc: Global, case: Finished, writer: &mut W) -> bool {
+    let mut live = LiveWriter::new(alloc, LiveForm::Text, writer);
+    live.take(case)
+}
+
+// A test case of as many components as there may be is flushed too.
+#[test]
+fn a_large_piece_is_flushed(rt: HostRuntime) -> Result<(), Fail> {
+    let mut case = finished(rt.alloc(), "a", UserVerdict::Pass)?;
+    case.report.locals = Sequence::new(vec![in rt.alloc(); Verdict::Pass; 1_000]?);
+    let mut writer = Flushed::new(rt.alloc(), usize::MAX);
+    let taken = take_one(rt.alloc(), case, &mut writer);
+    holds(&rt, "the test case is taken", taken);
+    let flushed = writer.flushes.as_slice().first().copied();
+    is(&rt, "the flush", flushed, Some(writer.taken.len()));
+    holds(&rt, "a large piece", writer.taken.len() > 10_000);
     Ok(())
 }
 

@@ -258,6 +258,32 @@ fn a_failed_flush_ends_a_service(rt: HostRuntime) {
     }
 }
 
+/// A test case that makes that many components.
+fn append_creates(input: &mut Vec<u8>, count: u32) -> Result<(), NoMemory> {
+    append_text(input, "case t 1\n")?;
+    for _ in 0..count {
+        append_text(input, "0 create\n")?;
+    }
+    append_text(input, "end\n")
+}
+
+/// Three reads, of which two end some 450 lines each: the answers to each are flushed.
+#[test]
+fn many_answers_to_a_read_are_flushed(rt: HostRuntime) -> Result<(), NoMemory> {
+    let mut input = Vec::new(rt.alloc());
+    append_creates(&mut input, 900)?;
+    let mut reader = input.as_slice();
+    let mut writer = FlushedWriter::new(rt.alloc(), NEVER);
+    let mut errors = NarrowWriter::new(rt.alloc(), NEVER, WriteFailure::Full);
+    let ending = serve(rt.alloc(), &mut reader, &mut writer, &mut errors);
+    is(&rt, "the end", ending.outcome.is_ok(), true);
+    let flushes = writer.flushed.as_slice();
+    is(&rt, "the flushes", flushes.len(), 3);
+    let first = flushes.first().copied().unwrap_or(0);
+    is(&rt, "many answers", first > 8_000, true);
+    Ok(())
+}
+
 /// That many remarks.
 fn append_remarks(out: &mut Vec<u8>, remark: &str, count: u32) -> Result<(), NoMemory> {
     for _ in 0..count {
