@@ -4,14 +4,13 @@ use Rattle.tc_step.specs.Steps.{ScriptView}
 use Rattle.tc_book.specs.Passes.{PassState}
 use Rattle.tc_exec.specs.declared.job.Back.{Back}
 use Rattle.tc_exec.specs.declared.job.Ending.TheVariants as E
-use Rattle.tc_behaviour.specs.Calls.{IsRun, HasGrown}
+use Rattle.tc_behaviour.specs.Calls.{IsRun}
 
 -- what a script hands back for a pass: it has made the calls of its steps, as far as they go; with another number of
 -- arguments than it has parameters it has made none
 pub record Acts (s : ScriptView) (before : PassState) (b : Back) : Type 0 where
   pub other_count : length before.args ≢ s.parameters → (b.pass ≡ before) × (b.ending ≡ E.Returned)
   pub calls : length before.args ≡ s.parameters → IsRun s.steps before b.pass b.ending
-  pub grown : HasGrown before b.pass
 
 -- what a script hands back for a pass with as many arguments as it has parameters: it has made the calls of its steps, as far as they go
 pub record MakesItsCalls (s : ScriptView) (before : PassState) (b : Back) : Type 0 where

@@ -1,7 +1,6 @@
 -- What the steps of a script call, and the pass that comes of it.
 use Rattle.std.specs.Prelude.{◌≡◌, ◌++◌, ◌∷◌, [], Bool, false, List}
 use Rattle.tc_entry.specs.declared.comp.Comp.{Comp}
-use Rattle.tc_entry.specs.declared.entry.Entry.{Entry}
 use Rattle.tc_entry.specs.declared.reply.Reply.{Reply}
 use Rattle.tc_entry.specs.declared.reply.Reply.TheVariants as R
 use Rattle.tc_step.specs.declared.step.Step.{Step}
@@ -45,7 +44,3 @@ pub record IsRun (steps : List Step) (before after : PassState) (how : Ending) :
   pub called : HasCalled steps before left bound after
   -- how it came back depends on whether the pass has ended, and on whether steps are left
   pub ending_is : how ≡ ending (has_ended after) left
-
--- the run, its component and its arguments are the same, and the log has grown
-abbrev pub HasGrown : PassState → PassState → Type 0
-HasGrown before after = (more : List Entry) × (after ≡ record before { log = before.log ++ more })

@@ -2,6 +2,7 @@
 use Rattle.std.specs.Prelude.{◌≡◌, ◌++◌, Bool, true, false, List, Result, Ok, Err, length}
 use Rattle.tc_verdict.specs.declared.memory.NoMemory.{NoMemory}
 use Rattle.tc_entry.specs.declared.comp.Comp.{Comp}
+use Rattle.tc_entry.specs.declared.entry.Entry.{Entry}
 use Rattle.tc_entry.specs.declared.reply.Reply.{Reply}
 use Rattle.tc_step.specs.declared.step.Step.{Step}
 use Rattle.tc_step.specs.declared.step.Step.TheVariants as S
@@ -12,6 +13,10 @@ use Rattle.tc_book.specs.declared.halt.Halt.TheVariants as H
 use Rattle.tc_exec.specs.declared.job.Ending.{Ending}
 use Rattle.tc_exec.specs.declared.job.Ending.TheVariants as E
 use Rattle.tc_behaviour.specs.Calls.{Calls, bound_behind, HasCalled}
+
+-- the run, its component and its arguments are the same, and the log has grown
+abbrev pub HasGrown : PassState → PassState → Type 0
+HasGrown before after = (more : List Entry) × (after ≡ record before { log = before.log ++ more })
 
 -- a call was carried out unless memory ran out
 abbrev pub is_refused : {A : Type 0} → Result A Halt → Bool

@@ -2,7 +2,7 @@
 ghost use Rattle.std.specs.Prelude.{◌≡◌, ◌≢◌, length};
 ghost use Rattle.tc_step.specs.Steps.{ScriptView};
 ghost use Rattle.tc_exec.specs.declared.job.Ending.TheVariants as endings;
-ghost use Rattle.tc_behaviour.specs.Calls.{IsRun, HasGrown};
+ghost use Rattle.tc_behaviour.specs.Calls.{IsRun};
 ghost use Rattle.tc_behaviour.specs.Inside.{ending_of};
 
 use crate::call::call;
@@ -26,8 +26,7 @@ pub trait Behaviour {
     /// Returned.
     fn run<R: Wait>(self, rt: &R, alloc: Global, pass: Pass) -> Back
         ensures other_count { length pass.args ≢ (script self).parameters → (result.pass ≡ pass) × (result.ending ≡ endings.Returned) }
-        ensures calls { length pass.args ≡ (script self).parameters → IsRun (script self).steps pass result.pass result.ending }
-        ensures grown { HasGrown pass result.pass };
+        ensures calls { length pass.args ≡ (script self).parameters → IsRun (script self).steps pass result.pass result.ending };
 }
 
 /// Makes the calls of the steps in order, until the pass has ended.

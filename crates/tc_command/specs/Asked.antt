@@ -26,7 +26,7 @@ use Rattle.tc_command.specs.declared.task.Task.TheVariants as T
 use Rattle.tc_command.specs.declared.word.WordFault.{WordFault}
 use Rattle.tc_command.specs.declared.word.WordFault.TheVariants as W
 use Rattle.tc_command.specs.Command.{cases, ttrun}
-use Rattle.tc_command.specs.Words.{IsBad, IsGood, IsRuleOf, IsShardOf, IsStatesOf}
+use Rattle.tc_command.specs.Words.{IsGood, IsRuleOf, IsShardOf, IsStatesOf}
 
 -- the value comes from the arguments, and is no default
 abbrev pub is_from_words : Option ValueSource → Bool
@@ -116,14 +116,17 @@ pub record Chooses (rows : List Row) (c : Choice) : Type 0 where
   pub shard : IsShardOf (first_of (codes "shard") rows) c.shard
   pub failed : c.failed ≡ is_given rows (codes "failed")
 
+-- the options choose these test cases, and ask that faults are explained, or not
+abbrev pub AsksFor : Bool → List Row → Choice → Bool → Type 0
+AsksFor at_terminal rows c explains = Chooses rows c × (explains ≡ is_explained at_terminal rows)
+
 -- the options ask for a run so
 pub record AsksRun (at_terminal : Bool) (rows : List Row) (o : RunOptions) : Type 0 where
   pub form : o.form ≡ form_of rows
   pub live : o.live ≡ is_given rows (codes "live")
   pub progress : o.progress ≡ is_given rows (codes "progress")
   pub stop_on : IsRuleOf (first_of (codes "stop-on") rows) o.stop_on
-  pub choice : Chooses rows o.choice
-  pub explains : o.explains ≡ is_explained at_terminal rows
+  pub choice : AsksFor at_terminal rows o.choice o.explains
 
 -- the options ask for such an exploration
 pub record AsksExplore (at_terminal : Bool) (rows : List Row) (o : ExploreOptions) : Type 0 where
@@ -131,21 +134,18 @@ pub record AsksExplore (at_terminal : Bool) (rows : List Row) (o : ExploreOption
   pub details : o.details ≡ is_given rows (codes "details")
   pub locals : o.locals ≡ is_given rows (codes "locals")
   pub states : IsStatesOf (first_of (codes "states") rows) o.states
-  pub choice : Chooses rows o.choice
-  pub explains : o.explains ≡ is_explained at_terminal rows
+  pub choice : AsksFor at_terminal rows o.choice o.explains
 
 -- the subcommand with its options asks for this task
 abbrev pub Asks : Bool → Subcommand × List Row → Task → Type 0
-Asks at (S.Check, rows) (T.Check c explains) = (is_given rows (codes "script") ≡ false) × Chooses rows c × (explains ≡ is_explained at rows)
-Asks at (S.Check, rows) (T.Compare None c explains) = (is_given rows (codes "script") ≡ true) × Chooses rows c × (explains ≡ is_explained at rows)
+Asks at (S.Check, rows) (T.Check c explains) = (is_given rows (codes "script") ≡ false) × AsksFor at rows c explains
+Asks at (S.Check, rows) (T.Compare None c explains) = (is_given rows (codes "script") ≡ true) × AsksFor at rows c explains
 Asks at (S.Replay, rows) (T.Replay explains) = explains ≡ is_explained at rows
-Asks at (S.Report, rows) (T.Report f c explains) =
-    (is_given rows (codes "script") ≡ false) × (report_form_of rows ≡ Some f) × Chooses rows c × (explains ≡ is_explained at rows)
-Asks at (S.Report, rows) (T.Compare (Some f) c explains) =
-    (is_given rows (codes "script") ≡ true) × (report_form_of rows ≡ Some f) × Chooses rows c × (explains ≡ is_explained at rows)
+Asks at (S.Report, rows) (T.Report f c explains) = (is_given rows (codes "script") ≡ false) × (report_form_of rows ≡ Some f) × AsksFor at rows c explains
+Asks at (S.Report, rows) (T.Compare (Some f) c explains) = (is_given rows (codes "script") ≡ true) × (report_form_of rows ≡ Some f) × AsksFor at rows c explains
 Asks at (S.Explore, rows) (T.Explore o) = AsksExplore at rows o
 Asks at (S.Run, rows) (T.Run o) = (is_given rows (codes "list") ≡ false) × AsksRun at rows o
-Asks at (S.Run, rows) (T.List c explains) = (is_given rows (codes "list") ≡ true) × Chooses rows c × (explains ≡ is_explained at rows)
+Asks at (S.Run, rows) (T.List c explains) = (is_given rows (codes "list") ≡ true) × AsksFor at rows c explains
 Asks at (S.Serve, rows) T.Serve = Unit {0}
 Asks at line task = ⊥
 
@@ -156,11 +156,11 @@ HasGoodChoice rows = IsGood IsShardOf (first_of (codes "shard") rows) × All IsP
 -- a value of these options names nothing, and it is the first: that of --shard, then those of --only, then that of
 -- --suite, and then that of --stop-on or --states
 abbrev pub HasBadWord : List Row → WordFault → Type 0
-HasBadWord rows W.Shard = IsBad IsShardOf (first_of (codes "shard") rows)
+HasBadWord rows W.Shard = IsGood IsShardOf (first_of (codes "shard") rows) → ⊥
 HasBadWord rows W.Only = IsGood IsShardOf (first_of (codes "shard") rows) × (All IsPattern (words_of (codes "only") rows) → ⊥)
 HasBadWord rows W.Suite = HasGoodChoice rows × (IfSome (first_of (codes "suite") rows) IsName → ⊥)
-HasBadWord rows W.StopOn = HasGoodChoice rows × IfSome (first_of (codes "suite") rows) IsName × IsBad IsRuleOf (first_of (codes "stop-on") rows)
-HasBadWord rows W.States = HasGoodChoice rows × IsBad IsStatesOf (first_of (codes "states") rows)
+HasBadWord rows W.StopOn = HasGoodChoice rows × IfSome (first_of (codes "suite") rows) IsName × (IsGood IsRuleOf (first_of (codes "stop-on") rows) → ⊥)
+HasBadWord rows W.States = HasGoodChoice rows × (IsGood IsStatesOf (first_of (codes "states") rows) → ⊥)
 
 -- What a line is read as, in which the command finds these faults: the task that it asks for, or clap's error. Its kind is that
 -- of its first fault, or that it asks for help or the version: the command's, or if it has none the options'. If it has none, it may be an

@@ -1,10 +1,11 @@
 -- What only the reading of the arguments needs: no public clause rests on a word of this file.
-use Rattle.std.specs.Prelude.{◌≡◌, ◌∷◌, [], Bool, List, codes, false, is_none, true}
+use Rattle.std.specs.Borrow.{Bor}
+use Rattle.std.specs.Prelude.{◌≡◌, ◌∷◌, ◌&&◌, [], Bool, List, codes, false, is_none, true}
 use Rattle.clap.specs.Words.{App, Row, Rule, Text, app_of, kind_of, new_app, with_rule, with_subcommand}
 use Rattle.clap.specs.declared.builder.command.Command.{Command}
 use Rattle.clap.specs.declared.builder.command.Command.TheViews.{out-Command}
 use Rattle.clap.specs.declared.error.kind.ErrorKind.TheVariants.{ArgumentConflict, MissingRequiredArgument}
-use Rattle.tc_command.specs.Asked.{Asks, HasBadWord, lacks_script, option_faults, report_form_of}
+use Rattle.tc_command.specs.Asked.{Asks, HasBadWord, is_given, lacks_script, option_faults, report_form_of}
 use Rattle.tc_command.specs.Command.{check, explore, flag_rule, replay, report, run, word_rule, words_rule}
 use Rattle.tc_command.specs.declared.command.OptionRow.{OptionRow}
 use Rattle.tc_command.specs.declared.command.Subcommand.{Subcommand}
@@ -37,6 +38,10 @@ IsRefusedBy line R.NoScript = option_faults line ≡ MissingRequiredArgument ∷
 IsRefusedBy line R.NoJunit = option_faults line ≡ MissingRequiredArgument ∷ []
 IsRefusedBy line (R.Word fault) = (option_faults line ≡ []) × HasBadWord line.1 fault
 IsRefusedBy line R.NoMemory = Unit {0}
+
+-- both options of this pair are given
+abbrev pub gives_both : List Row → Bor Text × Bor Text → Bool
+gives_both rows p = is_given rows p.0.now && is_given rows p.1.now
 
 -- two options clash, if some do
 abbrev pub IsClash : Bool → Refusal → Type 0

@@ -28,10 +28,6 @@ IsRuleOf = IsNamed (λ word v. word ≡ name_of v)
 abbrev pub IsStatesOf : Option Text → ℕ → Type 0
 IsStatesOf word n = MatchOption word (n ≡ 100000) (λ w. (1 ≤ n) × (n ≤ 1000000) × (w ≡ decimal n))
 
--- the value names nothing
-abbrev pub IsBad : {T : Type 0} → (Option Text → T → Type 0) → Option Text → Type 0
-IsBad {T} Names word = (x : T) → Names word x → ⊥
-
 -- the value names something
 abbrev pub IsGood : {T : Type 0} → (Option Text → T → Type 0) → Option Text → Type 0
 IsGood {T} Names word = (x : T) × Names word x

@@ -8,7 +8,7 @@ ghost use Rattle.tc_command.specs.Command.{ttrun};
 ghost use Rattle.tc_command.specs.Asked.{Asks, AsksRun, Chooses, IsReading, apart as spec_apart, form_of, is_explained, is_given, line_of};
 ghost use Rattle.tc_command.specs.Asked.{lacks_option, report_form_of, subcommand_named as spec_named, words_of};
 ghost use Rattle.tc_command.specs.Words.{IsGood, IsShardOf};
-ghost use Rattle.tc_command.specs.Inside.{IsBadWord, IsClash, IsLack, IsRefusedBy, IsTaken, IsWordRefused, lacks_form as spec_lacks_form, lacks_script_of as spec_lacks};
+ghost use Rattle.tc_command.specs.Inside.{IsBadWord, IsClash, IsLack, IsRefusedBy, IsTaken, IsWordRefused, gives_both, lacks_form as spec_lacks_form, lacks_script_of as spec_lacks};
 ghost use Rattle.tc_command.specs.declared.command.Subcommand.TheVariants.{Check, Explore, Report, Run};
 ghost use Rattle.tc_command.specs.declared.word.WordFault.TheVariants as fault;
 
@@ -44,7 +44,7 @@ impl From<Error> for Refused {
 
 // Options of which each two exclude each other.
 fn apart(subcommand: Subcommand) -> &'static [(&'static str, &'static str)]
-    ensures { (rows : List Row) → list_any (λ p. is_given rows p.0.now && is_given rows p.1.now) result.now
+    ensures { (rows : List Row) → list_any (gives_both rows) result.now
         ≡ list_any (λ p. is_given rows p.0 && is_given rows p.1) ((codes "explain", codes "no-explain") ∷ spec_apart subcommand) }
 {
     match subcommand {
@@ -99,8 +99,8 @@ fn refuse_both(
     options: &ArgMatches<'_>,
     pairs: &[(&'static str, &'static str)],
 ) -> Result<(), Refusal>
-    ensures none { OnOk result (list_any (λ p. is_given (rows_of (found_of options.now)) p.0.now && is_given (rows_of (found_of options.now)) p.1.now) pairs.now ≡ false) }
-    ensures some { IfErr result (IsClash (list_any (λ p. is_given (rows_of (found_of options.now)) p.0.now && is_given (rows_of (found_of options.now)) p.1.now) pairs.now)) }
+    ensures none { OnOk result (list_any (gives_both (rows_of (found_of options.now))) pairs.now ≡ false) }
+    ensures some { IfErr result (IsClash (list_any (gives_both (rows_of (found_of options.now))) pairs.now)) }
 {
     for (first, second) in pairs {
         if has_option(options, first) && has_option(options, second) {
@@ -129,7 +129,8 @@ fn word_of<'a>(options: &ArgMatches<'a>, id: &str) -> Option<&'a str>
 fn suite(options: &ArgMatches<'_>) -> Result<Option<Name>, WordFault>
     ensures taken { IfOk result (λ name. name ≡ first_of (codes "suite") (rows_of (found_of options.now))) }
     ensures good { OnOk result (IfSome (first_of (codes "suite") (rows_of (found_of options.now))) IsName) }
-    ensures refused { IfErr result (λ f. (f ≡ fault.Suite) × (IfSome (first_of (codes "suite") (rows_of (found_of options.now))) IsName → ⊥)) }
+    ensures refused { IfErr result (λ f. (f ≡ fault.Suite)
+        × (IfSome (first_of (codes "suite") (rows_of (found_of options.now))) IsName → ⊥)) }
 {
     word::suite(word_of(options, "suite"))
 }

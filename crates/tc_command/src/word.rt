@@ -4,7 +4,7 @@ ghost use Rattle.std.specs.Fmt.{decimal};
 ghost use Rattle.tc_entry.specs.Name.{IsName};
 ghost use Rattle.tc_entry.specs.Pattern.{IsPattern};
 ghost use Rattle.tc_entry.specs.Shard.{ShardView};
-ghost use Rattle.tc_command.specs.Words.{IsBad, IsRuleOf, IsShardOf, IsShardWord, IsStatesOf, text_of};
+ghost use Rattle.tc_command.specs.Words.{IsGood, IsRuleOf, IsShardOf, IsShardWord, IsStatesOf, text_of};
 ghost use Rattle.tc_command.specs.Inside.{IsBadWord};
 ghost use Rattle.tc_command.specs.declared.word.WordFault.TheVariants as fault;
 
@@ -63,7 +63,7 @@ fn read_shard(word: &str) -> Option<Shard>
 /// The shard of `--shard`, if there is one.
 pub(crate) fn shard(word: Option<&str>) -> Result<Option<Shard>, WordFault>
     ensures taken { IfOk result (IsShardOf (option_copied word.entry)) }
-    ensures refused { IfErr result (λ f. (f ≡ fault.Shard) × IsBad IsShardOf (option_copied word.entry)) }
+    ensures refused { IfErr result (λ f. (f ≡ fault.Shard) × (IsGood IsShardOf (option_copied word.entry) → ⊥)) }
 {
     match word {
         Some(word) => match read_shard(word) {
@@ -77,7 +77,7 @@ pub(crate) fn shard(word: Option<&str>) -> Result<Option<Shard>, WordFault>
 /// The verdict of `--stop-on`, if there is one.
 pub(crate) fn stop_on(word: Option<&str>) -> Result<Option<Verdict>, WordFault>
     ensures taken { IfOk result (IsRuleOf (option_copied word.entry)) }
-    ensures refused { IfErr result (λ f. (f ≡ fault.StopOn) × IsBad IsRuleOf (option_copied word.entry)) }
+    ensures refused { IfErr result (λ f. (f ≡ fault.StopOn) × (IsGood IsRuleOf (option_copied word.entry) → ⊥)) }
 {
     match word {
         Some(word) => match read_name(word) {
@@ -119,7 +119,7 @@ fn read_states(word: &str) -> Option<usize>
 /// The number of states of `--states`, or the one without it.
 pub(crate) fn states(word: Option<&str>) -> Result<usize, WordFault>
     ensures taken { IfOk result (IsStatesOf (option_copied word.entry)) }
-    ensures refused { IfErr result (λ f. (f ≡ fault.States) × IsBad IsStatesOf (option_copied word.entry)) }
+    ensures refused { IfErr result (λ f. (f ≡ fault.States) × (IsGood IsStatesOf (option_copied word.entry) → ⊥)) }
 {
     match word {
         Some(word) => match read_states(word) {

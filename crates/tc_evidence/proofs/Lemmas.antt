@@ -1,4 +1,5 @@
 -- The lemmas that other crates cite.
 pub mod Bytes
 pub mod Histories
+pub mod Meeting
 pub mod WrittenEvidence

@@ -3,7 +3,6 @@ pub mod Headers
 pub mod InsideLines
 pub mod Judged
 pub mod Lemmas
-pub mod Meeting
 pub mod NextLines
 pub mod Notes
 pub mod Reading

@@ -27,9 +27,9 @@ use Rattle.tc_history.specs.Text.{IsEntry}
 use Rattle.tc_evidence.specs.declared.header.Kind.{Kind}
 use Rattle.tc_evidence.specs.declared.line.Line.{Line}
 use Rattle.tc_evidence.specs.declared.line.Line.TheVariants as L
-use Rattle.tc_evidence.specs.Line.{line_text, mark_text, naming_text, said_text}
+use Rattle.tc_evidence.specs.Line.{line_text, naming_text, said_text}
 use Rattle.tc_evidence.specs.Text.{IsLine}
-use Rattle.tc_evidence.specs.Inside.{ArePlain, NoPlainFirst}
+use Rattle.tc_evidence.specs.Inside.{ArePlain, NoPlainFirst, mark_text}
 use Rattle.tc_evidence.proofs.Lemmas.Bytes.{AreAllPlain, naming_quiet, plain_no_lf, quiet_plain, said_plain}
 
 pub first_is : (x y : ℕ) (xs ys : List ℕ) → x ∷ xs ≡ y ∷ ys → x ≡ y

@@ -16,7 +16,7 @@ use Rattle.tc_evidence.specs.Block.{header_text}
 use Rattle.tc_evidence.specs.Text.{IsBlock, IsFault, IsTextOf, block_lines}
 use Rattle.tc_evidence.specs.Inside.{AreTakenBy, IsBlockFault, IsLineTakenBy, IsTakenBy}
 use Rattle.tc_evidence.proofs.InsideLines.{IsNoEndLine, IsThatEnd, IsThatHeader, SoFar, goes_on, is_taken, none_yet, taken}
-use Rattle.tc_evidence.proofs.Meeting.{met_after}
+use Rattle.tc_evidence.proofs.Lemmas.Meeting.{met_after}
 use Rattle.tc_evidence.proofs.Texts.{AreRead, all_only, all_read, first_fault, none_read, one_read, refused_only}
 
 -- lines inside a block are read, the first of which has this number, and the value is what they make

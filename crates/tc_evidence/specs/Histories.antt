@@ -1,16 +1,15 @@
 -- Texts of histories: evidence whose blocks are all histories.
 use Rattle.std.specs.Prelude.{ℕ, ◌≡◌, ◌≢◌, List, [], map}
 use Rattle.std.specs.List.{flat_map}
-use Rattle.tc_text.specs.declared.fault.TextFault.{TextFault}
 use Rattle.tc_history.specs.declared.block.Block.{Block as History}
 use Rattle.tc_history.specs.Block.{block_text}
 use Rattle.tc_evidence.specs.declared.block.Block.{Block}
 use Rattle.tc_evidence.specs.declared.header.Header.{Header}
 use Rattle.tc_evidence.specs.declared.header.Kind.TheVariants as K
-use Rattle.tc_evidence.specs.Text.{AreBlocks, AreEvidence, IsFault, IsHeader, IsTextOf}
+use Rattle.tc_evidence.specs.Text.{AreBlocks, AreEvidence, IsHeader, IsTextOf}
 use Rattle.tc_evidence.specs.Laws.{history_of}
 
--- the first line of a history
+-- the first line of a history, which that of evidence is not
 abbrev pub IsHistoryHeader : Header → Type 0
 IsHistoryHeader h = IsHeader h × (h.kind ≢ K.Evidence)
 
@@ -18,19 +17,11 @@ IsHistoryHeader h = IsHeader h × (h.kind ≢ K.Evidence)
 abbrev pub AreHistories : List ℕ → List History → Type 0
 AreHistories text histories = (blocks : List Block) × IsTextOf IsHistoryHeader text blocks × (histories ≡ map history_of blocks)
 
--- what a fault says of a text that may have histories only: evidence has no first line of one
-abbrev pub IsHistoryFault : List ℕ → TextFault → Type 0
-IsHistoryFault text fault = IsFault IsHistoryHeader text fault
-
 -- the text of a history, in its own format
 abbrev pub text_of_history : History → List ℕ
 text_of_history h = block_text h.format h.name h.behaviours h.entries h.verdict
 
--- the texts of histories, one after the other
-abbrev pub text_of_histories : List History → List ℕ
-text_of_histories histories = flat_map text_of_history histories
-
 -- a text of histories is evidence with the same histories, and what is written of histories, one at least, is read as these
 pub record HistoriesAreRead : Type 0 where
   pub evidence : (text : List ℕ) (histories : List History) → AreHistories text histories → (blocks : List Block) × AreEvidence text blocks × (histories ≡ map history_of blocks)
-  pub written : (blocks : List Block) → blocks ≢ [] → AreBlocks IsHistoryHeader 1 blocks → AreHistories (text_of_histories (map history_of blocks)) (map history_of blocks)
+  pub written : (blocks : List Block) → blocks ≢ [] → AreBlocks IsHistoryHeader 1 blocks → AreHistories (flat_map text_of_history (map history_of blocks)) (map history_of blocks)

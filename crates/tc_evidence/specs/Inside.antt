@@ -1,5 +1,5 @@
 -- What only the writer and the reader of one block say.
-use Rattle.std.specs.Prelude.{ℕ, ◌≡◌, ◌≢◌, ◌+◌, ◌<◌, ◌≤◌, false, true, Bool, Option, None, Some, List, [], ◌∷◌, ◌++◌, length, map}
+use Rattle.std.specs.Prelude.{ℕ, ◌≡◌, ◌≢◌, ◌+◌, ◌<◌, ◌≤◌, false, true, if◌then◌else◌, Bool, Option, None, Some, List, [], ◌∷◌, ◌++◌, codes, length, map}
 use Rattle.std.specs.Borrow.{Bor}
 use Rattle.tc_verdict.specs.declared.run.Run.{Run}
 use Rattle.tc_verdict.specs.declared.verdict.Verdict.{Verdict}
@@ -24,6 +24,10 @@ use Rattle.tc_evidence.specs.Block.{header_text}
 use Rattle.tc_evidence.specs.Sentence.{IsSentence}
 use Rattle.tc_evidence.specs.Text.{AreLines, IsBlock, IsHeader, IsLine, block_lines}
 use Rattle.tc_evidence.specs.Histories.{IsHistoryHeader}
+
+-- what is between a run and its sentence
+abbrev pub mark_text : Bool → List ℕ
+mark_text refused = if refused then codes " ! " else codes " # "
 
 -- no byte but those from 32 to 126
 abbrev pub ArePlain : List ℕ → Type 0

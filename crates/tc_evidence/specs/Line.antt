@@ -1,5 +1,5 @@
 -- The lines inside a block of evidence; their spelling is this project's own.
-use Rattle.std.specs.Prelude.{ℕ, ◌==◌, ◌||◌, Bool, true, false, List, [], ◌∷◌, ◌++◌, codes}
+use Rattle.std.specs.Prelude.{ℕ, ◌==◌, ◌||◌, Bool, if◌then◌else◌, false, true, List, [], ◌∷◌, ◌++◌, codes}
 use Rattle.std.specs.List.{flat_map, list_any}
 use Rattle.std.specs.Fmt.{decimal}
 use Rattle.tc_entry.specs.declared.entry.Entry.{Entry}
@@ -13,14 +13,9 @@ use Rattle.tc_evidence.specs.declared.line.Line.TheVariants as L
 abbrev pub naming_text : ℕ → List ℕ → List ℕ
 naming_text run name = codes "behaviour " ++ (decimal run ++ (codes " " ++ name))
 
--- what is between a run and its sentence: a remark has `#`, a refused line `!`
-abbrev pub mark_text : Bool → List ℕ
-mark_text false = codes " # "
-mark_text true = codes " ! "
-
--- what a run said
+-- what a run said: a remark has `#` before its sentence, a refused line `!`
 abbrev pub said_text : Bool → ℕ → List ℕ → List ℕ
-said_text refused run sentence = decimal run ++ (mark_text refused ++ sentence)
+said_text refused run sentence = decimal run ++ ((if refused then codes " ! " else codes " # ") ++ sentence)
 
 -- a line, without its LF
 abbrev pub line_text : Line → List ℕ

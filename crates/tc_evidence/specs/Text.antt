@@ -127,11 +127,7 @@ IsFaultAt may text line T.FirstLine = IsBadHeader may text line
 IsFaultAt may text line T.Entry = IsBadLine may text line
 IsFaultAt may text line T.Move = ⊥
 
--- what a fault says of the text; if memory runs out, nothing is said
+-- what a fault says of a text whose blocks may have these first lines; if memory runs out, nothing is said
 abbrev pub IsFault : (Header → Type 0) → List ℕ → TextFault → Type 0
 IsFault may text (F.At line kind) = IsFaultAt may text line kind
 IsFault may text F.NoMemory = Unit {0}
-
--- the same of a text whose blocks may be of any kind
-abbrev pub IsEvidenceFault : List ℕ → TextFault → Type 0
-IsEvidenceFault text fault = IsFault IsHeader text fault

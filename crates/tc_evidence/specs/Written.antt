@@ -9,10 +9,6 @@ use Rattle.tc_evidence.specs.Text.{AreBlocks, AreEvidence, IsHeader}
 abbrev pub text_of_block : Block → List ℕ
 text_of_block b = block_text b.header b.lines b.verdict
 
--- the texts of blocks, one after the other
-abbrev pub text_of_blocks : List Block → List ℕ
-text_of_blocks blocks = flat_map text_of_block blocks
-
--- what is written of blocks, one at least, is read as these blocks
+-- what is written of blocks, one at least, one after the other, is read as these blocks
 abbrev pub WrittenIsRead : Type 0
-WrittenIsRead = (blocks : List Block) → blocks ≢ [] → AreBlocks IsHeader 1 blocks → AreEvidence (text_of_blocks blocks) blocks
+WrittenIsRead = (blocks : List Block) → blocks ≢ [] → AreBlocks IsHeader 1 blocks → AreEvidence (flat_map text_of_block blocks) blocks

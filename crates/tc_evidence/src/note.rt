@@ -7,10 +7,10 @@ ghost use Rattle.tc_text.specs.Inside.{TakesLine};
 ghost use Rattle.tc_text.specs.Reading.{EndsNumber, Takes};
 ghost use Rattle.tc_evidence.specs.declared.line.Line.{Line as AnyLine};
 ghost use Rattle.tc_evidence.specs.declared.line.Line.TheVariants as lines;
-ghost use Rattle.tc_evidence.specs.Line.{is_met, mark_text, naming_text, said_text};
+ghost use Rattle.tc_evidence.specs.Line.{is_met, naming_text, said_text};
 ghost use Rattle.tc_evidence.specs.Met.{AreMet};
 ghost use Rattle.tc_evidence.specs.Sentence.{IsSentence};
-ghost use Rattle.tc_evidence.specs.Inside.{ArePlain, IsFound, IsNote, IsSaidBy, NoPlainFirst, line_said};
+ghost use Rattle.tc_evidence.specs.Inside.{ArePlain, IsFound, IsNote, IsSaidBy, NoPlainFirst, line_said, mark_text};
 
 use crate::line::Line;
 use crate::met::MetRuns;

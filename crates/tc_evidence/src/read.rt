@@ -8,8 +8,8 @@ ghost use Rattle.tc_evidence.specs.declared.block.Block.{Block as AnyBlock};
 ghost use Rattle.tc_evidence.specs.declared.line.Line.{Line as AnyLine};
 ghost use Rattle.tc_evidence.specs.Line.{line_text};
 ghost use Rattle.tc_evidence.specs.Met.{AreMet};
-ghost use Rattle.tc_evidence.specs.Text.{AreEvidence, AreLines, IsBlock, IsEvidenceFault, IsFault, IsLine, IsTextOf, block_lines, format_of};
-ghost use Rattle.tc_evidence.specs.Histories.{AreHistories, IsHistoryFault};
+ghost use Rattle.tc_evidence.specs.Text.{AreEvidence, AreLines, IsBlock, IsFault, IsHeader, IsLine, IsTextOf, block_lines, format_of};
+ghost use Rattle.tc_evidence.specs.Histories.{AreHistories, IsHistoryHeader};
 ghost use Rattle.tc_evidence.specs.Inside.{AreTakenBy, IsBlockFault, IsFirst, IsFound, IsInsideFault, IsLineTakenBy, IsNoEntryLine, IsNoLine, IsTakenBy};
 
 use crate::block::{Block, histories_of};
@@ -141,7 +141,8 @@ fn take_block<'a, H: TakesEvidence>(
     requires room { first_line + length text.now ≤ usize.MAX }
     ensures taken { IfOk result (λ r. IsTakenBy H.stands (IsFirst only_histories) text.now first_line made.old made.new r.0 r.1.now) }
     ensures fault { IfErr result (λ e. IsBlockFault (IsFirst only_histories) text.now first_line e) }
-    ensures only { (b : AnyBlock) (others : List (List ℕ)) → IsBlock (IsFirst only_histories) first_line b → lines_of text.now ≡ block_lines b ++ others
+    ensures only { (b : AnyBlock) (others : List (List ℕ)) → IsBlock (IsFirst only_histories) first_line b
+        → lines_of text.now ≡ block_lines b ++ others
         → IfErr result (λ e. e ≡ TextFault.NoMemory) }
 {
     let Some((header, rest)) = take_first_line(only_histories, text) else {
@@ -195,7 +196,7 @@ pub fn read_evidence_into<H: TakesEvidence + Drop>(
     text: &[u8],
 ) -> Result<H, TextFault>
     ensures ok { IfOk result (λ made. (blocks : List AnyBlock) × AreEvidence text.now blocks × H.stands blocks made) }
-    ensures fault { IfErr result (λ e. IsEvidenceFault text.now e) }
+    ensures fault { IfErr result (λ e. IsFault IsHeader text.now e) }
     ensures only { (all : List AnyBlock) → AreEvidence text.now all
         → MatchResult result (λ made. H.stands all made) (λ e. e ≡ TextFault.NoMemory) }
 {
@@ -206,7 +207,7 @@ pub fn read_evidence_into<H: TakesEvidence + Drop>(
 /// instead.
 pub fn read_evidence(alloc: Global, text: &[u8]) -> Result<Sequence<Block>, TextFault>
     ensures ok { IfOk result (λ blocks. AreEvidence text.now blocks) }
-    ensures fault { IfErr result (λ e. IsEvidenceFault text.now e) }
+    ensures fault { IfErr result (λ e. IsFault IsHeader text.now e) }
     ensures only { (all : List AnyBlock) → AreEvidence text.now all
         → MatchResult result (λ blocks. blocks ≡ all) (λ e. e ≡ TextFault.NoMemory) }
 {
@@ -217,7 +218,7 @@ pub fn read_evidence(alloc: Global, text: &[u8]) -> Result<Sequence<Block>, Text
 /// instead.
 pub fn read_history(alloc: Global, text: &[u8]) -> Result<Vec<History>, TextFault>
     ensures ok { IfOk result (λ found. AreHistories text.now found.items) }
-    ensures fault { IfErr result (λ e. IsHistoryFault text.now e) }
+    ensures fault { IfErr result (λ e. IsFault IsHistoryHeader text.now e) }
     ensures only { (all : List AnyHistory) → AreHistories text.now all
         → MatchResult result (λ found. found.items ≡ all) (λ e. e ≡ TextFault.NoMemory) }
 {

@@ -3,7 +3,8 @@ ghost use Rattle.std.specs.Prelude.{◌≡◌, ◌++◌, Bool, OnOk, OnErr};
 ghost use Rattle.std.specs.List.{flat_map};
 ghost use Rattle.std.specs.Io.{StartsWith};
 ghost use Rattle.tc_evidence.specs.Block.{block_text, ended, header_text, kind_text};
-ghost use Rattle.tc_evidence.specs.Line.{line_text, mark_text, naming_text, said_text};
+ghost use Rattle.tc_evidence.specs.Line.{line_text, naming_text, said_text};
+ghost use Rattle.tc_evidence.specs.Inside.{mark_text};
 
 use crate::header::{Header, Kind};
 use crate::line::Line;

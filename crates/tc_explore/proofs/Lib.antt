@@ -20,6 +20,7 @@ pub mod Keys
 pub mod LastCalls
 pub mod Parking
 pub mod Reaching
+pub mod Extents
 pub mod Kept
 pub mod Room
 pub mod Closed

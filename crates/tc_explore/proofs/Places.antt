@@ -174,33 +174,30 @@ barred_later {aim} scripts q b s t k same on from (inr bar) = inr (record {
   bars = ap (is_barred aim) (ap (λ o. call_at scripts b t o bar.place) on ∙ same s.comp bar.place) ∙ bar.bars;
 })
 
+-- what is left of a run after a call of it that makes no component and is no Wake
+module _ (aim : Verdict) (scripts : List ScriptView) (b : ℕ) (s : Stand) (e : Entry) (made : created e.op e.reply ≡ None) (plain : is_wake e.op ≡ false) where
+  behind_call : (o : Option Comp) (k : ℕ) → call_at scripts b (after_own e s) o k ≡ call_at scripts b s o k
+  behind_call None k = refl
+  behind_call (Some me) k = rw (kept_bound e s made) refl
+
+  from_behind : is_barred aim (call_at scripts b s s.comp s.called) ≡ false → (j : ℕ) → s.called ≤ j → is_barred aim (call_at scripts b s s.comp j) ≡ true → (after_own e s).called ≤ j
+  from_behind free j l bars = by_test (nat_lt s.called j) refl
+    where
+      by_test : (t : Bool) → nat_lt s.called j ≡ t → (after_own e s).called ≤ j
+      by_test true k = let less : s.called < j = grind (arith, nat_tests) in omega (arith, one_more_called e s plain, less)
+      by_test false k =
+          let same : j ≡ s.called = grind (arith, nat_tests) in
+          let no : is_barred aim (call_at scripts b s s.comp j) ≡ false = ap (λ x. is_barred aim (call_at scripts b s s.comp x)) same ∙ free in
+          absurd cc
+
 -- a quiet call of a run that is leaving
 pub leaving_on : {aim : Verdict} (scripts : List ScriptView) (q : List Entry) (b : ℕ) (s : Stand) (e : Entry) → IsLeaving aim scripts q b s →
     created e.op e.reply ≡ None → is_wake e.op ≡ false → wake_if e.op e.reply ≡ None → is_barred aim (call_at scripts b s s.comp s.called) ≡ false → IsLeaving aim scripts q b (after_own e s)
 leaving_on {aim} scripts q b s e l made plain no_wake free = record {
   parked = subst (λ o. MatchOption o (Unit {0}) (λ wake. WasParked scripts q b (after_own e s) wake)) (sym no_wake) tt;
-  calls = λ k m. barred_later scripts q b s (after_own e s) k same_call refl from_there (l.calls k (omega (arith, called, m)));
+  calls = λ k m. barred_later scripts q b s (after_own e s) k (behind_call aim scripts b s e made plain) refl (from_behind aim scripts b s e made plain free)
+      (l.calls k (omega (arith, one_more_called e s plain, m)));
 }
-  where
-    same_bound : (after_own e s).bound ≡ s.bound
-    same_bound = kept_bound e s made
-
-    called : (after_own e s).called ≡ s.called + 1
-    called = one_more_called e s plain
-
-    same_call : (o : Option Comp) (k : ℕ) → call_at scripts b (after_own e s) o k ≡ call_at scripts b s o k
-    same_call None k = refl
-    same_call (Some me) k = rw same_bound refl
-
-    from_there : (j : ℕ) → s.called ≤ j → is_barred aim (call_at scripts b s s.comp j) ≡ true → (after_own e s).called ≤ j
-    from_there j l bars = by_test (nat_lt s.called j) refl
-      where
-        by_test : (t : Bool) → nat_lt s.called j ≡ t → (after_own e s).called ≤ j
-        by_test true k = let less : s.called < j = grind (arith, nat_tests) in omega (arith, called, less)
-        by_test false k =
-            let same : j ≡ s.called = grind (arith, nat_tests) in
-            let no : is_barred aim (call_at scripts b s s.comp j) ≡ false = ap (λ x. is_barred aim (call_at scripts b s s.comp x)) same ∙ free in
-            absurd cc
 
 -- a Wait of it that is parked
 pub leaving_parked : {aim : Verdict} (scripts : List ScriptView) (q : List Entry) (b : ℕ) (s : Stand) (e : Entry) (wake : Op) → IsLeaving aim scripts q b s →
@@ -208,33 +205,17 @@ pub leaving_parked : {aim : Verdict} (scripts : List ScriptView) (q : List Entry
     IsQuietAt (length scripts) q b (call_at scripts b s s.comp s.called) → IsLeaving aim scripts q b (after_own e s)
 leaving_parked {aim} scripts q b s e wake l made plain to_come of quiet = record {
   parked = subst (λ o. MatchOption o (Unit {0}) (λ w. WasParked scripts q b (after_own e s) w)) (sym to_come) was;
-  calls = λ k m. barred_later scripts q b s (after_own e s) k same_call refl from_there (l.calls k (omega (arith, called, m)));
+  calls = λ k m. barred_later scripts q b s (after_own e s) k same_call refl (from_behind aim scripts b s e made plain (ap (is_barred aim) of.waits))
+      (l.calls k (omega (arith, one_more_called e s plain, m)));
 }
   where
-    same_bound : (after_own e s).bound ≡ s.bound
-    same_bound = kept_bound e s made
-
-    called : (after_own e s).called ≡ s.called + 1
-    called = one_more_called e s plain
-
     same_call : (o : Option Comp) (k : ℕ) → call_at scripts b (after_own e s) o k ≡ call_at scripts b s o k
-    same_call None k = refl
-    same_call (Some me) k = rw same_bound refl
-
-    from_there : (j : ℕ) → s.called ≤ j → is_barred aim (call_at scripts b s s.comp j) ≡ true → (after_own e s).called ≤ j
-    from_there j l bars = by_test (nat_lt s.called j) refl
-      where
-        by_test : (t : Bool) → nat_lt s.called j ≡ t → (after_own e s).called ≤ j
-        by_test true k = let less : s.called < j = grind (arith, nat_tests) in omega (arith, called, less)
-        by_test false k =
-            let same : j ≡ s.called = grind (arith, nat_tests) in
-            let no : is_barred aim (call_at scripts b s s.comp j) ≡ false = ap (λ x. is_barred aim (call_at scripts b s s.comp x)) same ∙ ap (is_barred aim) of.waits in
-            absurd cc
+    same_call = behind_call aim scripts b s e made plain
 
     was : WasParked scripts q b (after_own e s) wake
     was = record {
       place = s.called;
-      one_more = omega (arith, called);
+      one_more = omega (arith, one_more_called e s plain);
       wake_of = subst (λ op. IsWakeOf op wake) (sym (same_call s.comp s.called)) of;
       quiet = subst (λ op. IsQuietAt (length scripts) q b op) (sym (same_call s.comp s.called)) quiet;
     }

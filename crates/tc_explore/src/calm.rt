@@ -179,23 +179,19 @@ fn with_silent_call(
     ensures stands { IfOk result (λ a. StandsOn aim scripts.now course a.course) }
     ensures calm { IfOk result (λ a. a.went_on ≡ false → IsCalmAfter scripts.now course a.course run.0) }
 {
-    let Some(op) = next_call(&course, scripts, run) else {
-        return Ok(Advance {
+    match next_call(&course, scripts, run) {
+        Some(op) if is_silent(aim, &course, scripts, run, &op) => {
+            let course = course.with(run, op)?;
+            Ok(Advance {
+                course,
+                went_on: true,
+            })
+        }
+        _ => Ok(Advance {
             course,
             went_on: false,
-        });
-    };
-    if !is_silent(aim, &course, scripts, run, &op) {
-        return Ok(Advance {
-            course,
-            went_on: false,
-        });
+        }),
     }
-    let course = course.with(run, op)?;
-    Ok(Advance {
-        course,
-        went_on: true,
-    })
 }
 
 // The course with the next calls of a run of which nobody can see that they were made.

@@ -108,7 +108,8 @@ fn push_locals<'a>(
     state: &CaseState,
 ) -> Result<(), NoMemory>
     requires { StandsFor state.now (reverse history.now) }
-    ensures { OnOk result (AddsWords (flat_map (local_words history.now) (range_with_len 0 (components (reverse history.now)))) parts.old.items parts.new.items) }
+    ensures { OnOk result (AddsWords (flat_map (local_words history.now) (range_with_len 0 (components (reverse history.now))))
+        parts.old.items parts.new.items) }
 {
     for comp in 0..state.components() {
         push_local(parts, history, state, comp)?;

@@ -280,7 +280,8 @@ impl Course {
 
     // Adds what each component does, and its kind.
     fn add_components(&self, key: &mut Vec<u64>) -> Result<(), NoMemory>
-        ensures { OnOk result (key.new.items ≡ key.old.items ++ flat_map (comp_key (past_of self.now)) (range_with_len 0 (faults.components (past_of self.now)))) }
+        ensures { OnOk result (key.new.items ≡ key.old.items
+            ++ flat_map (comp_key (past_of self.now)) (range_with_len 0 (faults.components (past_of self.now)))) }
     {
         for comp in 0..self.components() {
             key.push(phase_number(self.phase_of(Comp(comp))))?;
@@ -317,7 +318,8 @@ impl Course {
 
     // Adds the local verdict of each component.
     fn add_locals(&self, key: &mut Vec<u64>) -> Result<(), NoMemory>
-        ensures { OnOk result (key.new.items ≡ key.old.items ++ flat_map (local_key (past_of self.now)) (range_with_len 0 (faults.components (past_of self.now)))) }
+        ensures { OnOk result (key.new.items ≡ key.old.items
+            ++ flat_map (local_key (past_of self.now)) (range_with_len 0 (faults.components (past_of self.now)))) }
     {
         for comp in 0..self.components() {
             key.push(local_number(self.local(comp)))?;

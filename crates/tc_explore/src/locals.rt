@@ -184,7 +184,8 @@ impl Locals {
     // Appends the lines of all components; if memory runs out, a part of them.
     #[tactic(auto, using(tc_text::proofs::Lemmas::Among::among_rules))]
     fn append_comps(&self, alloc: Global, out: &mut Vec<u8>) -> Result<(), NoMemory>
-        ensures { OnOk result (TellsAmong (flat_map (told.local_line self.now) (range_with_len 0 (length self.now.found / 5 + 1))) out.old.items out.new.items) }
+        ensures { OnOk result (TellsAmong (flat_map (told.local_line self.now) (range_with_len 0 (length self.now.found / 5 + 1)))
+            out.old.items out.new.items) }
     {
         for comp in 0..self.found.as_slice().len() / 5 + 1 {
             self.append_comp(alloc, out, comp)?;

@@ -146,7 +146,8 @@ fn append_alike(
     other: &Witness,
     count: usize,
 ) -> Result<(), NoMemory>
-    ensures { OnOk result (TellsLine (verdict_name witness.now.verdict ∷ verdict_name other.now.verdict ∷ decimal count ∷ []) out.old.items out.new.items) }
+    ensures { OnOk result (TellsLine (verdict_name witness.now.verdict ∷ verdict_name other.now.verdict ∷ decimal count ∷ [])
+        out.old.items out.new.items) }
 {
     append_parts(
         alloc,

@@ -1,6 +1,6 @@
 //! The search for verdicts up to one. It follows the calls of all runs, makes those at once of which nobody can see that
 //! they were made, and goes no further where the verdict is worse. If it comes to its end nothing up to that is missed.
-ghost use Rattle.std.specs.Prelude.{◌≡◌, ◌≤◌, ◌<◌, [], ◌∷◌, true, false, IfOk, OnOk, All, length, slice_index_or};
+ghost use Rattle.std.specs.Prelude.{◌≡◌, ◌≤◌, ◌<◌, ◌&&◌, [], ◌∷◌, true, false, IfOk, OnOk, All, length, slice_index_or};
 ghost use Rattle.tc_entry.specs.declared.limits.TheConstants.{BEHAVIOURS};
 ghost use Rattle.tc_table.specs.Case.{past_of};
 ghost use Rattle.tc_explore.specs.Inside.Going as going;
@@ -39,6 +39,17 @@ pub(crate) struct Met {
 pub(crate) struct Extent {
     pub(crate) states: usize,
     pub(crate) is_whole: bool,
+}
+
+/// The extent of a search that has met that many states. It came to its end if the first was taken in, and what comes after
+/// each is seen.
+pub(crate) fn extent_of(states: usize, is_placed: bool, is_closed: bool) -> Extent
+    ensures { result ≡ record { states = states; is_whole = is_placed && is_closed } }
+{
+    Extent {
+        states,
+        is_whole: is_placed && is_closed,
+    }
 }
 
 // Takes in the state of a course, and returns whether it is among those that are seen: it is, unless as many as the
@@ -163,7 +174,8 @@ fn try_run(
     ensures more_found { OnOk result (IsLonger found.old.witnesses.items found.new.witnesses.items) }
     ensures more { OnOk result (IsNoLess found.old.reached.items found.new.reached.items) }
     ensures limit { OnOk result (met.new.limit ≡ met.old.limit) }
-    ensures closed { IfOk result (λ t. t.is_closed ≡ true → IsRunClosed aim scripts.now met.new.states.items found.new.witnesses.items (past_of course.now) run.0) }
+    ensures closed { IfOk result (λ t. t.is_closed ≡ true
+        → IsRunClosed aim scripts.now met.new.states.items found.new.witnesses.items (past_of course.now) run.0) }
     ensures full { IfOk result (λ t. t.is_closed ≡ false → IsFull met.old) }
     ensures goes_on { IfOk result (λ t. t.goes_on ≡ true → moves.GoesOn scripts.now (past_of course.now)) }
     ensures still { IfOk result (λ t. t.goes_on ≡ false → IsStillAt scripts.now (past_of course.now) run.0) }
@@ -245,8 +257,10 @@ fn expand_course(
     ensures more_found { OnOk result (IsLonger found.old.witnesses.items found.new.witnesses.items) }
     ensures more { OnOk result (IsNoLess found.old.reached.items found.new.reached.items) }
     ensures limit { OnOk result (met.new.limit ≡ met.old.limit) }
-    ensures closed { IfOk result (λ c. c ≡ true → IsClosed aim scripts.now (IsSeen met.new.states.items) found.new.witnesses.items (past_of course.now)) }
-    ensures stuck { IfOk result (λ c. c ≡ true → aim ≡ Error → AreHeld scripts.now (past_of course.now) → carried (past_of course.now) 0 < slice_index_or found.new.reached.items 0 0) }
+    ensures closed { IfOk result (λ c. c ≡ true
+        → IsClosed aim scripts.now (IsSeen met.new.states.items) found.new.witnesses.items (past_of course.now)) }
+    ensures stuck { IfOk result (λ c. c ≡ true → aim ≡ Error → AreHeld scripts.now (past_of course.now)
+        → carried (past_of course.now) 0 < slice_index_or found.new.reached.items 0 0) }
     ensures full { IfOk result (λ is_closed. is_closed ≡ false → IsFull met.new) }
 {
     let tried = try_runs(aim, alloc, scripts, course, met, found)?;
@@ -334,9 +348,5 @@ pub(crate) fn search_all(
     reach(&mut found.reached, scripts, &calm);
     let is_placed = place(aim, alloc, scripts, calm, &mut met)?;
     let is_closed = expand_all(aim, alloc, scripts, &mut met, found)?;
-    let is_whole = is_placed && is_closed;
-    Ok(Extent {
-        states: met.keys.len(),
-        is_whole,
-    })
+    Ok(extent_of(met.keys.len(), is_placed, is_closed))
 }

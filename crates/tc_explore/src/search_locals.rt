@@ -10,7 +10,7 @@ ghost use Rattle.tc_explore.specs.Inside.Twins.{AreGoing, AreLocalsClosed, AreLo
 
 use crate::course::Course;
 use crate::marks::Marks;
-use crate::search::{Extent, Met, with_call};
+use crate::search::{Extent, Met, extent_of, with_call};
 use crate::turns::next_call;
 use indexmap::IndexSet;
 use std::alloc::Global;
@@ -68,7 +68,8 @@ fn after_call(
     ensures sound { OnOk result (AreLocals scripts.now marks.new.found.items) }
     ensures more_found { OnOk result (IsMore marks.old.found.items marks.new.found.items) }
     ensures limit { OnOk result (met.new.limit ≡ met.old.limit) }
-    ensures closed { IfOk result (λ is_closed. is_closed ≡ true → IsLocalsAfter met.new.states.items marks.new.found.items (taken course.now.behaviours (past_of course.now) run op ∷ past_of course.now)) }
+    ensures closed { IfOk result (λ is_closed. is_closed ≡ true
+        → IsLocalsAfter met.new.states.items marks.new.found.items (taken course.now.behaviours (past_of course.now) run op ∷ past_of course.now)) }
     ensures full { IfOk result (λ is_closed. is_closed ≡ false → IsFull met.old) }
 {
     let next = with_call(alloc, scripts, course, run, op)?;
@@ -100,7 +101,8 @@ fn try_run(
     ensures sound { OnOk result (AreLocals scripts.now marks.new.found.items) }
     ensures more_found { OnOk result (IsMore marks.old.found.items marks.new.found.items) }
     ensures limit { OnOk result (met.new.limit ≡ met.old.limit) }
-    ensures closed { IfOk result (λ is_closed. is_closed ≡ true → IsLocalsRun scripts.now met.new.states.items marks.new.found.items (past_of course.now) run.0) }
+    ensures closed { IfOk result (λ is_closed. is_closed ≡ true
+        → IsLocalsRun scripts.now met.new.states.items marks.new.found.items (past_of course.now) run.0) }
     ensures full { IfOk result (λ is_closed. is_closed ≡ false → IsFull met.old) }
 {
     if !course.is_active(run) {
@@ -131,7 +133,8 @@ fn try_runs(
     ensures sound { OnOk result (AreLocals scripts.now marks.new.found.items) }
     ensures more_found { OnOk result (IsMore marks.old.found.items marks.new.found.items) }
     ensures limit { OnOk result (met.new.limit ≡ met.old.limit) }
-    ensures closed { IfOk result (λ is_closed. is_closed ≡ true → AreLocalsRuns scripts.now met.new.states.items marks.new.found.items (past_of course.now) (length scripts.now)) }
+    ensures closed { IfOk result (λ is_closed. is_closed ≡ true
+        → AreLocalsRuns scripts.now met.new.states.items marks.new.found.items (past_of course.now) (length scripts.now)) }
     ensures full { IfOk result (λ is_closed. is_closed ≡ false → IsFull met.new) }
 {
     let mut is_closed = true;
@@ -199,9 +202,5 @@ pub(crate) fn search_locals(
     let opening = Course::opening(alloc, scripts.len() as u16)?;
     let is_placed = place(alloc, scripts, opening, &mut met)?;
     let is_closed = expand_all(alloc, scripts, &mut met, marks)?;
-    let is_whole = is_placed && is_closed;
-    Ok(Extent {
-        states: met.keys.len(),
-        is_whole,
-    })
+    Ok(extent_of(met.keys.len(), is_placed, is_closed))
 }

@@ -67,7 +67,8 @@ fn append_verdict(out: &mut Vec<u8>, found: &[Witness], verdict: Verdict) -> Res
 // Appends the names of the verdicts that were found; if memory runs out, a part of them.
 #[tactic(auto, using(crate::proofs::Verdicts::words_where))]
 fn append_verdicts(out: &mut Vec<u8>, found: &[Witness]) -> Result<(), NoMemory>
-    ensures { OnOk result (out.new.items ≡ out.old.items ++ flat_map (λ v. codes " " ++ verdict_name v) (told.verdicts_where (told.is_found found.now))) }
+    ensures { OnOk result (out.new.items ≡ out.old.items
+        ++ flat_map (λ v. codes " " ++ verdict_name v) (told.verdicts_where (told.is_found found.now))) }
 {
     append_verdict(out, found, Verdict::None)?;
     append_verdict(out, found, Verdict::Pass)?;

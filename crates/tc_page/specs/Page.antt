@@ -4,21 +4,13 @@ use Rattle.std.specs.List.{flat_map, list_all}
 use Rattle.tc_page.specs.declared.head.TheConstants.{HEAD}
 use Rattle.tc_page.specs.declared.tail.TheConstants.{TAIL}
 
--- what a page has before the text
-unfoldable pub head : List ℕ
-head = HEAD.now
-
--- what a page has after the text
-unfoldable pub tail : List ℕ
-tail = TAIL.now
-
 -- how a page holds a text: `<`, which is 60, as the character U+2039, and any other byte as it is
 abbrev pub held : List ℕ → List ℕ
 held text = flat_map (λ b. if b == 60 then 226 ∷ 128 ∷ 185 ∷ [] else b ∷ []) text
 
--- the page that holds this text
-abbrev pub page_of : List ℕ → List ℕ
-page_of text = head ++ (held text ++ tail)
+-- the page that holds this text: what a page has before it, the text as it is held, and what a page has after it
+unfoldable pub page_of : List ℕ → List ℕ
+page_of text = HEAD.now ++ (held text ++ TAIL.now)
 
 -- the text that a page shows: the first byte of U+2039 is shown as `<`, and its others as nothing
 abbrev pub shown : List ℕ → List ℕ

@@ -1,6 +1,8 @@
 //! The page of a text.
 ghost use Rattle.std.specs.Prelude.{◌≡◌, ◌++◌, IfOk, OnOk};
-ghost use Rattle.tc_page.specs.Page.{head as spec_head, held, page_of, tail as spec_tail};
+ghost use Rattle.tc_page.specs.Page.{held, page_of};
+ghost use Rattle.tc_page.specs.declared.head.TheConstants.{HEAD};
+ghost use Rattle.tc_page.specs.declared.tail.TheConstants.{TAIL};
 
 use crate::head::HEAD;
 use crate::tail::TAIL;
@@ -8,18 +10,16 @@ use std::alloc::Global;
 use tc_entry::NoMemory;
 
 // Appends what is before the text.
-#[tactic(auto, unfolding(crate::specs::Page::head))]
 fn append_head(page: &mut Vec<u8>) -> Result<(), NoMemory>
-    ensures { OnOk result (page.new.items ≡ page.old.items ++ spec_head) }
+    ensures { OnOk result (page.new.items ≡ page.old.items ++ HEAD.now) }
 {
     page.extend_from_slice(HEAD)?;
     Ok(())
 }
 
 // Appends what follows the text.
-#[tactic(auto, unfolding(crate::specs::Page::tail))]
 fn append_tail(page: &mut Vec<u8>) -> Result<(), NoMemory>
-    ensures { OnOk result (page.new.items ≡ page.old.items ++ spec_tail) }
+    ensures { OnOk result (page.new.items ≡ page.old.items ++ TAIL.now) }
 {
     page.extend_from_slice(TAIL)?;
     Ok(())

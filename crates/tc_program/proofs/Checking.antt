@@ -6,16 +6,18 @@ use Rattle.std.specs.Prelude.{◌≢◌, MatchResult, Result, Ok, Err}
 use Rattle.std.specs.Result.{IsErrAnd}
 use Rattle.tc_campaign.specs.Choosing.{have_names}
 use Rattle.tc_program.proofs.Doing.{answer_of}
+use Rattle.tc_program.proofs.Faults.{other_made}
 use Rattle.tc_program.proofs.Legal.{found_all}
 use Rattle.tc_text.specs.declared.fault.TextFault.{TextFault}
 use Rattle.tc_text.specs.declared.fault.TextFault.TheVariants as T
 use Rattle.tc_evidence.specs.declared.block.Block.{Block}
-use Rattle.tc_evidence.specs.Text.{AreEvidence, IsEvidenceFault}
+use Rattle.tc_evidence.specs.Text.{AreEvidence, IsFault, IsHeader}
 use Rattle.tc_program.specs.declared.judge.Judgement.{Judgement}
 use Rattle.tc_program.specs.declared.judge.Judgement.TheVariants as J
 use Rattle.tc_program.specs.declared.check.Checking.{Checking}
 use Rattle.tc_text.specs.Spelling.{reply_text}
 use Rattle.tc_verdict.specs.declared.verdict.Verdict.{Verdict}
+use Rattle.tc_verdict.specs.Verdict.{name_of}
 use Rattle.tc_command.specs.declared.task.Choice.{Choice}
 use Rattle.tc_command.specs.declared.task.Task.TheVariants as Tasks
 use Rattle.tc_program.specs.declared.fault.RunFault.{RunFault}
@@ -39,9 +41,10 @@ legal_said b (J.OtherVerdict line given verdict) legal is = absurd cc
 pub illegal_said : (b : Block) (j : Judgement) → judges_legal j ≡ false → IsJudgement b j → IsIllegalLine b (judgement_line j)
 illegal_said b (J.Legal name entries verdict) illegal is = absurd cc
 illegal_said b (J.OtherReply line given reply) illegal is =
-    IsIllegalLine.other_reply is.before is.behind is.entry reply is.place is.legal is.answers is.other (ap₂ (λ n r. other_line n (reply_text r) (reply_text reply)) is.line_is is.given_is)
+    IsIllegalLine.other_reply is.before is.behind is.entry reply is.place is.legal is.answers is.other
+    (other_made line (reply_text given) (reply_text reply) ∙ ap₂ (λ n r. other_line n (reply_text r) (reply_text reply)) is.line_is is.given_is)
 illegal_said b (J.OtherVerdict line given verdict) illegal is =
-    IsIllegalLine.other_verdict is.0 (λ same. is.2 (same ∙ sym is.1)) (rw (is.1, is.3, is.4) refl)
+    IsIllegalLine.other_verdict is.0 (λ same. is.2 (same ∙ sym is.1)) (other_made line (name_of given) (name_of verdict) ∙ rw (is.1, is.3, is.4) refl)
 
 -- the line of a block that is legal, by its judgement, if the block is picked
 line_of_legal : (picks : Word → Verdict → Bool) (b : Block) (j : Judgement) → judges_legal j ≡ true → IsJudgement b j
@@ -187,6 +190,6 @@ made_for some choice explains text made only failed is =
     (subst (λ o. MatchResult made (λ a. IsSilent (IsChecked (λ b. is_picked o some.failed (block_name b) b.verdict) text) a × NameBlocks o text) (RefusesBlocks o text)) only is)
 
 -- a fault of the text is the command's
-pub refused : (text : List ℕ) (fault : TextFault) → IsEvidenceFault text fault → ((all : List Block) → AreEvidence text all → fault ≡ T.NoMemory) → RefusesHistory text (of_text fault)
+pub refused : (text : List ℕ) (fault : TextFault) → IsFault IsHeader text fault → ((all : List Block) → AreEvidence text all → fault ≡ T.NoMemory) → RefusesHistory text (of_text fault)
 refused text (T.At line kind) bad only = (bad, λ all is. let no = only all is in absurd cc)
 refused text T.NoMemory bad only = tt

@@ -9,6 +9,7 @@ use Rattle.tc_program.specs.Inside.{notes_of}
 use Rattle.tc_program.specs.declared.fault.RunFault.{RunFault}
 use Rattle.tc_program.specs.Explained.{IsToldOf, explains, is_of_text, number_of, part_of}
 use Rattle.tc_program.specs.Fault.{line_of}
+use Rattle.tc_program.specs.Limits.{has_blocks}
 
 some_if : (b : Bool) (notes : List Line) (line : List ℕ) → (told : List ℕ) × MatchBool b (TellsAmong notes line told) (told ≡ line)
 some_if true notes line = among_some notes line
@@ -16,7 +17,7 @@ some_if false notes line = (line, refl)
 
 -- something can be printed
 pub some_told : (task : Task) (text : List ℕ) (fault : RunFault) → (told : List ℕ) × IsToldOf task text fault told
-some_told task text fault = some_if (explains task && is_of_text fault) (notes_of (number_of fault) (part_of task fault text)) (line_of fault)
+some_told task text fault = some_if (explains task && is_of_text fault) (notes_of (number_of fault) (part_of (has_blocks task) fault text)) (line_of fault)
 
 -- what was made for printing, or something that can be printed
 pub told_or : {E : Type 0} (r : Result (Vec ℕ) E) (Is : List ℕ → Type 0) → ((told : List ℕ) × Is told) → IfOk r (λ v. Is v.items) →

@@ -1,13 +1,14 @@
 -- The text of a fault, by its place and its words.
-use Rattle.std.proofs.Common.{ℕ, ◌≡◌, ◌∙◌, List, ◌++◌, codes, ap, refl, append_assoc}
+use Rattle.std.proofs.Common.{ℕ, ◌≡◌, ◌∙◌, List, [], ◌∷◌, ◌++◌, codes, ap, refl, append_assoc}
 use Rattle.std.specs.Fmt.{decimal}
 use Rattle.tc_text.specs.TextKind.{kind_text}
 use Rattle.tc_text.specs.declared.fault.TextFault.TheVariants as T
 use Rattle.tc_line.specs.ScriptKind.{kind_text as script_kind_text}
 use Rattle.tc_program.specs.declared.fault.RunFault.{RunFault}
 use Rattle.tc_program.specs.declared.fault.RunFault.TheVariants as F
-use Rattle.tc_program.specs.Fault.{fault_text, place_text}
-use Rattle.tc_program.specs.Inside.{placed, words_of}
+use Rattle.tc_program.specs.Fault.{fault_text}
+use Rattle.tc_program.specs.Inside.{gives_text, made_line, place_text, placed, words_of}
+use Rattle.tc_program.specs.Check.{other_line}
 use Rattle.tc_program.specs.Explained.{number_of}
 
 -- the number of a line, and the words after it
@@ -16,6 +17,11 @@ unfolding place_text
 at_place line words =
     append_assoc (codes "line ") (decimal line ++ codes ": ") words
     ∙ ap (λ l. codes "line " ++ l) (append_assoc (decimal line) (codes ": ") words)
+
+-- the line of another reply or verdict is made so
+pub other_made : (line : ℕ) (given table : List ℕ) → made_line line given table ≡ other_line line given table
+unfolding gives_text other_line
+other_made line given table = at_place line (given ++ (codes ", table gives " ++ (table ++ (10 ∷ []))))
 
 pub by_parts : (fault : RunFault) → placed (number_of fault) (words_of fault) ≡ fault_text fault
 by_parts F.TooLong = refl

@@ -1,12 +1,12 @@
 -- Blocks that are legal are found legal.
-use Rattle.std.proofs.Common.{ℕ, ◌≡◌, ◌∙◌, Bool, true, List, [], ◌∷◌, ◌++◌, length, refl, ap, subst}
+use Rattle.std.proofs.Common.{ℕ, ◌≡◌, ◌∙◌, Bool, true, false, List, [], ◌∷◌, ◌++◌, length, refl, ap}
 use Rattle.std.specs.List.{flat_map}
+use Rattle.std.proofs.lemmas.Bool.{false≢true}
 use Rattle.tc_evidence.specs.declared.block.Block.{Block}
 use Rattle.tc_evidence.specs.Line.{entries_of}
 use Rattle.tc_evidence.specs.Laws.{AreLegal, overall_of}
 use Rattle.tc_program.specs.Check.{AreAllLegal, Checks, IsIllegalLine, legal_line}
 use Rattle.tc_program.specs.Inside.{each}
-use Rattle.tc_program.specs.Report.{IsFirstIllegal}
 use Rattle.tc_program.proofs.Playing.{no_difference}
 
 -- each reply is the table's, and the verdict is that of the block
@@ -33,14 +33,6 @@ only_legal _ _ _ all (Checks.goes_on b rest line out legal says more) =
     (ap (λ l. l ++ out) says.line_is ∙ ap (λ l. block_line b ++ l) two.0, two.1)
 only_legal _ _ _ all (Checks.stops b rest line says) = absurd (no_other b line all.0 says)
 
-right_at : (before behind : List Block) (b : Block) → AreRight (before ++ b ∷ behind) → IsRight b
-right_at [] behind b all = all.0
-right_at (c ∷ before) behind b all = right_at before behind b all.1
-
--- none of them is the first that is not legal
-pub none_illegal : (bs : List Block) (b : Block) (line : List ℕ) → AreRight bs → IsFirstIllegal bs b line → ⊥
-none_illegal bs b line all first = no_other b line (right_at first.before first.behind b (subst AreRight first.place all)) first.illegal
-
 -- blocks of which a choice is printed, and all are legal
 rights : (bs : List Block) (lines : List ℕ) (legal : Bool) → legal ≡ true → Checks each bs lines legal → AreRight bs
 rights _ _ _ all Checks.none = tt
@@ -56,6 +48,17 @@ found test _ _ _ all (Checks.stops b rest line says) = absurd (no_other b line a
 pub found_all : (test : Block → Bool) (bs : List Block) (out : List ℕ) (legal : Bool) → AreAllLegal bs → Checks test bs out legal → legal ≡ true
 found_all test bs out legal all checks = found test bs out legal (rights bs all.0 true refl all.1) checks
 
--- and none of them is the first that is not
-pub none_found : (bs : List Block) (b : Block) (line : List ℕ) → AreAllLegal bs → IsFirstIllegal bs b line → ⊥
-none_found bs b line all = none_illegal bs b line (rights bs all.0 true refl all.1)
+-- and none of them is found not to be
+pub none_illegal : (bs : List Block) (line : List ℕ) → AreRight bs → Checks (λ b. false) bs line false → ⊥
+none_illegal bs line all checks = false≢true (found (λ b. false) bs line false all checks)
+
+pub none_found : (bs : List Block) (line : List ℕ) → AreAllLegal bs → Checks (λ b. false) bs line false → ⊥
+none_found bs line all = none_illegal bs line (rights bs all.0 true refl all.1)
+
+-- legal blocks, and after them one that is not: if none is chosen, its line is printed
+pub up_to : (test : Block → Bool) (before behind : List Block) (b : Block) (lines line : List ℕ) (legal : Bool) → legal ≡ true → Checks test before lines legal
+    → IsIllegalLine b line → Checks (λ b. false) (before ++ b ∷ behind) line false
+up_to test _ behind b _ line _ all Checks.none illegal = Checks.stops b behind line illegal
+up_to test _ behind b _ line _ all (Checks.goes_on c rest said out legal says more) illegal =
+    Checks.goes_on c (rest ++ b ∷ behind) said line false says (up_to test rest behind b out line legal all more illegal)
+up_to test _ behind b _ line _ all (Checks.stops c rest said says) illegal = absurd cc

@@ -22,7 +22,7 @@ use Rattle.tc_program.specs.declared.judge.Judgement.{Judgement}
 use Rattle.tc_program.specs.declared.judge.Judgement.TheVariants as J
 use Rattle.tc_program.specs.declared.report.Recorded.{Recorded}
 use Rattle.tc_program.specs.declared.report.ReportedBlock.{ReportedBlock}
-use Rattle.tc_program.specs.Check.{AreAllLegal, IsChecked, NameBlocks, RefusesBlocks}
+use Rattle.tc_program.specs.Check.{AreAllLegal, Checks, IsChecked, NameBlocks, RefusesBlocks}
 use Rattle.tc_program.specs.Choosing.{is_chosen}
 use Rattle.tc_program.specs.Made.{IsMadeOfBlocks}
 use Rattle.tc_command.specs.declared.task.Choice.{Choice}
@@ -30,7 +30,7 @@ use Rattle.tc_program.specs.Inside.{IsJudgement, IsPlayedTo, IsRecorded, NamesBl
 use Rattle.tc_program.specs.declared.fault.RunFault.{RunFault}
 use Rattle.tc_program.specs.declared.fault.RunFault.TheVariants as F
 use Rattle.tc_command.specs.declared.task.ReportForm.{ReportForm}
-use Rattle.tc_program.specs.Report.{AnswersCases, IsFirstIllegal, IsForm, IsReport, IsReported, summaries_of, unreported}
+use Rattle.tc_program.specs.Report.{AnswersCases, IsForm, IsReport, IsReported, summaries_of, unreported}
 use Rattle.tc_program.specs.declared.reply.Answer.{Answer}
 use Rattle.tc_program.specs.WrittenHistories.{AreFoundLegal, found_legal}
 use Rattle.tc_program.proofs.Doing.{answer_of}
@@ -39,7 +39,7 @@ use Rattle.tc_script.specs.Names.{Word}
 use Rattle.tc_verdict.specs.declared.verdict.Verdict.{Verdict}
 use Rattle.tc_verdict.specs.declared.verdict.Verdict.TheVariants as V
 use Rattle.tc_program.proofs.Playing.{no_difference}
-use Rattle.tc_program.proofs.Legal.{IsRight, none_found, none_illegal}
+use Rattle.tc_program.proofs.Legal.{IsRight, none_found, none_illegal, up_to}
 use Rattle.tc_program.proofs.WrittenHistories.{after, are_right, block_of, blocks_of, evidence_of, said_of_written, same_entries}
 
 -- a block that is judged legal is right
@@ -159,20 +159,15 @@ pub illegal_report : (form : ReportForm) (text : List ℕ) (ss : List Summary) (
     (blocks chosen : List Block) → o ≡ Some j → a ≡ unreported (judgement_line j) → Reports blocks chosen ss o → IsReport form text blocks chosen names notes a
 illegal_report form text ss o j names notes a blocks chosen some is made =
     let made = subst (Reports blocks chosen ss) some made in
-    let first : IsFirstIllegal blocks made.block (judgement_line j) = record {
-      before = made.before;
-      behind = made.behind;
-      place = made.place;
-      legal = (made.lines, whole each made.before made.lines true made.legal);
-      illegal = illegal_said made.block j made.illegal made.judged;
-    } in
-    IsReport.illegal made.block (judgement_line j) first is
+    let first = up_to each made.before made.behind made.block made.lines (judgement_line j) true refl (whole each made.before made.lines true made.legal)
+    (illegal_said made.block j made.illegal made.judged) in
+    IsReport.illegal (judgement_line j) (subst (λ bs. Checks (λ b. false) bs (judgement_line j) false) (sym made.place) first) is
 
 -- if the status says so, all blocks are legal
 reported_at : (form : ReportForm) (text : List ℕ) (blocks chosen : List Block) (names : List (List ℕ)) (notes : List ℕ) (a : Answer)
     → IsReport form text blocks chosen names notes a → a.status ≢ 3 → AreAllLegal blocks
 reported_at form text blocks chosen names notes a (IsReport.legal all is) other = all
-reported_at form text blocks chosen names notes a (IsReport.illegal b line first is) other = absurd (other (ap (λ x. x.status) is))
+reported_at form text blocks chosen names notes a (IsReport.illegal line first is) other = absurd (other (ap (λ x. x.status) is))
 
 pub judged_at : (form : ReportForm) (test : Block → Bool) (text : List ℕ) (a : Answer) → IsReported form test text a → AreJudgedAt a.status text
 judged_at form test text a made other all are = reported_at form text all (filter test all) [] [] a (made.holds all are) other
@@ -188,7 +183,7 @@ not_refused V.Error = λ e. cc
 legal_at : (form : ReportForm) (text : List ℕ) (blocks chosen : List Block) (a : Answer) → AreAllLegal blocks → IsReport form text blocks chosen [] [] a → a.status ≢ 3
 legal_at form text blocks chosen a all (IsReport.legal legal is) =
     subst (λ n. n ≢ 3) (sym is.2) (not_refused (worst_of (summaries_of chosen [])))
-legal_at form text blocks chosen a all (IsReport.illegal b line first is) = absurd (none_found blocks b line all first)
+legal_at form text blocks chosen a all (IsReport.illegal line first is) = absurd (none_found blocks line all first)
 
 -- what is reported, with each pattern the name of some block
 pub reported_names : (form : ReportForm) (choice : Choice) (only : List Word) (text : List ℕ) (a : Answer) → only ≡ choice.only.items
@@ -234,8 +229,8 @@ module _ (kind : Kind) (r : Results) (ran : WereRun kind r) where
       let blocks = blocks_of kind 1 r.finished in
       subst (λ l. AnswersCases form (blocks_text kind r) [] l a)
       (append-nil (map summary_at (filter each blocks)) ∙ (ap (map summary_at) (filter_each blocks) ∙ summaries_written kind 1 r.finished ran.each)) is
-  reported_so form a (IsReport.illegal b line first is) =
-      absurd (none_illegal (blocks_of kind 1 r.finished) b line (are_right kind 1 r.finished ran.each) first)
+  reported_so form a (IsReport.illegal line first is) =
+      absurd (none_illegal (blocks_of kind 1 r.finished) line (are_right kind 1 r.finished ran.each) first)
 
   refused_so : (fault : RunFault) → RefusesBlocks [] (blocks_text kind r) fault → fault ≡ F.NoMemory
   refused_so (F.Text fault) refused = absurd (refused.1 (blocks_of kind 1 r.finished) (evidence_of kind r ran))

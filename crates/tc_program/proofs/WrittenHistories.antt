@@ -18,7 +18,7 @@ use Rattle.tc_evidence.specs.declared.line.Line.{Line}
 use Rattle.tc_evidence.specs.declared.line.Line.TheVariants as L
 use Rattle.tc_evidence.specs.Line.{entries_of, is_about, is_met}
 use Rattle.tc_evidence.specs.Text.{AreBlocks, AreEvidence, AreLines, IsHeader, block_lines, format_of}
-use Rattle.tc_evidence.specs.Written.{text_of_blocks}
+use Rattle.tc_evidence.specs.Written.{text_of_block}
 use Rattle.tc_evidence.proofs.Lemmas.WrittenEvidence.{written_evidence}
 use Rattle.tc_case.specs.Report.{IsOneHistory}
 use Rattle.tc_report.specs.declared.results.Finished.{Finished}
@@ -45,7 +45,7 @@ abbrev pub blocks_of : Kind → ℕ → List Finished → List Block
 blocks_of kind line [] = []
 blocks_of kind line (f ∷ fs) = block_of kind line f ∷ blocks_of kind (after kind line f) fs
 
-texts_are : (kind : Kind) (line : ℕ) (fs : List Finished) → text_of_blocks (blocks_of kind line fs) ≡ flat_map (case_block kind) fs
+texts_are : (kind : Kind) (line : ℕ) (fs : List Finished) → flat_map text_of_block (blocks_of kind line fs) ≡ flat_map (case_block kind) fs
 texts_are kind line [] = refl
 texts_are kind line (f ∷ fs) = ap (λ l. case_block kind f ++ l) (texts_are kind (after kind line f) fs)
 

@@ -12,23 +12,19 @@ use Rattle.tc_evidence.specs.declared.line.Line.{Line}
 use Rattle.tc_evidence.specs.declared.line.Line.TheVariants as L
 use Rattle.tc_evidence.specs.Line.{entries_of}
 use Rattle.tc_evidence.specs.Laws.{AreLegal, overall_of}
-use Rattle.tc_evidence.specs.Text.{AreEvidence, IsEvidenceFault}
+use Rattle.tc_evidence.specs.Text.{AreEvidence, IsFault, IsHeader}
 use Rattle.tc_campaign.specs.Choosing.{have_names}
+use Rattle.tc_program.specs.Fault.{RefusesText}
 use Rattle.tc_program.specs.declared.fault.RunFault.{RunFault}
 use Rattle.tc_program.specs.declared.fault.RunFault.TheVariants as F
-use Rattle.tc_program.specs.Fault.{place_text}
 
 -- the line of a legal block: its name, how many entries it has, its verdict
 abbrev pub legal_line : List ℕ → ℕ → Verdict → List ℕ
 legal_line name entries verdict = codes "legal " ++ (name ++ (codes " " ++ (decimal entries ++ (codes " " ++ (name_of verdict ++ (10 ∷ []))))))
 
--- the words before what the table gives
-unfoldable pub gives_text : List ℕ
-gives_text = codes ", table gives "
-
 -- the line of the text with this number gives one thing, and the table another
-abbrev pub other_line : ℕ → List ℕ → List ℕ → List ℕ
-other_line line given table = place_text line ++ (given ++ (gives_text ++ (table ++ (10 ∷ []))))
+unfoldable pub other_line : ℕ → List ℕ → List ℕ → List ℕ
+other_line line given table = codes "line " ++ (decimal line ++ (codes ": " ++ (given ++ (codes ", table gives " ++ (table ++ (10 ∷ []))))))
 
 -- the line of a legal block: each reply is the table's, and the verdict is right
 pub record IsLegalLine (b : Block) (line : List ℕ) : Type 0 where
@@ -65,11 +61,9 @@ pub record IsChecked (is_chosen : Block → Bool) (text out : List ℕ) (status 
   pub checks : HoldsOfBlocks text (λ all. Checks is_chosen all out legal)
   pub status_is : status ≡ (if legal then 0 else 3)
 
--- a text is refused as one of histories and evidence, and is none of any; if memory runs out, nothing is said about it
+-- a text is refused as one of histories and evidence, and is none of any
 abbrev pub RefusesHistory : List ℕ → RunFault → Type 0
-RefusesHistory text (F.Text fault) = IsEvidenceFault text fault × ((blocks : List Block) → AreEvidence text blocks → ⊥)
-RefusesHistory text F.NoMemory = Unit {0}
-RefusesHistory text fault = ⊥
+RefusesHistory text = RefusesText (λ fault. IsFault IsHeader text fault × ((blocks : List Block) → AreEvidence text blocks → ⊥))
 
 -- all of these blocks are legal
 abbrev pub AreAllLegal : List Block → Type 0

@@ -25,14 +25,12 @@ explains (T.Run o) = o.explains
 explains (T.Explore o) = o.explains
 explains T.Serve = false
 
--- the part of the text that the lines of this fault are counted in: the script, or the blocks after it
-abbrev pub part_by : RunFault → List ℕ → List ℕ
-part_by (F.Script fault) text = script_part text
-part_by fault text = blocks_part text
-
--- the same of the text of a task
-abbrev pub part_of : Task → RunFault → List ℕ → List ℕ
-part_of task fault text = if has_blocks task then part_by fault text else text
+-- the part of a text that the lines of this fault are counted in: all of it, or, of a script with blocks after it, the script
+-- or the blocks
+abbrev pub part_of : Bool → RunFault → List ℕ → List ℕ
+part_of true (F.Script fault) text = script_part text
+part_of true fault text = blocks_part text
+part_of false fault text = text
 
 -- the number of the line that a fault is in, if it is in one
 abbrev pub number_of : RunFault → Option ℕ
@@ -50,7 +48,7 @@ is_of_text fault = true
 abbrev pub IsToldOf : Task → List ℕ → RunFault → List ℕ → Type 0
 IsToldOf task text fault told =
     MatchBool (explains task && is_of_text fault)
-    (TellsAmong (option_map_or (explanation (part_of task fault text)) (number_of fault) []) (line_of fault) told) (told ≡ line_of fault)
+    (TellsAmong (option_map_or (explanation (part_of (has_blocks task) fault text)) (number_of fault) []) (line_of fault) told) (told ≡ line_of fault)
 
 -- the outcome of a task whose text has this fault: that is printed
 abbrev pub IsExplained : Task → List ℕ → RunFault → Option (List ℕ) → Option (List ℕ) → Outcome → Type 0

@@ -1,10 +1,10 @@
 -- The faults of the program, and their lines on standard error.
 use Rattle.std.specs.Prelude.{ℕ, List, [], ◌∷◌, ◌++◌, codes}
-use Rattle.std.specs.Fmt.{decimal}
 use Rattle.tc_stream.specs.declared.input.InputFault.TheVariants as I
 use Rattle.tc_stream.specs.Fault.{input_text, write_text}
 use Rattle.tc_verdict.specs.Words.{memory_text}
 use Rattle.tc_text.specs.TextKind.{fault_text as text_fault_text}
+use Rattle.tc_text.specs.declared.fault.TextFault.{TextFault}
 use Rattle.tc_script.specs.Fault.{fault_text as script_fault_text}
 use Rattle.tc_report.specs.declared.fault.OutFault.{OutFault}
 use Rattle.tc_report.specs.declared.fault.OutFault.TheVariants as O
@@ -18,9 +18,11 @@ abbrev pub of_output : OutFault → RunFault
 of_output O.NoMemory = F.NoMemory
 of_output O.Write = F.Write
 
--- the number of a line
-unfoldable pub place_text : ℕ → List ℕ
-place_text line = codes "line " ++ (decimal line ++ codes ": ")
+-- a text is refused by such a fault of it; if memory runs out, nothing is said about it
+abbrev pub RefusesText : (TextFault → Type 0) → RunFault → Type 0
+RefusesText Is (F.Text fault) = Is fault
+RefusesText Is F.NoMemory = Unit {0}
+RefusesText Is fault = ⊥
 
 -- the text of a fault
 abbrev pub fault_text : RunFault → List ℕ

@@ -16,12 +16,12 @@ use Rattle.tc_verdict.specs.declared.verdict.Verdict.{Verdict}
 use Rattle.tc_stream.specs.declared.input.InputFault.{InputFault}
 use Rattle.tc_stream.specs.declared.input.InputFault.TheVariants as I
 use Rattle.tc_stream.specs.Fault.{input_text, write_text}
+use Rattle.std.specs.Fmt.{decimal}
 use Rattle.tc_verdict.specs.Words.{memory_text}
 use Rattle.tc_text.specs.TextKind.{kind_text}
 use Rattle.tc_line.specs.ScriptKind.{kind_text as script_kind_text}
 use Rattle.tc_command.specs.Words.{text_of}
 use Rattle.tc_command.specs.declared.word.WordFault.TheVariants as W
-use Rattle.tc_program.specs.Fault.{place_text}
 use Rattle.tc_entry.specs.Name.{IsName}
 use Rattle.tc_entry.specs.declared.entry.Entry.{Entry}
 use Rattle.tc_text.specs.declared.fault.TextFault.{TextFault}
@@ -69,7 +69,7 @@ use Rattle.tc_program.specs.declared.report.Recorded.{Recorded}
 use Rattle.tc_program.specs.declared.report.ReportedBlock.{ReportedBlock}
 use Rattle.tc_program.specs.declared.outcome.Outcome.{Outcome}
 use Rattle.tc_program.specs.declared.replay.Replaying.{Replaying}
-use Rattle.tc_program.specs.Check.{Checks, RefusesHistory, legal_line, other_line}
+use Rattle.tc_program.specs.Check.{Checks, RefusesHistory, legal_line}
 use Rattle.tc_program.specs.declared.judge.Judgement.TheVariants as J
 use Rattle.tc_text.specs.Spelling.{reply_text}
 use Rattle.tc_verdict.specs.Verdict.{name_of}
@@ -160,6 +160,14 @@ words_of (F.Script fault) = script_kind_text fault.kind
 words_of F.StopOn = text_of W.StopOn
 words_of F.Only = text_of W.Only
 
+-- the number of a line
+unfoldable pub place_text : ℕ → List ℕ
+place_text line = codes "line " ++ (decimal line ++ codes ": ")
+
+-- the words before what the table gives
+unfoldable pub gives_text : List ℕ
+gives_text = codes ", table gives "
+
 -- the words after the place, if there is one
 abbrev pub placed : Option ℕ → List ℕ → List ℕ
 placed None words = words
@@ -237,11 +245,15 @@ abbrev pub judges_legal : Judgement → Bool
 judges_legal (J.Legal name entries verdict) = true
 judges_legal judgement = false
 
+-- the line of another reply or verdict, as it is made
+abbrev pub made_line : ℕ → List ℕ → List ℕ → List ℕ
+made_line line given table = place_text line ++ (given ++ (gives_text ++ (table ++ (10 ∷ []))))
+
 -- what is printed for a block
 abbrev pub judgement_line : Judgement → List ℕ
 judgement_line (J.Legal name entries verdict) = legal_line name entries verdict
-judgement_line (J.OtherReply line given reply) = other_line line (reply_text given) (reply_text reply)
-judgement_line (J.OtherVerdict line given verdict) = other_line line (name_of given) (name_of verdict)
+judgement_line (J.OtherReply line given reply) = made_line line (reply_text given) (reply_text reply)
+judgement_line (J.OtherVerdict line given verdict) = made_line line (name_of given) (name_of verdict)
 
 -- this state represents the entries among the lines, of which there are that many, and each of whose replies is the table's; or this is their first difference
 abbrev pub IsPlayedTo : ℕ → ℕ → List BlockLine → Kept → ℕ → Option Difference → Type 0

@@ -3,6 +3,7 @@ use Rattle.std.specs.Prelude.{ℕ, ◌≡◌, ◌⊎◌, List, [], ◌∷◌, �
 use Rattle.std.specs.List.{flat_map}
 use Rattle.std.specs.Io.KnownBytes.{Appends, Keeps}
 use Rattle.tc_stream.specs.Output.{AppendsPrefix}
+use Rattle.tc_text.specs.MoveList.{IsListFault}
 use Rattle.tc_command.specs.declared.task.Choice.{Choice}
 use Rattle.tc_command.specs.declared.task.Task.{Task}
 use Rattle.tc_command.specs.declared.task.Task.TheVariants as T
@@ -13,10 +14,11 @@ use Rattle.tc_program.specs.Check.{IsChecked, NameBlocks, RefusesBlocks}
 use Rattle.tc_program.specs.Compared.{IsCheckedAgainst, IsReportedAgainst, RefusesAgainst}
 use Rattle.tc_program.specs.Choosing.{is_chosen}
 use Rattle.tc_program.specs.Explore.{Explores}
+use Rattle.tc_program.specs.Fault.{RefusesText}
 use Rattle.tc_program.specs.Input.{IsRead, IsUnread}
 use Rattle.tc_program.specs.Limits.{limit_of}
 use Rattle.tc_program.specs.Passed.{AreToRun, RefusesRun}
-use Rattle.tc_program.specs.Replay.{RefusesMoves, Replays}
+use Rattle.tc_program.specs.Replay.{Replays}
 use Rattle.tc_program.specs.Report.{IsReported}
 use Rattle.tc_program.specs.Scripted.{CaseView}
 
@@ -36,7 +38,7 @@ IsMadeOfBlocks choice text Is made = MatchResult made (λ a. Is a × NameBlocks 
 -- the answer is what a task, other than a run, makes of the text; or the task refuses the text for this fault, and any
 -- text if memory runs out
 abbrev pub IsMade : Task → List ℕ → Result Answer RunFault → Type 0
-IsMade (T.Replay e) text made = MatchResult made (IsSilent (Replays text)) (RefusesMoves text)
+IsMade (T.Replay e) text made = MatchResult made (IsSilent (Replays text)) (RefusesText (IsListFault text))
 IsMade (T.Check choice e) text made = IsMadeOfBlocks choice text (IsSilent (IsChecked (is_chosen choice) text)) made
 IsMade (T.Compare None choice e) text made = MatchResult made (IsSilent (IsCheckedAgainst choice text)) (RefusesAgainst choice text)
 IsMade (T.Compare (Some form) choice e) text made = MatchResult made (IsReportedAgainst form choice text) (RefusesAgainst choice text)

@@ -3,13 +3,11 @@ use Rattle.std.specs.Prelude.{ℕ, ◌≡◌, List, [], ◌∷◌, ◌++◌, map
 use Rattle.std.specs.List.{flat_map}
 use Rattle.tc_entry.specs.declared.entry.Entry.{Entry}
 use Rattle.tc_text.specs.Spelling.{reply_text}
-use Rattle.tc_text.specs.MoveList.{IsListFault, IsMoveList}
+use Rattle.tc_text.specs.MoveList.{IsMoveList}
 use Rattle.tc_table.specs.Legal.{IsLegal}
 use Rattle.tc_table.specs.Local.{overall}
 use Rattle.tc_report.specs.Report.{verdict_line}
 use Rattle.tc_report.specs.Status.{verdict_status}
-use Rattle.tc_program.specs.declared.fault.RunFault.{RunFault}
-use Rattle.tc_program.specs.declared.fault.RunFault.TheVariants as F
 
 -- The text is a list of moves, and there is a history of them in which each reply is the component table's. The output is a line for each
 -- reply, and then the overall verdict; the status is that of the verdict.
@@ -20,9 +18,3 @@ pub record Replays (text out : List ℕ) (status : ℕ) : Type 0 where
   pub legal : IsLegal behaviours (reverse history)
   pub out_is : out ≡ flat_map (λ e. reply_text e.reply ++ (10 ∷ [])) history ++ verdict_line (overall (reverse history))
   pub status_is : status ≡ verdict_status (overall (reverse history))
-
--- a text is refused as a list of moves; if memory runs out, nothing is said about it
-abbrev pub RefusesMoves : List ℕ → RunFault → Type 0
-RefusesMoves text (F.Text fault) = IsListFault text fault
-RefusesMoves text F.NoMemory = Unit {0}
-RefusesMoves text fault = ⊥

@@ -1,5 +1,5 @@
 -- What `report` writes of histories and evidence, and of them the chosen.
-use Rattle.std.specs.Prelude.{ℕ, Bool, ◌≡◌, ◌==◌, if◌then◌else◌, List, [], ◌∷◌, ◌++◌, codes, filter, length, map}
+use Rattle.std.specs.Prelude.{ℕ, Bool, false, ◌≡◌, ◌==◌, if◌then◌else◌, List, [], ◌++◌, codes, filter, length, map}
 use Rattle.tc_command.specs.declared.command.TheConstants.{VERSION}
 use Rattle.tc_command.specs.declared.task.ReportForm.{ReportForm}
 use Rattle.tc_command.specs.declared.task.ReportForm.TheVariants as Forms
@@ -14,7 +14,7 @@ use Rattle.tc_report.specs.Summary.{bare_summary, block_summary}
 use Rattle.tc_report.specs.SummaryText.{IsSummary}
 use Rattle.tc_report.specs.declared.results.CaseEnd.TheVariants as C
 use Rattle.tc_program.specs.declared.reply.Answer.{Answer}
-use Rattle.tc_program.specs.Check.{AreAllLegal, HoldsOfBlocks, IsIllegalLine}
+use Rattle.tc_program.specs.Check.{AreAllLegal, Checks, HoldsOfBlocks}
 
 -- this is the form of blocks by their text and the summaries of their test cases
 abbrev pub IsForm : ReportForm → List ℕ → List Summary → List ℕ → Type 0
@@ -32,23 +32,15 @@ AnswersCases form text notes ss a =
 abbrev pub unreported : List ℕ → Answer
 unreported line = record { out = []; told = codes "ttrun: " ++ line; status = 3 }
 
--- of these blocks this is the first that is not legal, with its line
-pub record IsFirstIllegal (blocks : List Block) (b : Block) (line : List ℕ) : Type 0 where
-  pub before : List Block
-  pub behind : List Block
-  pub place : blocks ≡ before ++ b ∷ behind
-  pub legal : AreAllLegal before
-  pub illegal : IsIllegalLine b line
-
 -- the test cases of blocks, and after them those of these names, of which there is none
 abbrev pub summaries_of : List Block → List (List ℕ) → List Summary
 summaries_of blocks missing = map (λ b. block_summary (history_of b)) blocks ++ map (bare_summary C.Missing) missing
 
--- What is answered for blocks of a text, some of them chosen, and missing test cases, with lines for standard error: `check`
--- finds each block legal, or this is the first that it does not.
+-- What is answered for blocks of a text, some of them chosen, and missing test cases, with lines for standard error. `check`
+-- finds each block legal; or it finds one that is not, and this line is all that it prints if no block is chosen.
 pub data IsReport (form : ReportForm) (text : List ℕ) (blocks chosen : List Block) (missing : List (List ℕ)) (notes : List ℕ) (a : Answer) : Type 0 where
   legal : AreAllLegal blocks → AnswersCases form text notes (summaries_of chosen missing) a → IsReport form text blocks chosen missing notes a
-  illegal : (b : Block) (line : List ℕ) → IsFirstIllegal blocks b line → a ≡ unreported line → IsReport form text blocks chosen missing notes a
+  illegal : (line : List ℕ) → Checks (λ b. false) blocks line false → a ≡ unreported line → IsReport form text blocks chosen missing notes a
 
 -- this is answered for the chosen blocks of the text
 abbrev pub IsReported : ReportForm → (Block → Bool) → List ℕ → Answer → Type 0

@@ -3,8 +3,8 @@ ghost use Rattle.std.specs.Prelude.{◌≡◌, ◌++◌, IfOk, OnOk};
 ghost use Rattle.std.specs.List.{flat_map};
 ghost use Rattle.tc_text.specs.Spelling.{reply_text};
 ghost use Rattle.tc_verdict.specs.Verdict.{name_of};
-ghost use Rattle.tc_program.specs.Check.{gives_text, legal_line, other_line};
-ghost use Rattle.tc_program.specs.Inside.{judgement_line, line_by, is_picked as spec_picked};
+ghost use Rattle.tc_program.specs.Check.{legal_line};
+ghost use Rattle.tc_program.specs.Inside.{gives_text, judgement_line, made_line, line_by, is_picked as spec_picked};
 
 use crate::fault::append_place;
 use crate::judge::Judgement;
@@ -35,7 +35,7 @@ fn append_legal(
 }
 
 // Appends the words before what the table gives.
-#[tactic(auto, unfolding(crate::specs::Check::gives_text))]
+#[tactic(auto, unfolding(crate::specs::Inside::gives_text))]
 fn append_gives(out: &mut Vec<u8>) -> Result<(), NoMemory>
     ensures { OnOk result (out.new.items ≡ out.old.items ++ gives_text) }
 {
@@ -49,7 +49,7 @@ fn append_other_reply(
     given: Reply,
     reply: Reply,
 ) -> Result<(), NoMemory>
-    ensures { OnOk result (out.new.items ≡ out.old.items ++ other_line line (reply_text given) (reply_text reply)) }
+    ensures { OnOk result (out.new.items ≡ out.old.items ++ made_line line (reply_text given) (reply_text reply)) }
 {
     append_place(out, line)?;
     write_reply(out, &given)?;
@@ -66,7 +66,7 @@ fn append_other_verdict(
     given: Verdict,
     verdict: Verdict,
 ) -> Result<(), NoMemory>
-    ensures { OnOk result (out.new.items ≡ out.old.items ++ other_line line (name_of given) (name_of verdict)) }
+    ensures { OnOk result (out.new.items ≡ out.old.items ++ made_line line (name_of given) (name_of verdict)) }
 {
     append_place(out, line)?;
     append_text(out, name_of_verdict(given))?;

@@ -3,7 +3,8 @@ ghost use Rattle.std.specs.Prelude.{◌≡◌, [], IfOk, OnOk};
 ghost use Rattle.std.specs.Option.{option_map};
 ghost use Rattle.tc_explain.specs.Explanation.{explanation};
 ghost use Rattle.tc_text.specs.Said.{TellsAmong};
-ghost use Rattle.tc_program.specs.Explained.{IsExplained, IsToldOf, explains as spec_explains, is_of_text as spec_of_text, number_of, part_by as spec_part_by, part_of as spec_part_of};
+ghost use Rattle.tc_program.specs.Explained.{IsExplained, IsToldOf, explains as spec_explains, is_of_text as spec_of_text, number_of, part_of as spec_part_of};
+ghost use Rattle.tc_program.specs.Limits.{has_blocks as spec_blocks};
 ghost use Rattle.tc_program.specs.Inside.{notes_of};
 
 use crate::fault::{RunFault, fault_line};
@@ -43,25 +44,18 @@ fn refusal_by(task: &Task, kind: TextKind) -> Refusal {
     }
 }
 
-// The part of the text that the lines of the fault are counted in: the script, or the blocks after it.
-fn part_by(fault: RunFault, text: &[u8]) -> &[u8]
-    ensures { result.now ≡ spec_part_by fault text.now }
+// The part of the text of the task that the lines of the fault are counted in: all of it, or the script, or the blocks
+// after it.
+fn part_of<'a>(task: &Task, fault: RunFault, text: &'a [u8]) -> &'a [u8]
+    ensures { result.now ≡ spec_part_of (spec_blocks task.now) fault text.now }
 {
+    if !has_blocks(task) {
+        return text;
+    }
     let (script, blocks) = split(text);
     match fault {
         RunFault::Script(_) => script,
         _ => blocks,
-    }
-}
-
-// The same of the text of the task.
-fn part_of<'a>(task: &Task, fault: RunFault, text: &'a [u8]) -> &'a [u8]
-    ensures { result.now ≡ spec_part_of task.now fault text.now }
-{
-    if has_blocks(task) {
-        part_by(fault, text)
-    } else {
-        text
     }
 }
 
@@ -72,13 +66,7 @@ fn refusal_at(task: &Task, fault: RunFault) -> Option<(Refusal, usize)>
     match fault {
         RunFault::Text(TextFault::At { line, kind }) => { Some((refusal_by(task, kind), line)) }
         RunFault::Script(fault) => Some((Refusal::Script(fault.kind), fault.line)),
-        RunFault::Text(TextFault::NoMemory)
-        | RunFault::TooLong
-        | RunFault::Read
-        | RunFault::Write
-        | RunFault::NoMemory
-        | RunFault::StopOn
-        | RunFault::Only => None,
+        _ => None,
     }
 }
 
@@ -179,7 +167,7 @@ fn append_why(
     text: &[u8],
     fault: RunFault,
 ) -> Result<(), NoMemory>
-    ensures { OnOk result (TellsAmong (notes_of (number_of fault) (spec_part_of task.now fault text.now))
+    ensures { OnOk result (TellsAmong (notes_of (number_of fault) (spec_part_of (spec_blocks task.now) fault text.now))
         out.old.items out.new.items) }
 {
     append_explained(

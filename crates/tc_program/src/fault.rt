@@ -2,8 +2,8 @@
 ghost use Rattle.std.specs.Prelude.{◌≡◌, ◌++◌, IfOk, OnOk, OnErr, Some};
 ghost use Rattle.std.specs.Io.{StartsWith};
 ghost use Rattle.tc_report.specs.Ending.{abort_text, aborted_text, is_aborted};
-ghost use Rattle.tc_program.specs.Fault.{fault_text, line_of, place_text, said};
-ghost use Rattle.tc_program.specs.Inside.{of_input as spec_input, placed, words_of};
+ghost use Rattle.tc_program.specs.Fault.{fault_text, line_of, said};
+ghost use Rattle.tc_program.specs.Inside.{of_input as spec_input, place_text, placed, words_of};
 ghost use Rattle.tc_program.specs.Explained.{number_of};
 
 use std::alloc::{AllocError, AllocFailed, Global};
@@ -130,13 +130,7 @@ impl RunFault {
         match self {
             RunFault::Text(TextFault::At { line, .. }) => Some(*line),
             RunFault::Script(fault) => Some(fault.line),
-            RunFault::Text(TextFault::NoMemory)
-            | RunFault::TooLong
-            | RunFault::Read
-            | RunFault::Write
-            | RunFault::NoMemory
-            | RunFault::StopOn
-            | RunFault::Only => None,
+            _ => None,
         }
     }
 
@@ -175,7 +169,7 @@ impl fmt::Display for RunFault {
 }
 
 /// Appends the number of a line; if memory runs out, a part of it.
-#[tactic(auto, unfolding(crate::specs::Fault::place_text))]
+#[tactic(auto, unfolding(crate::specs::Inside::place_text))]
 pub(crate) fn append_place(out: &mut Vec<u8>, line: usize) -> Result<(), NoMemory>
     ensures ok { OnOk result (out.new.items ≡ out.old.items ++ place_text line) }
     ensures err { OnErr result (StartsWith out.new.items out.old.items) }

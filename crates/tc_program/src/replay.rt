@@ -4,7 +4,9 @@ ghost use Rattle.tc_text.specs.Spelling.{reply_text};
 ghost use Rattle.tc_command.specs.declared.task.Task.TheVariants.{Replay};
 ghost use Rattle.tc_program.specs.Inside.{ArePlayed};
 ghost use Rattle.tc_program.specs.Made.{Does};
-ghost use Rattle.tc_program.specs.Replay.{RefusesMoves, Replays};
+ghost use Rattle.tc_program.specs.Fault.{RefusesText};
+ghost use Rattle.tc_program.specs.Replay.{Replays};
+ghost use Rattle.tc_text.specs.MoveList.{IsListFault};
 ghost use Rattle.tc_report.specs.Status.{verdict_status as spec_status};
 
 use crate::fault::RunFault;
@@ -64,7 +66,7 @@ impl TakesMoves for Replaying {
 // NoMemory.
 fn replay_lines(alloc: Global, text: &[u8]) -> Result<(Vec<u8>, Verdict), RunFault>
     ensures done { IfOk result (λ r. Replays text.now r.0.items (spec_status r.1)) }
-    ensures refused { IfErr result (RefusesMoves text.now) }
+    ensures refused { IfErr result (RefusesText (IsListFault text.now)) }
 {
     let replaying: Replaying = read_moves_into(alloc, text)?;
     let verdict = replaying.state.overall();
@@ -76,7 +78,7 @@ fn replay_lines(alloc: Global, text: &[u8]) -> Result<(Vec<u8>, Verdict), RunFau
 /// What `replay` makes of a move list: the reply to each move, and then the overall verdict, whose status it has.
 pub(crate) fn replay_text(alloc: Global, text: &[u8]) -> Result<Answer, RunFault>
     ensures done { IfOk result (λ a. Replays text.now a.out a.status × (a.told ≡ [])) }
-    ensures refused { IfErr result (RefusesMoves text.now) }
+    ensures refused { IfErr result (RefusesText (IsListFault text.now)) }
 {
     let (out, verdict) = replay_lines(alloc, text)?;
     Ok(Answer {

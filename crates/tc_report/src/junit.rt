@@ -293,7 +293,8 @@ pub fn write_junit<W: Write>(
     results: &Results,
     writer: &mut W,
 ) -> Result<(), OutFault>
-    ensures all { OnOk result (Appends (W.contents writer.old) (W.contents writer.new) (spec.junit_of version.now suite.now (results_summaries names.now results.now))) }
+    ensures all { OnOk result (Appends (W.contents writer.old) (W.contents writer.new)
+        (spec.junit_of version.now suite.now (results_summaries names.now results.now))) }
     ensures part { IfErr result (LeavesPrefix (W.contents writer.old) (W.contents writer.new)
         (spec.junit_of version.now suite.now (results_summaries names.now results.now))) }
 {

@@ -1,6 +1,6 @@
 //! What the first pass over a script remembers of the lines before.
 ghost use Rattle.std.specs.Prelude.{◌≡◌};
-ghost use Rattle.tc_script.specs.FirstPass.{given};
+ghost use Rattle.tc_script.specs.FirstPass.{given, open_after as spec_open_after};
 
 use crate::limits::TEST_CASES;
 use crate::open::Open;
@@ -26,87 +26,51 @@ fn arguments(call: &Call) -> usize
     }
 }
 
-impl Counts {
-    ghost use Rattle.tc_script.specs.Inside.Counts.{counted, may_end, case_counted, behaviour_counted, end_counted, step_counted};
-
-    #[tactic(auto, unfolding(crate::specs::Inside::Counts::case_counted))]
-    fn with_case(self) -> Result<Counts, ScriptKind>
-        ensures { result ≡ case_counted self }
-    {
-        match self.state {
-            Open::Nothing => {
-                if self.cases >= TEST_CASES {
-                    return Err(ScriptKind::TooMany);
-                }
-                Ok(Counts {
-                    state: Open::NewCase,
-                    cases: self.cases + 1,
-                    behaviours: 0,
-                    steps: self.steps,
-                })
-            }
-            _ => Err(ScriptKind::BadPlace),
-        }
+// What is open after the line, if it may be there.
+fn open_after(line: &Line, state: Open) -> Option<Open>
+    ensures { result ≡ spec_open_after line.now state }
+{
+    match (line, state) {
+        (Line::Skipped, state) => Some(state),
+        (Line::TestCase(_), Open::Nothing) => Some(Open::NewCase),
+        (Line::Behaviour(..), Open::NewCase | Open::Case) => Some(Open::Behaviour),
+        (Line::End, Open::Case) => Some(Open::Nothing),
+        (Line::End, Open::Behaviour) => Some(Open::Case),
+        (Line::Step(_), Open::Behaviour) => Some(Open::Behaviour),
+        _ => None,
     }
+}
 
-    #[tactic(auto, unfolding(crate::specs::Inside::Counts::behaviour_counted))]
-    fn with_behaviour(self, parameters: usize) -> Result<Counts, ScriptKind>
-        ensures { result ≡ behaviour_counted self parameters }
+impl Counts {
+    ghost use Rattle.tc_script.specs.Inside.Counts.{counted, counted_with, may_end};
+
+    // What is remembered after the line, if this is open then and it passes no limit.
+    fn with(self, line: &Line, state: Open) -> Result<Counts, ScriptKind>
+        ensures { result ≡ counted_with line.now state self }
     {
-        match self.state {
-            Open::NewCase | Open::Case => {
-                if self.behaviours >= BEHAVIOURS || parameters > ARGUMENTS {
-                    return Err(ScriptKind::TooMany);
-                }
+        match line {
+            Line::TestCase(_) if self.cases < TEST_CASES => Ok(Counts {
+                state,
+                cases: self.cases + 1,
+                behaviours: 0,
+                ..self
+            }),
+            Line::Behaviour(_, parameters)
+                if self.behaviours < BEHAVIOURS && parameters.as_slice().len() <= ARGUMENTS => {
                 Ok(Counts {
-                    state: Open::Behaviour,
-                    cases: self.cases,
+                    state,
                     behaviours: self.behaviours + 1,
                     steps: 0,
+                    ..self
                 })
             }
-            _ => Err(ScriptKind::BadPlace),
-        }
-    }
-
-    #[tactic(auto, unfolding(crate::specs::Inside::Counts::end_counted))]
-    fn with_end(self) -> Result<Counts, ScriptKind>
-        ensures { result ≡ end_counted self }
-    {
-        match self.state {
-            Open::Case => Ok(Counts {
-                state: Open::Nothing,
-                cases: self.cases,
-                behaviours: self.behaviours,
-                steps: self.steps,
+            Line::Step(call) if self.steps < STEPS && arguments(call) <= ARGUMENTS => Ok(Counts {
+                state,
+                steps: self.steps + 1,
+                ..self
             }),
-            Open::Behaviour => Ok(Counts {
-                state: Open::Case,
-                cases: self.cases,
-                behaviours: self.behaviours,
-                steps: self.steps,
-            }),
-            _ => Err(ScriptKind::BadPlace),
-        }
-    }
-
-    #[tactic(auto, unfolding(crate::specs::Inside::Counts::step_counted))]
-    fn with_step(self, arguments: usize) -> Result<Counts, ScriptKind>
-        ensures { result ≡ step_counted self arguments }
-    {
-        match self.state {
-            Open::Behaviour => {
-                if self.steps >= STEPS || arguments > ARGUMENTS {
-                    return Err(ScriptKind::TooMany);
-                }
-                Ok(Counts {
-                    state: Open::Behaviour,
-                    cases: self.cases,
-                    behaviours: self.behaviours,
-                    steps: self.steps + 1,
-                })
-            }
-            _ => Err(ScriptKind::BadPlace),
+            Line::Skipped | Line::End => Ok(Counts { state, ..self }),
+            _ => Err(ScriptKind::TooMany),
         }
     }
 
@@ -114,12 +78,9 @@ impl Counts {
     pub fn with_line(self, line: &Line) -> Result<Counts, ScriptKind>
         ensures { result ≡ counted self line.now }
     {
-        match line {
-            Line::Skipped => Ok(self),
-            Line::TestCase(_) => self.with_case(),
-            Line::Behaviour(_, parameters) => self.with_behaviour(parameters.as_slice().len()),
-            Line::End => self.with_end(),
-            Line::Step(call) => self.with_step(arguments(call)),
+        match open_after(line, self.state) {
+            Some(state) => self.with(line, state),
+            None => Err(ScriptKind::BadPlace),
         }
     }
 

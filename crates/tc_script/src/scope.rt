@@ -190,7 +190,8 @@ impl Scope {
     }
 
     fn take_case(&mut self, alloc: Global, name: &Name, rest: &Rest) -> Result<(), AllocError>
-        ensures { OnOk result (self.new ≡ record { cases = add name.now self.old.cases; behaviours = []; bound = self.old.bound; heads = heads rest.now }) }
+        ensures { OnOk result (self.new
+            ≡ record { cases = add name.now self.old.cases; behaviours = []; bound = self.old.bound; heads = heads rest.now }) }
     {
         self.cases.add(name.copy())?;
         self.behaviours = Names::new(alloc);
@@ -204,7 +205,8 @@ impl Scope {
         name: &Name,
         parameters: &[Name],
     ) -> Result<(), AllocError>
-        ensures { OnOk result (self.new ≡ record { cases = self.old.cases; behaviours = add name.now self.old.behaviours; bound = all_of [] parameters.now; heads = self.old.heads }) }
+        ensures { OnOk result (self.new
+            ≡ record self.old { behaviours = add name.now self.old.behaviours; bound = all_of [] parameters.now }) }
     {
         self.behaviours.add(name.copy())?;
         self.bound = bound_by(alloc, parameters)?;

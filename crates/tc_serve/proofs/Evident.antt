@@ -31,7 +31,8 @@ use Rattle.tc_evidence.specs.Block.{ended, header_text}
 use Rattle.tc_evidence.specs.Line.{entries_of, is_about, is_met}
 use Rattle.tc_evidence.specs.Sentence.{IsSentence}
 use Rattle.tc_evidence.specs.Text.{AreBlocks, AreLines, IsHeader, IsLine, block_lines}
-use Rattle.tc_evidence.specs.Written.{text_of_block, text_of_blocks}
+use Rattle.tc_evidence.specs.Written.{text_of_block}
+use Rattle.tc_evidence.proofs.Lemmas.Meeting.{met_last}
 use Rattle.tc_evidence.proofs.Lemmas.WrittenEvidence.{written_evidence}
 use Rattle.tc_serve.specs.declared.refusal.Refusal.{Refusal}
 use Rattle.tc_serve.specs.declared.refusal.Refusal.TheVariants as W
@@ -142,15 +143,6 @@ woken_fits n lines (suc k) few within fit =
 
 -- ---- who was met does not depend on the order
 
-swap : (a b c : Bool) → (a || (b || c)) ≡ (b || (a || c))
-swap true true c = refl
-swap true false c = refl
-swap false b c = refl
-
-met_last : (b : ℕ) (ls : List Line) (l : Line) → is_met b (l ∷ ls) ≡ is_met b (ls ++ l ∷ [])
-met_last b [] l = refl
-met_last b (x ∷ xs) l = swap (is_about b l) (is_about b x) (is_met b xs) ∙ ap (λ (t : Bool). is_about b x || t) (met_last b xs l)
-
 met_reverse : (b : ℕ) (ls : List Line) → is_met b ls ≡ is_met b (reverse ls)
 met_reverse b [] = refl
 met_reverse b (l ∷ ls) = ap (λ (t : Bool). is_about b l || t) (met_reverse b ls) ∙ (met_last b (reverse ls) l ∙ ap (is_met b) (sym (reverse-append (l ∷ []) ls)))
@@ -237,10 +229,10 @@ fit_reverse (x ∷ xs) a = rw (reverse-append (x ∷ []) xs) (fit_append (revers
 block_is : (line : ℕ) (p : Played) → text_of_block (block_of line p) ≡ block p
 block_is line p = sym (append_assoc (ended (header_text (header_of p))) (lines_text p.lines) (ended (end_text (overall (past_of p)))))
 
-blocks_text : (line : ℕ) (ps : List Played) → text_of_blocks (blocks_of line ps) ≡ flat_map block ps
+blocks_text : (line : ℕ) (ps : List Played) → flat_map text_of_block (blocks_of line ps) ≡ flat_map block ps
 blocks_text line [] = refl
 blocks_text line (p ∷ ps) =
-    ap (λ (l : List ℕ). l ++ text_of_blocks (blocks_of (line + length (block_lines (block_of line p))) ps)) (block_is line p)
+    ap (λ (l : List ℕ). l ++ flat_map text_of_block (blocks_of (line + length (block_lines (block_of line p))) ps)) (block_is line p)
     ∙ ap (λ (l : List ℕ). block p ++ l) (blocks_text (line + length (block_lines (block_of line p))) ps)
 
 are_blocks : (line : ℕ) (ps : List Played) → AllByRecursion IsEvident ps → AreBlocks IsHeader line (blocks_of line ps)

@@ -10,8 +10,8 @@ use Rattle.tc_serve.specs.declared.service.Served.{Served}
 use Rattle.tc_serve.specs.declared.serving.Serving.{Serving}
 use Rattle.tc_serve.specs.Protocol.{finished}
 use Rattle.tc_serve.specs.Text.{bytes_of, stand_text, told_of}
-use Rattle.tc_serve.specs.Serve.{Devices, IsTaken, IsWhy, devices}
-use Rattle.tc_serve.specs.Inside.{Finishes, Hears, IsAt, IsFed, IsOwn, IsServed, IsStopped, Stops}
+use Rattle.tc_serve.specs.Serve.{Devices, IsWhy, devices}
+use Rattle.tc_serve.specs.Inside.{Finishes, Hears, IsAt, IsFed, IsOwn, IsServed, IsStopped, IsTaken, Stops}
 
 -- ---- bytes
 
@@ -55,6 +55,14 @@ prefix_whole a b x p = (length x, omega arith, rw (take_whole x) p)
 
 -- ---- reports
 
+taken_whole : (told : Bool) (a b : Option (List ℕ)) (x : List ℕ) → IsTaken told a b x → told ≡ true → Appends a b x
+taken_whole true a b x taken all = taken
+taken_whole false a b x taken all = absurd cc
+
+taken_part : (told : Bool) (a b : Option (List ℕ)) (x : List ℕ) → IsTaken told a b x → AppendsPrefix a b x
+taken_part true a b x taken = prefix_whole a b x taken
+taken_part false a b x taken = taken
+
 told_join : (heard told : Bool) (a b c : Option (List ℕ)) (x y : List ℕ) → IsTaken heard a b x → Hears heard told b c y → IsTaken told a c (x ++ y)
 told_join true true a b c x y p q = appends_join a b c x y p q
 told_join true false a b c x y p q = prefix_behind a b c x y p q
@@ -88,6 +96,7 @@ stopped_at from to told turns v f at_ why =
     let text = sym (append-nil at_.before) ∙ at_.fed.counts.stands.text in
     let reports = (sym (append-nil at_.before') ∙ at_.fed.counts.tells) ∙ sym (append-nil (told_of at_.fed.lines)) in
     let written = subst (λ (l : List ℕ). Appends from.output to.output l) text at_.written in
+    let reported = subst (λ (l : List ℕ). IsTaken told from.errors to.errors l) reports at_.told_is in
     record {
       lines = at_.fed.lines;
       stand = at_.fed.stand;
@@ -102,7 +111,8 @@ stopped_at from to told turns v f at_ why =
       why = (λ e. absurd cc, why);
       whole = λ other. written;
       part = prefix_whole from.output to.output (stand_text at_.fed.stand) written;
-      told_is = subst (λ (l : List ℕ). IsTaken told from.errors to.errors l) reports at_.told_is;
+      told_whole = taken_whole told from.errors to.errors _ reported;
+      told_part = taken_part told from.errors to.errors _ reported;
     }
 
 pub uncounted : (from to : Devices) (told : Bool) (turns : ℕ) (v : Serving) → 2 ^ 64 - 1 ≤ turns → IsAt from to told turns v → IsStopped from to told F.TooLong
@@ -163,7 +173,8 @@ module _ (from : Devices) (left rest output output' errors errors' : Option (Lis
     why = tt;
     whole = λ other. written_whole _ so.text wrote;
     part = prefix_whole from.output output' (stand_text (finished so.stand)) (written_whole _ so.text wrote);
-    told_is = reports _ so.tells;
+    told_whole = taken_whole told from.errors errors' _ (reports _ so.tells);
+    told_part = taken_part told from.errors errors' _ (reports _ so.tells);
   }
 
   -- the service stopped for the first fault, and this one ended it
@@ -183,7 +194,8 @@ module _ (from : Devices) (left rest output output' errors errors' : Option (Lis
     why = (λ e. absurd cc, why);
     whole = whole;
     part = part;
-    told_is = reports _ (so.tells ∙ sym (append-nil (told_of so.lines)));
+    told_whole = taken_whole told from.errors errors' _ (reports _ (so.tells ∙ sym (append-nil (told_of so.lines))));
+    told_part = taken_part told from.errors errors' _ (reports _ (so.tells ∙ sym (append-nil (told_of so.lines))));
   }
 
   pub stops_on : (f : ServeFault) → Stops (at_.bytes ++ chunk) rest at_.before out at_.before' said f → Appends output output' out → IsStopped from (devices rest output' errors') told f
@@ -226,7 +238,8 @@ module _ (from : Devices) (left rest output output' errors errors' : Option (Lis
     why = (λ e. refl, tt);
     whole = λ other. absurd (other refl);
     part = written_part _ so.text wrote;
-    told_is = reports _ so.tells;
+    told_whole = taken_whole told from.errors errors' _ (reports _ so.tells);
+    told_part = taken_part told from.errors errors' _ (reports _ so.tells);
   }
 
   -- what was read, and what may come of it

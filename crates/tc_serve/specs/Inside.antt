@@ -2,6 +2,7 @@
 use Rattle.std.specs.Prelude.{ℕ, ◌≡◌, ◌+◌, ◌-◌, ◌<◌, ◌≤◌, ◌^◌, ◌⊎◌, ◌==◌, suc, if◌then◌else◌, Bool, true, false, is_some, is_none, Option, Some, None, Result, Ok, Err, List, [], ◌∷◌, ◌++◌, length, take, drop, insert, MatchResult}
 use Rattle.std.specs.List.{list_any}
 use Rattle.std.specs.Io.KnownBytes.{Appends, Consumes, IsAtEnd}
+use Rattle.tc_stream.specs.Output.{AppendsPrefix}
 use Rattle.tc_verdict.specs.declared.run.Run.{Run}
 use Rattle.tc_entry.specs.Limits.{IsBehaviours}
 use Rattle.tc_table.specs.declared.awaited.Awaited.{Awaited}
@@ -30,7 +31,7 @@ use Rattle.tc_serve.specs.declared.sleepers.Sleeper.{Sleeper}
 use Rattle.tc_serve.specs.Laws.{IsSettled}
 use Rattle.tc_serve.specs.Order.{order_text}
 use Rattle.tc_serve.specs.Protocol.{AllEnded, AreServed, Asks, Came, IsNobodys, IsOf, NoLf, Played, Refuses, Sent, Stand, called, done_of, finished, moved, past_of, refused, seen, sleep_of, taken, woken_from}
-use Rattle.tc_serve.specs.Serve.{Devices, IsEnding, IsTaken, IsWhy}
+use Rattle.tc_serve.specs.Serve.{Devices, IsEnding, IsWhy}
 use Rattle.tc_serve.specs.Text.{bytes_of, end_told, stand_text, told_of, worst_of}
 
 -- the line is neither a move nor a remark
@@ -318,6 +319,11 @@ IsServed from to told r = IsEnding from to (record { outcome = Ok r; told = told
 -- the service stopped so
 abbrev pub IsStopped : Devices → Devices → Bool → ServeFault → Type 0
 IsStopped from to told f = IsEnding from to (record { outcome = Err f; told = told })
+
+-- a device took the text, or a prefix of it
+abbrev pub IsTaken : Bool → Option (List ℕ) → Option (List ℕ) → List ℕ → Type 0
+IsTaken true before after text = Appends before after text
+IsTaken false before after text = AppendsPrefix before after text
 
 -- standard error gets the text if it took all before it
 abbrev pub Hears : Bool → Bool → Option (List ℕ) → Option (List ℕ) → List ℕ → Type 0

@@ -20,11 +20,6 @@ pub record Devices : Type 0 where
 abbrev pub devices : Option (List ℕ) → Option (List ℕ) → Option (List ℕ) → Devices
 devices input output errors = record { input = input; output = output; errors = errors }
 
--- a device took the text, or a prefix of it
-abbrev pub IsTaken : Bool → Option (List ℕ) → Option (List ℕ) → List ℕ → Type 0
-IsTaken true before after text = Appends before after text
-IsTaken false before after text = AppendsPrefix before after text
-
 -- the next line is refused for this; if no LF ends it, the input ends with it
 abbrev pub IsBadNext : Refusal → Stand → List ℕ → Option (List ℕ) → Type 0
 IsBadNext why s rest input = (line more : List ℕ) × NoLf line
@@ -39,7 +34,8 @@ IsWhy F.Read lines s rest input = NoLf rest
 IsWhy _ lines s rest input = Unit {0}
 
 -- how the service ended: these lines were served, and the end of the input, or a fault came before it was; only a failure of the
--- output may come later. What the text is then was written, or, if the output failed, a prefix of it
+-- output may come later. What the text is then was written, or, if the output failed, a prefix of it. What is due on standard error
+-- for the lines and for the end was printed, or a prefix of it
 pub record IsEnding (from to : Devices) (e : Ending) : Type 0 where
   pub lines : List Sent
   pub stand : Stand
@@ -54,4 +50,5 @@ pub record IsEnding (from to : Devices) (e : Ending) : Type 0 where
   pub why : IfErr e.outcome (λ f. (ended ≡ true → f ≡ F.Write) × IsWhy f lines stand rest to.input)
   pub whole : e.outcome ≢ Err F.Write → Appends from.output to.output (stand_text (if ended then finished stand else stand))
   pub part : AppendsPrefix from.output to.output (stand_text (if ended then finished stand else stand))
-  pub told_is : IsTaken e.told from.errors to.errors (told_of lines ++ end_told (ended && is_some stand.current))
+  pub told_whole : e.told ≡ true → Appends from.errors to.errors (told_of lines ++ end_told (ended && is_some stand.current))
+  pub told_part : AppendsPrefix from.errors to.errors (told_of lines ++ end_told (ended && is_some stand.current))

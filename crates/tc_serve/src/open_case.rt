@@ -65,7 +65,8 @@ fn started(op: &Op) -> Option<Run>
 
 // Adds the runs that the line of a call is about: its caller, as for a line that is refused, and the run that it starts.
 fn meet(met: &mut MetRuns, caller: Run, started: Option<Run>)
-    ensures { (op : AnyOp) (reply : AnyReply) (ls : List AnyLine) → started ≡ spec_started op → AreMet met.old ls → AreMet met.new (lines.Entry (entry caller op reply) ∷ ls) }
+    ensures { (op : AnyOp) (reply : AnyReply) (ls : List AnyLine) → started ≡ spec_started op
+        → AreMet met.old ls → AreMet met.new (lines.Entry (entry caller op reply) ∷ ls) }
 {
     met.add_refused(caller);
     let Some(run) = started else {
@@ -234,7 +235,8 @@ impl OpenCase {
         why: Refusal,
         out: &mut Vec<u8>,
     ) -> Result<Option<Refusal>, NoMemory>
-        ensures ok { IfOk result (λ other. Changes (added run (lines.Refused run (why_text why))) other self.old self.new out.old.items out.new.items) }
+        ensures ok { IfOk result (λ other. Changes (added run (lines.Refused run (why_text why))) other
+            self.old self.new out.old.items out.new.items) }
         ensures any { StartsWith out.new.items out.old.items }
     {
         if !self.has(run) {
@@ -247,7 +249,8 @@ impl OpenCase {
 
     // Makes the call whose move was appended, and appends the rest of its line; if memory runs out, a part of that.
     fn call(&mut self, caller: Run, op: Op, out: &mut Vec<u8>) -> Result<Reply, NoMemory>
-        ensures ok { IfOk result (λ r. (text : List ℕ) → out.old.items ≡ text ++ move_text caller.0 op → IsCalled caller op r self.old self.new text out.new.items) }
+        ensures ok { IfOk result (λ r. (text : List ℕ) → out.old.items ≡ text ++ move_text caller.0 op
+            → IsCalled caller op r self.old self.new text out.new.items) }
         ensures any { StartsWith out.new.items out.old.items }
     {
         let started = started(&op);
@@ -267,7 +270,8 @@ impl OpenCase {
         out: &mut Vec<u8>,
     ) -> Result<Reply, NoMemory>
         requires { line.now ≡ move_text caller.0 op }
-        ensures ok { OnOk result (BecomesAwake caller.0 (λ p. record p { lines = after_call p caller op }) self.old self.new out.old.items out.new.items) }
+        ensures ok { OnOk result (BecomesAwake caller.0 (λ p. record p { lines = after_call p caller op })
+            self.old self.new out.old.items out.new.items) }
         ensures reply { IfOk result (λ r. (p : AnyPlayed) → IsOpen self.old p → r ≡ (called p.behaviours p.lines caller op).reply) }
         ensures any { StartsWith out.new.items out.old.items }
     {
@@ -311,7 +315,8 @@ impl OpenCase {
 
     // Wakes each run that sleeps and can continue, in the order of their numbers.
     fn wake_all(&mut self, out: &mut Vec<u8>) -> Result<(), NoMemory>
-        ensures ok { OnOk result (Becomes (λ p. record p { lines = woken p.behaviours p.lines p.behaviours }) self.old self.new out.old.items out.new.items) }
+        ensures ok { OnOk result (Becomes (λ p. record p { lines = woken p.behaviours p.lines p.behaviours })
+            self.old self.new out.old.items out.new.items) }
         ensures any { StartsWith out.new.items out.old.items }
     {
         let mut place = 0;

@@ -125,7 +125,8 @@ impl Server {
         sentence: Sentence,
         out: &mut Vec<u8>,
     ) -> Result<Option<Refusal>, NoMemory>
-        ensures ok { IfOk result (λ why. Tries (λ s. with_open s (added run (lines.Remark run sentence))) why self.old self.new out.old.items out.new.items) }
+        ensures ok { IfOk result (λ why. Tries (λ s. with_open s (added run (lines.Remark run sentence))) why
+            self.old self.new out.old.items out.new.items) }
         ensures any { StartsWith out.new.items out.old.items }
     {
         match &mut self.current {

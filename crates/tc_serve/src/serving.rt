@@ -147,7 +147,8 @@ impl Serving {
     ) -> Result<(), ServeFault>
         ensures ok { OnOk result ((bytes before before' : List ℕ) → IsFed bytes self.old before out.old.items before' told.old.items
             → IsFed (bytes ++ 10 ∷ []) self.new before out.new.items before' told.new.items) }
-        ensures stopped { IfErr result (λ f. (bytes more before before' : List ℕ) (input : Option (List ℕ)) → IsFed bytes self.old before out.old.items before' told.old.items
+        ensures stopped { IfErr result (λ f. (bytes more before before' : List ℕ) (input : Option (List ℕ))
+            → IsFed bytes self.old before out.old.items before' told.old.items
             → Stops (bytes ++ 10 ∷ more) input before out.new.items before' told.new.items f) }
         ensures own { IfErr result IsOwn }
     {

@@ -1,6 +1,8 @@
 -- The pass as the steps of a script are called.
-use Rattle.std.proofs.Common.{ℕ, suc, ◌≡◌, ◌∙◌, ◌+◌, ◌<◌, inl, inr, ◌++◌, false, List, [], ◌∷◌, length, drop, get_or, drop-cons, arith, sym, ap, subst, append_assoc}
+use Rattle.std.proofs.Common.{ℕ, suc, ◌≡◌, ◌∙◌, ◌+◌, ◌<◌, inl, inr, ◌++◌, ◌==◌, Bool, false, true, refl, List, [], ◌∷◌, length, drop, get_or, drop-cons, arith, sym, ap, subst, append_assoc}
 use Rattle.std.proofs.lemmas.List.{append-nil}
+use Rattle.std.proofs.lemmas.Bool.{false≢true}
+use Rattle.std.proofs.lemmas.Bool.Decides.{nat_tests}
 use Rattle.tc_entry.specs.declared.comp.Comp.{Comp}
 use Rattle.tc_entry.specs.declared.entry.Entry.{Entry}
 use Rattle.tc_entry.specs.declared.op.Op.TheVariants as O
@@ -9,11 +11,13 @@ use Rattle.tc_entry.specs.declared.reply.Reply.TheVariants as R
 use Rattle.tc_step.specs.declared.step.Step.{Step}
 use Rattle.tc_step.specs.declared.step.Step.TheVariants as S
 use Rattle.tc_step.specs.Operation.{operation, target}
-use Rattle.tc_step.specs.Steps.{AreBound}
+use Rattle.tc_step.specs.Steps.{AreBound, ScriptView}
 use Rattle.tc_book.specs.Passes.{PassState, has_ended, entry_of}
-use Rattle.tc_behaviour.specs.Calls.{Calls, HasCalled, HasGrown, IsRun}
+use Rattle.tc_exec.specs.declared.job.Back.{Back}
+use Rattle.tc_behaviour.specs.Acts.{Acts}
+use Rattle.tc_behaviour.specs.Calls.{Calls, HasCalled, IsRun}
 use Rattle.tc_behaviour.specs.Calls.HasCalled.{none, one_more}
-use Rattle.tc_behaviour.specs.Inside.{IsStepped, IsSoFar}
+use Rattle.tc_behaviour.specs.Inside.{HasGrown, IsStepped, IsSoFar}
 
 abbrev with_log : PassState → List Entry → PassState
 with_log p log = record p { log = log }
@@ -37,7 +41,7 @@ calls_grow (S.SetVerdict v) bound p q r is = (entry_of p.run (O.SetVerdict v) r 
 calls_grow S.StopCase bound p q r is = (entry_of p.run O.StopCase r ∷ [], is)
 calls_grow S.GetVerdict bound p q r is = (entry_of p.run O.GetVerdict r ∷ [], is)
 
-pub grown_none : (p : PassState) → HasGrown p p
+grown_none : (p : PassState) → HasGrown p p
 grown_none p = ([], ap (with_log p) (sym (append-nil p.log)))
 
 grown : (steps : List Step) (start : PassState) (left : List Step) (bound : List Comp) (now : PassState) → HasCalled steps start left bound now → HasGrown start now
@@ -47,6 +51,14 @@ grown steps start _ _ _ (one_more s left bound before after reply called on call
 
 pub run_grown : (steps : List Step) (start now : PassState) (how : _) → IsRun steps start now how → HasGrown start now
 run_grown steps start now how run = grown steps start run.left run.bound now run.called
+
+-- whatever a script hands back, the log of the pass has grown
+pub acts_grown : (s : ScriptView) (p : PassState) (b : Back) → Acts s p b → HasGrown p b.pass
+acts_grown s p b acts = by (length p.args == s.parameters) refl
+  where
+    by : (t : Bool) → (length p.args == s.parameters) ≡ t → HasGrown p b.pass
+    by true as_many = run_grown s.steps p b.pass b.ending (acts.calls (grind (arith, nat_tests, as_many)))
+    by false other = subst (HasGrown p) (sym (acts.other_count (λ same. let is : (length p.args == s.parameters) ≡ true = grind (arith, nat_tests, same) in false≢true (sym other ∙ is))).0) (grown_none p)
 
 pub so_far_none : (steps : List Step) (start : PassState) (bound : List Comp) → bound ≡ start.args → AreBound (length start.args) steps → IsSoFar steps start steps bound start
 so_far_none steps start bound is are = rw is (record { called = none; bound = λ on. are })

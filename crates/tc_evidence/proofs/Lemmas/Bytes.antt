@@ -39,8 +39,9 @@ use Rattle.tc_evidence.specs.declared.header.Kind.{Kind}
 use Rattle.tc_evidence.specs.declared.header.Kind.TheVariants as K
 use Rattle.tc_evidence.specs.declared.line.Line.{Line}
 use Rattle.tc_evidence.specs.declared.line.Line.TheVariants as L
-use Rattle.tc_evidence.specs.Line.{line_text, mark_text, naming_text, said_text}
+use Rattle.tc_evidence.specs.Line.{line_text, naming_text, said_text}
 use Rattle.tc_evidence.specs.Block.{header_text, kind_text}
+use Rattle.tc_evidence.specs.Inside.{mark_text}
 use Rattle.tc_evidence.specs.Text.{AreBlocks, AreLines, IsHeader, IsLine, all_lines, block_lines, format_of}
 use Rattle.tc_evidence.specs.Laws.{BytesOfEvidence, IsSaid, is_quiet_byte, is_text_byte}
 

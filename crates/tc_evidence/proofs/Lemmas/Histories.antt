@@ -12,9 +12,9 @@ use Rattle.tc_evidence.specs.declared.line.Line.TheVariants as L
 use Rattle.tc_evidence.specs.Line.{entries_of, line_text}
 use Rattle.tc_evidence.specs.Block.{ended, header_text, kind_text}
 use Rattle.tc_evidence.specs.Text.{AreBlocks, AreLines, IsHeader, block_lines, format_of}
-use Rattle.tc_evidence.specs.Written.{text_of_block, text_of_blocks}
+use Rattle.tc_evidence.specs.Written.{text_of_block}
 use Rattle.tc_evidence.specs.Laws.{history_of}
-use Rattle.tc_evidence.specs.Histories.{HistoriesAreRead, IsHistoryHeader, text_of_histories, text_of_history}
+use Rattle.tc_evidence.specs.Histories.{HistoriesAreRead, IsHistoryHeader, text_of_history}
 use Rattle.tc_evidence.proofs.Lemmas.WrittenEvidence.{written_lines}
 
 kind_words : (k : Kind) → k ≢ K.Evidence → format_text (format_of k) ≡ kind_text k
@@ -38,10 +38,10 @@ text_is b other are =
     ∙ (ap (λ inside. header_text b.header ++ (10 ∷ (inside ++ last))) (entries_ended b.header.kind b.header.behaviours [] b.lines other are)
     ∙ sym (append_assoc (header_text b.header) (10 ∷ []) (flat_map (λ l. ended (line_text l)) b.lines ++ last)))
 
-texts_are : (line : ℕ) (bs : List Block) → AreBlocks IsHistoryHeader line bs → text_of_histories (map history_of bs) ≡ text_of_blocks bs
+texts_are : (line : ℕ) (bs : List Block) → AreBlocks IsHistoryHeader line bs → flat_map text_of_history (map history_of bs) ≡ flat_map text_of_block bs
 texts_are line [] are = refl
 texts_are line (b ∷ bs) are =
-    ap (λ l. l ++ text_of_histories (map history_of bs)) (text_is b are.0.header.1 are.0.inside)
+    ap (λ l. l ++ flat_map text_of_history (map history_of bs)) (text_is b are.0.header.1 are.0.inside)
     ∙ ap (λ l. text_of_block b ++ l) (texts_are (line + length (block_lines b)) bs are.1)
 
 any_kind : (line : ℕ) (bs : List Block) → AreBlocks IsHistoryHeader line bs → AreBlocks IsHeader line bs

@@ -9,7 +9,7 @@ use Rattle.tc_evidence.specs.declared.line.Line.{Line}
 use Rattle.tc_evidence.specs.Line.{line_text}
 use Rattle.tc_evidence.specs.Block.{ended, header_text}
 use Rattle.tc_evidence.specs.Text.{AreBlocks, IsHeader, all_lines, block_lines}
-use Rattle.tc_evidence.specs.Written.{WrittenIsRead, text_of_block, text_of_blocks}
+use Rattle.tc_evidence.specs.Written.{WrittenIsRead, text_of_block}
 use Rattle.tc_evidence.proofs.Lemmas.Bytes.{AreAllPlain, blocks_plain, plain_no_lf}
 
 all_no_lf : (ls : List (List ℕ)) → AllByRecursion AreAllPlain ls → AllByRecursion NoLf ls
@@ -35,14 +35,14 @@ block_ended b =
     ∙ ap (λ l. header_text b.header ++ 10 ∷ l)
     (inside_ended b.lines (ended (end_text b.verdict)) ∙ sym (ended_lines-append (map line_text b.lines) (end_text b.verdict ∷ [])))
 
-blocks_ended : (bs : List Block) → text_of_blocks bs ≡ ended_lines (all_lines bs)
+blocks_ended : (bs : List Block) → flat_map text_of_block bs ≡ ended_lines (all_lines bs)
 blocks_ended [] = refl
 blocks_ended (b ∷ bs) =
     ap (λ l. text_of_block b ++ l) (blocks_ended bs) ∙ (ap (λ l. l ++ ended_lines (all_lines bs)) (block_ended b) ∙ sym (ended_lines-append (block_lines b) (all_lines bs)))
 
 -- ---- written and read again
 
-pub written_lines : (line : ℕ) (bs : List Block) → AreBlocks IsHeader line bs → lines_of (text_of_blocks bs) ≡ all_lines bs
+pub written_lines : (line : ℕ) (bs : List Block) → AreBlocks IsHeader line bs → lines_of (flat_map text_of_block bs) ≡ all_lines bs
 written_lines line bs are = ap lines_of (blocks_ended bs) ∙ lines-ended_lines (all_lines bs) (all_no_lf (all_lines bs) (blocks_plain line bs are))
 
 -- the text of blocks is the text of these blocks

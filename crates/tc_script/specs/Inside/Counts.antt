@@ -1,5 +1,6 @@
 -- What the first pass remembers of the lines before.
 use Rattle.std.specs.Prelude.{ℕ, ◌+◌, ◌≡◌, ◌&&◌, ◌||◌, nat_le, nat_lt, Bool, if◌then◌else◌, Result, Ok, Err, List, [], ◌∷◌, ◌++◌, length}
+use Rattle.std.specs.Option.{option_map_or}
 use Rattle.std.specs.Result.{result_map_both}
 use Rattle.tc_entry.specs.declared.limits.TheConstants.{ARGUMENTS, BEHAVIOURS}
 use Rattle.tc_step.specs.declared.limits.TheConstants.{STEPS}
@@ -14,7 +15,7 @@ use Rattle.tc_script.specs.declared.counts.Counts.{Counts}
 use Rattle.tc_script.specs.declared.limits.TheConstants.{TEST_CASES}
 use Rattle.tc_line.specs.declared.line.Line.{Line}
 use Rattle.tc_line.specs.declared.line.Line.TheVariants as L
-use Rattle.tc_script.specs.FirstPass.{at_next, opened, cases_in, behaviours_in, steps_in, given, ends_well}
+use Rattle.tc_script.specs.FirstPass.{at_next, opened, cases_in, behaviours_in, steps_in, given, open_after, ends_well}
 
 -- with the number of the line after these
 abbrev pub or_at : {A : Type 0} → List Line → Result A ScriptKind → Result A ScriptFault
@@ -24,65 +25,22 @@ or_at past said = result_map_both (λ x. x) (at_next past) said
 abbrev pub counts_of : List Line → Counts
 counts_of past = record { state = opened past; cases = cases_in past; behaviours = behaviours_in past; steps = steps_in past }
 
--- a test case that begins if this is open
-abbrev pub case_counted_at : Open → Counts → Result Counts ScriptKind
-case_counted_at O.Nothing s =
+-- what is remembered after a line, if this is open then: the line may pass a limit
+abbrev pub counted_with : Line → Open → Counts → Result Counts ScriptKind
+counted_with (L.TestCase n) o s =
     if nat_le TEST_CASES s.cases then Err F.TooMany
-    else Ok (record { state = O.NewCase; cases = s.cases + 1; behaviours = 0; steps = s.steps })
-case_counted_at _ s = Err F.BadPlace
-
--- a behaviour within the limits
-abbrev pub one_behaviour_more : Counts → ℕ → Result Counts ScriptKind
-one_behaviour_more s parameters =
-    if nat_le BEHAVIOURS s.behaviours || nat_lt ARGUMENTS parameters then Err F.TooMany
-    else Ok (record { state = O.Behaviour; cases = s.cases; behaviours = s.behaviours + 1; steps = 0 })
-
--- a behaviour that begins if this is open
-abbrev pub behaviour_counted_at : Open → Counts → ℕ → Result Counts ScriptKind
-behaviour_counted_at O.NewCase s parameters = one_behaviour_more s parameters
-behaviour_counted_at O.Case s parameters = one_behaviour_more s parameters
-behaviour_counted_at _ s parameters = Err F.BadPlace
-
--- the same, with this open
-abbrev pub with_open : Counts → Open → Counts
-with_open s o = record { state = o; cases = s.cases; behaviours = s.behaviours; steps = s.steps }
-
--- an end if this is open
-abbrev pub end_counted_at : Open → Counts → Result Counts ScriptKind
-end_counted_at O.Case s = Ok (with_open s O.Nothing)
-end_counted_at O.Behaviour s = Ok (with_open s O.Case)
-end_counted_at _ s = Err F.BadPlace
-
--- a step if this is open
-abbrev pub step_counted_at : Open → Counts → ℕ → Result Counts ScriptKind
-step_counted_at O.Behaviour s arguments =
-    if nat_le STEPS s.steps || nat_lt ARGUMENTS arguments then Err F.TooMany
-    else Ok (record { state = O.Behaviour; cases = s.cases; behaviours = s.behaviours; steps = s.steps + 1 })
-step_counted_at _ s arguments = Err F.BadPlace
-
--- a test case that begins
-unfoldable pub case_counted : Counts → Result Counts ScriptKind
-case_counted s = case_counted_at s.state s
-
--- a behaviour that begins
-unfoldable pub behaviour_counted : Counts → ℕ → Result Counts ScriptKind
-behaviour_counted s parameters = behaviour_counted_at s.state s parameters
-
--- an end
-unfoldable pub end_counted : Counts → Result Counts ScriptKind
-end_counted s = end_counted_at s.state s
-
--- a step
-unfoldable pub step_counted : Counts → ℕ → Result Counts ScriptKind
-step_counted s arguments = step_counted_at s.state s arguments
+    else Ok (record { state = o; cases = s.cases + 1; behaviours = 0; steps = s.steps })
+counted_with (L.Behaviour n ps) o s =
+    if nat_le BEHAVIOURS s.behaviours || nat_lt ARGUMENTS (length ps) then Err F.TooMany
+    else Ok (record { state = o; cases = s.cases; behaviours = s.behaviours + 1; steps = 0 })
+counted_with (L.Step call) o s =
+    if nat_le STEPS s.steps || nat_lt ARGUMENTS (given call) then Err F.TooMany
+    else Ok (record { state = o; cases = s.cases; behaviours = s.behaviours; steps = s.steps + 1 })
+counted_with _ o s = Ok (record s { state = o })
 
 -- one line more
 abbrev pub counted : Counts → Line → Result Counts ScriptKind
-counted s L.Skipped = Ok s
-counted s (L.TestCase n) = case_counted s
-counted s (L.Behaviour n ps) = behaviour_counted s (length ps)
-counted s L.End = end_counted s
-counted s (L.Step call) = step_counted s (given call)
+counted s l = option_map_or (λ o. counted_with l o s) (open_after l s.state) (Err F.BadPlace)
 
 -- the text may end here
 abbrev pub may_end : Counts → Bool

@@ -35,6 +35,7 @@ use Rattle.tc_exec.specs.Case.{AreCalled, IsMadeOf}
 use Rattle.tc_exec.specs.Workers.{WasCalled, WasStarted, IsLeftBy}
 use Rattle.tc_exec.proofs.Lemmas.Calls.{all_called, unstarted_comp}
 use Rattle.tc_behaviour.specs.Acts.{Acts, MakesItsCalls}
+use Rattle.tc_behaviour.proofs.Lemmas.Running.{acts_grown}
 use Rattle.tc_scripted.proofs.Giving.{GivesAll, GiveAll, worker_gives}
 
 -- ---- a history and its starts
@@ -128,7 +129,7 @@ caller_below c k d (suc b) one some below is = by (start_of (reverse c.history) 
 -- the run of what a worker left
 own_run : (run : Run) (s : ScriptView) (l : LeftState) → IsLeftBy Acts run s l → l.run ≡ run
 own_run run s l (inl none) = ap (λ h. h.left.run) none
-own_run run s l (inr w) = w.called.left.run ∙ ap (λ q. q.run) w.called.outcome_of.grown.1 ∙ w.own
+own_run run s l (inr w) = w.called.left.run ∙ ap (λ q. q.run) (acts_grown s _ _ w.called.outcome_of).1 ∙ w.own
 
 -- with these arguments a started run was called
 called_with : (history : List Entry) (run : Run) (s : ScriptView) (l : LeftState) (w : WasStarted run (λ p. WasCalled (Acts s p) (record { left = l; ending = E.Returned }))) → IsFitting history l → 0 < run.0
@@ -136,7 +137,7 @@ called_with : (history : List Entry) (run : Run) (s : ScriptView) (l : LeftState
 called_with history run s l w fits above =
     let same : l.run ≡ run = own_run run s l (inr w) in
     let known : l.started ≡ start_of (reverse history) l.run.0 = fits.started (rw same above) in
-    ap (λ r. start_of (reverse history) r.0) (sym same) ∙ sym known ∙ w.called.left.started ∙ ap (λ q. Some (q.me, q.args)) w.called.outcome_of.grown.1
+    ap (λ r. start_of (reverse history) r.0) (sym same) ∙ sym known ∙ w.called.left.started ∙ ap (λ q. Some (q.me, q.args)) (acts_grown s _ _ w.called.outcome_of).1
 
 no_script : Word × ScriptView
 no_script = ([], record { parameters = 0; steps = [] })

@@ -1,6 +1,6 @@
 use Rattle.std.proofs.Common.{◌∙◌, ◌++◌, sym, arith}
 use Rattle.tc_history.proofs.InnerLines.{ends_at, same_lines}
-use Rattle.tc_evidence.specs.Line.{mark_text}
+use Rattle.tc_evidence.specs.Inside.{mark_text}
 use Rattle.tc_evidence.proofs.Notes.{begins_with_said, ends_plain, mark_ends, said_spelled, same_plain}
 use Rattle.tc_evidence.proofs.note.take_said.Goals as goal
 

@@ -1,12 +1,13 @@
 use Rattle.std.proofs.Common.{◌≡◌, ◌∙◌, map, ap, sym, rules}
 use Rattle.tc_text.specs.declared.fault.TextFault.TheVariants as F
-use Rattle.tc_evidence.specs.Histories.{IsHistoryFault}
+use Rattle.tc_evidence.specs.Histories.{IsHistoryHeader}
 use Rattle.tc_evidence.specs.Laws.{history_of}
+use Rattle.tc_evidence.specs.Text.{IsFault}
 use Rattle.tc_evidence.proofs.read.read_history.Goals as goal
 
 pub returns-in_err-blocks-clause-fault : goal.returns-in_err-blocks-clause-fault
 returns-in_err-blocks-clause-fault c =
-    let bad : IsHistoryFault c.args.text.now c.in_err-blocks.field-0.0 = c.in_err-blocks.ensures.fault in
+    let bad : IsFault IsHistoryHeader c.args.text.now c.in_err-blocks.field-0.0 = c.in_err-blocks.ensures.fault in
     search (rules, bad)
 
 pub returns-in_err-blocks-clause-only : goal.returns-in_err-blocks-clause-only

@@ -1,10 +1,10 @@
-use Rattle.std.proofs.Common.{rules, ◌≡◌, ◌≤◌, ◌∙◌, true, false, length, ap, subst, arith}
+use Rattle.std.proofs.Common.{rules, ◌≡◌, ◌≤◌, ◌∙◌, false, length, ap, subst, sym}
 use Rattle.tc_explore.specs.declared.search.Met.{Met}
 use Rattle.tc_explore.specs.Inside.Twins.{IsGoing, IsTwinSeen}
+use Rattle.tc_explore.proofs.Extents.{all_met, few_met, whole}
 use Rattle.tc_explore.proofs.LocalsClosed.{all_locals_found, as_many_twin_keys, courses_met, going_none, going_with, no_twin_keys, opening_rules, twin_seen_longer}
 use Rattle.tc_explore.proofs.Lemmas.Turning.{turn_rules}
 use Rattle.tc_explore.proofs.search_locals.search_locals.Goals as goal
-use Rattle.tc_explore.proofs.search_locals.search_locals.Goals.{then-is_placed, else-is_placed}
 
 pub place-requires-clause-keyed : goal.place-requires-clause-keyed
 place-requires-clause-keyed c =
@@ -21,43 +21,23 @@ expand_all-requires-clause-kept c =
 
 pub returns-clause-complete : goal.returns-clause-complete
 returns-clause-complete c h =
-    let placed : c.if-is_placed.is_whole ≡ true → c.in_ok-is_placed.is_placed ≡ true = elim c.if-is_placed.branch [
-      | then-is_placed w ↦ λ k. let is : c.in_ok-is_placed.is_placed ≡ true = search rules in is
-      | else-is_placed w ↦ λ k. absurd cc
-    ] in
-    let closed : c.if-is_placed.is_whole ≡ true → c.in_ok-is_closed.is_closed ≡ true = elim c.if-is_placed.branch [
-      | then-is_placed w ↦ λ k. let is : c.in_ok-is_closed.is_closed ≡ true = search rules in is
-      | else-is_placed w ↦ λ k. absurd cc
-    ] in
-    let seen = subst (IsTwinSeen c.place.new.met.states.items) c.in_ok-opening.ensures.opening (c.in_ok-is_placed.ensures.seen (placed h)) in
-    all_locals_found c.args.scripts.now c.expand_all.new.met.states.items c.expand_all.new.marks.found.items c.requires.some (c.in_ok-is_closed.ensures.closed (closed h)) (twin_seen_longer c.place.new.met.states.items c.expand_all.new.met.states.items _ c.in_ok-is_closed.ensures.more_states seen)
+    let both = whole c.in_ok-is_placed.is_placed c.in_ok-is_closed.is_closed (sym (ap (λ e. e.is_whole) c.extent_of.ensures) ∙ h) in
+    let seen = subst (IsTwinSeen c.place.new.met.states.items) c.in_ok-opening.ensures.opening (c.in_ok-is_placed.ensures.seen both.0) in
+    all_locals_found c.args.scripts.now c.expand_all.new.met.states.items c.expand_all.new.marks.found.items c.requires.some (c.in_ok-is_closed.ensures.closed both.1) (twin_seen_longer c.place.new.met.states.items c.expand_all.new.met.states.items _ c.in_ok-is_closed.ensures.more_states seen)
 
 pub returns-clause-met : goal.returns-clause-met
-returns-clause-met c = rw c.len.ensures.len (courses_met c.args.scripts.now c.expand_all.new.met c.in_ok-is_closed.ensures.kept c.len.ensures.unique)
+returns-clause-met c = rw (ap (λ e. e.states) c.extent_of.ensures ∙ c.len.ensures.len) (courses_met c.args.scripts.now c.expand_all.new.met c.in_ok-is_closed.ensures.kept c.len.ensures.unique)
 
 pub returns-clause-within : goal.returns-clause-within
 returns-clause-within c =
-    let size : c.len.result ≡ length c.expand_all.new.met.keys.keys = c.len.ensures.len in
-    let keys : length c.expand_all.new.met.keys.keys ≡ length c.expand_all.new.met.states.items = as_many_twin_keys c.args.scripts.now c.expand_all.new.met c.in_ok-is_closed.ensures.kept.keyed in
-    let few : length c.expand_all.new.met.states.items ≤ c.expand_all.new.met.limit = c.in_ok-is_closed.ensures.kept.few in
-    let limit : c.expand_all.new.met.limit ≡ c.args.limit = c.in_ok-is_closed.ensures.limit ∙ c.in_ok-is_placed.ensures.limit in
-    omega (arith, size, keys, few, limit)
+    let kept = c.in_ok-is_closed.ensures.kept in
+    few_met _ _ _ _ _ (ap (λ e. e.states) c.extent_of.ensures ∙ c.len.ensures.len) (as_many_twin_keys c.args.scripts.now c.expand_all.new.met kept.keyed) kept.few
+    (c.in_ok-is_closed.ensures.limit ∙ c.in_ok-is_placed.ensures.limit)
 
 pub returns-clause-full : goal.returns-clause-full
 returns-clause-full c h =
-    let size : c.len.result ≡ length c.expand_all.new.met.keys.keys = c.len.ensures.len in
-    let keys : length c.expand_all.new.met.keys.keys ≡ length c.expand_all.new.met.states.items = as_many_twin_keys c.args.scripts.now c.expand_all.new.met c.in_ok-is_closed.ensures.kept.keyed in
-    let few : length c.expand_all.new.met.states.items ≤ c.expand_all.new.met.limit = c.in_ok-is_closed.ensures.kept.few in
-    let limit : c.expand_all.new.met.limit ≡ c.args.limit = c.in_ok-is_closed.ensures.limit ∙ c.in_ok-is_placed.ensures.limit in
-    let enough : c.if-is_placed.is_whole ≡ false → c.args.limit ≤ length c.expand_all.new.met.states.items = elim c.if-is_placed.branch [
-      | then-is_placed w ↦ λ k.
-          let unclosed : c.in_ok-is_closed.is_closed ≡ false = search rules in
-          let full : c.expand_all.new.met.limit ≤ length c.expand_all.new.met.states.items = c.in_ok-is_closed.ensures.full unclosed in
-          omega (arith, limit, full)
-      | else-is_placed w ↦ λ k.
-          let off : c.in_ok-is_placed.is_placed ≡ false = search rules in
-          let full : c.args.limit ≤ length c.new.result.items = c.in_ok-is_placed.ensures.full off in
-          let none : length c.new.result.items ≡ 0 = ap length c.new.ensures.items in
-          omega (arith, full, none)
-    ] in
-    omega (arith, size, keys, few, limit, enough h)
+    let kept = c.in_ok-is_closed.ensures.kept in
+    let none : c.in_ok-is_placed.is_placed ≡ false → c.args.limit ≤ 0 = λ off. subst (λ l. c.args.limit ≤ length l) c.new.ensures.items (c.in_ok-is_placed.ensures.full off) in
+    all_met _ _ _ _ _ c.in_ok-is_placed.is_placed c.in_ok-is_closed.is_closed (ap (λ e. e.states) c.extent_of.ensures ∙ c.len.ensures.len) (as_many_twin_keys c.args.scripts.now c.expand_all.new.met kept.keyed) kept.few
+    (c.in_ok-is_closed.ensures.limit ∙ c.in_ok-is_placed.ensures.limit) none c.in_ok-is_closed.ensures.full
+    (sym (ap (λ e. e.is_whole) c.extent_of.ensures) ∙ h)

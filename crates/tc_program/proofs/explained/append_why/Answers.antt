@@ -5,12 +5,13 @@ use Rattle.tc_text.proofs.Lemmas.Saying.{on_ok}
 use Rattle.tc_text.specs.Said.{TellsAmong}
 use Rattle.tc_program.specs.Explained.{number_of, part_of}
 use Rattle.tc_program.specs.Inside.{notes_of}
+use Rattle.tc_program.specs.Limits.{has_blocks}
 use Rattle.tc_program.proofs.explained.append_why.Goals as goal
 
 pub returns : goal.returns
 returns c =
     let fault = c.args.fault in
-    let text = part_of c.args.task.now fault c.args.text.now in
+    let text = part_of (has_blocks c.args.task.now) fault c.args.text.now in
     let before = c.args.out.now.items in
     let middle = c.append_explained.new.out.items in
     let told : TellsAmong (notes_of (number_of fault) text) before middle =

@@ -1,5 +1,4 @@
 use Rattle.std.proofs.Common.{rules}
-use Rattle.tc_behaviour.proofs.Lemmas.Running.{run_grown}
 use Rattle.tc_behaviour.proofs.behaviour.ScriptBehaviour.run.Goals as goal
 
 pub make_calls-made-requires : goal.make_calls-made-requires
@@ -10,6 +9,3 @@ returns-clause-other_count g c = search rules
 
 pub returns-clause-calls : goal.returns-clause-calls
 returns-clause-calls g c = search rules
-
-pub returns-clause-grown : goal.returns-clause-grown
-returns-clause-grown g c = rw c.after-2.ensures.pass (run_grown _ _ _ _ c.make_calls-made.ensures)

@@ -11,7 +11,7 @@ swap true false c = refl
 swap false b c = refl
 
 -- a line counts the same before other lines and after them
-met_last : (b : ℕ) (ls : List Line) (l : Line) → is_met b (l ∷ ls) ≡ is_met b (ls ++ l ∷ [])
+pub met_last : (b : ℕ) (ls : List Line) (l : Line) → is_met b (l ∷ ls) ≡ is_met b (ls ++ l ∷ [])
 met_last b [] l = refl
 met_last b (x ∷ xs) l = swap (is_about b l) (is_about b x) (is_met b xs) ∙ ap (λ (t : Bool). is_about b x || t) (met_last b xs l)
 
