@@ -440,7 +440,7 @@ LIES = (
         }
         for comp in 0..self.found.as_slice().len() / 5 + 1 {
 """),
-    ), shown="a_thousand_components"),
+    ), shown="hundred_components"),
     Lie("a_longer_line_is_looked_at", (
         ("""pub(crate) const LINE_BYTES: usize = 209;""", """pub(crate) const LINE_BYTES: usize = 250;"""),
     ), shown="a_line_of_209_bytes"),
