@@ -86,7 +86,7 @@ fn take_line<'a, H: TakesEvidence>(
     ensures { IfOk result (λ found. MatchOption found (IsNoLine kind behaviours met.old text.now)
         (λ rest. IsLineTakenBy H.opens kind behaviours text.now line met.old met.new begun.old begun.new rest.now)) }
 {
-    let Some(((caller, short, reply), rest)) = take_short_line(text) else {
+    let Some(((caller, short, reply), rest)) = take_short_line::<H>(text) else {
         return take_any_line::<H>(alloc, kind, behaviours, met, begun, text, line);
     };
     met.add_short(caller, short, reply);

@@ -12,7 +12,6 @@ use Rattle.tc_entry.specs.declared.reply.Reply.{Reply}
 use Rattle.tc_entry.specs.declared.reply.Reply.TheVariants as R
 use Rattle.tc_text.specs.declared.short.ShortOp.{ShortOp}
 use Rattle.tc_text.specs.declared.short.ShortOp.TheVariants as H
-use Rattle.tc_text.specs.declared.verb.Status.TheVariants as S
 use Rattle.tc_text.specs.Lines.{lines_of}
 use Rattle.tc_text.specs.Reading.{EndsMove, EndsLine, op_of}
 use Rattle.tc_text.specs.Spelling.{move_text, reply_text, IsReply}
@@ -192,14 +191,14 @@ short_unnamed (H.Create alive) = tt
 short_unnamed (H.Stop g) = tt
 short_unnamed (H.Kill g) = tt
 short_unnamed H.StopCase = tt
-short_unnamed (H.Status S.Running t) = tt
-short_unnamed (H.Status S.Alive t) = tt
-short_unnamed (H.Status S.Done t) = tt
-short_unnamed (H.Status S.Killed t) = tt
-short_unnamed (H.Status S.WaitDone t) = tt
-short_unnamed (H.Status S.WaitKilled t) = tt
-short_unnamed (H.Status S.WakeDone t) = tt
-short_unnamed (H.Status S.WakeKilled t) = tt
+short_unnamed (H.Running t) = tt
+short_unnamed (H.Alive t) = tt
+short_unnamed (H.Done t) = tt
+short_unnamed (H.Killed t) = tt
+short_unnamed (H.WaitDone t) = tt
+short_unnamed (H.WaitKilled t) = tt
+short_unnamed (H.WakeDone t) = tt
+short_unnamed (H.WakeKilled t) = tt
 short_unnamed (H.SetVerdict v) = tt
 short_unnamed H.GetVerdict = tt
 short_unnamed H.Finish = tt

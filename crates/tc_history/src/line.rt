@@ -29,7 +29,7 @@ pub fn take_end_line(text: &[u8]) -> Option<(Verdict, &[u8])>
 
 // The reply after a move, and what follows the line, which it ends.
 #[inline(always)]
-fn take_outcome(text: &[u8]) -> Option<(Reply, &[u8])>
+fn take_outcome<T>(text: &[u8]) -> Option<(Reply, &[u8])>
     ensures spelled { IfSome result (λ r. lines_of text.now ≡ outcome_text r.0 ∷ lines_of r.1.now) }
     ensures fits { IfSome result (λ r. IsReply r.0) }
     ensures less { IfSome result (λ r. length r.1.now < length text.now) }
@@ -37,7 +37,7 @@ fn take_outcome(text: &[u8]) -> Option<(Reply, &[u8])>
         → TakesLine result r others }
 {
     let rest = after(text, b" -> ")?;
-    let (reply, rest) = take_reply(rest)?;
+    let (reply, rest) = take_reply::<T>(rest)?;
     let rest = take_line_end(rest)?;
     Some((reply, rest))
 }
@@ -65,24 +65,24 @@ fn take_long_line(format: u16, text: &[u8]) -> Option<(Entry, &[u8])>
     if !may_have(format, &op) {
         return None;
     }
-    let (reply, rest) = take_outcome(rest)?;
+    let (reply, rest) = take_outcome::<()>(rest)?;
     Some((Entry { caller, op, reply }, rest))
 }
 
 /// The caller, the operation and the reply of the entry that the first line spells, if its operation is a short one, and
 /// what follows that line; None also if it is a long one. An entry of any format may have a short operation.
 #[inline(always)]
-pub fn take_short_line(text: &[u8]) -> Option<((Run, ShortOp, Reply), &[u8])>
+pub fn take_short_line<T>(text: &[u8]) -> Option<((Run, ShortOp, Reply), &[u8])>
     ensures spelled { IfSome result (λ r. lines_of text.now ≡ entry_text (short_entry r.0.0 r.0.1 r.0.2) ∷ lines_of r.1.now) }
     ensures fits { (format : ℕ) → IfSome result (λ r. IsEntry format (short_entry r.0.0 r.0.1 r.0.2)) }
     ensures less { IfSome result (λ r. length r.1.now < length text.now) }
     ensures only { (format : ℕ) (e : AnyEntry) (others : List (List ℕ)) → IsEntry format e → lines_of text.now ≡ entry_text e ∷ others
         → MatchOption result (IsLong e.op) (λ r. (short_entry r.0.0 r.0.1 r.0.2 ≡ e) × (lines_of r.1.now ≡ others)) }
 {
-    let Some(((caller, op), rest)) = take_short_move(text) else {
+    let Some(((caller, op), rest)) = take_short_move::<T>(text) else {
         return None;
     };
-    let (reply, rest) = take_outcome(rest)?;
+    let (reply, rest) = take_outcome::<T>(rest)?;
     Some(((caller, op, reply), rest))
 }
 
@@ -95,7 +95,7 @@ pub fn take_entry_line(format: u16, text: &[u8]) -> Option<(Entry, &[u8])>
     ensures only { (e : AnyEntry) (others : List (List ℕ)) → IsEntry format e → lines_of text.now ≡ entry_text e ∷ others
         → TakesLine result e others }
 {
-    match take_short_line(text) {
+    match take_short_line::<()>(text) {
         Some(((caller, short, reply), rest)) => {
             let entry = Entry {
                 caller,

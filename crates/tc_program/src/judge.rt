@@ -130,7 +130,7 @@ impl Playing {
         if self.has_differed() {
             return Ok(());
         }
-        let reply = play_short(&mut self.state, caller, op)?;
+        let reply = play_short::<Playing>(&mut self.state, caller, op)?;
         if reply.same(&given) {
             self.entries = self.entries.saturating_add(1);
         } else {

@@ -56,7 +56,7 @@ impl TakesMoves for Replaying {
 
     #[inline(always)]
     fn take_short(&mut self, caller: Run, op: ShortOp) -> Result<(), NoMemory> {
-        let reply = play_short(&mut self.state, caller, op)?;
+        let reply = play_short::<Replaying>(&mut self.state, caller, op)?;
         append_reply(&mut self.out, reply)?;
         Ok(())
     }

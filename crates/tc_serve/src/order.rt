@@ -81,7 +81,7 @@ pub(crate) fn read_short_move(text: &[u8]) -> Option<(Run, ShortOp)>
     ensures spelled { IfSome result (λ r. text.now ≡ move_text r.0.0 (op_of r.1)) }
     ensures fits { IfSome result (λ r. (r.0.0 < 2 ^ 16) × IsOp (op_of r.1)) }
 {
-    let (one, rest) = take_short_move(text)?;
+    let (one, rest) = take_short_move::<()>(text)?;
     if !rest.is_empty() {
         return None;
     }

@@ -7,6 +7,7 @@ use Rattle.std.specs.Fmt.{decimal}
 use Rattle.tc_verdict.specs.UserVerdict.{given}
 use Rattle.tc_verdict.specs.Verdict.{name_of}
 use Rattle.tc_entry.specs.declared.op.Op.{Op}
+use Rattle.tc_entry.specs.declared.op.Target.{Target}
 use Rattle.tc_entry.specs.declared.op.Op.TheVariants as O
 use Rattle.tc_text.specs.Lines.{lines_of}
 use Rattle.tc_text.specs.MoveList.{Move, IsMove, move_line}
@@ -95,6 +96,17 @@ status_text S.WaitDone = codes "wait done "
 status_text S.WaitKilled = codes "wait killed "
 status_text S.WakeDone = codes "wake done "
 status_text S.WakeKilled = codes "wake killed "
+
+-- the operation that begins so and is about the target
+abbrev pub status_op : Status → Target → Op
+status_op S.Running t = O.Running t
+status_op S.Alive t = O.Alive t
+status_op S.Done t = O.Done t
+status_op S.Killed t = O.Killed t
+status_op S.WaitDone t = O.Wait false t
+status_op S.WaitKilled t = O.Wait true t
+status_op S.WakeDone t = O.Wake false t
+status_op S.WakeKilled t = O.Wake true t
 
 -- the first words of an operation
 abbrev pub verb_text : Verb → List ℕ

@@ -30,6 +30,5 @@ pub use said::{Part, append_parts};
 pub use short::{ShortOp, take_short_move};
 pub use shown::is_plain;
 pub use tc_entry::name_of_fault;
-pub use verb::Status;
 pub use verdict::take_verdict;
 pub use writing::{write_move, write_op};

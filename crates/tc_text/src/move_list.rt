@@ -49,7 +49,6 @@ fn take_first_line(text: &[u8]) -> Option<(u16, &[u8])>
 }
 
 // The move that the first line spells, and what follows that line.
-#[inline(never)]
 fn take_move_line(text: &[u8]) -> Option<((Run, Op), &[u8])>
     ensures spelled { IfSome result (λ r. lines_of text.now ≡ move_line r.0 ∷ lines_of r.1.now) }
     ensures fits { IfSome result (λ r. IsMove r.0) }
@@ -64,14 +63,14 @@ fn take_move_line(text: &[u8]) -> Option<((Run, Op), &[u8])>
 // The caller and the operation of the move that the first line spells, if the operation is a short one, and what follows
 // that line; None also if it is a long one.
 #[inline(always)]
-fn take_short_line(text: &[u8]) -> Option<((Run, ShortOp), &[u8])>
+fn take_short_line<T>(text: &[u8]) -> Option<((Run, ShortOp), &[u8])>
     ensures spelled { IfSome result (λ r. lines_of text.now ≡ move_line (r.0.0, op_of r.0.1) ∷ lines_of r.1.now) }
     ensures fits { IfSome result (λ r. IsMove (r.0.0, op_of r.0.1)) }
     ensures less { IfSome result (λ r. length r.1.now < length text.now) }
     ensures only { (m : AnyMove) (others : List (List ℕ)) → IsMove m → lines_of text.now ≡ move_line m ∷ others
         → MatchOption result (IsLong m.1) (λ r. ((r.0.0, op_of r.0.1) ≡ m) × (lines_of r.1.now ≡ others)) }
 {
-    let Some((one, rest)) = take_short_move(text) else {
+    let Some((one, rest)) = take_short_move::<T>(text) else {
         return None;
     };
     let rest = take_line_end(rest)?;
@@ -115,21 +114,29 @@ impl TakesMoves for MoveList {
     }
 }
 
-// Takes the move that the first line spells, and gives what follows that line. Most moves have a short operation: they are
-// made where they are passed on.
+// Takes the move that the first line spells, and gives what follows that line.
+#[inline(never)]
+fn take_any<'a, T: TakesMoves>(made: &mut T, text: &'a [u8]) -> Result<Option<&'a [u8]>, NoMemory>
+    ensures { IfOk result (λ found. MatchOption found (IsNoMove text.now)
+        (λ rest. IsMoveTakenBy T.stands text.now made.old made.new rest.now)) }
+{
+    let Some((one, rest)) = take_move_line(text) else {
+        return Ok(None);
+    };
+    made.take(one)?;
+    Ok(Some(rest))
+}
+
+// The same: most moves have a short operation, and are made where they are passed on.
 #[inline(always)]
 fn take_next<'a, T: TakesMoves>(made: &mut T, text: &'a [u8]) -> Result<Option<&'a [u8]>, NoMemory>
     ensures { IfOk result (λ found. MatchOption found (IsNoMove text.now)
         (λ rest. IsMoveTakenBy T.stands text.now made.old made.new rest.now)) }
 {
-    if let Some(((caller, short), rest)) = take_short_line(text) {
-        made.take_short(caller, short)?;
-        return Ok(Some(rest));
-    }
-    let Some((one, rest)) = take_move_line(text) else {
-        return Ok(None);
+    let Some(((caller, short), rest)) = take_short_line::<T>(text) else {
+        return take_any(made, text);
     };
-    made.take(one)?;
+    made.take_short(caller, short)?;
     Ok(Some(rest))
 }
 

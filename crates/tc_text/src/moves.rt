@@ -42,7 +42,7 @@ pub fn take_move(text: &[u8]) -> Option<((Run, Op), &[u8])>
     ensures only { (run : ℕ) (op : AnyOp) (rest : List ℕ) → run < 2 ^ 16 → IsOp op → EndsMove rest → text.now ≡ move_text run op ++ rest
         → Takes result (record { 0 = run }, op) rest }
 {
-    match take_short_move(text) {
+    match take_short_move::<()>(text) {
         Some(((caller, op), rest)) => Some(((caller, op.op()), rest)),
         None => take_long_move(text),
     }

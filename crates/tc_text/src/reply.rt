@@ -64,15 +64,18 @@ fn take_end_or_error(text: &[u8]) -> Option<(Reply, &[u8])>
 fn take_made(text: &[u8]) -> Option<(Reply, &[u8])>
     ensures spelled { IfSome result (λ r. text.now ≡ reply_text r.0 ++ r.1.now) }
     ensures fits { IfSome result (λ r. IsReply r.0) }
-    ensures only { (comp : AnyComp) (rest : List ℕ) → IsReply (Made comp) → EndsReply rest → text.now ≡ reply_text (Made comp) ++ rest → Takes result (Made comp) rest }
+    ensures only { (comp : AnyComp) (rest : List ℕ) → IsReply (Made comp) → EndsReply rest
+        → text.now ≡ reply_text (Made comp) ++ rest → Takes result (Made comp) rest }
 {
     let (number, rest) = take_number(after(text, b"made ")?)?;
     Some((Reply::Made(Comp(number)), rest))
 }
 
 /// The reply that the text begins with, and what follows it.
+///
+/// The type says who reads: each reader has a copy of this function, which the compiler can inline.
 #[inline(always)]
-pub fn take_reply(text: &[u8]) -> Option<(Reply, &[u8])>
+pub fn take_reply<T>(text: &[u8]) -> Option<(Reply, &[u8])>
     ensures spelled { IfSome result (λ r. text.now ≡ reply_text r.0 ++ r.1.now) }
     ensures fits { IfSome result (λ r. IsReply r.0) }
     ensures only { (r : AnyReply) (rest : List ℕ) → IsReply r → EndsReply rest → text.now ≡ reply_text r ++ rest → Takes result r rest }
@@ -105,7 +108,7 @@ pub fn read_reply(text: &[u8]) -> Option<Reply>
     ensures fits { IfSome result IsReply }
     ensures only { (r : AnyReply) → IsReply r → text.now ≡ reply_text r → result ≡ Some r }
 {
-    match take_reply(text) {
+    match take_reply::<()>(text) {
         Some((reply, rest)) => if rest.is_empty() { Some(reply) } else { None },
         None => None,
     }

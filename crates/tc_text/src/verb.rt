@@ -1,16 +1,16 @@
 //! The first words of operations.
 ghost use Rattle.std.specs.Prelude.{◌≡◌, ◌≢◌, ◌++◌, ℕ, List, IfSome, MatchOption};
-ghost use Rattle.tc_text.specs.Reading.{status_op, Takes};
+ghost use Rattle.tc_text.specs.Reading.{Takes};
 ghost use Rattle.tc_text.specs.Inside.{IsWait, status_text, verb_of, verb_text};
 ghost use Rattle.tc_text.specs.declared.verb.Status.{Status as AnyStatus};
 ghost use Rattle.tc_text.specs.declared.verb.Verb.{Verb as AnyVerb};
 
 use crate::cursor::after;
-use tc_entry::{Op, Target};
+use tc_entry::Op;
 
 /// What is asked of a target, or waited for.
 #[derive(Clone, Copy, PartialEq, Eq, Debug)]
-pub enum Status {
+pub(crate) enum Status {
     Running,
     Alive,
     Done,
@@ -98,35 +98,6 @@ impl Verb {
     }
 }
 
-/// The operation that begins so and is about the target.
-#[inline(always)]
-pub(crate) fn about(status: Status, target: Target) -> Op
-    ensures { result ≡ status_op status target }
-{
-    match status {
-        Status::Running => Op::Running(target),
-        Status::Alive => Op::Alive(target),
-        Status::Done => Op::Done(target),
-        Status::Killed => Op::Killed(target),
-        Status::WaitDone => Op::Wait {
-            killed: false,
-            target,
-        },
-        Status::WaitKilled => Op::Wait {
-            killed: true,
-            target,
-        },
-        Status::WakeDone => Op::Wake {
-            killed: false,
-            target,
-        },
-        Status::WakeKilled => Op::Wake {
-            killed: true,
-            target,
-        },
-    }
-}
-
 /// What follows the words, if the text begins with them.
 #[inline(always)]
 pub(crate) fn behind(text: &[u8], verb: Verb) -> Option<&[u8]>
@@ -165,7 +136,7 @@ fn take_wait(text: &[u8]) -> Option<(Verb, &[u8])>
 
 /// The first words of the operation that the text begins with, and what follows them.
 #[inline(always)]
-pub(crate) fn take_verb(text: &[u8]) -> Option<(Verb, &[u8])>
+pub(crate) fn take_verb<T>(text: &[u8]) -> Option<(Verb, &[u8])>
     ensures spelled { IfSome result (λ r. text.now ≡ verb_text r.0 ++ r.1.now) }
     ensures only { (v : AnyVerb) (rest : List ℕ) → text.now ≡ verb_text v ++ rest → Takes result v rest }
 {
