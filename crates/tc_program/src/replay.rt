@@ -20,15 +20,33 @@ use std::io::{Read, Write};
 use tc_entry::Sequence;
 use tc_report::{append_verdict, verdict_status};
 use tc_table::{CaseState, NoMemory, Op, Reply, Run, Verdict};
-use tc_text::{ShortOp, TakesMoves, read_moves_into, write_reply};
+use tc_text::{ShortOp, TakesMoves, append_text, read_moves_into, write_reply};
 
 // Appends the reply's line; if memory runs out, a part of it.
-fn append_reply(out: &mut Vec<u8>, reply: Reply) -> Result<(), NoMemory>
-    ensures { OnOk result (out.new.items ≡ out.old.items ++ (reply_text reply ++ 10 ∷ [])) }
+#[inline(never)]
+fn append_any_reply(out: &mut Vec<u8>, reply: &Reply) -> Result<(), NoMemory>
+    ensures { OnOk result (out.new.items ≡ out.old.items ++ (reply_text reply.now ++ 10 ∷ [])) }
 {
-    write_reply(out, &reply)?;
+    write_reply(out, reply)?;
     out.push(b'\n')?;
     Ok(())
+}
+
+// The same: most replies are one word, whose line is appended at once.
+#[inline(never)]
+fn append_reply(out: &mut Vec<u8>, reply: &Reply) -> Result<(), NoMemory>
+    ensures { OnOk result (out.new.items ≡ out.old.items ++ (reply_text reply.now ++ 10 ∷ [])) }
+{
+    match *reply {
+        Reply::Ok => append_text(out, "ok\n"),
+        Reply::Answer(true) => append_text(out, "true\n"),
+        Reply::Answer(false) => append_text(out, "false\n"),
+        Reply::Local(Verdict::None) => append_text(out, "none\n"),
+        Reply::Local(Verdict::Pass) => append_text(out, "pass\n"),
+        Reply::Matched => append_text(out, "matched\n"),
+        Reply::Parked => append_text(out, "parked\n"),
+        _ => append_any_reply(out, reply),
+    }
 }
 
 /// A case whose moves are played as they are read, and the lines of their replies.
@@ -50,14 +68,14 @@ impl TakesMoves for Replaying {
     fn take(&mut self, one: (Run, Op)) -> Result<(), NoMemory> {
         let (caller, op) = one;
         let reply = self.state.play(caller, op)?;
-        append_reply(&mut self.out, reply)?;
+        append_reply(&mut self.out, &reply)?;
         Ok(())
     }
 
     #[inline(always)]
     fn take_short(&mut self, caller: Run, op: ShortOp) -> Result<(), NoMemory> {
         let reply = play_short::<Replaying>(&mut self.state, caller, op)?;
-        append_reply(&mut self.out, reply)?;
+        append_reply(&mut self.out, &reply)?;
         Ok(())
     }
 }

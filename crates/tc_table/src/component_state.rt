@@ -1,5 +1,5 @@
 //! What is kept of one component.
-ghost use Rattle.std.specs.Prelude.{◌≡◌};
+ghost use Rattle.std.specs.Prelude.{◌≡◌, true};
 ghost use Rattle.tc_table.specs.Status as status;
 ghost use Rattle.tc_table.specs.Inside.States as tests;
 
@@ -15,6 +15,17 @@ pub struct ComponentState {
     pub last: Option<Run>,
     pub excused: bool,
     pub local: Verdict,
+}
+
+/// Whether the states are the same.
+pub fn are_same(one: ComponentState, other: ComponentState) -> bool
+    ensures { result ≡ true → one ≡ other }
+{
+    one.phase == other.phase
+        && one.alive_type == other.alive_type
+        && one.last == other.last
+        && one.excused == other.excused
+        && one.local == other.local
 }
 
 pub fn is_running(phase: Phase) -> bool

@@ -5,7 +5,7 @@ ghost use Rattle.tc_verdict.specs.Verdict.{level_of};
 ghost use Rattle.tc_table.specs.Inside.Counts.{bit, is_lapsed as lapsed_state, main_state, made_state};
 ghost use Rattle.tc_table.specs.Inside.States as tests;
 
-use crate::component_state::{ComponentState, is_done, is_killed, is_running};
+use crate::component_state::{ComponentState, are_same, is_done, is_killed, is_running};
 use std::alloc::{AllocError, Global};
 use std::marker::Model;
 use tc_entry::Phase;
@@ -137,9 +137,9 @@ impl ComponentStates {
             .map_err(AllocError::from)
     }
 
-    /// Changes the state of component i, whose local verdict gets no better.
+    // Replaces the state of component i, whose local verdict gets no better, and counts it again.
     #[inline(always)]
-    pub fn set(&mut self, i: usize, state: ComponentState)
+    fn replace(&mut self, i: usize, state: ComponentState)
         requires within { i < length self.old }
         requires no_better { level_of (slice_index_or self.old i state).local ≤ level_of state.local }
         ensures { self.new ≡ slice_set self.old i state }
@@ -173,6 +173,18 @@ impl ComponentStates {
         self.killed = killed;
         self.lapsed = lapsed;
         self.worst = worst;
+    }
+
+    /// Changes the state of component i, whose local verdict gets no better. Most calls leave it as it was.
+    #[inline(always)]
+    pub fn set(&mut self, i: usize, state: ComponentState)
+        requires within { i < length self.old }
+        requires no_better { level_of (slice_index_or self.old i state).local ≤ level_of state.local }
+        ensures { self.new ≡ slice_set self.old i state }
+    {
+        if !are_same(self.get(i), state) {
+            self.replace(i, state);
+        }
     }
 
     pub fn any_running(&self) -> bool

@@ -1,5 +1,5 @@
 -- What only the way the texts are read needs: no public clause names a word of this file.
-use Rattle.std.specs.Prelude.{ℕ, ◌≡◌, ◌≢◌, ◌<◌, ◌≤◌, ◌+◌, ◌-◌, ◌*◌, ◌^◌, ◌++◌, codes, length, take, Bool, true, false, if◌then◌else◌, List, [], ◌∷◌, Option, Some, None, MatchOption, slice_get}
+use Rattle.std.specs.Prelude.{ℕ, ◌≡◌, ◌≢◌, ◌<◌, ◌≤◌, ◌+◌, ◌-◌, ◌*◌, ◌^◌, ◌++◌, codes, drop, length, take, Bool, true, false, if◌then◌else◌, List, [], ◌∷◌, Option, Some, None, MatchOption, slice_get}
 use Rattle.std.specs.Borrow.{Bor}
 use Rattle.std.specs.Char.{is_ascii_digit}
 use Rattle.std.specs.Str.{all_ascii_digits}
@@ -31,6 +31,12 @@ BeginsWithE text = slice_get text 0 ≡ Some 101
 -- no digit comes first
 abbrev pub NoDigitFirst : List ℕ → Type 0
 NoDigitFirst text = (b : ℕ) (rest : List ℕ) → text ≡ b ∷ rest → is_ascii_digit b ≡ true → ⊥
+
+-- the bytes up to the place are digits, and no other follows
+pub record AreDigits (text : List ℕ) (place : ℕ) : Type 0 where
+  pub within : place ≤ length text
+  pub digits : all_ascii_digits (take place text) ≡ true
+  pub ended : NoDigitFirst (drop place text)
 
 -- the number that digits write after those of n
 abbrev pub read_on : ℕ → List ℕ → ℕ

@@ -2,7 +2,7 @@
 ghost use Rattle.std.specs.Prelude.{◌≡◌, ◌<◌, ◌≤◌, ◌+◌, ◌^◌, ◌++◌, ◌⊎◌, ℕ, List, true, false, length, drop, slice_index, Some, IfSome, IfNone};
 ghost use Rattle.std.specs.Fmt.{decimal};
 ghost use Rattle.tc_text.specs.Reading.{EndsNumber, Takes};
-ghost use Rattle.tc_text.specs.Inside.{Counted, NoDigitFirst};
+ghost use Rattle.tc_text.specs.Inside.{AreDigits, Counted, NoDigitFirst};
 
 // The value of the digit at a place of the text, if there is one.
 #[inline(always)]
@@ -47,12 +47,23 @@ fn spelled_to(text: &[u8], end: usize, number: u32) -> Option<(u32, &[u8])>
     }
 }
 
-// The number that the text begins with, and what follows it.
+// How many digits the text begins with.
 #[inline(never)]
-fn take_long_number(text: &[u8]) -> Option<(u32, &[u8])>
-    ensures spelled { IfSome result (λ r. text.now ≡ decimal r.0 ++ r.1.now) }
-    ensures fits { IfSome result (λ r. r.0 < 2 ^ 32) }
-    ensures only { (n : ℕ) (rest : List ℕ) → n < 2 ^ 32 → EndsNumber rest → text.now ≡ decimal n ++ rest → Takes result n rest }
+fn count_digits(text: &[u8]) -> usize
+    ensures { AreDigits text.now result }
+{
+    let mut end = 0;
+    while let Some(_) = digit_at(text, end) {
+        end += 1;
+    }
+    end
+}
+
+// The number that the text's digits write, if it is below 2^32.
+#[inline(never)]
+fn value_of(text: &[u8]) -> Option<u32>
+    ensures some { (end : ℕ) → AreDigits text.now end → IfSome result (λ n. Counted text.now end n) }
+    ensures none { IfNone result ((n : ℕ) (rest : List ℕ) → n < 2 ^ 32 → EndsNumber rest → text.now ≡ decimal n ++ rest → ⊥) }
 {
     let mut number = 0u64;
     let mut end = 0;
@@ -63,7 +74,7 @@ fn take_long_number(text: &[u8]) -> Option<(u32, &[u8])>
         }
         end += 1;
     }
-    spelled_to(text, end, number as u32)
+    Some(number as u32)
 }
 
 // How many digits the text begins with, and their number, if there are at most three.
@@ -98,7 +109,10 @@ pub fn take_number(text: &[u8]) -> Option<(u32, &[u8])>
 {
     match few_digits(text) {
         Some((end, number)) => spelled_to(text, end, number),
-        None => take_long_number(text),
+        None => {
+            let number = value_of(text)?;
+            spelled_to(text, count_digits(text), number)
+        }
     }
 }
 

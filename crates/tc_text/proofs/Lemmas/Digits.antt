@@ -8,7 +8,7 @@ use Rattle.std.proofs.lemmas.Str.Parse.{IsNumeralModel, numerals_by_fold, digit_
 use Rattle.std.proofs.lemmas.List.{take_more, take-append-drop}
 use Rattle.std.proofs.lemmas.Bool.Decides.{nat_tests}
 use Rattle.tc_text.specs.Reading.{EndsNumber}
-use Rattle.tc_text.specs.Inside.{Counted, NoDigitFirst, read_on}
+use Rattle.tc_text.specs.Inside.{AreDigits, Counted, NoDigitFirst, read_on}
 
 own : IsNumeralModel (λ ds. all_ascii_digits ds ≡ true) (read_on 0)
 own = numerals_by_fold _ (search rules) read_on (search rules)
@@ -134,3 +134,26 @@ no_letter n b rest after fits letter e =
     let first = digit_first n fits in
     let same : first.0 ≡ b = (first_of first.0 b (first.1.0 ++ rest) after (ap (λ l. l ++ rest) (sym first.1.1) ∙ e)).0 in
     omega (arith, same, first.1.3, letter)
+
+-- ---- how many digits come first
+
+-- one digit more
+pub digits_further : (text : List ℕ) (place d : ℕ) → all_ascii_digits (take place text) ≡ true → place < length text → slice_index text place ≡ 48 + d → d ≤ 9 → all_ascii_digits (take (place + 1) text) ≡ true
+digits_further text place d all low is small =
+    let more : take (place + 1) text ≡ take place text ++ (48 + d) ∷ [] = take_more text place 0 low ∙ ap (λ b. take place text ++ b ∷ []) is in
+    ap all_ascii_digits more ∙ digits_more (take place text) (48 + d) all (is_digit d small)
+
+-- a text has one number of first digits
+same_run : (ds rest xs after : List ℕ) → all_ascii_digits ds ≡ true → all_ascii_digits xs ≡ true → NoDigitFirst rest → NoDigitFirst after → ds ++ rest ≡ xs ++ after → ds ≡ xs
+same_run [] rest [] after all every none ends e = refl
+same_run [] rest (x ∷ xs) after all every none ends e = absurd (none x (xs ++ after) e (both (is_ascii_digit x) (all_ascii_digits xs) every).0)
+same_run (d ∷ ds) rest [] after all every none ends e = absurd (ends d (ds ++ rest) (sym e) (both (is_ascii_digit d) (all_ascii_digits ds) all).0)
+same_run (d ∷ ds) rest (x ∷ xs) after all every none ends e =
+    let two = first_of d x (ds ++ rest) (xs ++ after) e in
+    let others = same_run ds rest xs after (both (is_ascii_digit d) (all_ascii_digits ds) all).1 (both (is_ascii_digit x) (all_ascii_digits xs) every).1 none ends two.1 in
+    ap (λ b. b ∷ ds) two.0 ∙ ap (λ l. x ∷ l) others
+
+pub counted_all : (text : List ℕ) (place number end : ℕ) → Counted text place number → NoDigitFirst (drop place text) → AreDigits text end → Counted text end number
+counted_all text place number end so none are =
+    let same : take place text ≡ take end text = same_run (take place text) (drop place text) (take end text) (drop end text) so.digits are.digits none are.ended (take-append-drop place text ∙ sym (take-append-drop end text)) in
+    record { within = are.within; digits = are.digits; value = so.value ∙ ap (read_on 0) same; fits = so.fits }

@@ -1,7 +1,7 @@
 use Rattle.std.proofs.Common.{◌<◌, ◌≤◌, length, get_or}
 use Rattle.tc_verdict.specs.Verdict.{level_of}
 use Rattle.tc_table.proofs.Counting.{counted_set, lapsed_at}
-use Rattle.tc_table.proofs.component_states.ComponentStates.set.Goals as goal
+use Rattle.tc_table.proofs.component_states.ComponentStates.replace.Goals as goal
 
 pub recount-lapsed-requires-clause-had : goal.recount-lapsed-requires-clause-had
 recount-lapsed-requires-clause-had c =
