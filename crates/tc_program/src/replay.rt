@@ -43,6 +43,8 @@ fn append_reply(out: &mut Vec<u8>, reply: &Reply) -> Result<(), NoMemory>
         Reply::Answer(false) => append_text(out, "false\n"),
         Reply::Local(Verdict::None) => append_text(out, "none\n"),
         Reply::Local(Verdict::Pass) => append_text(out, "pass\n"),
+        Reply::Local(Verdict::Inconc) => append_text(out, "inconc\n"),
+        Reply::Local(Verdict::Fail) => append_text(out, "fail\n"),
         Reply::Matched => append_text(out, "matched\n"),
         Reply::Parked => append_text(out, "parked\n"),
         _ => append_any_reply(out, reply),
