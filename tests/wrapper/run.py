@@ -442,8 +442,7 @@ def two_are_built_at_once(tree: Tree) -> None:
     hold(sorted(tree.calls()[2:4]) == ["lib tc_aside --jobs 1", "lib tc_high --jobs 2"], f"{tree.calls()}")
     hold(tree.calls()[6:] == ["run ttrun --jobs 2 -- --help", "built ttrun"], f"{tree.calls()}")
     hold([kept_of(tree, it) for it in ("tc_low", "tc_high", "tc_aside", "ttrun")] == ["whole"] * 4, "what was done is not kept")
-    hold(any("1 of 4 crates built; tc_high 0 of 12 functions, tc_aside 0 of 12 functions" in it for it in ran.lines()) or
-         any("1 of 4 crates built; tc_high, tc_aside" in it for it in ran.lines()), f"{ran.lines()}")
+    hold(any(re.search("1 of 4 crates built; tc_high[^,]*, tc_aside", it) for it in ran.lines()), f"{ran.lines()}")
 
 
 @test
