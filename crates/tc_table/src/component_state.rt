@@ -1,5 +1,5 @@
 //! What is kept of one component.
-ghost use Rattle.std.specs.Prelude.{◌≡◌, true};
+ghost use Rattle.std.specs.Prelude.{◌≡◌, ◌↔◌, IsTrue};
 ghost use Rattle.tc_table.specs.Status as status;
 ghost use Rattle.tc_table.specs.Inside.States as tests;
 
@@ -19,7 +19,7 @@ pub struct ComponentState {
 
 /// Whether the states are the same.
 pub fn are_same(one: ComponentState, other: ComponentState) -> bool
-    ensures { result ≡ true → one ≡ other }
+    ensures { IsTrue result ↔ (one ≡ other) }
 {
     one.phase == other.phase
         && one.alive_type == other.alive_type

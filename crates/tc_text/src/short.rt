@@ -87,7 +87,7 @@ fn about(status: Status, target: Target) -> ShortOp
 }
 
 // The operation that begins with these words and continues as the text begins, and what follows it; None for a long
-// one.
+// one. The type says who reads, as with `take_short_move`.
 #[inline(always)]
 fn take_short_operand<T>(verb: Verb, text: &[u8]) -> Option<(ShortOp, &[u8])>
     ensures spelled { IfSome result (λ r. (verb_of (op_of r.0) ≡ verb) × (text.now ≡ operand_text (op_of r.0) ++ r.1.now)) }
@@ -126,7 +126,7 @@ fn take_short_operand<T>(verb: Verb, text: &[u8]) -> Option<(ShortOp, &[u8])>
     }
 }
 
-// The operation that the text begins with, and what follows it; None also if it is a long one.
+// The operation that the text begins with, and what follows it; None also if it is a long one. The type says who reads.
 #[inline(always)]
 fn take_short_op<T>(text: &[u8]) -> Option<(ShortOp, &[u8])>
     ensures spelled { IfSome result (λ r. text.now ≡ op_text (op_of r.0) ++ r.1.now) }

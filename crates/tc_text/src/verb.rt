@@ -135,6 +135,8 @@ fn take_wait(text: &[u8]) -> Option<(Verb, &[u8])>
 }
 
 /// The first words of the operation that the text begins with, and what follows them.
+///
+/// The type says who reads: each reader has a copy of this function, which the compiler can inline.
 #[inline(always)]
 pub(crate) fn take_verb<T>(text: &[u8]) -> Option<(Verb, &[u8])>
     ensures spelled { IfSome result (λ r. text.now ≡ verb_text r.0 ++ r.1.now) }
