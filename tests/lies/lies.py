@@ -519,15 +519,15 @@ pub fn append_entries(out: &mut Vec<u8>, entries: &[Entry]) -> Result<(), NoMemo
     ), "tc_parts_tests"),
     Lie("a_long_history_is_not_read", (
         ("""\
-        if let Some((verdict, behind)) = take_end_line(rest) {
-            return Ok((line, verdict, behind));
+        if let Some(end) = take_end_line(rest) {
+            return Ok((line, Some(end)));
         }
 """, """\
         if 65_535 < line {
             return Err(TextFault::NoMemory);
         }
-        if let Some((verdict, behind)) = take_end_line(rest) {
-            return Ok((line, verdict, behind));
+        if let Some(end) = take_end_line(rest) {
+            return Ok((line, Some(end)));
         }
 """),
     ), "tc_parts_tests"),

@@ -26,6 +26,10 @@ sys.path += [os.path.join(examples.TOP, "tests", it) for it in ("page", "serve")
 import evidence
 import said
 
+# How many bytes `check` reads at a time, at most: what the sources say, so that the rows cut lines where `check` does.
+with open(os.path.join(examples.TOP, "crates", "tc_evidence", "src", "source.rt"), encoding="utf-8") as source:
+    BYTES_OF_A_PART = int(re.findall(r"^const PART: usize = (\d+);$", source.read(), re.MULTILINE)[0])
+
 CASE = ("evidence 1 t 3;behaviour 0 main;0 create named heater -> made 1;behaviour 1 probe;0 # first <b>;0 start 1 1 -> ok;"
         "1 ! bad move;1 setverdict fail -> ok;1 # too hot: 85 > 80, and 80 <= limit;2 # never started;1 finish -> ok")
 # A test case that is over, in which run 1 gives the verdict, and the same without what says nothing to the table.
@@ -112,7 +116,43 @@ def long_texts() -> List[Case]:
     assert MOST_BYTES_OF_A_HISTORY - 5 <= len(filled) <= MOST_BYTES_OF_A_HISTORY, len(filled)
     more = filled + b"\n" * (MOST_BYTES_OF_A_HISTORY + 1 - len(filled))
     return [Case("the_longest_evidence", ("check",), filled, b"legal t 0 none\n"),
+            Case("the_longest_evidence_in_less_memory_than_its_bytes", ("check",), filled, b"legal t 0 none\n", limit="-v 14000"),
+            *faults_before_the_end(filled),
             Case("evidence_that_is_too_long", ("check",), more, errors=b"ttrun: input too long\n", status=3)]
+
+
+def parted_texts() -> List[Case]:
+    """Texts that `check` reads in several parts: each byte of a line, and each end of one, is the first of a part in some text."""
+    head, tail, line = "evidence 1 t 1\n", "end none\n", "0 getverdict -> none\n"
+    found: List[Case] = []
+    for cut in range(len(line) + 1):
+        count, rest = divmod(BYTES_OF_A_PART - cut - len(head), 205)
+        letters = rest + 195
+        lines = ["0 # " + "x" * 200] * (count - 1) + ["0 # " + "x" * it for it in (letters // 2, letters - letters // 2)]
+        before = head + "".join(f"{it}\n" for it in lines)
+        assert len(before) == BYTES_OF_A_PART - cut, (cut, len(before))
+        number = before.count("\n") + 1
+        more = before + before[len(head):] * 2
+        name = f"a_part_that_begins_in_byte_{cut}_of_a_line"
+        found.append(Case(name, ("check",), (more + line + tail).encode(), b"legal t 1 none\n"))
+        found.append(Case(f"{name}_of_the_first", ("check",), (before + line + tail + before + line + tail[:-1]).encode(), b"legal t 1 none\n" * 2))
+        wrong = before + line.replace("none", "pass") + before[len(head):] * 2 + tail
+        found.append(Case(f"{name}_that_is_wrong", ("check",), wrong.encode(), f"line {number}: pass, table gives none\n".encode(), status=3))
+        bad = before + line[:-2] + "\n" + more + tail
+        found.append(Case(f"{name}_that_is_none", ("check",), bad.encode(), errors=f"ttrun: line {number}: bad entry\n".encode(), status=3))
+        early = before + line + before[len(head):]
+        found.append(Case(f"{name}_behind_which_nothing_ends", ("check",), early.encode(), errors=f"ttrun: line {early.count(chr(10)) + 1}: text ends too early\n".encode(), status=3))
+    return found
+
+
+def faults_before_the_end(filled: bytes) -> List[Case]:
+    """What is wrong with a text is said only when its last byte is read: there may be too many of them."""
+    late = b"evidence 1 t 1\n0 getverdict -> pass\nend none\n" + filled[:3_000_000] + b"\nx\n"
+    number = late.count(b"\n")
+    return [Case("a_fault_before_too_many_bytes", ("check",), b"x\n" + filled, errors=b"ttrun: input too long\n", status=3),
+            Case("a_fault_before_a_million_bytes", ("check",), b"x\n" + filled[:1_000_000], errors=b"ttrun: line 1: bad first line\n", status=3),
+            Case("a_fault_long_behind_an_illegal_block", ("check",), late, errors=f"ttrun: line {number}: bad entry\n".encode(), status=3),
+            Case("a_line_of_two_million_bytes", ("check",), b"evidence 1 t 1\n0 # " + b"x" * 2_000_000 + b"\nend none\n", errors=b"ttrun: line 2: bad entry\n", status=3)]
 
 
 def held_page(program: str) -> List[str]:
@@ -182,7 +222,7 @@ def cases() -> List[Union[Case, Judgement]]:
     found.append(Judgement("a_page_of_evidence_has_no_tag_in_its_text", "ttrun report --html", held_page))
     stems = sorted(it.partition(".")[0] for it in os.listdir(examples.FOLDER) if it.endswith(".script"))
     found += [run_of_an_example(it, live) for it in stems for live in ((), ("--live",))]
-    return [*found, *long_texts()]
+    return [*found, *long_texts(), *parted_texts()]
 
 
 # What random texts must meet at least.

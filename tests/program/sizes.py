@@ -278,7 +278,7 @@ def racing() -> Iterator[Case]:
 
 def refused() -> Iterator[Case]:
     """Memory and threads are refused by a limit on the space for addresses."""
-    yield Case("no_memory_for_a_history", ("check",), longest_history()[0], errors=NO_MEMORY, status=3, limit="-v 9000")
+    yield Case("no_memory_for_a_history", ("check", "--only", "t*"), longest_history()[0], errors=NO_MEMORY, status=3, limit="-v 9000")
     first = (b"testcase t\nrun 0 main on 0\n  setverdict pass -> ok\n  finish -> ok\nlocal 0 pass\nverdict pass\n"
              b"cases 1 none 0 pass 1 inconc 0 fail 0 error 0\naborted at u: no thread\n")
     line = b"ttrun: aborted at u: no thread\n"

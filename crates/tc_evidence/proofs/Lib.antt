@@ -5,5 +5,5 @@ pub mod Judged
 pub mod Lemmas
 pub mod NextLines
 pub mod Notes
-pub mod Reading
-pub mod Texts
+pub mod PartByPart
+pub mod Unfinished

@@ -131,3 +131,9 @@ IsFaultAt may text line T.Move = ⊥
 abbrev pub IsFault : (Header → Type 0) → List ℕ → TextFault → Type 0
 IsFault may text (F.At line kind) = IsFaultAt may text line kind
 IsFault may text F.NoMemory = Unit {0}
+
+-- the text is that of histories and evidence, and whatever blocks it is of, this holds of them
+pub record HoldsOfBlocks (text : List ℕ) (Holds : List Block → Type 0) : Type 0 where
+  pub blocks : List Block
+  pub evidence : AreEvidence text blocks
+  pub holds : (all : List Block) → AreEvidence text all → Holds all

@@ -7,8 +7,11 @@ pub mod laws;
 mod line;
 mod met;
 mod note;
+mod parts;
 mod read;
+mod reading;
 mod sentence;
+mod source;
 mod taking;
 mod write;
 
@@ -18,5 +21,6 @@ pub use line::Line;
 pub use met::MetRuns;
 pub use read::{read_evidence, read_evidence_into, read_history};
 pub use sentence::{SENTENCE_BYTES, Sentence};
+pub use source::read_evidence_from;
 pub use taking::{BegunBlock, TakesEvidence};
 pub use write::{append_first_line, append_line, append_said, append_whole_block};

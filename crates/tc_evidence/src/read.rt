@@ -1,22 +1,21 @@
 //! Reading blocks.
-ghost use Rattle.std.specs.Prelude.{◌≡◌, ◌≢◌, ◌≤◌, ◌+◌, ◌++◌, ◌∷◌, ℕ, List, [], length, map, IfOk, IfErr, MatchOption, MatchResult};
-ghost use Rattle.tc_verdict.specs.declared.verdict.Verdict.{Verdict as AnyVerdict};
-ghost use Rattle.tc_text.specs.Lines.{lines_of};
+ghost use Rattle.std.specs.Prelude.{◌≡◌, ◌<◌, ◌≤◌, ◌+◌, ℕ, List, length, IfOk, IfErr, OnOk, IfSome, MatchOption, MatchResult};
 ghost use Rattle.tc_history.specs.declared.block.Block.{Block as AnyHistory};
-ghost use Rattle.tc_history.specs.Block.{end_text};
 ghost use Rattle.tc_evidence.specs.declared.block.Block.{Block as AnyBlock};
+ghost use Rattle.tc_evidence.specs.declared.header.Header.{Header as AnyHeader};
 ghost use Rattle.tc_evidence.specs.declared.line.Line.{Line as AnyLine};
-ghost use Rattle.tc_evidence.specs.Line.{line_text};
 ghost use Rattle.tc_evidence.specs.Met.{AreMet};
-ghost use Rattle.tc_evidence.specs.Text.{AreEvidence, AreLines, IsBlock, IsFault, IsHeader, IsLine, IsTextOf, block_lines, format_of};
+ghost use Rattle.tc_evidence.specs.Text.{AreEvidence, IsFault, IsHeader, IsLine, IsTextOf, format_of};
 ghost use Rattle.tc_evidence.specs.Histories.{AreHistories, IsHistoryHeader};
-ghost use Rattle.tc_evidence.specs.Inside.{AreTakenBy, IsBlockFault, IsFirst, IsFound, IsInsideFault, IsLineTakenBy, IsNoEntryLine, IsNoLine, IsTakenBy};
+ghost use Rattle.tc_evidence.specs.Inside.{AreTakenBy, IsFirst, IsFound, IsInsideFault, IsLineTakenBy, IsNoEntryLine, IsNoLine, IsOpenTo, IsWholeOf};
 
 use crate::block::{Block, histories_of};
-use crate::header::{Kind, take_first_line};
+use crate::header::Kind;
 use crate::line::Line;
 use crate::met::MetRuns;
 use crate::note::take_note;
+use crate::parts::{finish, take_part};
+use crate::reading::Reading;
 use crate::taking::TakesEvidence;
 use std::alloc::Global;
 use tc_entry::{NoMemory, Sequence, Verdict};
@@ -94,73 +93,41 @@ fn take_line<'a, H: TakesEvidence>(
     Ok(Some(rest))
 }
 
-// Takes the lines inside a block that the text begins with, and its last line; gives the number of that line, its
-// verdict, and what follows it.
-fn take_lines<'a, H: TakesEvidence>(
+// Takes the lines inside a block with which the text continues, up to the block's last line or the end of the text. Gives
+// the number of the line that it came to, and if that is the last one, its verdict and what follows it.
+pub(crate) fn take_lines<'a, H: TakesEvidence>(
     alloc: Global,
     kind: Kind,
     behaviours: u16,
+    met: &mut MetRuns,
     begun: &mut H::Begun,
     text: &'a [u8],
     first_line: usize,
-) -> Result<(usize, Verdict, &'a [u8]), TextFault>
+) -> Result<(usize, Option<(Verdict, &'a [u8])>), TextFault>
     requires few { behaviours ≤ 256 }
     requires room { first_line + length text.now ≤ usize.MAX }
-    ensures taken { IfOk result (λ r. AreTakenBy H.opens kind behaviours text.now first_line begun.old begun.new r.0 r.1 r.2.now) }
-    ensures fault { IfErr result (λ e. IsInsideFault kind behaviours text.now first_line e) }
-    ensures only { (ls : List AnyLine) (v : AnyVerdict) (others : List (List ℕ)) → AreLines kind behaviours [] ls
-        → lines_of text.now ≡ map line_text ls ++ end_text v ∷ others → IfErr result (λ e. e ≡ TextFault.NoMemory) }
+    requires met { (some : List AnyLine) × AreMet met.old some }
+    ensures met { OnOk result ((some : List AnyLine) × AreMet met.new some) }
+    ensures taken { IfOk result (λ r. AreTakenBy H.opens kind behaviours text.now first_line met.old met.new begun.old begun.new r.0 r.1) }
+    ensures room { IfOk result (λ r. r.0 ≤ first_line + length text.now) }
+    ensures behind { IfOk result (λ r. IfSome r.1 (λ end. r.0 + 1 + length end.1.now ≤ first_line + length text.now)) }
+    ensures less { IfOk result (λ r. IfSome r.1 (λ end. length end.1.now < length text.now)) }
+    ensures fault { IfErr result (λ e. (at : ℕ) (h : AnyHeader) (inside : List AnyLine)
+        → IsOpenTo H.opens kind behaviours at h inside met.old begun.old first_line → IsInsideFault kind behaviours inside at text.now e) }
 {
     let mut rest = text;
     let mut line = first_line;
-    let mut met = MetRuns::none();
     while !rest.is_empty() {
-        if let Some((verdict, behind)) = take_end_line(rest) {
-            return Ok((line, verdict, behind));
+        if let Some(end) = take_end_line(rest) {
+            return Ok((line, Some(end)));
         }
-        let Some(behind) = take_line::<H>(alloc, kind, behaviours, &mut met, begun, rest, line)?
-        else {
+        let Some(behind) = take_line::<H>(alloc, kind, behaviours, met, begun, rest, line)? else {
             return Err(TextFault::at(line, TextKind::Entry));
         };
         line += 1;
         rest = behind;
     }
-    Err(TextFault::at(line, TextKind::Early))
-}
-
-// Takes the block that the text begins with, whose first line has this number; gives the number of the line after it, and
-// what is there. The text may have histories only.
-fn take_block<'a, H: TakesEvidence>(
-    alloc: Global,
-    only_histories: bool,
-    made: &mut H,
-    text: &'a [u8],
-    first_line: usize,
-) -> Result<(usize, &'a [u8]), TextFault>
-    requires some { text.now ≢ [] }
-    requires room { first_line + length text.now ≤ usize.MAX }
-    ensures taken { IfOk result (λ r. IsTakenBy H.stands (IsFirst only_histories) text.now first_line made.old made.new r.0 r.1.now) }
-    ensures fault { IfErr result (λ e. IsBlockFault (IsFirst only_histories) text.now first_line e) }
-    ensures only { (b : AnyBlock) (others : List (List ℕ)) → IsBlock (IsFirst only_histories) first_line b
-        → lines_of text.now ≡ block_lines b ++ others
-        → IfErr result (λ e. e ≡ TextFault.NoMemory) }
-{
-    let Some((header, rest)) = take_first_line(only_histories, text) else {
-        return Err(TextFault::at(first_line, TextKind::FirstLine));
-    };
-    let kind = header.kind;
-    let behaviours = header.behaviours;
-    let mut begun = H::start(alloc, first_line, header)?;
-    let (line, verdict, rest) = take_lines::<H>(
-        alloc,
-        kind,
-        behaviours,
-        &mut begun,
-        rest,
-        first_line + 1,
-    )?;
-    made.close(begun, line, verdict)?;
-    Ok((line + 1, rest))
+    Ok((line, None))
 }
 
 // What the blocks that the text spells make, otherwise the text's first fault; NoMemory may come instead. The text may
@@ -170,23 +137,12 @@ fn read_into<H: TakesEvidence + Drop>(
     only_histories: bool,
     text: &[u8],
 ) -> Result<H, TextFault>
-    ensures ok { IfOk result (λ made. (blocks : List AnyBlock) × IsTextOf (IsFirst only_histories) text.now blocks × H.stands blocks made) }
+    ensures ok { IfOk result (λ made. IsWholeOf H.stands (IsFirst only_histories) text.now made) }
     ensures fault { IfErr result (λ e. IsFault (IsFirst only_histories) text.now e) }
-    ensures only { (all : List AnyBlock) → IsTextOf (IsFirst only_histories) text.now all
-        → MatchResult result (λ made. H.stands all made) (λ e. e ≡ TextFault.NoMemory) }
+    ensures only { (all : List AnyBlock) → IsTextOf (IsFirst only_histories) text.now all → IfErr result (λ e. e ≡ TextFault.NoMemory) }
 {
-    if text.is_empty() {
-        return Err(TextFault::at(1, TextKind::Early));
-    }
-    let mut made = H::begin(alloc);
-    let mut rest = text;
-    let mut line = 1;
-    while !rest.is_empty() {
-        let (next, behind) = take_block(alloc, only_histories, &mut made, rest, line)?;
-        line = next;
-        rest = behind;
-    }
-    Ok(made)
+    let reading = Reading::new(alloc, only_histories);
+    finish(take_part(alloc, reading, text)?)
 }
 
 /// What the blocks that the text spells make, histories and evidence in any order, otherwise the text's first fault;

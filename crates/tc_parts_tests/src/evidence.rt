@@ -1,10 +1,15 @@
 //! Texts of evidence, read and written again.
-use crate::checks::is;
+use crate::checks::{got, is};
 use std::alloc::Global;
 use std::process::Abort;
-use tc_evidence::{Block, append_whole_block, read_evidence};
+use tc_entry::Sequence;
+use tc_evidence::{Block, append_whole_block, read_evidence, read_evidence_from};
+use tc_stream::InputFault;
+use tc_stream::devices::SlowReader;
 use tc_text::{TextFault, append_number, append_text};
 use tc_verdict::NoMemory;
+
+const NEVER: usize = usize::MAX;
 
 /// Texts with `~` for each LF, and what comes of each: the number of entries if the text is read, and written again
 /// as it was; otherwise its fault.
@@ -69,14 +74,15 @@ fn append_again(alloc: Global, out: &mut Vec<u8>, blocks: &[Block]) -> Result<u6
     Ok(entries)
 }
 
-/// Appends what comes of a text.
+/// Appends what comes of a text, of which this was read.
 fn append_found(
     alloc: Global,
     out: &mut Vec<u8>,
     again: &mut Vec<u8>,
     text: &[u8],
+    read: Result<Sequence<Block>, TextFault>,
 ) -> Result<(), NoMemory> {
-    match read_evidence(alloc, text) {
+    match read {
         Ok(blocks) => {
             let entries = append_again(alloc, again, blocks.as_slice())?;
             append_number(out, entries)
@@ -92,15 +98,47 @@ fn append_found(
     }
 }
 
+fn is_found(
+    rt: &impl Abort,
+    alloc: Global,
+    text: &[u8],
+    read: Result<Sequence<Block>, TextFault>,
+    wanted: &str,
+) -> Result<(), NoMemory> {
+    let mut found = Vec::new(alloc);
+    let mut again = Vec::new(alloc);
+    append_found(alloc, &mut found, &mut again, text, read)?;
+    is(rt, wanted, found.as_slice(), wanted.as_bytes());
+    is(rt, "written again", again.as_slice(), text);
+    Ok(())
+}
+
+/// What is read of these bytes, which come one at a time.
+fn read_slowly(
+    alloc: Global,
+    bytes: &[u8],
+    fails_at: usize,
+    limit: u16,
+) -> Result<Result<Sequence<Block>, TextFault>, InputFault> {
+    let mut reader = SlowReader::new(bytes, fails_at);
+    read_evidence_from(alloc, &mut reader, usize::from(limit))
+}
+
 fn comes_of(rt: &impl Abort, alloc: Global, row: &str, wanted: &str) -> Result<(), NoMemory> {
     let mut text = Vec::new(alloc);
     append_lines(&mut text, row)?;
-    let mut found = Vec::new(alloc);
-    let mut again = Vec::new(alloc);
-    append_found(alloc, &mut found, &mut again, &text)?;
-    is(rt, row, found.as_slice(), wanted.as_bytes());
-    is(rt, "written again", again.as_slice(), text.as_slice());
-    Ok(())
+    is_found(rt, alloc, &text, read_evidence(alloc, &text), wanted)?;
+    let slowly = got(rt, read_slowly(alloc, &text, NEVER, 1000));
+    is_found(rt, alloc, &text, slowly, wanted)
+}
+
+#[test]
+fn inputs_that_are_not_read(rt: HostRuntime) {
+    let bytes = b"x\nend none\n";
+    let long = read_slowly(rt.alloc(), bytes, NEVER, 10).err();
+    is(&rt, "a byte too many", long, Some(InputFault::TooLong));
+    let failed = read_slowly(rt.alloc(), bytes, 11, 11).err();
+    is(&rt, "the read of the end", failed, Some(InputFault::Read));
 }
 
 #[test]

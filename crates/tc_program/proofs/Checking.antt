@@ -11,7 +11,7 @@ use Rattle.tc_program.proofs.Legal.{found_all}
 use Rattle.tc_text.specs.declared.fault.TextFault.{TextFault}
 use Rattle.tc_text.specs.declared.fault.TextFault.TheVariants as T
 use Rattle.tc_evidence.specs.declared.block.Block.{Block}
-use Rattle.tc_evidence.specs.Text.{AreEvidence, IsFault, IsHeader}
+use Rattle.tc_evidence.specs.Text.{AreEvidence, HoldsOfBlocks, IsFault, IsHeader}
 use Rattle.tc_program.specs.declared.judge.Judgement.{Judgement}
 use Rattle.tc_program.specs.declared.judge.Judgement.TheVariants as J
 use Rattle.tc_program.specs.declared.check.Checking.{Checking}
@@ -25,7 +25,7 @@ use Rattle.tc_program.specs.declared.fault.RunFault.TheVariants as F
 use Rattle.tc_program.specs.declared.reply.Answer.{Answer}
 use Rattle.tc_program.specs.Check.{AreAllLegal, Checks, IsChecked, IsIllegalLine, IsLegalLine, NameBlocks, RefusesBlocks, RefusesHistory, other_line}
 use Rattle.tc_program.specs.Choosing.{ChoosesEach, is_chosen}
-use Rattle.tc_program.specs.Inside.{AreJudgedSo, Feeds, IsJudgement, NamesBlocksAt, RefusesNamesAt, judges_legal, judgement_line, line_by, of_text, picked_by, each, is_picked, block_name}
+use Rattle.tc_program.specs.Inside.{AreJudgedSo, Feeds, IsChecking, IsJudgement, NamesBlocksAt, RefusesNamesAt, judges_legal, judgement_line, line_by, of_text, picked_by, each, is_picked, block_name}
 use Rattle.tc_program.specs.Made.{IsMade, IsMadeOfBlocks, IsSilent}
 use Rattle.tc_script.specs.Names.{Word}
 
@@ -193,3 +193,16 @@ made_for some choice explains text made only failed is =
 pub refused : (text : List ℕ) (fault : TextFault) → IsFault IsHeader text fault → ((all : List Block) → AreEvidence text all → fault ≡ T.NoMemory) → RefusesHistory text (of_text fault)
 refused text (T.At line kind) bad only = (bad, λ all is. let no = only all is in absurd cc)
 refused text T.NoMemory bad only = tt
+
+-- no pattern is to match the name of a block
+pub no_pattern : (only : List Word) (text : List ℕ) (status : ℕ) → only ≡ [] → NamesBlocksAt status only text
+no_pattern only text status none = subst (λ o. NamesBlocksAt status o text) (sym none) (λ other all are. refl)
+
+-- what is made of what was read of a text, if no pattern is matched
+pub checked_read : (choice : Choice) (only : List Word) (text : List ℕ) (c : Checking) (out given told : List ℕ) (status : ℕ) → only ≡ choice.only.items → choice.only.items ≡ []
+    → HoldsOfBlocks text (λ all. IsChecking all c) → out ≡ flat_map (line_by (is_picked only choice.failed)) c.judgements.items → status ≡ (if c.legal then 0 else 3) → given ≡ out → told ≡ []
+    → IsMadeOfBlocks choice text (IsSilent (IsChecked (is_chosen choice) text)) (Ok (answer_of given told status))
+checked_read choice only text c out given told status same none so out_is status_is given_is told_is =
+    checked_names choice only text out given told status same
+    (all_checked text c (is_picked only choice.failed) out status (so.blocks, so.evidence, so.holds so.blocks so.evidence) so.holds out_is status_is) given_is told_is
+    (no_pattern only text status (same ∙ none))

@@ -1,19 +1,22 @@
 -- What comes of a text, and of an input.
-use Rattle.std.proofs.Common.{ℕ, ◌≡◌, ◌≤◌, List, [], Option, None, Some, IfSome, IfOk, IfErr, Result, Ok, Err, ap₂, inl, inr, length, refl, subst}
+use Rattle.std.proofs.Common.{ℕ, false, ◌≡◌, ◌≤◌, List, [], Option, None, Some, IfSome, IfOk, IfErr, Result, Ok, Err, ap₂, inl, inr, length, refl, subst}
 use Rattle.std.specs.Prelude.{◌≢◌, ◌⊎◌, MatchResult}
 use Rattle.std.specs.Global.{Vec}
 use Rattle.tc_program.specs.declared.reply.Answer.{Answer}
 use Rattle.std.specs.Io.KnownBytes.{Keeps}
+use Rattle.tc_command.specs.declared.task.Choice.{Choice}
 use Rattle.tc_command.specs.declared.task.RunOptions.{RunOptions}
 use Rattle.tc_command.specs.declared.task.Task.{Task}
 use Rattle.tc_command.specs.declared.task.Task.TheVariants as T
+use Rattle.tc_program.specs.declared.limits.TheConstants.{HISTORY_LIMIT}
 use Rattle.tc_program.specs.declared.fault.RunFault.{RunFault}
 use Rattle.tc_program.specs.declared.fault.RunFault.TheVariants as F
 use Rattle.tc_program.specs.Fault.{line_of}
-use Rattle.tc_program.specs.Input.{IsRead, IsUnread}
+use Rattle.tc_stream.specs.Input.{IsRead}
+use Rattle.tc_program.specs.Input.{IsUnread}
 use Rattle.tc_program.specs.Inside.{GivesAnswer, IsUnbegun, WritesTo}
 use Rattle.tc_program.specs.Limits.{limit_of}
-use Rattle.tc_program.specs.Made.{Does}
+use Rattle.tc_program.specs.Made.{Does, IsMade}
 use Rattle.tc_program.specs.Alone.{IsNotBegun}
 use Rattle.tc_program.specs.Program.{IsCarriedOut, IsDone, IsDoneBy}
 use Rattle.tc_program.specs.Stderr.{IsRefusal}
@@ -76,6 +79,26 @@ pub carried_out : (task : Task) (input : Option (List ℕ)) (s : Streams) (outco
     → IsCarriedOut task input s outcome
 carried_out T.Serve input s outcome other done = absurd (other refl)
 carried_out task input s outcome other done = done
+
+-- the input was checked part by part, and this was made of it: it was given
+pub parts_given : (choice : Choice) (input : Option (List ℕ)) (made : Result Answer RunFault) (a : Answer) (s : Streams) (outcome : Outcome) → IsRead HISTORY_LIMIT input (λ text. IsMade (T.Check choice false) text made)
+    → made ≡ Ok a → GivesAnswer a s outcome → IsCarriedOut (T.Check choice false) input s outcome
+parts_given choice input made a s outcome read is gives = inl (
+  read.0,
+  read.1,
+  read.2,
+  done_by (T.Check choice false) (IsMade (T.Check choice false) read.0) _ _ a s outcome (subst (λ m. IsMade (T.Check choice false) read.0 m) is read.3) gives,
+)
+
+-- or it was refused, and no fault is explained
+pub parts_refused : (choice : Choice) (input : Option (List ℕ)) (made : Result Answer RunFault) (fault : RunFault) (s : Streams) (outcome : Outcome) → IsRead HISTORY_LIMIT input (λ text. IsMade (T.Check choice false) text made)
+    → made ≡ Err fault → Keeps s.before s.after → IsRefusal s.untold s.told (line_of fault) outcome → IsCarriedOut (T.Check choice false) input s outcome
+parts_refused choice input made fault s outcome read is keeps refusal = inl (
+  read.0,
+  read.1,
+  read.2,
+  IsDoneBy.refused fault (subst (λ m. IsMade (T.Check choice false) read.0 m) is read.3) keeps (line_of fault, refl, refusal),
+)
 
 -- where no thread can be started, a text that is lent is done or left, so the task is carried out by its whole input or left
 pub done_or_left : (task : Task) (input : Option (List ℕ)) (text lent : List ℕ) (s : Streams) (outcome : Outcome) → lent ≡ text → length text ≤ limit_of task

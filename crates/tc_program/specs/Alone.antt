@@ -8,7 +8,7 @@ use Rattle.tc_script.specs.Campaign.{CampaignView}
 use Rattle.tc_program.specs.declared.outcome.Outcome.{Outcome}
 use Rattle.tc_program.specs.Answer.{IsAnswered}
 use Rattle.tc_program.specs.Fault.{said}
-use Rattle.tc_program.specs.Input.{IsRead}
+use Rattle.tc_stream.specs.Input.{IsRead}
 use Rattle.tc_program.specs.Limits.{limit_of}
 use Rattle.tc_program.specs.Passed.{AreToRun}
 use Rattle.tc_program.specs.Stderr.{IsRefusal}

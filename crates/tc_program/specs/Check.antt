@@ -12,7 +12,7 @@ use Rattle.tc_evidence.specs.declared.line.Line.{Line}
 use Rattle.tc_evidence.specs.declared.line.Line.TheVariants as L
 use Rattle.tc_evidence.specs.Line.{entries_of}
 use Rattle.tc_evidence.specs.Laws.{AreLegal, overall_of}
-use Rattle.tc_evidence.specs.Text.{AreEvidence, IsFault, IsHeader}
+use Rattle.tc_evidence.specs.Text.{AreEvidence, HoldsOfBlocks, IsFault, IsHeader}
 use Rattle.tc_campaign.specs.Choosing.{have_names}
 use Rattle.tc_program.specs.Fault.{RefusesText}
 use Rattle.tc_program.specs.declared.fault.RunFault.{RunFault}
@@ -47,12 +47,6 @@ pub data Checks (is_chosen : Block → Bool) : List Block → List ℕ → Bool 
   goes_on : (b : Block) (rest : List Block) (line out : List ℕ) (legal : Bool) → IsLegalLine b line
       → Checks is_chosen rest out legal → Checks is_chosen (b ∷ rest) ((if is_chosen b then line else []) ++ out) legal
   stops : (b : Block) (rest : List Block) (line : List ℕ) → IsIllegalLine b line → Checks is_chosen (b ∷ rest) line false
-
--- the text is that of histories and evidence, and whatever blocks it is of, this holds of them
-pub record HoldsOfBlocks (text : List ℕ) (Holds : List Block → Type 0) : Type 0 where
-  pub blocks : List Block
-  pub evidence : AreEvidence text blocks
-  pub holds : (all : List Block) → AreEvidence text all → Holds all
 
 -- This output says which of the chosen blocks of the text are legal, and which is the first of all that is not. The status
 -- is 0 if all are, otherwise 3.

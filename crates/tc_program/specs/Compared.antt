@@ -8,13 +8,13 @@ use Rattle.tc_program.specs.declared.reply.Answer.{Answer}
 use Rattle.tc_program.specs.Report.{IsReport}
 use Rattle.tc_evidence.specs.declared.block.Block.{Block}
 use Rattle.tc_evidence.specs.Line.{entries_of}
-use Rattle.tc_evidence.specs.Text.{AreEvidence}
+use Rattle.tc_evidence.specs.Text.{AreEvidence, HoldsOfBlocks}
 use Rattle.tc_explore.specs.Found.{IsWitness}
 use Rattle.tc_step.specs.Steps.{ScriptView}
 use Rattle.tc_line.specs.Words.{is_text}
 use Rattle.tc_script.specs.Campaign.{CampaignView}
 use Rattle.tc_script.specs.Names.{Word}
-use Rattle.tc_program.specs.Check.{HoldsOfBlocks, IsChecked, RefusesHistory}
+use Rattle.tc_program.specs.Check.{IsChecked, RefusesHistory}
 use Rattle.tc_program.specs.Choosing.{AreChosen, RefusesChoice}
 use Rattle.tc_program.specs.declared.fault.RunFault.{RunFault}
 use Rattle.tc_program.specs.declared.fault.RunFault.TheVariants as F

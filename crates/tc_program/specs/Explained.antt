@@ -1,5 +1,5 @@
 -- What is printed about a text that is refused.
-use Rattle.std.specs.Prelude.{ℕ, Bool, MatchBool, true, false, ◌≡◌, ◌&&◌, Option, Some, None, if◌then◌else◌, List, []}
+use Rattle.std.specs.Prelude.{ℕ, Bool, MatchBool, true, false, ◌≡◌, ◌&&◌, Option, Some, None, List, []}
 use Rattle.std.specs.Option.{option_map_or}
 use Rattle.tc_text.specs.declared.fault.TextFault.TheVariants as X
 use Rattle.tc_explain.specs.Explanation.{explanation}

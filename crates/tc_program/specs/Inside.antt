@@ -58,10 +58,11 @@ use Rattle.tc_explore.specs.declared.explored.Explored.{Explored}
 use Rattle.tc_explore.specs.Details.{details as of_details}
 use Rattle.tc_text.specs.Said.{Line}
 use Rattle.tc_program.specs.Alone.{IsNotBegun}
-use Rattle.tc_program.specs.Input.{IsRead}
+use Rattle.tc_stream.specs.Input.{IsRead}
 use Rattle.tc_program.specs.Limits.{limit_of}
 use Rattle.tc_program.specs.declared.fault.RunFault.{RunFault}
 use Rattle.tc_program.specs.declared.fault.RunFault.TheVariants as F
+use Rattle.tc_program.specs.declared.check.Checking.{Checking}
 use Rattle.tc_program.specs.declared.judge.Difference.{Difference}
 use Rattle.tc_program.specs.declared.judge.Judgement.{Judgement}
 use Rattle.tc_program.specs.declared.judge.Playing.{Playing}
@@ -297,6 +298,10 @@ Feeds test blocks out false = (more : List Block) → Checks test (blocks ++ mor
 -- these are the judgements of the blocks up to the first that is not legal, whichever are picked, and whether all are legal
 abbrev pub AreJudgedSo : List Block → List Judgement → Bool → Type 0
 AreJudgedSo blocks js legal = (picks : Word → Verdict → Bool) → Feeds (picked_by picks) blocks (flat_map (line_by picks) js) legal
+
+-- this was made of the blocks as they were read
+abbrev pub IsChecking : List Block → Checking → Type 0
+IsChecking blocks c = AreJudgedSo blocks c.judgements.items c.legal
 
 -- each of these patterns matches the name of a block of the text, or this is the status of a block that is not legal
 abbrev pub NamesBlocksAt : ℕ → List Word → List ℕ → Type 0

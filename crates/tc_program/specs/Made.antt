@@ -15,7 +15,8 @@ use Rattle.tc_program.specs.Compared.{IsCheckedAgainst, IsReportedAgainst, Refus
 use Rattle.tc_program.specs.Choosing.{is_chosen}
 use Rattle.tc_program.specs.Explore.{Explores}
 use Rattle.tc_program.specs.Fault.{RefusesText}
-use Rattle.tc_program.specs.Input.{IsRead, IsUnread}
+use Rattle.tc_stream.specs.Input.{IsRead}
+use Rattle.tc_program.specs.Input.{IsUnread}
 use Rattle.tc_program.specs.Limits.{limit_of}
 use Rattle.tc_program.specs.Passed.{AreToRun, RefusesRun}
 use Rattle.tc_program.specs.Replay.{Replays}

@@ -1,10 +1,10 @@
 -- The test cases that evidence shows to have passed, and those that a run is asked to run.
 use Rattle.std.specs.Prelude.{ℕ, ◌≡◌, ◌&&◌, Bool, true, false, not, List, filter, reverse}
 use Rattle.tc_command.specs.declared.task.Choice.{Choice}
+use Rattle.tc_evidence.specs.Text.{HoldsOfBlocks}
 use Rattle.tc_evidence.specs.declared.block.Block.{Block}
 use Rattle.tc_script.specs.Campaign.{CampaignView}
 use Rattle.tc_script.specs.Names.{Word}
-use Rattle.tc_program.specs.Check.{HoldsOfBlocks}
 use Rattle.tc_program.specs.Choosing.{AreChosen, RefusesChoice, is_passing}
 use Rattle.tc_program.specs.Compared.{RefusesAgainst, blocks_part, is_met, script_part}
 use Rattle.tc_program.specs.declared.fault.RunFault.{RunFault}

@@ -14,7 +14,8 @@ use Rattle.tc_program.specs.declared.outcome.Outcome.{Outcome}
 use Rattle.tc_program.specs.declared.reply.Answer.{Answer}
 use Rattle.tc_program.specs.Explained.{IsExplained}
 use Rattle.tc_program.specs.Fault.{line_of, of_output}
-use Rattle.tc_program.specs.Input.{IsRead, IsUnread}
+use Rattle.tc_stream.specs.Input.{IsRead}
+use Rattle.tc_program.specs.Input.{IsUnread}
 use Rattle.tc_program.specs.Limits.{limit_of}
 use Rattle.tc_program.specs.Made.{IsMade}
 use Rattle.tc_program.specs.Passed.{AreToRun}

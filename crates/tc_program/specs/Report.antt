@@ -3,6 +3,7 @@ use Rattle.std.specs.Prelude.{ℕ, Bool, false, ◌≡◌, ◌==◌, if◌then�
 use Rattle.tc_command.specs.declared.command.TheConstants.{VERSION}
 use Rattle.tc_command.specs.declared.task.ReportForm.{ReportForm}
 use Rattle.tc_command.specs.declared.task.ReportForm.TheVariants as Forms
+use Rattle.tc_evidence.specs.Text.{HoldsOfBlocks}
 use Rattle.tc_evidence.specs.declared.block.Block.{Block}
 use Rattle.tc_evidence.specs.Laws.{history_of}
 use Rattle.tc_page.specs.Page.{page_of}
@@ -14,7 +15,7 @@ use Rattle.tc_report.specs.Summary.{bare_summary, block_summary}
 use Rattle.tc_report.specs.SummaryText.{IsSummary}
 use Rattle.tc_report.specs.declared.results.CaseEnd.TheVariants as C
 use Rattle.tc_program.specs.declared.reply.Answer.{Answer}
-use Rattle.tc_program.specs.Check.{AreAllLegal, Checks, HoldsOfBlocks}
+use Rattle.tc_program.specs.Check.{AreAllLegal, Checks}
 
 -- this is the form of blocks by their text and the summaries of their test cases
 abbrev pub IsForm : ReportForm → List ℕ → List Summary → List ℕ → Type 0

@@ -1,12 +1,12 @@
 //! What the program does with a task.
-ghost use Rattle.std.specs.Prelude.{◌≡◌, ◌≢◌};
+ghost use Rattle.std.specs.Prelude.{◌≡◌, ◌≢◌, [], false, IfSome};
 ghost use Rattle.tc_command.specs.declared.task.RunOptions.{RunOptions as AnyOptions};
-ghost use Rattle.tc_command.specs.declared.task.Task.TheVariants.{Run, Serve};
+ghost use Rattle.tc_command.specs.declared.task.Task.TheVariants.{Check, Run, Serve};
 ghost use Rattle.tc_program.specs.Made.{IsMade};
 ghost use Rattle.tc_program.specs.Program.{IsCarriedOut, IsDone};
 ghost use Rattle.tc_program.specs.Streams.{held};
 
-use crate::check::check_text;
+use crate::check::{check_input, check_text};
 use crate::compare::{compare_text, report_compared};
 use crate::explained::refuse_text;
 use crate::explore::explore_text;
@@ -14,7 +14,7 @@ use crate::fault::RunFault;
 use crate::input::read_text;
 use crate::limits::limit_of;
 use crate::listing::list_text;
-use crate::made::finish;
+use crate::made::{finish, give_answer};
 use crate::outcome::Outcome;
 use crate::passed::ready_cases;
 use crate::replay::replay_text;
@@ -28,7 +28,7 @@ use std::io::{Read, Write};
 use std::sync::Wait;
 use std::thread::Threads;
 use std::time::Clock;
-use tc_command::{RunOptions, Task};
+use tc_command::{Choice, RunOptions, Task};
 
 // Runs the chosen test cases of the script that the text is, as the task, a run, asks for it.
 fn run_text<R, W: Write, E: Write>(
@@ -108,6 +108,57 @@ where
     }
 }
 
+// The choice of a check that is made part by part: no pattern is matched with names, and no fault is explained.
+fn checked_in_parts(task: &Task) -> Option<&Choice>
+    ensures { IfSome result (λ choice. (task.now ≡ Check choice.now false) × (choice.now.only.items ≡ [])) }
+{
+    match task {
+        Task::Check { choice, explains } if !*explains && choice.only.is_empty() => Some(choice),
+        _ => None,
+    }
+}
+
+// Checks the input, part by part: no pattern is matched with its names, and no fault of it is explained.
+fn check_parts<I: Read, W: Write, E: Write>(
+    alloc: Global,
+    choice: &Choice,
+    reader: &mut I,
+    writer: &mut W,
+    errors: &mut E,
+) -> Outcome
+    requires { choice.now.only.items ≡ [] }
+    ensures { IsCarriedOut (Check choice.now false) (I.remaining reader.old) (held W.contents writer.old writer.new E.contents errors.old errors.new) result }
+{
+    let made = match check_input(alloc, choice, reader) {
+        Ok(made) => made,
+        Err(fault) => return refuse(alloc, errors, fault),
+    };
+    match made {
+        Ok(answer) => give_answer(alloc, &answer, writer, errors),
+        Err(fault) => refuse(alloc, errors, fault),
+    }
+}
+
+// Does what the task asks for with its input, which is read whole first.
+fn do_input<R, I: Read, W: Write, E: Write>(
+    rt: &R,
+    alloc: Global,
+    task: &Task,
+    reader: &mut I,
+    writer: &mut W,
+    errors: &mut E,
+) -> Outcome
+where
+    R: Threads + Wait + Clock + Copy + Send + 'static,
+    requires { task.now ≢ Serve }
+    ensures { IsCarriedOut task.now (I.remaining reader.old) (held W.contents writer.old writer.new E.contents errors.old errors.new) result }
+{
+    match read_text(alloc, reader, limit_of(task)) {
+        Ok(text) => do_text(rt, alloc, task, text.as_slice(), writer, errors),
+        Err(fault) => refuse(alloc, errors, fault),
+    }
+}
+
 /// Does what the task asks for with its input.
 pub fn carry_out<R, I: Read, W: Write, E: Write>(
     rt: &R,
@@ -124,8 +175,8 @@ where
     if let Task::Serve = task {
         return serve_input(alloc, reader, writer, errors);
     }
-    match read_text(alloc, reader, limit_of(task)) {
-        Ok(text) => do_text(rt, alloc, task, text.as_slice(), writer, errors),
-        Err(fault) => refuse(alloc, errors, fault),
+    match checked_in_parts(task) {
+        Some(choice) => check_parts(alloc, choice, reader, writer, errors),
+        None => do_input(rt, alloc, task, reader, writer, errors),
     }
 }

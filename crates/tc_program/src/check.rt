@@ -1,15 +1,19 @@
 //! The subcommand `check`.
-ghost use Rattle.std.specs.Prelude.{◌≡◌, Bool, IfOk, IfErr, if◌then◌else◌};
+ghost use Rattle.std.specs.Prelude.{◌≡◌, Bool, List, [], ℕ, IfOk, IfErr, if◌then◌else◌};
+ghost use Rattle.std.specs.List.{flat_map};
+ghost use Rattle.tc_stream.specs.Input.{IsRead};
+ghost use Rattle.tc_evidence.specs.Inside.{IsReadInto};
 ghost use Rattle.tc_command.specs.declared.task.Choice.{Choice as AnyChoice};
 ghost use Rattle.tc_command.specs.declared.task.Task.TheVariants.{Check};
 ghost use Rattle.tc_program.specs.Check.{IsChecked, RefusesHistory};
 ghost use Rattle.tc_program.specs.Choosing.{ChoosesEach, is_chosen};
-ghost use Rattle.tc_program.specs.Inside.{AreJudgedSo, IsPlayed, picked_by, is_picked};
+ghost use Rattle.tc_program.specs.Inside.{IsChecking, IsPlayed, is_picked, line_by, picked_by};
+ghost use Rattle.tc_program.specs.Input.{IsUnread};
+ghost use Rattle.tc_program.specs.declared.limits.TheConstants.{HISTORY_LIMIT};
 ghost use Rattle.tc_program.specs.Made.{Does, IsMadeOfBlocks, IsSilent};
 
 use crate::check_lines::picked_lines;
-use crate::fault::RunFault;
-use crate::input::read_text;
+use crate::fault::{RunFault, of_input};
 use crate::judge::{Judgement, Playing, is_legal};
 use crate::limits::HISTORY_LIMIT;
 use crate::made::write_answer;
@@ -20,9 +24,9 @@ use std::alloc::Global;
 use std::io::{Read, Write};
 use tc_command::Choice;
 use tc_entry::{Pattern, Sequence};
-use tc_evidence::{Header, Line, TakesEvidence, read_evidence_into};
+use tc_evidence::{Header, Line, TakesEvidence, read_evidence_from, read_evidence_into};
 use tc_table::{Entry, NoMemory, Reply, Run, Verdict};
-use tc_text::ShortOp;
+use tc_text::{ShortOp, TextFault};
 
 /// The judgements of blocks, up to the first that is not legal.
 #[derive(Drop)]
@@ -36,7 +40,7 @@ impl TakesEvidence for Checking {
 
     ghost opens = { IsPlayed };
 
-    ghost stands = { λ blocks c. AreJudgedSo blocks c.judgements.items c.legal };
+    ghost stands = { IsChecking };
 
     fn begin(alloc: Global) -> Checking {
         Checking {
@@ -85,6 +89,21 @@ fn status_of(legal: bool) -> u8
     if legal { 0 } else { REFUSED }
 }
 
+// What is printed of the blocks that were checked: a line for each that is picked, and for one that is not legal. And
+// the status.
+fn checked_lines(
+    alloc: Global,
+    checking: &Checking,
+    only: &[Pattern],
+    failed: bool,
+) -> Result<(Vec<u8>, u8), NoMemory>
+    ensures lines { IfOk result (λ r. r.0.items ≡ flat_map (line_by (is_picked only.now failed)) checking.now.judgements.items) }
+    ensures status { IfOk result (λ r. r.1 ≡ (if checking.now.legal then 0 else 3)) }
+{
+    let out = picked_lines(alloc, checking.judgements.as_slice(), only, failed)?;
+    Ok((out, status_of(checking.legal)))
+}
+
 /// What is printed for the blocks that the text spells, up to the first that is not legal: a line for each that is picked,
 /// and for that one. And the status; otherwise the text's first fault, or NoMemory. The text is read to its end also after a
 /// block that is not legal.
@@ -98,8 +117,7 @@ pub(crate) fn check_lines(
     ensures refused { IfErr result (RefusesHistory text.now) }
 {
     let checking: Checking = read_evidence_into(alloc, text)?;
-    let out = picked_lines(alloc, checking.judgements.as_slice(), only, failed)?;
-    let status = status_of(checking.legal);
+    let (out, status) = checked_lines(alloc, &checking, only, failed)?;
     Ok((out, status))
 }
 
@@ -118,10 +136,53 @@ pub(crate) fn check_text(alloc: Global, choice: &Choice, text: &[u8]) -> Result<
     })
 }
 
+// What `check` makes of what was read of a text, if no pattern is matched with its names.
+fn checked(
+    alloc: Global,
+    choice: &Choice,
+    read: Result<Checking, TextFault>,
+) -> Result<Answer, RunFault>
+    requires { choice.now.only.items ≡ [] }
+    ensures { (text : List ℕ) → IsReadInto IsChecking text read
+        → IsMadeOfBlocks choice.now text (IsSilent (IsChecked (is_chosen choice.now) text)) result }
+{
+    let checking = match read {
+        Ok(checking) => checking,
+        Err(fault) => return Err(RunFault::from(fault)),
+    };
+    match checked_lines(alloc, &checking, choice.only.as_slice(), choice.failed) {
+        Ok((out, status)) => Ok(Answer {
+            out: Sequence::new(out),
+            told: Sequence::new(Vec::new(alloc)),
+            status,
+        }),
+        Err(NoMemory) => Err(RunFault::NoMemory),
+    }
+}
+
+/// What `check` makes of an input, if no pattern is matched with its names; or why the input was not read.
+///
+/// Only a part of the input is in memory at a time.
+pub(crate) fn check_input<R: Read>(
+    alloc: Global,
+    choice: &Choice,
+    reader: &mut R,
+) -> Result<Result<Answer, RunFault>, RunFault>
+    requires { choice.now.only.items ≡ [] }
+    ensures made { IfOk result (λ made. IsRead HISTORY_LIMIT (R.remaining reader.old)
+        (λ text. IsMadeOfBlocks choice.now text (IsSilent (IsChecked (is_chosen choice.now) text)) made)) }
+    ensures unread { IfErr result (IsUnread HISTORY_LIMIT (R.remaining reader.old)) }
+{
+    match read_evidence_from(alloc, reader, HISTORY_LIMIT) {
+        Ok(read) => Ok(checked(alloc, choice, read)),
+        Err(fault) => Err(of_input(fault)),
+    }
+}
+
 /// Checks histories and evidence: replays each block on a table of its own, writes which are legal, and returns the status: 0 if all are,
 /// otherwise 3.
 ///
-/// The whole text is read, and the output made, before anything is written.
+/// The whole input is read, part by part, and the output made, before anything is written.
 pub fn check<R: Read, W: Write>(
     alloc: Global,
     reader: &mut R,
@@ -135,6 +196,6 @@ pub fn check<R: Read, W: Write>(
         shard: None,
         failed: false,
     };
-    let text = read_text(alloc, reader, HISTORY_LIMIT)?;
-    write_answer(check_text(alloc, &all, text.as_slice()), writer)
+    let made = check_input(alloc, &all, reader)?;
+    write_answer(made, writer)
 }

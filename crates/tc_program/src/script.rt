@@ -4,7 +4,8 @@ ghost use Rattle.tc_script.specs.Campaign.{campaign};
 ghost use Rattle.tc_script.specs.Law.{IsCase};
 ghost use Rattle.tc_script.specs.Names.{has_twice};
 ghost use Rattle.tc_program.specs.Choosing.{RefusesScript};
-ghost use Rattle.tc_program.specs.Input.{IsRead, IsUnread};
+ghost use Rattle.tc_stream.specs.Input.{IsRead};
+ghost use Rattle.tc_program.specs.Input.{IsUnread};
 ghost use Rattle.tc_program.specs.declared.limits.TheConstants.{SCRIPT_LIMIT};
 
 use crate::fault::RunFault;

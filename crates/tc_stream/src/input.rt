@@ -1,5 +1,5 @@
 //! A whole input, up to a limit.
-ghost use Rattle.std.specs.Prelude.{◌≡◌, true, false, ◌<◌, ◌≤◌, ◌+◌, ◌^◌, ◌↔◌, length, Some, IfOk, OnOk, IfSome, vec_len, IsErrOf};
+ghost use Rattle.std.specs.Prelude.{◌≡◌, true, false, ◌<◌, ◌≤◌, ◌+◌, ◌^◌, ◌↔◌, length, take, [], Some, IfOk, OnOk, IfSome, IfNone, vec_len, IsErrOf};
 ghost use Rattle.std.specs.Io.KnownBytes.{Consumes, IsAtEnd};
 ghost use Rattle.std.specs.Io.{StartsWith, appended_bytes};
 ghost use Rattle.tc_stream.specs.Fault.{input_text};
@@ -41,6 +41,31 @@ impl fmt::Display for InputFault {
     fn fmt<W: fmt::Write>(&self, f: &mut fmt::Formatter<W>) -> fmt::Result {
         f.write_str(self.text())
     }
+}
+
+/// One read into the room, of an input that may have at most `limit` bytes more: how many it gave. None at the end.
+pub fn read_part<R: Read>(
+    reader: &mut R,
+    room: &mut [u8],
+    limit: usize,
+) -> Result<Option<usize>, InputFault>
+    requires { 0 < length room.old }
+    ensures some { IfOk result (λ n. IfSome n (λ n. 0 < n)) }
+    ensures within { IfOk result (λ n. IfSome n (λ n. n ≤ length room.new)) }
+    ensures room { length room.new ≡ length room.old }
+    ensures fits { IfOk result (λ n. IfSome n (λ n. n ≤ limit)) }
+    ensures takes { IfOk result (λ n. IfSome n (λ n. Consumes (R.remaining reader.old) (R.remaining reader.new) (take n room.new))) }
+    ensures none { IfOk result (λ n. IfNone n (Consumes (R.remaining reader.old) (R.remaining reader.new) [])) }
+    ensures end { IfOk result (λ n. IfNone n (IsAtEnd (R.remaining reader.new))) }
+    ensures long { IsErrOf result InputFault.TooLong → IfSome (R.remaining reader.old) (λ xs. limit < length xs) }
+{
+    let Ok(count) = reader.read(room) else {
+        return Err(InputFault::Read);
+    };
+    if limit < count {
+        return Err(InputFault::TooLong);
+    }
+    Ok(if count == 0 { None } else { Some(count) })
 }
 
 // How many bytes are read at a time, at most.

@@ -7,5 +7,5 @@ mod input;
 mod output;
 
 pub use counted::{CountedRead, CountedReader, CountedWrite, CountedWriter};
-pub use input::{InputFault, read_counted, read_input};
+pub use input::{InputFault, read_counted, read_input, read_part};
 pub use output::{WriteFault, write_counted, write_whole};

@@ -18,7 +18,9 @@ returns-in_err-blocks-clause-only c all are =
 pub returns-clause-ok : goal.returns-clause-ok
 returns-clause-ok c =
     let read = c.in_ok-blocks.ensures.ok in
-    (read.0, read.1, c.in_ok-histories_of.ensures ∙ ap (map history_of) (c.as_slice.ensures ∙ read.2))
+    (read.blocks, read.text_is, c.in_ok-histories_of.ensures ∙ ap (map history_of) (c.as_slice.ensures ∙ read.made_is read.blocks read.text_is))
 
 pub returns-clause-only : goal.returns-clause-only
-returns-clause-only c all are = c.in_ok-histories_of.ensures ∙ (ap (map history_of) (c.as_slice.ensures ∙ c.in_ok-blocks.ensures.only are.0 are.1) ∙ sym are.2)
+returns-clause-only c all are =
+    let read = c.in_ok-blocks.ensures.ok in
+    c.in_ok-histories_of.ensures ∙ (ap (map history_of) (c.as_slice.ensures ∙ read.made_is are.0 are.1) ∙ sym are.2)

@@ -1,8 +1,6 @@
-use Rattle.std.proofs.Common.{◌≤◌, inl, inr, length, subst, sym}
-use Rattle.tc_program.specs.Input.{IsUnread}
-use Rattle.tc_program.specs.Program.{IsCarriedOut, IsDone}
+use Rattle.std.proofs.Common.{subst, sym}
+use Rattle.tc_program.specs.Program.{IsCarriedOut}
 use Rattle.tc_program.specs.Streams.{held}
-use Rattle.tc_program.proofs.Doing.{carried_out, keeps_same}
 use Rattle.tc_program.proofs.carry_out.carry_out.Goals as goal
 
 pub returns-in-Serve : goal.returns-in-Serve
@@ -11,23 +9,8 @@ returns-in-Serve g c =
     (held g.W.Write.contents c.args.writer.now c.serve_input.new.writer g.E.Write.contents c.args.errors.now c.serve_input.new.errors) c.serve_input.result)
     (sym c.in-Serve.is) c.serve_input.ensures
 
-pub returns-in-Ok : goal.returns-in-Ok
-returns-in-Ok g c =
-    carried_out c.args.task.now _ _ _ c.in_default.not-Serve
-    (inl (
-      c.in-Ok.text.items,
-      subst (λ limit. length c.in-Ok.text.items ≤ limit) c.limit_of.ensures c.in-Ok.ensures.fits,
-      c.in-Ok.ensures.all,
-      subst (λ text. IsDone c.args.task.now text (held g.W.Write.contents c.args.writer.now c.do_text.new.writer g.E.Write.contents c.args.errors.now c.do_text.new.errors) c.do_text.result)
-          c.as_slice.ensures.value c.do_text.ensures,
-    ))
-
-pub returns-in-Err : goal.returns-in-Err
-returns-in-Err g c =
-    carried_out c.args.task.now _ _ _ c.in_default.not-Serve
-    (inr (
-      c.in-Err.fault,
-      subst (λ limit. IsUnread limit (g.I.Read.remaining c.args.reader.now) c.in-Err.fault) c.limit_of.ensures c.in-Err.ensures.unread,
-      keeps_same (g.W.Write.contents c.args.writer.now),
-      c.refuse.ensures,
-    ))
+pub returns-in-Some : goal.returns-in-Some
+returns-in-Some g c =
+    subst (λ task. IsCarriedOut task (g.I.Read.remaining c.args.reader.now)
+    (held g.W.Write.contents c.args.writer.now c.check_parts.new.writer g.E.Write.contents c.args.errors.now c.check_parts.new.errors) c.check_parts.result)
+    (sym c.in-Some.ensures.0) c.check_parts.ensures
