@@ -121,6 +121,18 @@ block_read may blocks new at next h inside v small read header only so ends adde
     by_others : (rest : List (List ℕ)) (all : List Block) → Others may blocks (block_lines b ++ rest) at all → Others may (blocks ++ b ∷ []) rest next all
     by_others rest all so = by_tail rest all so.tail so.parts so.spelled so.fits
 
+-- ---- how far a text is read, with what block is open
+
+pub with_none : {H O : Type 0} (stands : List Block → H → Type 0) (opens : ℕ → Header → List Line → O → Type 0) (before : List (List ℕ)) (reading : Reading H O) →
+    reading.block ≡ None → IsReadBy stands opens before reading → IsReadTo {O = O} stands opens (IsFirst reading.only_histories) before reading.made None reading.line
+with_none {H} {O} stands opens before reading none so =
+    subst (λ (b : Option (OpenBlock O)). IsReadTo stands opens (IsFirst reading.only_histories) before reading.made b reading.line) none so
+
+pub with_block : {H O : Type 0} (stands : List Block → H → Type 0) (opens : ℕ → Header → List Line → O → Type 0) (before : List (List ℕ)) (reading : Reading H O) (block : OpenBlock O) →
+    reading.block ≡ Some block → IsReadBy stands opens before reading → IsReadTo stands opens (IsFirst reading.only_histories) before reading.made (Some block) reading.line
+with_block {H} {O} stands opens before reading block some so =
+    subst (λ (b : Option (OpenBlock O)). IsReadTo stands opens (IsFirst reading.only_histories) before reading.made b reading.line) some so
+
 -- ---- a block begins
 
 pub begun : {H O : Type 0} (stands : List Block → H → Type 0) (opens : ℕ → Header → List Line → O → Type 0) (may : Header → Type 0) (before : List (List ℕ)) (text rest : List ℕ) (made : H) (line : ℕ) (h : Header) (block : OpenBlock O) →

@@ -2,13 +2,14 @@
 ghost use Rattle.std.specs.Prelude.{◌≡◌, ◌<◌, ◌||◌, ◌==◌, [], ◌∷◌, ℕ, Bool, List, slice_index_or};
 ghost use Rattle.tc_evidence.specs.declared.line.Line.{Line as AnyLine};
 ghost use Rattle.tc_evidence.specs.declared.line.Line.TheVariants as lines;
-ghost use Rattle.tc_evidence.specs.Line.{is_about, is_met as met};
+ghost use Rattle.tc_evidence.specs.Line.{is_met as met};
 ghost use Rattle.tc_evidence.specs.Met.{AreMet};
+ghost use Rattle.tc_entry.specs.declared.reply.Reply.{Reply as AnyReply};
+ghost use Rattle.tc_text.specs.declared.short.ShortOp.{ShortOp as AnyShort};
 ghost use Rattle.tc_history.specs.Text.{short_entry};
 
 use crate::line::Line;
-use tc_entry::{BEHAVIOURS, Entry, Op, Reply, Run};
-use tc_text::ShortOp;
+use tc_entry::{BEHAVIOURS, Entry, Op, Run};
 
 /// The runs of a test case that some line of it is about.
 #[derive(Drop)]
@@ -46,13 +47,13 @@ impl MetRuns {
         }
     }
 
-    /// Adds the caller of the entry, whose operation is a short one.
+    /// Adds the caller of an entry whose operation is a short one.
     #[inline(always)]
-    pub(crate) fn add_short(&mut self, caller: Run, op: ShortOp, reply: Reply)
-        ensures { (ls : List AnyLine) → AreMet self.old ls → AreMet self.new (lines.Entry (short_entry caller op reply) ∷ ls) }
+    pub(crate) fn add_caller(&mut self, caller: Run)
+        ensures { (ls : List AnyLine) (op : AnyShort) (reply : AnyReply)
+            → AreMet self.old ls → AreMet self.new (lines.Entry (short_entry caller op reply) ∷ ls) }
     {
         self.add(caller);
-        let _ = (op, reply);
     }
 
     /// Adds the run of a line that was refused.

@@ -1,5 +1,5 @@
 //! Blocks that are read part by part.
-ghost use Rattle.std.specs.Prelude.{◌≡◌, ◌≢◌, ◌<◌, ◌≤◌, ◌+◌, ◌++◌, ℕ, List, [], Some, None, length, IfOk, IfErr};
+ghost use Rattle.std.specs.Prelude.{◌≡◌, ◌≢◌, ◌<◌, ◌≤◌, ◌+◌, ℕ, List, [], None, length, IfOk, IfErr, OnOk};
 ghost use Rattle.tc_text.specs.Lines.{lines_of};
 ghost use Rattle.tc_evidence.specs.declared.block.Block.{Block as AnyBlock};
 ghost use Rattle.tc_evidence.specs.Text.{IsFault, IsTextOf};
@@ -33,143 +33,94 @@ impl<H: TakesEvidence + Drop> Reading<H> {
 // Begins the block whose first line the text begins with; gives what follows.
 fn begin_block<'a, H: TakesEvidence + Drop>(
     alloc: Global,
-    made: H,
-    only_histories: bool,
+    reading: &mut Reading<H>,
     text: &'a [u8],
-    line: usize,
-) -> Result<(Reading<H>, &'a [u8]), TextFault>
+) -> Result<&'a [u8], TextFault>
+    requires closed { reading.old.block ≡ None }
     requires some { text.now ≢ [] }
-    requires room { line + length text.now ≤ usize.MAX }
-    ensures read { IfOk result (λ r. GoesOn H.stands H.opens
-        (record { made = made; only_histories = only_histories; block = None; line = line }) text.now r.0 r.1.now) }
-    ensures room { IfOk result (λ r. r.0.line + length r.1.now ≤ line + length text.now) }
-    ensures less { IfOk result (λ r. length r.1.now < length text.now) }
-    ensures known { IfOk result (λ r. IsKnown r.0.block) }
-    ensures fault { IfErr result (Refuses H.stands H.opens
-        (record { made = made; only_histories = only_histories; block = None; line = line }) text.now) }
+    requires room { reading.old.line + length text.now ≤ usize.MAX }
+    ensures read { IfOk result (λ rest. GoesOn H.stands H.opens reading.old text.now reading.new rest.now) }
+    ensures room { IfOk result (λ rest. reading.new.line + length rest.now ≤ reading.old.line + length text.now) }
+    ensures less { IfOk result (λ rest. length rest.now < length text.now) }
+    ensures known { OnOk result (IsKnown reading.new.block) }
+    ensures fault { IfErr result (Refuses H.stands H.opens reading.old text.now) }
 {
-    let Some((header, rest)) = take_first_line(only_histories, text) else {
-        return Err(TextFault::at(line, TextKind::FirstLine));
+    let Some((header, rest)) = take_first_line(reading.only_histories, text) else {
+        return Err(TextFault::at(reading.line, TextKind::FirstLine));
     };
     let kind = header.kind;
     let behaviours = header.behaviours;
-    let begun = H::start(alloc, line, header)?;
-    let block = OpenBlock {
+    let begun = H::start(alloc, reading.line, header)?;
+    reading.block = Some(OpenBlock {
         begun,
         kind,
         behaviours,
         met: MetRuns::none(),
-    };
-    let reading = Reading {
-        made,
-        only_histories,
-        block: Some(block),
-        line: line + 1,
-    };
-    Ok((reading, rest))
+    });
+    reading.line += 1;
+    Ok(rest)
 }
 
-// Continues with the open block, up to its end or that of the text; gives what follows.
-fn go_on<'a, H: TakesEvidence + Drop>(
+// Begins the block that the text begins with, or continues with the open one, up to its end or that of the text; gives
+// what follows.
+fn take_some<'a, H: TakesEvidence + Drop>(
     alloc: Global,
-    made: H,
-    only_histories: bool,
-    block: OpenBlock<H::Begun>,
+    reading: &mut Reading<H>,
     text: &'a [u8],
-    line: usize,
-) -> Result<(Reading<H>, &'a [u8]), TextFault>
+) -> Result<&'a [u8], TextFault>
     requires some { text.now ≢ [] }
-    requires room { line + length text.now ≤ usize.MAX }
-    requires known { IsKnown (Some block) }
-    ensures read { IfOk result (λ r. GoesOn H.stands H.opens
-        (record { made = made; only_histories = only_histories; block = Some block; line = line }) text.now r.0 r.1.now) }
-    ensures room { IfOk result (λ r. r.0.line + length r.1.now ≤ line + length text.now) }
-    ensures less { IfOk result (λ r. length r.1.now < length text.now) }
-    ensures known { IfOk result (λ r. IsKnown r.0.block) }
-    ensures fault { IfErr result (Refuses H.stands H.opens
-        (record { made = made; only_histories = only_histories; block = Some block; line = line }) text.now) }
+    requires room { reading.old.line + length text.now ≤ usize.MAX }
+    requires known { IsKnown reading.old.block }
+    ensures read { IfOk result (λ rest. GoesOn H.stands H.opens reading.old text.now reading.new rest.now) }
+    ensures room { IfOk result (λ rest. reading.new.line + length rest.now ≤ reading.old.line + length text.now) }
+    ensures less { IfOk result (λ rest. length rest.now < length text.now) }
+    ensures known { OnOk result (IsKnown reading.new.block) }
+    ensures fault { IfErr result (Refuses H.stands H.opens reading.old text.now) }
 {
+    let Some(block) = reading.block.take() else {
+        return begin_block(alloc, reading, text);
+    };
     let OpenBlock {
         mut begun,
         kind,
         behaviours,
         mut met,
     } = block;
-    let mut made = made;
-    let (line, end) = take_lines::<H>(alloc, kind, behaviours, &mut met, &mut begun, text, line)?;
+    let first = reading.line;
+    let (line, end) = take_lines::<H>(alloc, kind, behaviours, &mut met, &mut begun, text, first)?;
     let Some((verdict, rest)) = end else {
-        let block = OpenBlock {
+        reading.block = Some(OpenBlock {
             begun,
             kind,
             behaviours,
             met,
-        };
-        let reading = Reading {
-            made,
-            only_histories,
-            block: Some(block),
-            line,
-        };
-        return Ok((reading, b""));
+        });
+        reading.line = line;
+        return Ok(b"");
     };
-    made.close(begun, line, verdict)?;
-    let reading = Reading {
-        made,
-        only_histories,
-        block: None,
-        line: line + 1,
-    };
-    Ok((reading, rest))
-}
-
-// Begins the block that the text begins with, or continues with the open one; gives what follows.
-fn take_some<'a, H: TakesEvidence + Drop>(
-    alloc: Global,
-    reading: Reading<H>,
-    text: &'a [u8],
-) -> Result<(Reading<H>, &'a [u8]), TextFault>
-    requires some { text.now ≢ [] }
-    requires room { reading.line + length text.now ≤ usize.MAX }
-    requires known { IsKnown reading.block }
-    ensures read { IfOk result (λ r. GoesOn H.stands H.opens reading text.now r.0 r.1.now) }
-    ensures room { IfOk result (λ r. r.0.line + length r.1.now ≤ reading.line + length text.now) }
-    ensures less { IfOk result (λ r. length r.1.now < length text.now) }
-    ensures known { IfOk result (λ r. IsKnown r.0.block) }
-    ensures fault { IfErr result (Refuses H.stands H.opens reading text.now) }
-{
-    let Reading {
-        made,
-        only_histories,
-        block,
-        line,
-    } = reading;
-    match block {
-        None => begin_block(alloc, made, only_histories, text, line),
-        Some(block) => go_on(alloc, made, only_histories, block, text, line),
-    }
+    reading.made.close(begun, line, verdict)?;
+    reading.line = line + 1;
+    Ok(rest)
 }
 
 /// Takes the lines of the text, which come after those that were read.
 pub(crate) fn take_part<H: TakesEvidence + Drop>(
     alloc: Global,
-    reading: Reading<H>,
+    reading: &mut Reading<H>,
     text: &[u8],
-) -> Result<Reading<H>, TextFault>
-    requires room { reading.line + length text.now ≤ usize.MAX }
-    requires known { IsKnown reading.block }
-    ensures read { IfOk result (λ r. GoesOn H.stands H.opens reading text.now r []) }
-    ensures room { IfOk result (λ r. r.line ≤ reading.line + length text.now) }
-    ensures known { IfOk result (λ r. IsKnown r.block) }
-    ensures fault { IfErr result (Refuses H.stands H.opens reading text.now) }
+) -> Result<(), TextFault>
+    requires room { reading.old.line + length text.now ≤ usize.MAX }
+    requires known { IsKnown reading.old.block }
+    ensures read { OnOk result (GoesOn H.stands H.opens reading.old text.now reading.new []) }
+    ensures room { OnOk result (reading.new.line ≤ reading.old.line + length text.now) }
+    ensures known { OnOk result (IsKnown reading.new.block) }
+    ensures fault { IfErr result (Refuses H.stands H.opens reading.old text.now) }
 {
-    let mut reading = reading;
     let mut rest = text;
     while !rest.is_empty() {
-        let (next, behind) = take_some(alloc, reading, rest)?;
-        reading = next;
-        rest = behind;
+        rest = take_some(alloc, reading, rest)?;
     }
-    Ok(reading)
+    Ok(())
 }
 
 /// What the blocks make, if the lines that were read are those of blocks.

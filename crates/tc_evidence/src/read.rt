@@ -88,7 +88,7 @@ fn take_line<'a, H: TakesEvidence>(
     let Some(((caller, short, reply), rest)) = take_short_line::<H>(text) else {
         return take_any_line::<H>(alloc, kind, behaviours, met, begun, text, line);
     };
-    met.add_short(caller, short, reply);
+    met.add_caller(caller);
     H::take_short(begun, line, caller, short, reply)?;
     Ok(Some(rest))
 }
@@ -141,8 +141,9 @@ fn read_into<H: TakesEvidence + Drop>(
     ensures fault { IfErr result (λ e. IsFault (IsFirst only_histories) text.now e) }
     ensures only { (all : List AnyBlock) → IsTextOf (IsFirst only_histories) text.now all → IfErr result (λ e. e ≡ TextFault.NoMemory) }
 {
-    let reading = Reading::new(alloc, only_histories);
-    finish(take_part(alloc, reading, text)?)
+    let mut reading = Reading::new(alloc, only_histories);
+    take_part(alloc, &mut reading, text)?;
+    finish(reading)
 }
 
 /// What the blocks that the text spells make, histories and evidence in any order, otherwise the text's first fault;

@@ -1,5 +1,5 @@
 //! Blocks that are read from an input part by part.
-ghost use Rattle.std.specs.Prelude.{◌≡◌, ◌≢◌, ◌<◌, ◌≤◌, ◌+◌, ◌-◌, ◌++◌, ℕ, List, [], length, slice_index, false, IfOk, IfErr, IfSome, OnOk, IsErrOf, MatchResult};
+ghost use Rattle.std.specs.Prelude.{◌≡◌, ◌≢◌, ◌<◌, ◌≤◌, ◌+◌, ◌-◌, ◌++◌, ℕ, List, length, slice_index, false, IfOk, IfErr, IfSome, OnOk, IsErrOf, MatchResult};
 ghost use Rattle.std.specs.Io.KnownBytes.{Consumes, IsAtEnd};
 ghost use Rattle.tc_stream.specs.Input.{IsRead};
 ghost use Rattle.tc_evidence.specs.declared.block.Block.{Block as AnyBlock};
@@ -50,38 +50,28 @@ fn keep(unfinished: &mut Vec<u8>, bytes: &[u8]) -> Result<(), NoMemory>
 // Takes the bytes of a part: of the whole lines something is made, and the rest is kept.
 fn take_bytes<H: TakesEvidence + Drop>(
     alloc: Global,
-    pending: Pending<H>,
+    pending: &mut Pending<H>,
     part: &[u8],
-) -> Result<Pending<H>, TextFault>
-    requires room { reach pending + length part.now ≤ usize.MAX }
-    requires known { IsKnown pending.reading.block }
-    ensures read { IfOk result (TakesIn H.stands H.opens pending part.now) }
-    ensures room { IfOk result (λ p. reach p ≤ reach pending + length part.now) }
-    ensures known { IfOk result (λ p. IsKnown p.reading.block) }
-    ensures same { IfOk result (λ p. p.reading.only_histories ≡ pending.reading.only_histories) }
-    ensures fault { IfErr result (RefusesIn H.stands H.opens pending part.now) }
+) -> Result<(), TextFault>
+    requires room { reach pending.old + length part.now ≤ usize.MAX }
+    requires known { IsKnown pending.old.reading.block }
+    ensures read { OnOk result (TakesIn H.stands H.opens pending.old part.now pending.new) }
+    ensures room { OnOk result (reach pending.new ≤ reach pending.old + length part.now) }
+    ensures known { OnOk result (IsKnown pending.new.reading.block) }
+    ensures same { OnOk result (pending.new.reading.only_histories ≡ pending.old.reading.only_histories) }
+    ensures fault { IfErr result (RefusesIn H.stands H.opens pending.old part.now) }
 {
-    let Pending {
-        reading,
-        mut unfinished,
-    } = pending;
     let end = whole_lines(part);
     if end == 0 {
-        keep(&mut unfinished, part)?;
-        return Ok(Pending {
-            reading,
-            unfinished,
-        });
+        keep(&mut pending.unfinished, part)?;
+        return Ok(());
     }
     let (lines, rest) = part.split_at(end);
-    keep(&mut unfinished, lines)?;
-    let reading = take_part(alloc, reading, unfinished.as_slice())?;
-    unfinished.clear();
-    keep(&mut unfinished, rest)?;
-    Ok(Pending {
-        reading,
-        unfinished,
-    })
+    keep(&mut pending.unfinished, lines)?;
+    take_part(alloc, &mut pending.reading, pending.unfinished.as_slice())?;
+    pending.unfinished.clear();
+    keep(&mut pending.unfinished, rest)?;
+    Ok(())
 }
 
 // What the blocks of all the bytes make, if these are those of blocks.
@@ -93,11 +83,11 @@ fn finish_bytes<H: TakesEvidence + Drop>(alloc: Global, pending: Pending<H>) -> 
         → IsReadInto H.stands bytes result }
 {
     let Pending {
-        reading,
+        mut reading,
         unfinished,
     } = pending;
-    match take_part(alloc, reading, unfinished.as_slice()) {
-        Ok(reading) => finish(reading),
+    match take_part(alloc, &mut reading, unfinished.as_slice()) {
+        Ok(()) => finish(reading),
         Err(fault) => Err(fault),
     }
 }
@@ -120,7 +110,7 @@ fn skip<R: Read>(reader: &mut R, room: &mut [u8], limit: usize) -> Result<(), In
 /// What the blocks of the input make, histories and evidence in any order, otherwise its first fault; NoMemory may come
 /// instead. The input is read to its end, at most `limit` bytes, also after a fault.
 ///
-/// Only one part of the input is in memory at a time.
+/// Only one part of the input is in memory at a time, and a line that is not finished.
 pub fn read_evidence_from<R: Read, H: TakesEvidence + Drop>(
     alloc: Global,
     reader: &mut R,
@@ -130,6 +120,7 @@ pub fn read_evidence_from<R: Read, H: TakesEvidence + Drop>(
     ensures read { IfOk result (λ read. IsRead limit (R.remaining reader.old) (λ text. MatchResult read
         (λ made. HoldsOfBlocks text (λ all. H.stands all made))
         (λ e. IsFault IsHeader text e × ((all : List AnyBlock) → AreEvidence text all → e ≡ TextFault.NoMemory)))) }
+    ensures end { OnOk result (IsAtEnd (R.remaining reader.new)) }
     ensures long { IsErrOf result InputFault.TooLong → IfSome (R.remaining reader.old) (λ xs. limit < length xs) }
 {
     let mut pending = Pending {
@@ -140,12 +131,9 @@ pub fn read_evidence_from<R: Read, H: TakesEvidence + Drop>(
     let mut left = limit;
     while let Some(count) = read_part(reader, &mut room, left)? {
         left -= count;
-        match take_bytes(alloc, pending, &room[..count]) {
-            Ok(next) => pending = next,
-            Err(fault) => {
-                skip(reader, &mut room, left)?;
-                return Ok(Err(fault));
-            }
+        if let Err(fault) = take_bytes(alloc, &mut pending, &room[..count]) {
+            skip(reader, &mut room, left)?;
+            return Ok(Err(fault));
         }
     }
     Ok(finish_bytes(alloc, pending))

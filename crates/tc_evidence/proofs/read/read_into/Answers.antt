@@ -23,5 +23,5 @@ pub returns-clause-only : goal.returns-clause-only
 returns-clause-only g c all is =
     let reading = c.new-reading.ensures in
     let part = c.in_ok-take_part.ensures.read in
-    c.finish.ensures.only c.args.text.now all (whole_by g.H.TakesEvidence.stands g.H.TakesEvidence.opens c.new-reading.result c.in_ok-take_part.field-0 c.args.text.now reading.read part)
-    (same_first c.new-reading.result c.in_ok-take_part.field-0 c.args.only_histories c.args.text.now all reading.same part.same is)
+    c.finish.ensures.only c.args.text.now all (whole_by g.H.TakesEvidence.stands g.H.TakesEvidence.opens c.new-reading.result c.take_part.new.reading c.args.text.now reading.read part)
+    (same_first c.new-reading.result c.take_part.new.reading c.args.only_histories c.args.text.now all reading.same part.same is)

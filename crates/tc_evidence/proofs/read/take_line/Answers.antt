@@ -13,6 +13,6 @@ returns g c =
     record {
       line = L.Entry entry;
       next = λ before kept. entry_next c.args.kind c.args.behaviours before c.args.text.now entry c.in-Some.rest.now (omega (arith, low)) taken.spelled (taken.fits (format_of c.args.kind)) taken.less (taken.only (format_of c.args.kind));
-      adds = c.add_short.ensures;
+      adds = λ before kept. c.add_caller.ensures before c.in-Some.short c.in-Some.reply kept;
       opened = c.in_ok-take_short.ensures;
     }

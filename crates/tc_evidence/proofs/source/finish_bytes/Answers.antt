@@ -6,12 +6,13 @@ use Rattle.tc_evidence.proofs.source.finish_bytes.Goals as goal
 pub returns-in-Ok : goal.returns-in-Ok
 returns-in-Ok g c bytes so =
     let reading = c.args.pending.reading in
+    let after = c.take_part.new.reading in
     let done = c.finish.ensures in
-    let part = subst (λ (x : List ℕ). GoesOn g.H.TakesEvidence.stands g.H.TakesEvidence.opens reading x c.in-Ok.reading []) c.as_slice.ensures.value c.in-Ok.ensures.read in
-    finished g.H.TakesEvidence.stands g.H.TakesEvidence.opens c.in-Ok.reading bytes c.finish.result (part.same ∙ c.requires.any)
-    (end_read g.H.TakesEvidence.stands g.H.TakesEvidence.opens reading c.in-Ok.reading c.args.pending.unfinished.items bytes so part) done.ok done.fault done.only
+    let part = subst (λ (x : List ℕ). GoesOn g.H.TakesEvidence.stands g.H.TakesEvidence.opens reading x after []) c.as_slice.ensures.value c.in-Ok.ensures.read in
+    finished g.H.TakesEvidence.stands g.H.TakesEvidence.opens after bytes c.finish.result (part.same ∙ c.requires.any)
+    (end_read g.H.TakesEvidence.stands g.H.TakesEvidence.opens reading after c.args.pending.unfinished.items bytes so part) done.ok done.fault done.only
 
-pub returns : goal.returns
-returns g c bytes so =
+pub returns-in-Err : goal.returns-in-Err
+returns-in-Err g c bytes so =
     end_refused g.H.TakesEvidence.stands g.H.TakesEvidence.opens c.args.pending.reading c.args.pending.unfinished.items bytes c.in-Err.fault c.requires.any so
     (subst (λ (x : List ℕ). Refuses g.H.TakesEvidence.stands g.H.TakesEvidence.opens c.args.pending.reading x c.in-Err.fault) c.as_slice.ensures.value c.in-Err.ensures.fault)
