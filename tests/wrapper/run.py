@@ -726,7 +726,7 @@ def another_rt_waits_for_the_build(tree: Tree) -> None:
 
 @test
 def a_build_at_a_terminal(tree: Tree) -> None:
-    ran = tree.at_terminal("sum", FAKE_PAUSE="0.8")
+    ran = tree.at_terminal("sum", FAKE_PAUSE="1.5")
     lines = ran.output.decode().split("\r\n")
     hold(len(lines) == 4 and lines[3] == "" and lines[0].startswith("ttrun: proving") and "ttrun --try ARGUMENTS" in lines[0], f"{lines}")
     parts = lines[1].split("\r\x1b[K")
