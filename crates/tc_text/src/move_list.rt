@@ -1,12 +1,10 @@
 //! Lists of moves as texts.
-ghost use Rattle.std.specs.Prelude.{◌≡◌, ◌<◌, ◌≤◌, ◌++◌, ◌^◌, ℕ, List, [], ◌∷◌, codes, length, Some, IfSome, IfNone, IfOk, IfErr, OnOk, MatchOption, MatchResult};
-ghost use Rattle.std.specs.Fmt.{decimal};
+ghost use Rattle.std.specs.Prelude.{◌≡◌, ◌<◌, ◌++◌, ℕ, List, [], ◌∷◌, length, Some, IfSome, IfNone, IfOk, IfErr, OnOk, MatchOption, MatchResult};
 ghost use Rattle.tc_text.specs.Lines.{lines_of};
-ghost use Rattle.tc_text.specs.Spelling.{move_text, IsLong, IsOp};
+ghost use Rattle.tc_text.specs.Spelling.{IsLong};
 ghost use Rattle.tc_text.specs.Reading.{op_of};
 ghost use Rattle.tc_entry.specs.Limits.{IsBehaviours};
-ghost use Rattle.tc_text.specs.MoveList.{Move as AnyMove, behaviours_line, move_line, list_lines, IsMadeOf, IsMove, IsMoveList, IsListFault};
-ghost use Rattle.tc_entry.specs.declared.op.Op.{Op as AnyOp};
+ghost use Rattle.tc_text.specs.MoveList.{Move as AnyMove, behaviours_line, move_line, IsMadeOf, IsMove, IsMoveList, IsListFault};
 ghost use Rattle.tc_text.specs.Inside.{IsMoveTakenBy, IsNoMove, TakesLine};
 
 use crate::cursor::{after, take_line_end};

@@ -82,6 +82,7 @@ fn value_of(text: &[u8]) -> Option<u32>
 fn few_digits(text: &[u8]) -> Option<(usize, u32)>
     ensures counted { IfSome result (λ r. Counted text.now r.0 r.1) }
     ensures ended { IfSome result (λ r. NoDigitFirst (drop r.0 text.now)) }
+    ensures many { IfNone result ((3 < length text.now) × (48 ≤ slice_index text.now 3) × (slice_index text.now 3 ≤ 57)) }
 {
     let Some(first) = digit_at(text, 0) else {
         return Some((0, 0));
