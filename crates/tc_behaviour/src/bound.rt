@@ -1,5 +1,5 @@
 //! The components that the places of steps name.
-ghost use Rattle.std.specs.Prelude.{◌≡◌, ◌++◌, List, All, map, length};
+ghost use Rattle.std.specs.Prelude.{◌≡◌, ◌++◌, All, map, length};
 ghost use Rattle.tc_entry.specs.declared.comp.Comp.{Comp};
 ghost use Rattle.tc_step.specs.Operation as calls;
 ghost use Rattle.tc_step.specs.Steps.{IsBound, of_group, of_target};

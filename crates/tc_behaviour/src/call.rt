@@ -1,5 +1,5 @@
 //! The call of one step.
-ghost use Rattle.std.specs.Prelude.{◌≡◌, ◌++◌, All, IsErr, false, length, IsTrue, ◌↔◌, is_ok, not};
+ghost use Rattle.std.specs.Prelude.{◌≡◌, ◌++◌, All, false, length, is_ok, not};
 ghost use Rattle.tc_entry.specs.declared.op.Op.TheVariants as ops;
 ghost use Rattle.tc_entry.specs.declared.reply.Reply.TheVariants as replies;
 ghost use Rattle.tc_book.specs.Passes.{has_ended, IsCall, IsWait};

@@ -19,7 +19,7 @@ use crate::task::{Choice, ExploreOptions, Form, ReportForm, RunOptions, Task};
 use crate::word::{self, WordFault};
 use clap::parser::ValueSource;
 use clap::{ArgMatches, Command, Error};
-use std::alloc::{AllocError, Global};
+use std::alloc::Global;
 use tc_entry::{Name, Pattern};
 
 /// Why arguments ask for no task.

@@ -1,5 +1,5 @@
 -- The patterns of names.
-use Rattle.std.specs.Prelude.{ℕ, ◌≡◌, ◌≤◌, ◌==◌, ◌⊎◌, ◌&&◌, ◌||◌, Bool, true, false, if◌then◌else◌, List, [], ◌∷◌, All, IsTrue, length}
+use Rattle.std.specs.Prelude.{ℕ, ◌≤◌, ◌==◌, ◌⊎◌, ◌&&◌, ◌||◌, Bool, true, false, if◌then◌else◌, List, [], ◌∷◌, All, IsTrue, length}
 use Rattle.std.specs.List.{list_any}
 use Rattle.tc_entry.specs.Name.{IsName, is_name_byte}
 

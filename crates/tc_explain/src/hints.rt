@@ -11,7 +11,7 @@ use crate::slot::{
 };
 use crate::sort::{Refusal, Sort};
 use crate::source::{add_source, begins_comment};
-use crate::stop::{Stop, is_whole, walk};
+use crate::stop::{is_whole, walk};
 use std::alloc::Global;
 use tc_entry::{ARGUMENTS, BEHAVIOURS};
 use tc_line::{Keyword, ScriptKind, is_word, read_keyword, read_name, read_words};

@@ -1,6 +1,6 @@
 -- The states that a search keeps: no such case is over, no run has a Wake to come, and each call that continues changes
 -- something.
-use Rattle.std.proofs.Common.{ℕ, ◌≡◌, ◌<◌, ◌≤◌, ◌+◌, ◌==◌, ◌&&◌, ◌||◌, inl, inr, not, nat_lt, Bool, true, false, Option, Some, None, List, [], ◌∷◌, length, reverse, refl, ap, sym, subst, ◌∙◌, arith}
+use Rattle.std.proofs.Common.{ℕ, ◌≡◌, ◌<◌, ◌+◌, ◌==◌, ◌&&◌, ◌||◌, inl, inr, not, nat_lt, Bool, true, false, Option, Some, None, List, [], ◌∷◌, length, reverse, refl, ap, sym, subst, ◌∙◌, arith}
 use Rattle.std.proofs.lemmas.Bool.Decides.{nat_tests}
 use Rattle.tc_verdict.specs.declared.run.Run.{Run}
 use Rattle.tc_entry.specs.declared.comp.Comp.{Comp}
@@ -23,9 +23,9 @@ use Rattle.tc_table.proofs.Lemmas.Sound.{plain_if}
 use Rattle.tc_table.proofs.Lemmas.Going.{halted_by_entry}
 use Rattle.tc_explore.specs.Course.{Stand, stand, goes_on, after_other_by, IsTurn, IsCourse}
 use Rattle.tc_explore.specs.Inside.Standing.{ends}
-use Rattle.tc_explore.specs.Inside.Going.{taken, IsOn, CannotGo}
-use Rattle.tc_explore.specs.Inside.Simulation.{is_spent, IsSilent, IsWithin}
-use Rattle.tc_explore.specs.Inside.Seen.{IsSame, HasNoWake, IsOpen, IsCalmAt, IsCalm, IsLoudAt, IsCalmAfter, IsState}
+use Rattle.tc_explore.specs.Inside.Going.{taken, IsOn}
+use Rattle.tc_explore.specs.Inside.Simulation.{IsSilent, IsWithin}
+use Rattle.tc_explore.specs.Inside.Seen.{IsSame, HasNoWake, IsOpen, IsCalmAt, IsCalm, IsCalmAfter, IsState}
 use Rattle.tc_explore.proofs.Legality.{course_legal}
 use Rattle.tc_explore.proofs.Lemmas.Standings.{has_turn, stand_own, stand_other, stand_comp, stand_unstarted, wake_after_other}
 use Rattle.tc_explore.proofs.Simulation.{unchanged_quiet, unchanged_wait, quiet_within, wait_kept}
@@ -33,7 +33,6 @@ use Rattle.tc_explore.proofs.Leaving.{running_on}
 use Rattle.tc_explore.proofs.Late.{late_reply, late_halts, met_for, halt_overall}
 use Rattle.tc_explore.proofs.Places.{Spent, how_spent, kept_left, neither}
 use Rattle.tc_explore.proofs.Closing.{not_ended, answer_inactive, or_left, loud_sets_no_wake}
-use Rattle.tc_explore.proofs.Closed.{same_entry}
 use Rattle.tc_verdict.specs.declared.verdict.Verdict.{Verdict}
 use Rattle.tc_table.specs.Local.{overall, gives, local}
 use Rattle.tc_verdict.specs.Verdict.{level_of}

@@ -1,5 +1,5 @@
 //! The search for the overall verdicts of a test case.
-ghost use Rattle.std.specs.Prelude.{◌≡◌, ◌≤◌, [], IfOk, IfSome, OnOk, length};
+ghost use Rattle.std.specs.Prelude.{◌≡◌, ◌≤◌, [], IfOk, IfSome, length};
 ghost use Rattle.tc_entry.specs.declared.limits.TheConstants.{BEHAVIOURS};
 ghost use Rattle.tc_explore.specs.Found.{AreWitnesses, AreLegal, AreFromBest, AreCovered, AreMet, AreReached};
 ghost use Rattle.tc_explore.specs.Course as courses;

@@ -15,7 +15,7 @@ use crate::turns::step_all;
 use std::alloc::Global;
 use tc_entry::{Entry, Name};
 use tc_step::Script;
-use tc_verdict::{NoMemory, Verdict};
+use tc_verdict::NoMemory;
 
 /// The verdicts that each component was found with, and the names of the components.
 #[derive(Drop)]

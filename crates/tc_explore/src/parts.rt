@@ -1,5 +1,5 @@
 //! The parts of a line, one after another.
-ghost use Rattle.std.specs.Prelude.{◌≡◌, ◌++◌, [], ◌∷◌, OnOk, flat_map};
+ghost use Rattle.std.specs.Prelude.{◌≡◌, [], ◌∷◌, OnOk, flat_map};
 ghost use Rattle.std.specs.Fmt.{decimal};
 ghost use Rattle.tc_text.specs.Said.{word_of};
 ghost use Rattle.tc_explore.specs.Inside.Adding.{AddsWords};

@@ -1,12 +1,12 @@
 //! The search for verdicts up to one. It follows the calls of all runs, makes those at once of which nobody can see that
 //! they were made, and goes no further where the verdict is worse. If it comes to its end nothing up to that is missed.
-ghost use Rattle.std.specs.Prelude.{◌≡◌, ◌≤◌, ◌<◌, ◌&&◌, [], ◌∷◌, true, false, IfOk, OnOk, All, length, slice_index_or};
+ghost use Rattle.std.specs.Prelude.{◌≡◌, ◌≤◌, ◌<◌, ◌&&◌, ◌∷◌, true, false, IfOk, OnOk, All, length, slice_index_or};
 ghost use Rattle.tc_entry.specs.declared.limits.TheConstants.{BEHAVIOURS};
 ghost use Rattle.tc_table.specs.Case.{past_of};
 ghost use Rattle.tc_explore.specs.Inside.Going as going;
 ghost use Rattle.tc_explore.specs.Inside.Going.{IsOn, IsNext};
 ghost use Rattle.tc_explore.specs.Inside.Simulation as moves;
-ghost use Rattle.tc_explore.specs.Inside.Simulation.{IsClosed, IsWithin};
+ghost use Rattle.tc_explore.specs.Inside.Simulation.{IsClosed};
 ghost use Rattle.tc_verdict.specs.declared.verdict.Verdict.TheVariants.{Error};
 ghost use Rattle.tc_explore.specs.Found.{AreMet};
 ghost use Rattle.tc_explore.specs.Course.{carried, goes_on};

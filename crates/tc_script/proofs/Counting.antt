@@ -1,5 +1,5 @@
 -- What the first pass remembers follows from the lines before.
-use Rattle.std.proofs.Common.{ℕ, ◌≡◌, ◌+◌, Bool, true, false, Result, Ok, Err, List, [], ◌∷◌, length, refl, sym, ap, arith}
+use Rattle.std.proofs.Common.{ℕ, ◌≡◌, Bool, true, false, Result, Ok, Err, List, ◌∷◌, length, refl, ap, arith}
 use Rattle.std.specs.Prelude.{nat_le, nat_lt, ◌||◌, if◌then◌else◌, Option, Some, None}
 use Rattle.std.specs.Option.{option_map_or}
 use Rattle.tc_entry.specs.declared.limits.TheConstants.{ARGUMENTS, BEHAVIOURS}
@@ -7,9 +7,7 @@ use Rattle.tc_step.specs.declared.limits.TheConstants.{STEPS}
 use Rattle.tc_line.specs.declared.kind.ScriptKind.{ScriptKind}
 use Rattle.tc_line.specs.declared.kind.ScriptKind.TheVariants as F
 use Rattle.tc_script.specs.declared.open.Open.{Open}
-use Rattle.tc_script.specs.declared.open.Open.TheVariants as O
 use Rattle.tc_script.specs.declared.counts.Counts.{Counts}
-use Rattle.tc_line.specs.declared.line.Call.{Call}
 use Rattle.tc_line.specs.declared.line.Line.{Line}
 use Rattle.tc_line.specs.declared.line.Line.TheVariants as L
 use Rattle.tc_script.specs.FirstPass.{open_after, opened, cases_in, behaviours_in, steps_in, given, passes_limit, placed}

@@ -1,5 +1,5 @@
 -- What is open at a line, and which lines are out of place. `past` lists the lines before, the newest first.
-use Rattle.std.specs.Prelude.{ℕ, ◌+◌, ◌&&◌, ◌||◌, not, nat_le, nat_lt, Bool, true, false, if◌then◌else◌, Option, Some, None, is_some, Result, Ok, Err, List, [], ◌∷◌, length, filter, reverse}
+use Rattle.std.specs.Prelude.{ℕ, ◌+◌, ◌||◌, not, nat_le, nat_lt, Bool, true, false, if◌then◌else◌, Option, Some, None, is_some, Result, Ok, Err, List, [], ◌∷◌, length, filter, reverse}
 use Rattle.std.specs.Option.{unwrap_or}
 use Rattle.std.specs.Result.{result_map_both}
 use Rattle.tc_entry.specs.declared.limits.TheConstants.{ARGUMENTS, BEHAVIOURS}

@@ -1,5 +1,5 @@
 //! The campaign that a script spells: its test cases, and their behaviours.
-ghost use Rattle.std.specs.Prelude.{◌≡◌, ◌≤◌, [], ◌∷◌, ◌++◌, All, false, length, map, OnOk, OnErr, IfOk, MatchOption};
+ghost use Rattle.std.specs.Prelude.{◌≡◌, ◌≤◌, [], ◌∷◌, ◌++◌, false, length, map, OnOk, IfOk, MatchOption};
 ghost use Rattle.indexmap.specs.IndexMap.{keys};
 ghost use Rattle.tc_entry.specs.declared.limits.TheConstants.{BEHAVIOURS};
 ghost use Rattle.tc_script.specs.Inside.Building.{HaveFewArguments, AreScripts, AreCases, AreDistinct, from_next_case};

@@ -1,5 +1,5 @@
 //! The first fault of a script.
-ghost use Rattle.std.specs.Prelude.{◌++◌, Some, codes};
+ghost use Rattle.std.specs.Prelude.{Some};
 ghost use Rattle.tc_script.specs.Fault.{fault_text, read_fault_text};
 
 use std::alloc::{AllocError, AllocFailed};

@@ -1,10 +1,10 @@
 //! Distinct names, in their order.
 ghost use Rattle.std.specs.Prelude.{◌≡◌, ◌==◌, ◌≤◌, length, [], OnOk, OnErr, IfOk, not};
 ghost use Rattle.tc_line.specs.Words.{is_text};
-ghost use Rattle.tc_script.specs.Names.{among, index_of, add, all_of};
+ghost use Rattle.tc_script.specs.Names.{among, index_of, add};
 
 use indexmap::IndexSet;
-use std::alloc::{AllocError, AllocFailed, Global};
+use std::alloc::{AllocFailed, Global};
 use std::marker::Model;
 use tc_line::Name;
 

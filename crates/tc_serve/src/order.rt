@@ -1,17 +1,14 @@
 //! What a line asks for.
-ghost use Rattle.std.specs.Prelude.{◌≡◌, ◌<◌, ◌^◌, ◌++◌, ℕ, List, codes, length, false, true, Ok, Some, None, IfSome, IfOk, IfErr, MatchOption};
-ghost use Rattle.std.specs.Fmt.{decimal};
+ghost use Rattle.std.specs.Prelude.{◌≡◌, ◌<◌, ◌^◌, ℕ, List, length, false, true, Ok, Some, None, IfSome, IfOk, IfErr, MatchOption};
 ghost use Rattle.tc_entry.specs.Limits.{IsBehaviours};
 ghost use Rattle.tc_entry.specs.Name.{IsName};
 ghost use Rattle.tc_evidence.specs.Line.{naming_text, said_text};
-ghost use Rattle.tc_evidence.specs.Sentence.{IsSentence};
 ghost use Rattle.tc_text.specs.Spelling.{IsOp, move_text};
 ghost use Rattle.tc_text.specs.Reading.{op_of};
 ghost use Rattle.tc_serve.specs.Order.{order_text, IsOrder};
 ghost use Rattle.tc_serve.specs.Inside.{IsOther, case_text};
 ghost use Rattle.tc_serve.specs.Protocol.{IsWhyNothing};
 ghost use Rattle.tc_serve.specs.declared.order.Order.{Order as AnyOrder};
-ghost use Rattle.tc_serve.specs.declared.order.Order.TheVariants as orders;
 
 use crate::refusal::Refusal;
 use std::alloc::Global;

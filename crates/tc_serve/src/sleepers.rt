@@ -1,6 +1,5 @@
 //! The runs of a test case that sleep.
-ghost use Rattle.std.specs.Prelude.{◌≡◌, ◌≤◌, ℕ, Option, List, length, take, drop, insert, OnOk};
-ghost use Rattle.tc_serve.specs.declared.sleepers.Sleeper.{Sleeper as AnySleeper};
+ghost use Rattle.std.specs.Prelude.{◌≡◌, ◌≤◌, Option, length, take, drop, insert, OnOk};
 ghost use Rattle.tc_serve.specs.Inside.{AllBelow, AreInOrder, IsAdded, sleep_in};
 
 use tc_entry::NoMemory;

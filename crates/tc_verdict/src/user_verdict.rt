@@ -1,5 +1,5 @@
 //! What a behaviour may set.
-ghost use Rattle.std.specs.Prelude.{◌≡◌, ℕ, Some, IfSome};
+ghost use Rattle.std.specs.Prelude.{◌≡◌, Some, IfSome};
 ghost use Rattle.tc_verdict.specs.UserVerdict.{given, rank_of};
 ghost use Rattle.tc_verdict.specs.declared.user_verdict.UserVerdict.{UserVerdict as Setting};
 

@@ -1,5 +1,5 @@
 //! Verdicts and their order.
-ghost use Rattle.std.specs.Prelude.{◌≡◌, ◌≢◌, ◌≤◌, [], ◌∷◌, ℕ, Some, IfSome, All, Contains};
+ghost use Rattle.std.specs.Prelude.{◌≡◌, ◌≢◌, ◌≤◌, [], ◌∷◌, Some, IfSome, All, Contains};
 ghost use Rattle.tc_verdict.specs.UserVerdict.{given};
 ghost use Rattle.tc_verdict.specs.Verdict as order;
 ghost use Rattle.tc_verdict.specs.declared.verdict.Verdict.{Verdict as AnyVerdict};

@@ -1,5 +1,5 @@
 -- What the first pass remembers of the lines before.
-use Rattle.std.specs.Prelude.{ℕ, ◌+◌, ◌≡◌, ◌&&◌, ◌||◌, nat_le, nat_lt, Bool, if◌then◌else◌, Result, Ok, Err, List, [], ◌∷◌, ◌++◌, length}
+use Rattle.std.specs.Prelude.{◌+◌, ◌≡◌, ◌||◌, nat_le, nat_lt, Bool, if◌then◌else◌, Result, Ok, Err, List, [], ◌∷◌, ◌++◌, length}
 use Rattle.std.specs.Option.{option_map_or}
 use Rattle.std.specs.Result.{result_map_both}
 use Rattle.tc_entry.specs.declared.limits.TheConstants.{ARGUMENTS, BEHAVIOURS}
@@ -10,7 +10,6 @@ use Rattle.tc_script.specs.declared.fault.ScriptFault.{ScriptFault}
 use Rattle.tc_script.specs.declared.fault.ReadFault.{ReadFault}
 use Rattle.tc_script.specs.declared.fault.ReadFault.TheVariants as E
 use Rattle.tc_script.specs.declared.open.Open.{Open}
-use Rattle.tc_script.specs.declared.open.Open.TheVariants as O
 use Rattle.tc_script.specs.declared.counts.Counts.{Counts}
 use Rattle.tc_script.specs.declared.limits.TheConstants.{TEST_CASES}
 use Rattle.tc_line.specs.declared.line.Line.{Line}

@@ -1,4 +1,4 @@
-use Rattle.std.proofs.Common.{rules, ◌≡◌, ◌≤◌, ◌∙◌, false, length, ap, subst, sym}
+use Rattle.std.proofs.Common.{◌≡◌, ◌≤◌, ◌∙◌, false, length, ap, subst, sym}
 use Rattle.tc_explore.specs.declared.search.Met.{Met}
 use Rattle.tc_explore.proofs.Extents.{all_met, few_met, whole}
 use Rattle.tc_explore.proofs.Kept.{as_many_keys, kept_none, kept_with, keyed_none, met_of}
