@@ -38,6 +38,7 @@ ROWS: Dict[str, Row] = {
     "replay, a tenth": Row("replay", ("replay", "104857"), "replay/twin.rs"),
     "check, one block": Row("check", ("check", "one"), "check/twin.rs"),
     "check, 342 blocks": Row("check", ("check", "many"), "check/twin.rs"),
+    "check, empty blocks": Row("check", ("check", "empty"), "check/twin.rs"),
     **{f"run, {it}": Row("run", ("campaign", it), "campaign/twin/main.rs") for it in SCRIPTS},
 }
 

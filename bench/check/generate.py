@@ -1,7 +1,8 @@
 #!/usr/bin/env python3
-"""Prints a legal history text of at most 16,777,216 bytes, the same at every run: `one` block, or `many` blocks of 2,000 entries and more.
+"""Prints a legal history text of at most 16,777,216 bytes, the same at every run: `one` block, `many` blocks of 2,000 entries and more, or
+as many `empty` blocks as fit.
 
-In each block 63 components run until its last entries, so that each reply is known without a table.
+In each block that has entries 63 components run until the last ones, so that each reply is known without a table.
 """
 import sys
 
@@ -54,4 +55,9 @@ def many():
     return ''.join(block(number, BEHAVIOURS, 4) for number in range(1, blocks + 1))
 
 
-sys.stdout.write({'one': one, 'many': many}[sys.argv[1]]())
+def empty():
+    shortest = 'history 1 t 1\nend none\n'
+    return shortest * (LIMIT // len(shortest))
+
+
+sys.stdout.write({'one': one, 'many': many, 'empty': empty}[sys.argv[1]]())
