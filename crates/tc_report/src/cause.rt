@@ -1,5 +1,5 @@
 //! The call that decided the verdict of a test case, and its caller.
-ghost use Rattle.std.specs.Prelude.{◌≡◌, ◌<◌, ◌++◌, ◌∷◌, [], Some, IfOk, OnOk, codes, filter, length, reverse, slice_get, take};
+ghost use Rattle.std.specs.Prelude.{◌≡◌, ◌<◌, ◌++◌, ◌∷◌, [], Some, IfOk, OnOk, codes, filter, length, reverse, slice_get};
 ghost use Rattle.std.specs.Option.{option_and_then, option_map, option_map_or};
 ghost use Rattle.tc_case.specs.Parts.{is_by, part};
 ghost use Rattle.tc_entry.specs.declared.comp.Comp.{Comp as AnyComp};

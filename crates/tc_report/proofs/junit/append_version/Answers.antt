@@ -1,4 +1,4 @@
-use Rattle.std.proofs.Common.{◌≡◌, ◌++◌, OnOk, codes, subst}
+use Rattle.std.proofs.Common.{◌≡◌, OnOk, codes, subst}
 use Rattle.tc_report.specs.Junit.{version_text}
 use Rattle.tc_report.proofs.Joining.{joined}
 use Rattle.tc_report.proofs.junit.append_version.Goals as goal
