@@ -1,5 +1,5 @@
 //! Test cases of one behaviour, which need no thread, and campaigns of them.
-ghost use Rattle.std.specs.Prelude.{All, IfOk, IfSome, ⊤};
+ghost use Rattle.std.specs.Prelude.{All, IfSome, ⊤};
 ghost use Rattle.tc_campaign.specs.Outline.{HasNames};
 
 use crate::cases::call_on;

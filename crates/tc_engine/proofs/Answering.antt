@@ -1,5 +1,5 @@
 -- What the engine answers, by what the program answers to the words of its line.
-use Rattle.std.proofs.Common.{ℕ, ◌≡◌, ◌≢◌, ◌∙◌, ◌⊎◌, List, [], All, Option, Some, Result, Ok, Err, IfOk, IfErr, OnErr, inl, inr, refl, subst}
+use Rattle.std.proofs.Common.{ℕ, ◌≡◌, ◌∙◌, ◌⊎◌, List, [], All, Option, Some, Result, Ok, Err, IfOk, IfErr, OnErr, inl, inr, refl, subst}
 use Rattle.std.proofs.lemmas.Result.{IfErr-weaker}
 use Rattle.std.specs.Str.{IsUtf8}
 use Rattle.std.specs.declared.io.ErrorKind.{ErrorKind as IoKind}
@@ -9,7 +9,7 @@ use Rattle.tc_command.specs.declared.read.Refused.{Refused}
 use Rattle.tc_command.specs.declared.read.Refused.TheVariants as R
 use Rattle.tc_program.specs.declared.outcome.Outcome.{Outcome}
 use Rattle.tc_program.specs.Alone.{IsAnsweredAlone}
-use Rattle.tc_program.specs.Answer.{IsAnswered, IsNoTask, IsRefused, IsUnread}
+use Rattle.tc_program.specs.Answer.{IsNoTask, IsRefused, IsUnread}
 use Rattle.tc_program.specs.Streams.{Streams}
 use Rattle.tc_engine.specs.Engine.{Answers, words_of}
 

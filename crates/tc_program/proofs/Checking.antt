@@ -164,15 +164,11 @@ names_found test only text out status checked named = λ all are legal.
     named (not_refused checked.legal status checked.status_is (found_all test all out checked.legal legal (checked.checks.holds all are))) all are
 
 -- what is printed, with each pattern the name of some block
-pub checked_names : (choice : Choice) (only : List Word) (text out given told : List ℕ) (status : ℕ) → only ≡ choice.only.items
-    → IsChecked (picked_by (is_picked only choice.failed)) text out status → given ≡ out → told ≡ [] → NamesBlocksAt status only text
-    → IsMadeOfBlocks choice text (IsSilent (IsChecked (is_chosen choice) text)) (Ok (answer_of given told status))
-checked_names choice only text out given told status same checked given_is told_is named = (
-  (
-    subst (λ o. IsChecked (λ b. is_picked o choice.failed (block_name b) b.verdict) text given status) same
-        (subst (λ l. IsChecked (picked_by (is_picked only choice.failed)) text l status) (sym given_is) checked),
-    told_is,
-  ),
+pub checked_names : (choice : Choice) (only : List Word) (text out : List ℕ) (status : ℕ) → only ≡ choice.only.items
+    → IsChecked (picked_by (is_picked only choice.failed)) text out status → NamesBlocksAt status only text
+    → IsMadeOfBlocks choice text (IsSilent (IsChecked (is_chosen choice) text)) (Ok (answer_of out [] status))
+checked_names choice only text out status same checked named = (
+  (subst (λ o. IsChecked (λ b. is_picked o choice.failed (block_name b) b.verdict) text out status) same checked, refl),
   subst (λ o. NameBlocks o text) same (names_found (picked_by (is_picked only choice.failed)) only text out status checked named),
 )
 
@@ -199,10 +195,10 @@ pub no_pattern : (only : List Word) (text : List ℕ) (status : ℕ) → only �
 no_pattern only text status none = subst (λ o. NamesBlocksAt status o text) (sym none) (λ other all are. refl)
 
 -- what is made of what was read of a text, if no pattern is matched
-pub checked_read : (choice : Choice) (only : List Word) (text : List ℕ) (c : Checking) (out given told : List ℕ) (status : ℕ) → only ≡ choice.only.items → choice.only.items ≡ []
-    → HoldsOfBlocks text (λ all. IsChecking all c) → out ≡ flat_map (line_by (is_picked only choice.failed)) c.judgements.items → status ≡ (if c.legal then 0 else 3) → given ≡ out → told ≡ []
-    → IsMadeOfBlocks choice text (IsSilent (IsChecked (is_chosen choice) text)) (Ok (answer_of given told status))
-checked_read choice only text c out given told status same none so out_is status_is given_is told_is =
-    checked_names choice only text out given told status same
-    (all_checked text c (is_picked only choice.failed) out status (so.blocks, so.evidence, so.holds so.blocks so.evidence) so.holds out_is status_is) given_is told_is
+pub checked_read : (choice : Choice) (only : List Word) (text : List ℕ) (c : Checking) (out : List ℕ) (status : ℕ) → only ≡ choice.only.items → choice.only.items ≡ []
+    → HoldsOfBlocks text (λ all. IsChecking all c) → out ≡ flat_map (line_by (is_picked only choice.failed)) c.judgements.items → status ≡ (if c.legal then 0 else 3)
+    → IsMadeOfBlocks choice text (IsSilent (IsChecked (is_chosen choice) text)) (Ok (answer_of out [] status))
+checked_read choice only text c out status same none so out_is status_is =
+    checked_names choice only text out status same
+    (all_checked text c (is_picked only choice.failed) out status (so.blocks, so.evidence, so.holds so.blocks so.evidence) so.holds out_is status_is)
     (no_pattern only text status (same ∙ none))

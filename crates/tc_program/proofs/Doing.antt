@@ -1,5 +1,5 @@
 -- What comes of a text, and of an input.
-use Rattle.std.proofs.Common.{ℕ, false, ◌≡◌, ◌≤◌, List, [], Option, None, Some, IfSome, IfOk, IfErr, Result, Ok, Err, ap₂, inl, inr, length, refl, subst}
+use Rattle.std.proofs.Common.{ℕ, false, ◌≡◌, ◌≤◌, List, [], Option, None, Some, IfSome, IfOk, IfErr, Result, Ok, Err, inl, inr, length, refl, subst}
 use Rattle.std.specs.Prelude.{◌≢◌, ◌⊎◌, MatchResult}
 use Rattle.std.specs.Global.{Vec}
 use Rattle.tc_program.specs.declared.reply.Answer.{Answer}
@@ -56,10 +56,6 @@ both_ok P Q S (Err e) both p q = tt
 pub some_text : {E : Type 0} (r : Result (Vec ℕ) E) → (text : List ℕ) × IfOk r (λ v. v.items ≡ text)
 some_text (Ok v) = (v.items, refl)
 some_text (Err e) = ([], tt)
-
--- an answer of which nothing is printed
-pub silent_answer : (out out' told : List ℕ) (status : ℕ) → out ≡ out' → told ≡ [] → answer_of out told status ≡ answer_of out' [] status
-silent_answer out out' told status out_is told_is = ap₂ (λ o t. answer_of o t status) out_is told_is
 
 -- a task that makes an answer is done if the answer is given
 pub done_by : (task : Task) (Made : Result Answer RunFault → Type 0) (Refused : RunFault → Type 0) (Runs : RunOptions → Type 0) (a : Answer) (s : Streams) (outcome : Outcome)

@@ -127,7 +127,8 @@ fn check_parts<I: Read, W: Write, E: Write>(
     errors: &mut E,
 ) -> Outcome
     requires { choice.now.only.items ≡ [] }
-    ensures { IsCarriedOut (Check choice.now false) (I.remaining reader.old) (held W.contents writer.old writer.new E.contents errors.old errors.new) result }
+    ensures { IsCarriedOut (Check choice.now false) (I.remaining reader.old)
+        (held W.contents writer.old writer.new E.contents errors.old errors.new) result }
 {
     let made = match check_input(alloc, choice, reader) {
         Ok(made) => made,

@@ -23,7 +23,7 @@ use crate::reply::Answer;
 use std::alloc::Global;
 use std::io::{Read, Write};
 use tc_command::Choice;
-use tc_entry::{Pattern, Sequence};
+use tc_entry::Pattern;
 use tc_evidence::{Header, Line, TakesEvidence, read_evidence_from, read_evidence_into};
 use tc_table::{Entry, NoMemory, Reply, Run, Verdict};
 use tc_text::{ShortOp, TextFault};
@@ -129,11 +129,7 @@ pub(crate) fn check_text(alloc: Global, choice: &Choice, text: &[u8]) -> Result<
     let only = choice.only.as_slice();
     let (out, status) = check_lines(alloc, text, only, choice.failed)?;
     refuse_names(alloc, status, only, text)?;
-    Ok(Answer {
-        out: Sequence::new(out),
-        told: Sequence::new(Vec::new(alloc)),
-        status,
-    })
+    Ok(Answer::silent(alloc, out, status))
 }
 
 // What `check` makes of what was read of a text, if no pattern is matched with its names.
@@ -151,11 +147,7 @@ fn checked(
         Err(fault) => return Err(RunFault::from(fault)),
     };
     match checked_lines(alloc, &checking, choice.only.as_slice(), choice.failed) {
-        Ok((out, status)) => Ok(Answer {
-            out: Sequence::new(out),
-            told: Sequence::new(Vec::new(alloc)),
-            status,
-        }),
+        Ok((out, status)) => Ok(Answer::silent(alloc, out, status)),
         Err(NoMemory) => Err(RunFault::NoMemory),
     }
 }

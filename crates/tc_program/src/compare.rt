@@ -302,11 +302,8 @@ pub(crate) fn compare_text(alloc: Global, choice: &Choice, text: &[u8]) -> Resul
     let Comparison { notes, missing } = compare_blocks(alloc, ready, rest)?;
     drop(missing);
     out.extend_from_slice(notes.as_slice())?;
-    Ok(Answer {
-        out: Sequence::new(out),
-        told: Sequence::new(Vec::new(alloc)),
-        status: if notes.is_empty() { checked } else { REFUSED },
-    })
+    let status = if notes.is_empty() { checked } else { REFUSED };
+    Ok(Answer::silent(alloc, out, status))
 }
 
 /// What `report --script` makes of a script with histories and evidence after it: what `report` makes of these, with the

@@ -193,9 +193,5 @@ pub(crate) fn explore_text(
     let cases = cases_to_run(alloc, text, &options.choice)?;
     let explored = explore_cases(alloc, cases, options)?;
     let (out, status) = text_of(alloc, options.histories, explored.as_slice())?;
-    Ok(Answer {
-        out: Sequence::new(out),
-        told: Sequence::new(Vec::new(alloc)),
-        status,
-    })
+    Ok(Answer::silent(alloc, out, status))
 }

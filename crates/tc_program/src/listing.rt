@@ -12,7 +12,6 @@ use crate::reply::Answer;
 use std::alloc::Global;
 use tc_campaign::Case;
 use tc_command::Choice;
-use tc_entry::Sequence;
 use tc_verdict::NoMemory;
 
 // The names of the test cases, each with a line feed.
@@ -32,11 +31,7 @@ pub(crate) fn listed<B: Drop>(alloc: Global, cases: &[Case<B>]) -> Result<Answer
     ensures { IfOk result (λ a. a ≡ record { out = text_of_list case_name cases.now; told = []; status = 0 }) }
 {
     let list = list_of(alloc, cases)?;
-    Ok(Answer {
-        out: Sequence::new(list),
-        told: Sequence::new(Vec::new(alloc)),
-        status: 0,
-    })
+    Ok(Answer::silent(alloc, list, 0))
 }
 
 /// What `run --list` makes of a script: the names of the test cases that a run is asked for, one a line; nothing is run.

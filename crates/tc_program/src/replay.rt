@@ -17,7 +17,6 @@ use crate::reply::Answer;
 use crate::short::play_short;
 use std::alloc::Global;
 use std::io::{Read, Write};
-use tc_entry::Sequence;
 use tc_report::{append_verdict, verdict_status};
 use tc_table::{CaseState, NoMemory, Op, Reply, Run, Verdict};
 use tc_text::{ShortOp, TakesMoves, append_text, read_moves_into, write_reply};
@@ -101,11 +100,7 @@ pub(crate) fn replay_text(alloc: Global, text: &[u8]) -> Result<Answer, RunFault
     ensures refused { IfErr result (RefusesText (IsListFault text.now)) }
 {
     let (out, verdict) = replay_lines(alloc, text)?;
-    Ok(Answer {
-        out: Sequence::new(out),
-        told: Sequence::new(Vec::new(alloc)),
-        status: verdict_status(verdict),
-    })
+    Ok(Answer::silent(alloc, out, verdict_status(verdict)))
 }
 
 /// Replays a move list: writes the reply to each move, and then the overall verdict, whose status it returns.

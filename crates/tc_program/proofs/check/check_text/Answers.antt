@@ -1,4 +1,3 @@
-use Rattle.std.proofs.Common.{◌∙◌}
 use Rattle.tc_program.specs.Check.{IsChecked}
 use Rattle.tc_program.specs.Choosing.{is_chosen}
 use Rattle.tc_program.specs.Made.{IsMadeOfBlocks, IsSilent}
@@ -26,5 +25,5 @@ returns-in_err-refuse_names c =
 
 pub returns : goal.returns
 returns c =
-    checked_names c.args.choice.now c.as_slice-only.result.now c.args.text.now c.in_ok-out.out.items c.new.result c.new-3.result c.in_ok-out.status c.as_slice-only.ensures.value
-    c.in_ok-out.ensures.done c.new.ensures (c.new-3.ensures ∙ c.new-2.ensures.items) c.in_ok-refuse_names.ensures.named
+    rw c.silent.ensures
+    (checked_names c.args.choice.now c.as_slice-only.result.now c.args.text.now c.in_ok-out.out.items c.in_ok-out.status c.as_slice-only.ensures.value c.in_ok-out.ensures.done c.in_ok-refuse_names.ensures.named)

@@ -1,4 +1,4 @@
-use Rattle.std.proofs.Common.{◌∙◌, Err, subst, sym}
+use Rattle.std.proofs.Common.{Err, subst, sym}
 use Rattle.tc_evidence.specs.Inside.{IsReadInto}
 use Rattle.tc_program.specs.Check.{IsChecked}
 use Rattle.tc_program.specs.Choosing.{is_chosen}
@@ -17,5 +17,6 @@ returns-in-Err c text is =
 pub returns-in-Ok-checked_lines : goal.returns-in-Ok-checked_lines
 returns-in-Ok-checked_lines c text is =
     let made = c.in-Ok-checked_lines.ensures in
-    checked_read c.args.choice.now c.as_slice.result.now text c.in-Ok.checking c.in-Ok-checked_lines.out.items c.new.result c.new-in-Ok-checked_lines-2.result c.in-Ok-checked_lines.status c.as_slice.ensures.value
-    c.requires (subst (λ r. IsReadInto IsChecking text r) c.in-Ok.is is) made.lines made.status c.new.ensures (c.new-in-Ok-checked_lines-2.ensures ∙ c.new-in-Ok-checked_lines.ensures.items)
+    rw c.silent.ensures
+    (checked_read c.args.choice.now c.as_slice.result.now text c.in-Ok.checking c.in-Ok-checked_lines.out.items c.in-Ok-checked_lines.status c.as_slice.ensures.value
+    c.requires (subst (λ r. IsReadInto IsChecking text r) c.in-Ok.is is) made.lines made.status)

@@ -1,4 +1,4 @@
-use Rattle.std.proofs.Common.{◌∙◌, ap}
+use Rattle.std.proofs.Common.{◌∙◌, ap, refl}
 use Rattle.std.specs.List.{flat_map}
 use Rattle.tc_program.specs.Explore.{status_of_all, told_of}
 use Rattle.tc_program.proofs.Beside.{few_jobs}
@@ -13,14 +13,15 @@ explore_cases-requires c =
 pub returns-clause-done : goal.returns-clause-done
 returns-clause-done c =
     let are = c.in_ok-cases.ensures.are in
-    let explored = c.in_ok-explored.explored.items in (
+    let explored = c.in_ok-explored.explored.items in
+    rw c.silent.ensures (
       record {
         cases = are.cases;
         explored = explored;
         asked = are.chosen;
         each = explored_each c.args.options.now are.cases c.in_ok-cases.cases.items explored are.each c.in_ok-explored.ensures;
-        out_is = c.new.ensures ∙ (c.in_ok-out.ensures.text ∙ ap (flat_map (told_of c.args.options.now.histories)) c.as_slice.ensures.value);
+        out_is = c.in_ok-out.ensures.text ∙ ap (flat_map (told_of c.args.options.now.histories)) c.as_slice.ensures.value;
         status_is = c.in_ok-out.ensures.status ∙ ap status_of_all c.as_slice.ensures.value;
       },
-      c.new-3.ensures ∙ c.new-2.ensures.items,
+      refl,
     )

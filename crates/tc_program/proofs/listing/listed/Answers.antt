@@ -1,9 +1,7 @@
-use Rattle.std.proofs.Common.{◌∙◌}
-use Rattle.tc_campaign.specs.Choosing.{case_name}
-use Rattle.tc_program.specs.Inside.{list_text}
-use Rattle.tc_program.proofs.Doing.{silent_answer}
+use Rattle.std.proofs.Common.{◌∙◌, [], ap}
+use Rattle.tc_program.proofs.Doing.{answer_of}
 use Rattle.tc_program.proofs.listing.listed.Goals as goal
 
 pub returns : goal.returns
 returns g c =
-    silent_answer c.new.result (list_text case_name c.args.cases.now) c.new-3.result 0 (c.new.ensures ∙ c.in_ok-list.ensures) (c.new-3.ensures ∙ c.new-2.ensures.items)
+    c.silent.ensures ∙ ap (λ out. answer_of out [] 0) c.in_ok-list.ensures
