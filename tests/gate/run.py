@@ -174,6 +174,19 @@ def a_part_that_skips_some(room: str) -> None:
 
 
 @test
+def both_outputs_in_one_file(room: str) -> None:
+    put_parts(room, {part_of("page"): "echo '8 passed, 0 failed, 3 skipped'"})
+    path = os.path.join(room, "all")
+    environment = {**os.environ, "PATH": f"{room}/bin:/usr/bin:/bin", "TMPDIR": room}
+    with open(path, "wb") as file:
+        subprocess.run([f"{room}/gate"], cwd="/", env=environment, stdin=subprocess.DEVNULL, stdout=file, stderr=file,
+                       timeout=SECONDS, check=False)
+    with open(path, encoding="utf-8") as file:
+        text = file.read()
+    hold(text.startswith("gate: ") and text.count("SKIPPED") == 2 and "\0" not in text, f"what was written before is lost: {text!r}")
+
+
+@test
 def a_part_that_cannot_be_run(room: str) -> None:
     run(room, status=1, last=counted(1, program=0), program="exec /no/such/program")
 
