@@ -5,7 +5,7 @@ usage: bench/ratios.py PROGRAM [--rounds N] [--only WORD] [--instructions] [--wr
 
 PROGRAM is the built ttrun. What both print is compared byte by byte first. A ratio is the median over the rounds of ttrun's processor
 time by its twin's, and its spread is what lies between the quarters of the rounds. `bench/ratios.txt` has the ratio and the
-spread of each row as it landed last. A ratio that is above it by more than the spread fails, and then the status is 1. With --write
+spread of each row in an earlier run. A ratio that is above it by more than the spread fails, and then the status is 1. With --write
 the rows are written into the file, and none fails. With --instructions the ratios are of instructions, which valgrind counts in one
 round; nothing is compared with the file.
 """
@@ -111,7 +111,7 @@ def spread_of(ratios: List[float]) -> float:
 
 
 def landed() -> Dict[str, Tuple[float, float]]:
-    """The ratio and the spread of each row, as it landed last."""
+    """The ratio and the spread of each row in an earlier run."""
     with open(LANDED, encoding="utf-8") as file:
         lines = [it.split("\t") for it in file.read().splitlines() if not it.startswith("#")]
     return {name: (float(ratio), float(spread)) for name, ratio, spread in lines}
@@ -119,12 +119,12 @@ def landed() -> Dict[str, Tuple[float, float]]:
 
 def write_landed(found: Dict[str, Tuple[float, float]]) -> None:
     with open(LANDED, "w", encoding="utf-8") as file:
-        file.write("# The ratio of processor time to the twin's and its spread, as each row landed last, by bench/ratios.py --write.\n")
+        file.write("# The ratio of processor time to the twin's and its spread in an earlier run, by bench/ratios.py --write.\n")
         file.writelines(f"{name}\t{ratio:.3f}\t{spread:.3f}\n" for name, (ratio, spread) in found.items())
 
 
 def is_slower(ratio: float, spread: float, before: Tuple[float, float]) -> bool:
-    """It is above the one that landed by more than the spread, which is the larger of the two."""
+    """It is above that of the earlier run by more than the spread, which is the larger of the two."""
     return ratio > before[0] + max(spread, before[1])
 
 
@@ -161,7 +161,7 @@ def main() -> int:
     before = {} if asked.instructions or not os.path.exists(LANDED) else landed()
     found: Dict[str, Tuple[float, float]] = {}
     failed = 0
-    print(f"| input | ttrun, {unit} | twin, {unit} | ratio | spread | ttrun, MiB | twin, MiB | landed |")
+    print(f"| input | ttrun, {unit} | twin, {unit} | ratio | spread | ttrun, MiB | twin, MiB | earlier |")
     print("|---|---|---|---|---|---|---|---|")
     with tempfile.TemporaryDirectory() as work:
         measure = built("measure.rs", work)
