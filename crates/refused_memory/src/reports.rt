@@ -96,6 +96,7 @@ enum Piece {
 
 impl Told for LiveWriter<'_, Vec<u8>> {
     fn tell(&self, out: &mut Vec<u8>) {
+        // There is room for the text.
         let _ = out.extend_from_slice(self.writer);
     }
 }
@@ -135,12 +136,15 @@ pub(crate) fn write_live(trial: &mut Trial) {
 /// What is asked of the results, and of the list of no bytes.
 pub(crate) fn ask(trial: &mut Trial, stock: &Stock) {
     let bytes = Vec::new(trial.alloc);
-    trial.begin_each("Sequence::new Sequence::as_slice tally status_of worst_status");
+    trial.begin_each(
+        "Sequence::new Sequence::as_slice Sequence::into_vec tally status_of worst_status",
+    );
     let list: Sequence<u8> = Sequence::new(bytes);
     let is_right = (tally(&stock.results).fail == 1)
         & (status_of(&stock.results) == 3)
         & (worst_status(&[]) == 0)
-        & list.as_slice().is_empty();
+        & list.as_slice().is_empty()
+        & list.into_vec().is_empty();
     trial.holds(is_right);
     trial.end();
 }

@@ -41,4 +41,12 @@ impl<T: Drop> Sequence<T> {
     {
         &self.items
     }
+
+    /// Gives the list of the items back. It takes no memory.
+    pub fn into_vec(self) -> Vec<T>
+        ensures { result.items ≡ self }
+    {
+        let Sequence { items } = self;
+        items
+    }
 }

@@ -64,7 +64,7 @@ impl fmt::Display for ScriptKind {
 }
 
 /// Why a line could not be read.
-#[derive(Debug, Drop, Error)]
+#[derive(Clone, Copy, Debug, PartialEq, Eq, Error)]
 pub enum LineFault {
     /// What is wrong with the line.
     Kind(ScriptKind),

@@ -26,7 +26,7 @@ impl fmt::Display for ScriptFault {
 }
 
 /// Why a script could not be read.
-#[derive(Debug, Drop, Error)]
+#[derive(Clone, Copy, Debug, PartialEq, Eq, Error)]
 pub enum ReadFault {
     /// It spells no campaign.
     Script(ScriptFault),

@@ -4,7 +4,7 @@ use std::alloc::Global;
 use std::process::Abort;
 use std::test::Fail;
 use tc_line::LineFault;
-use tc_script::{ReadFault, ScriptKind, read_campaign};
+use tc_script::{ReadFault, ScriptFault, ScriptKind, read_campaign};
 
 /// Scripts with `;` for the end of a line, and the fault of each, or a dash.
 const SCRIPTS: &str = "\
@@ -171,5 +171,17 @@ fn texts_of_the_faults(rt: HostRuntime) -> Result<(), Fail> {
     is(&rt, "a line", text.as_str(), "no memory");
     let text = LineFault::Kind(ScriptKind::TooMany).to_string(rt.alloc())?;
     is(&rt, "a line's fault", text.as_str(), "too many");
+    Ok(())
+}
+
+#[test]
+fn faults_are_compared(rt: HostRuntime) -> Result<(), Fail> {
+    let fault = ReadFault::Script(ScriptFault {
+        line: 1,
+        kind: ScriptKind::Cut,
+    });
+    let found = fault_of(rt.alloc(), b"");
+    holds(&rt, "no line", found == Some(fault));
+    holds(&rt, "another fault", found != Some(ReadFault::NoMemory));
     Ok(())
 }
