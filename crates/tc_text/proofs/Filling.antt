@@ -2,8 +2,7 @@
 use Rattle.std.proofs.Common.{◌≡◌, ◌∙◌, ◌<◌, ◌≤◌, ◌+◌, ◌*◌, ◌/◌, ◌%◌, ◌^◌, ℕ, zero, suc, List, [], ◌∷◌, ◌++◌, length, drop, set, sym, ap, arith, append_assoc, add-one}
 use Rattle.std.specs.Fmt.{decimal}
 use Rattle.std.proofs.lemmas.Fmt.{decimal_digit, decimal_step}
-use Rattle.std.proofs.lemmas.List.{append-nil, drop-set, length-set}
-use Rattle.std.proofs.Math.ListN.{drop_of_length-le}
+use Rattle.std.proofs.lemmas.List.{drop-set, length-set}
 use Rattle.std.proofs.Math.Nat.{pow-succ'}
 
 -- the digits from the place on are those of the number after those of what is left
@@ -14,16 +13,6 @@ pub record Filled (number left place : ℕ) (digits : List ℕ) : Type 0 where
   pub room : left < 10 ^ place
   pub fits : left < 2 ^ 64
   pub spelled : decimal number ≡ decimal left ++ drop place digits
-
-pub filled_none : (number : ℕ) (digits : List ℕ) → number < 2 ^ 64 → length digits ≡ 20 → Filled number number 20 digits
-filled_none number digits fits long = record {
-  long = long;
-  some = omega arith;
-  within = omega arith;
-  room = omega arith;
-  fits = fits;
-  spelled = sym (append-nil (decimal number)) ∙ ap (λ l. decimal number ++ l) (sym (drop_of_length-le digits {i = 20} (omega (arith, long))));
-}
 
 -- two digits need two places
 two_places : (left place : ℕ) → left < 10 ^ place → 10 ≤ left → 1 < place

@@ -41,9 +41,6 @@ digit_above b digit low = grind (arith, nat_tests)
 
 -- ---- how far the digits are read
 
-pub counted_none : (text : List ℕ) → Counted text 0 0
-counted_none text = record { within = omega arith; digits = refl; value = refl; fits = omega arith }
-
 -- the digits with one more, and their value
 pub one_more : (text : List ℕ) (place number d : ℕ) → Counted text place number → place < length text → slice_index text place ≡ 48 + d → d ≤ 9 → (all_ascii_digits (take (place + 1) text) ≡ true) × (number * 10 + d ≡ read_on 0 (take (place + 1) text))
 one_more text place number d so low is small =

@@ -94,8 +94,6 @@ pub tells_line : (words : Line) (ys : List Line) (a b c : List ℕ) → TellsLin
 unfolding Tells
 tells_line words ys a b c h k = (b, h, k)
 
-pub ruleset tell_rules = (tells_none, tells_one, tells_then, tells_line)
-
 -- ---- after something
 
 line_behind : (words : Line) (front a b : List ℕ) → TellsLine words a b → TellsLine words (front ++ a) (front ++ b)
