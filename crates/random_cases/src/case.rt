@@ -17,6 +17,7 @@ fn work<R: Wait>(rt: &R, ticket: Ticket, seed: u64, behaviours: u16) -> Left {
     let mut random = Random::new(seed);
     match ticket.await_start(rt) {
         Ok(mut pass) => {
+            // A halt ends the behaviour, as its last call does.
             let _ = follow(rt, &mut pass, &mut random, behaviours);
             pass.leave(rt)
         }
@@ -72,6 +73,7 @@ fn run_all<R: Threads + Wait + Copy + Send + 'static>(
     let Ok(handles) = start_workers(rt, alloc, tickets, random, behaviours) else {
         return false;
     };
+    // A halt ends the behaviour, as its last call does.
     let _ = lead(rt, &mut pass, random, behaviours);
     let is_added = lefts.push(pass.leave(rt)).is_ok();
     let are_added = join_all(rt, handles, lefts);

@@ -100,6 +100,7 @@ fn run_idle<R: Threads + Wait + Copy + Send + 'static>(
             trial.begin_each("Job::new");
             let job = Job::new(idle);
             trial.end();
+            // With a job less the case is another one, which shows in the text.
             let _ = jobs.push(job);
         }
     }
@@ -112,6 +113,7 @@ fn run_idle<R: Threads + Wait + Copy + Send + 'static>(
         Ok(report) => tell_closed(&mut trial.out, &report),
         Err(CaseError::NoMemory) => trial.refuse(true),
         Err(why) => {
+            // There is room for the text.
             let _ = trial.out.extend_from_slice(why.text().as_bytes());
         }
     }
@@ -268,6 +270,7 @@ fn run_with_room<R: Threads + Wait + Copy + Send + 'static>(
     );
     trial.holds(told != Err(OutFault::Write));
     if told.is_ok() && is_complete {
+        // There is room for the text.
         let _ = trial.out.extend_from_slice(lines);
     } else {
         trial.refuse_part();

@@ -163,6 +163,7 @@ impl<R: Wait + Copy> Opened<R> {
         if let Some(ticket) = self.tickets.pop()
             && let Ok(pass) = await_start(&self.rt, ticket)
         {
+            // There is room for two.
             let _ = self.passes.push(pass);
         }
     }
@@ -177,6 +178,7 @@ impl<R: Wait + Copy> Opened<R> {
 fn lefts_of<R: Wait>(rt: &R, alloc: Global, passes: Vec<Pass>, tickets: Vec<Ticket>) -> Vec<Left> {
     let mut lefts = Vec::new(alloc);
     for pass in passes {
+        // With one less the case is not closed, which shows in the text.
         let _ = lefts.push(pass.leave(rt));
     }
     for ticket in tickets {
@@ -269,6 +271,7 @@ fn locked(alloc: Global, history: &[Entry]) -> Vec<Entry> {
     let mut kept = Vec::new(alloc);
     for entry in history {
         if !matches!(entry.op, Op::SetVerdict(_) | Op::GetVerdict) {
+            // With an entry less the merge is another one, which shows in the text.
             let _ = kept.push(entry.copy());
         }
     }
@@ -349,6 +352,7 @@ fn tell_asked<R: Wait + Copy>(opened: &Opened<R>, out: &mut Vec<u8>) {
         tell_number(out, usize::from(ticket.run().0));
     }
     let has_place = opened.shared.look(&opened.rt).has_place(Run(1));
+    // There is room for the text.
     let _ = out.push(u8::from(has_place));
     opened.tell(out);
 }
@@ -404,8 +408,10 @@ fn take<R: Wait>(rt: &R, trial: &mut Trial, ticket: Ticket) {
 pub(crate) fn await_starts<R: Wait>(rt: &R, trial: &mut Trial) {
     if let Ok((_shared, mut main, tickets)) = open_case(trial.alloc, 3) {
         if let Ok(comp) = main.create(rt, false) {
+            // What the tickets give shows whether it was started.
             let _ = main.start(rt, comp, Run(1), &Args::new());
         }
+        // It halts, as the case has ended.
         let _ = main.stop_case(rt);
         for ticket in tickets {
             take(rt, trial, ticket);

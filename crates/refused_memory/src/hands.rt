@@ -1,4 +1,5 @@
-//! The wakes of a book, and the hands of a board: none of it takes memory.
+//! The wakes of a book, and the hands of a board: none of it takes memory. There is room for the text of what they
+//! answer, so what an append to it returns is not looked at.
 ghost use Rattle.std.specs.Prelude.{◌≡◌};
 ghost use Rattle.tc_board.specs.Board.{new_hands, new_keeper};
 
@@ -56,6 +57,7 @@ fn wake_on(trial: &mut Trial, book: &mut Book, leaving: Run) {
 /// The wake of a wait that is stuck; or the wakes of one that continues to wait for a run that was started, and then is matched.
 fn wake(trial: &mut Trial, starts: bool) {
     if let Some(mut book) = new_book(trial.alloc) {
+        // The text shows what the book holds after the calls.
         let _ = book.record(Run(0), CREATE);
         if starts {
             let start = Op::Start {

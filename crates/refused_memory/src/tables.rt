@@ -1,4 +1,5 @@
-//! Calls on a table, on the state of a case, and on histories.
+//! Calls on a table, on the state of a case, and on histories. There is room for the text of what they
+//! answer, so what an append to it returns is not looked at.
 use crate::stock::Stock;
 use crate::tells::{tell_entries, tell_number};
 use crate::told::{Called, Told, call_again, call_all, made};
@@ -171,6 +172,7 @@ pub(crate) fn open(trial: &mut Trial) {
 fn play_all(table: &mut Table) {
     for line in MOVES.lines() {
         if let Some((run, op)) = read_move(line.as_bytes()) {
+            // The text shows which entries the table has.
             let _ = table.play(run, op);
         }
     }
@@ -249,6 +251,7 @@ pub(crate) fn copy(trial: &mut Trial, stock: &Stock) {
 
 /// Plays a move, with no growth given but to a create, where there is room for it.
 fn play_one_in_room(trial: &mut Trial, table: &mut Table, with: &(Run, Op)) {
+    // The text shows whether there was room.
     let _ = table.make_room(1);
     if !matches!(with.1, Op::Create { .. }) {
         trial.begin_each("Table::play Table::make_room");

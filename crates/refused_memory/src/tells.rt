@@ -1,4 +1,4 @@
-//! The texts of the values that calls answer.
+//! The texts of the values that calls answer. There is room for them, so what an append returns is not looked at.
 use crate::told::Told;
 use tc_book::{Closed, Left, Pass, RunLog};
 use tc_entry::{Comp, Entry, Name, Run, Verdict};

@@ -118,6 +118,7 @@ pub(crate) fn write(trial: &mut Trial, stock: &Stock) {
 
 /// Takes in what a writer appended that may leave a part.
 fn append_part(trial: &mut Trial, page: &[u8], answer: Result<(), NoMemory>) {
+    // There is room for the text.
     let _ = trial.out.extend_from_slice(page);
     if answer.is_err() {
         trial.refuse_part();

@@ -62,6 +62,7 @@ fn given(alloc: Global, bytes: usize) -> Option<Vec<u8>> {
 
 /// Whether a library refuses memory to this program.
 fn is_heard(alloc: Global) -> bool {
+    // The numbers are for the library that refuses; the memory is given back at once.
     let _ = given(alloc, MARK + 1 + EACH);
     let is_refused = given(alloc, 1).is_none();
     let _ = given(alloc, MARK);
@@ -113,6 +114,7 @@ impl Trial {
     /// The text is what is wanted of the calls.
     pub(crate) fn keep(&mut self) {
         self.wanted.clear();
+        // There is as much room as for the text.
         let _ = self.wanted.extend_from_slice(&self.out);
     }
 
@@ -168,6 +170,7 @@ impl Trial {
     fn ask(&mut self, bytes: usize) {
         if self.is_heard {
             self.is_begun = true;
+            // The number is for the library; the memory is given back at once.
             let _ = given(self.alloc, bytes);
         }
     }
@@ -209,6 +212,7 @@ impl Trial {
 
     /// The text of a call is whole.
     pub(crate) fn end_call(&mut self) {
+        // There is room for the text.
         let _ = self.out.push(END);
         if self.is_tried {
             self.calls = self.calls.saturating_add(1);
@@ -225,6 +229,7 @@ impl Trial {
             if *byte == END {
                 return;
             }
+            // There is room for the text.
             let _ = self.out.push(*byte);
         }
     }

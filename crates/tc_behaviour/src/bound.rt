@@ -58,6 +58,7 @@ pub(crate) fn arguments(pass: &Pass, made: &[Comp], places: &Places) -> Args
 {
     let mut args = Args::new();
     for place in places.as_slice() {
+        // There is room: `Places` are `ARGUMENTS` at most, as `Args` are.
         let _ = args.push(component(pass, made, *place));
     }
     args

@@ -249,6 +249,7 @@ impl Book {
         ensures legal { IsLegal self.now.behaviours (past_of self.now) }
         ensures others { AreOthers (past_of self.now) }
     {
+        // A field is read, so that the proof has what every book keeps.
         let _ = &self.count;
     }
 

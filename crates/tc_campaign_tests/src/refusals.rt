@@ -63,6 +63,7 @@ fn each_refusal_aborts(rt: HostRuntime) -> Result<(), Fail> {
 /// Ends its own case, and hands back the pass of another one.
 fn exchanges<R: Wait>(rt: &R, pass: Pass, other: Pass) -> Back {
     let mut pass = pass;
+    // It halts, as the case has ended.
     let _ = pass.stop_case(rt);
     Back {
         pass: other,

@@ -259,6 +259,7 @@ fn book_on_one_thread(rt: HostRuntime) {
 fn sets_pass<R: Wait>(rt: &R, ticket: Ticket) -> Left {
     match await_start(rt, ticket) {
         Ok(mut pass) => {
+            // The close shows whether it was set.
             let _ = pass.set_verdict(UserVerdict::Pass);
             leave(rt, pass)
         }

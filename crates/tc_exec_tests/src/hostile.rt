@@ -63,6 +63,7 @@ impl Drop for Lingers {
     fn drop(self) {
         let Lingers(flag) = self;
         for _ in 0..20_000_000u32 {
+            // Each load takes time, and nothing else.
             let _ = flag.load(Ordering::SeqCst);
         }
         flag.store(1, Ordering::SeqCst);
@@ -286,6 +287,7 @@ fn a_behaviour_with_a_deep_frame(rt: HostRuntime) -> Result<(), AllocError> {
 /// A call on its own pass, after which the pass of another case is handed back.
 fn hands_back<R: Wait>(rt: &R, pass: Pass, other: Pass, ending: Ending) -> Back {
     let mut pass = pass;
+    // It halts, as the own component is killed.
     let _ = pass.kill(rt, Group::One(Comp(0)));
     Back {
         pass: other,

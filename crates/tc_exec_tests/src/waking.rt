@@ -49,6 +49,7 @@ fn pause_long<R: Clock>(rt: &R) {
 /// Makes the calls of these rows, whatever is replied.
 fn make<R: Abort + Wait>(rt: &R, pass: &mut Pass, rows: &str) {
     for row in rows.lines() {
+        // (the replies are no concern of the test)
         let _ = reply_to(rt, pass, row);
     }
 }
@@ -141,6 +142,7 @@ fn call_cause<R: Abort + Wait>(rt: &R, cause: &str, main: &mut Pass, late: &mut 
         return;
     }
     let pass = if cause.starts_with("0 ") { main } else { late };
+    // What it wakes is compared, not its reply.
     let _ = reply_to(rt, pass, cause);
 }
 
@@ -179,6 +181,7 @@ fn is_woken_by<R: Abort + Wait>(
     let (main, waiter, late) = lefts;
     is(rt, reply, woken_by(&waiter), read_reply(reply.as_bytes()));
     let lefts = got(rt, vec![in alloc; main, waiter, late]);
+    // It closes; the report is no concern of the test.
     let _ = got(rt, close(rt, alloc, shared, lefts));
 }
 

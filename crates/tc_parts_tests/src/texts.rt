@@ -11,6 +11,7 @@ use tc_text::{append_text, write_op};
 /// A start of component 1 with run 2 and argument 3.
 fn start() -> Op {
     let mut args = Args::new();
+    // There is room for one.
     let _ = args.push(Comp(3));
     Op::Start {
         comp: Comp(1),

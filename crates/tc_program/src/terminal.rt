@@ -37,6 +37,7 @@ impl<R: Read + Drop, E: Write + Drop> Read for Announcing<R, E> {
 
     fn read(&mut self, buf: &mut [u8]) -> io::Result<usize> {
         if let Some(line) = self.line.take() {
+            // The input is read even if the line is not taken.
             let _ = self.errors.write_all(line.as_bytes());
         }
         self.reader.read(buf)

@@ -31,6 +31,7 @@ fn places_of(bound: &Names, named: &[Place<Name>]) -> Places
 {
     let mut places = Places::new();
     for place in named {
+        // By the clause `few` there is room.
         let _ = places.push(place_at(bound, place));
     }
     places

@@ -51,6 +51,7 @@ fn arguments(me: Comp, bound: &[Comp], places: &Places) -> Args
 {
     let mut args = Args::new();
     for place in places.as_slice() {
+        // There is room: `Places` are `ARGUMENTS` at most, as `Args` are.
         let _ = args.push(component(me, bound, *place));
     }
     args

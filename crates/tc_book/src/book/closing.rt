@@ -58,6 +58,7 @@ fn report_of_parts(
     ensures history { IfOk result (λ c. c.history ≡ history.items) }
     ensures report { IfOk result (λ c. IsOneHistory c) }
 {
+    // Only the clauses speak of them.
     let _ = lefts;
     let behaviours = parts.len() as u16;
     match are_calls(alloc, behaviours, &parts, &history) {

@@ -50,6 +50,7 @@ impl Book {
         ensures silent { IfOk result (λ r. r.1 ≡ false → NobodyWakes self.old self.new) }
         ensures refused { OnErr result (self.new ≡ self.old) }
     {
+        // A field is read, so that the proof has what every book keeps.
         let _ = &self.count;
         let keeps = keeps_phases(&op);
         let reply = self.record(run, op)?;
@@ -70,6 +71,7 @@ impl Book {
         ensures places { OnSome result (self.new.places ≡ without_wake self.old run) }
         ensures silent { IfSome result (λ r. r.1 ≡ false → NobodyWakes self.old self.new) }
     {
+        // A field is read, so that the proof has what every book keeps.
         let _ = &self.count;
         let reply = self.wake(run, killed, target)?;
         Some((reply, tells(true, reply)))

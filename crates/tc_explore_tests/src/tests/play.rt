@@ -37,6 +37,7 @@ fn target(me: Comp, bound: &[Comp], place: TargetPlace) -> Target {
 fn args(me: Comp, bound: &[Comp], places: &Places) -> Args {
     let mut args = Args::new();
     for place in places.as_slice() {
+        // There is room: `Places` are `ARGUMENTS` at most, as `Args` are.
         let _ = args.push(component(me, bound, *place));
     }
     args
@@ -285,6 +286,7 @@ fn push_next(
     for run in 0..play.state.behaviours() {
         if let Some(op) = play.next(scripts, run) {
             let mut next = play.copied(alloc)?;
+            // What the table replies is in the play.
             let _ = next.call(run, op)?;
             left.push(next)?;
         }

@@ -59,6 +59,7 @@ impl Random {
 
     fn start(&mut self) -> Step {
         let mut args = Places::new();
+        // There is room for one.
         let _ = args.push(self.place());
         Step::Start {
             on: self.place(),
