@@ -41,9 +41,9 @@ UNREFUSED: Tuple[Exempt, ...] = (
 # What these are handed holds no allocator, so that they can ask for no memory; memory.py looks at their heads.
 WITHOUT_ALLOCATOR = (
     "SlowReader::new", "InputFault::text", "WriteFault::text", "Shard::new", "Shard::place", "Shard::shards", "Shard::has",
-    "WordFault::text", "Step::operation", "Step::is_bound", "Place::is_bound", "Place::map", "GroupPlace::map", "TargetPlace::map",
+    "WordFault::text", "Step::operation", "Place::map", "GroupPlace::map", "TargetPlace::map",
     "Places::new", "Places::push", "Places::as_slice", "Script::is_script", "ScriptKind::text", "read_reference", "is_comment",
-    "is_word", "Keyword::text", "read_keyword", "read_verdict", "tc_line::read_name", "Lines::new", "Lines::next", "Lines::next_part",
+    "is_word", "Keyword::text", "read_keyword", "tc_line::read_name", "Lines::new", "Lines::next", "Lines::next_part",
     "awaited_line",
     "deciding_entry", "component_of", "name_of", "Refusal::text", "Pattern::read", "Pattern::bytes", "Pattern::matches", "overwrite",
     "worse_of", "worst", "name", "tc_verdict::read_name", "to_user", "from_user", "rank", "of_rank", "NoMemory::text", "Run::copy",

@@ -15,7 +15,7 @@ impl Comp {
 }
 
 /// Whether two lists have the same components.
-pub fn same_comps(a: &[Comp], b: &[Comp]) -> bool
+pub(crate) fn same_comps(a: &[Comp], b: &[Comp]) -> bool
     ensures { IsTrue result ↔ (a.now ≡ b.now) }
 {
     let mut rest = a;

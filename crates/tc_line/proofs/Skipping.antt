@@ -14,7 +14,7 @@ use Rattle.tc_line.specs.Inside.Indented.{is_newline, is_space, is_some_text, sp
 use Rattle.tc_line.specs.Inside.Skips.{SkipsOne, Skips}
 use Rattle.tc_line.proofs.Taking.{HasNoEnd, lines_next}
 
-pub one_space_more : (n : ℕ) (bytes : List ℕ) → spaces n (32 ∷ bytes) ≡ spaces (suc n) bytes
+one_space_more : (n : ℕ) (bytes : List ℕ) → spaces n (32 ∷ bytes) ≡ spaces (suc n) bytes
 one_space_more zero bytes = refl
 one_space_more (suc n) bytes = ap (λ xs. 32 ∷ xs) (one_space_more n bytes)
 

@@ -85,7 +85,7 @@ is_ten : (b : ℕ) → is_newline b ≡ true → b ≡ 10
 is_ten b e = grind (arith, nat_tests, e)
 
 -- the text up to its first line feed has none, and the rest follows
-pub cut_at : (text : List ℕ) (k : ℕ) → IsFirstByte (is_byte 10) text (Some k) → HasNoEnd (take k text) × (text ≡ take k text ++ 10 ∷ drop (k + 1) text)
+cut_at : (text : List ℕ) (k : ℕ) → IsFirstByte (is_byte 10) text (Some k) → HasNoEnd (take k text) × (text ≡ take k text ++ 10 ∷ drop (k + 1) text)
 cut_at text k is =
     let next : suc k ≡ k + 1 = omega arith in
     let end : drop k text ≡ 10 ∷ drop (k + 1) text =
@@ -95,7 +95,7 @@ cut_at text k is =
     )
 
 -- what is left after it, as a part of the text
-pub left_whole : (text : List ℕ) (k : ℕ) → take (length text - (k + 1)) (drop (k + 1) text) ≡ drop (k + 1) text
+left_whole : (text : List ℕ) (k : ℕ) → take (length text - (k + 1)) (drop (k + 1) text) ≡ drop (k + 1) text
 left_whole text k = take_all (length text - (k + 1)) (drop (k + 1) text) (omega (arith, length-drop (k + 1) text))
 
 first_taken : (text : List ℕ) (k : ℕ) → IsFirstByte (is_byte 10) text (Some k) → lines text ≡ take k text ∷ lines (drop (k + 1) text)

@@ -12,7 +12,7 @@ mod word;
 pub use kind::{LineFault, ScriptKind};
 pub use line::{Call, Keyword, Line};
 pub use reading::{is_comment, read_line, read_reference};
-pub use spelling::{KEYWORDS, is_word, read_keyword, read_verdict};
+pub use spelling::{is_word, read_keyword};
 pub use tc_entry::{Name, Sequence, UserVerdict};
 pub use tc_step::{GroupPlace, Place, Status, TargetPlace};
 pub use text::{Lines, Part, read_words};

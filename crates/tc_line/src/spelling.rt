@@ -17,7 +17,7 @@ pub fn is_word(word: &[u8], spelling: &[u8]) -> bool
 }
 
 /// All keywords, in the order of their table.
-pub const KEYWORDS: [Keyword; 15] = [
+pub(crate) const KEYWORDS: [Keyword; 15] = [
     Keyword::TestCase,
     Keyword::Behaviour,
     Keyword::End,
@@ -96,7 +96,7 @@ fn find_keyword(word: &[u8]) -> Option<Keyword>
 
 /// What `setverdict` may set, by its name.
 #[tactic(auto, unfolding(crate::specs::Words::verdict))]
-pub fn read_verdict(word: &[u8]) -> Option<UserVerdict>
+pub(crate) fn read_verdict(word: &[u8]) -> Option<UserVerdict>
     ensures { result ≡ verdict word.now }
 {
     if is_word(word, b"none") {

@@ -101,11 +101,11 @@ pub cases_skipped : (n : ℕ) (ls : List Line) → cases (skipped n ls) ≡ case
 cases_skipped zero ls = refl
 cases_skipped (suc n) ls = cases_skipped n ls
 
-pub steps_skipped : (n : ℕ) (hs : List Head) (ns : List Word) (ls : List Line) → steps hs ns (skipped n ls) ≡ steps hs ns ls
+steps_skipped : (n : ℕ) (hs : List Head) (ns : List Word) (ls : List Line) → steps hs ns (skipped n ls) ≡ steps hs ns ls
 steps_skipped zero hs ns ls = refl
 steps_skipped (suc n) hs ns ls = steps_skipped n hs ns ls
 
-pub behind_steps_skipped : (n : ℕ) (ls : List Line) → behind_steps (skipped n ls) ≡ behind_steps ls
+behind_steps_skipped : (n : ℕ) (ls : List Line) → behind_steps (skipped n ls) ≡ behind_steps ls
 behind_steps_skipped zero ls = refl
 behind_steps_skipped (suc n) ls = behind_steps_skipped n ls
 

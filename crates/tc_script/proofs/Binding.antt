@@ -131,7 +131,7 @@ new_to_none (m ∷ ms) = (refl, new_to_none ms)
 
 -- ---- the steps of a behaviour
 
-pub are_bound : (hs : List Head) (past rest : List Line) → misnamed past rest ≡ None → AreBound (length (bound past)) (steps hs (bound past) rest)
+are_bound : (hs : List Head) (past rest : List Line) → misnamed past rest ≡ None → AreBound (length (bound past)) (steps hs (bound past) rest)
 unfolding step_of
 are_bound hs past [] named = tt
 are_bound hs past (L.TestCase n ∷ rest) named = tt

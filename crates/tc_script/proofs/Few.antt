@@ -14,7 +14,7 @@ one_more n ns = by (among n ns)
     by true = omega arith
     by false = grind (arith, length-append ns (n ∷ []))
 
-pub few_bound : (call : Call) (ns : List Word) → length (with_bound call ns) ≤ length ns + 1
+few_bound : (call : Call) (ns : List Word) → length (with_bound call ns) ≤ length ns + 1
 few_bound (C.Create n alive given_name) ns = one_more n ns
 few_bound (C.Start on b args) ns = omega arith
 few_bound (C.Stop g) ns = omega arith
@@ -25,7 +25,7 @@ few_bound (C.SetVerdict v) ns = omega arith
 few_bound C.StopCase ns = omega arith
 few_bound C.GetVerdict ns = omega arith
 
-pub few_of_all : (ns ms : List Word) → length (all_of ns ms) ≤ length ns + length ms
+few_of_all : (ns ms : List Word) → length (all_of ns ms) ≤ length ns + length ms
 few_of_all ns [] = omega arith
 few_of_all ns (m ∷ ms) =
     let more = few_of_all (add m ns) ms in

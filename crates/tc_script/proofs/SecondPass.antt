@@ -13,7 +13,7 @@ use Rattle.tc_script.specs.Inside.Passing.{scope_after}
 use Rattle.tc_script.specs.SecondPass.{name_fault, misnamed}
 
 -- the names after a line are those that the lines say
-pub goes_on : (past : List Line) (l : Line) (rest : List Line) → scope_after (scope_of past (l ∷ rest)) l rest ≡ scope_of (l ∷ past) rest
+goes_on : (past : List Line) (l : Line) (rest : List Line) → scope_after (scope_of past (l ∷ rest)) l rest ≡ scope_of (l ∷ past) rest
 goes_on past (L.TestCase n) rest = refl
 goes_on past (L.Behaviour n ps) rest = refl
 goes_on past (L.Step call) rest = refl

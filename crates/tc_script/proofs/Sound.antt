@@ -49,7 +49,7 @@ read_more past l ls is rest = (l ∷ rest.0, rest.1 ∙ turned, (is, rest.2))
     turned : reverse (l ∷ past) ++ rest.0 ≡ reverse past ++ l ∷ rest.0
     turned = ap (λ xs. xs ++ rest.0) (reverse-append (l ∷ []) past) ∙ append_assoc (reverse past) (l ∷ []) rest.0
 
-pub parsed_rest : (past : List Line) (texts : List (List ℕ)) (ls : List Line) → parsed past texts ≡ Ok ls → IsRest past ls
+parsed_rest : (past : List Line) (texts : List (List ℕ)) (ls : List Line) → parsed past texts ≡ Ok ls → IsRest past ls
 parsed_rest past [] ls is = by (ends_well (opened past) (cases_in past)) is
   where
     by : (b : Bool) → (if b then Ok (reverse past) else Err (at_next past F.Cut)) ≡ Ok ls → IsRest past ls
@@ -88,7 +88,7 @@ few_arguments_at past (L.TestCase n) is = tt
 few_arguments_at past (L.Behaviour n ps) is = tt
 few_arguments_at past L.End is = tt
 
-pub few_arguments : (past ls : List Line) → ArePlaced past ls → HaveFewArguments ls
+few_arguments : (past ls : List Line) → ArePlaced past ls → HaveFewArguments ls
 few_arguments past [] are = tt
 few_arguments past (l ∷ rest) are = (few_arguments_at past l are.0, few_arguments (l ∷ past) rest are.1)
 
@@ -131,7 +131,7 @@ few_heads hs past (L.Step call ∷ rest) are le few = few_heads hs (L.Step call 
 few_parameters : (past : List Line) (n : List ℕ) (ps : List (List ℕ)) → placed past (L.Behaviour n ps) ≡ Ok (L.Behaviour n ps) → length ps ≤ ARGUMENTS
 few_parameters past n ps is = (few_more past n ps (within_limits past (L.Behaviour n ps) is)).1
 
-pub are_scripts : (hs : List Head) (past ls : List Line) → ArePlaced past ls → misnamed past ls ≡ None → AreScripts hs ls
+are_scripts : (hs : List Head) (past ls : List Line) → ArePlaced past ls → misnamed past ls ≡ None → AreScripts hs ls
 unfolding steps_in
 are_scripts hs past [] are named = tt
 are_scripts hs past (L.Behaviour n ps ∷ rest) are named =
@@ -149,7 +149,7 @@ are_scripts hs past (L.Skipped ∷ rest) are named = are_scripts hs (L.Skipped �
 are_scripts hs past (L.End ∷ rest) are named = are_scripts hs (L.End ∷ past) rest are.1 (named_next past L.End rest named).1
 are_scripts hs past (L.Step call ∷ rest) are named = are_scripts hs (L.Step call ∷ past) rest are.1 (named_next past (L.Step call) rest named).1
 
-pub are_cases : (past ls : List Line) → ArePlaced past ls → misnamed past ls ≡ None → AreCases ls
+are_cases : (past ls : List Line) → ArePlaced past ls → misnamed past ls ≡ None → AreCases ls
 unfolding heads behaviours_in
 are_cases past [] are named = tt
 are_cases past (L.TestCase n ∷ rest) are named =

@@ -170,7 +170,7 @@ fn cases_of(alloc: Global, lines: &Rest) -> Result<IndexMap<Name, CaseScript>, A
 }
 
 /// The campaign of lines without a fault.
-pub fn campaign_of(alloc: Global, lines: &Rest) -> Result<Campaign, AllocError>
+pub(crate) fn campaign_of(alloc: Global, lines: &Rest) -> Result<Campaign, AllocError>
     requires few_arguments { HaveFewArguments lines.now }
     requires cases { AreCases lines.now }
     requires distinct { AreDistinct (cases lines.now) }

@@ -10,7 +10,7 @@ use tc_step::STEPS;
 
 /// What the first pass remembers of the lines before.
 #[derive(Clone, Copy, Debug, PartialEq, Eq)]
-pub struct Counts {
+pub(crate) struct Counts {
     pub state: Open,
     pub cases: usize,
     pub behaviours: usize,
@@ -75,7 +75,7 @@ impl Counts {
     }
 
     /// What is remembered after one more line, or what is wrong with its place.
-    pub fn with_line(self, line: &Line) -> Result<Counts, ScriptKind>
+    pub(crate) fn with_line(self, line: &Line) -> Result<Counts, ScriptKind>
         ensures { result ≡ counted self line.now }
     {
         match open_after(line, self.state) {
@@ -85,7 +85,7 @@ impl Counts {
     }
 
     /// Whether the text may end here.
-    pub fn has_ended(self) -> bool
+    pub(crate) fn has_ended(self) -> bool
         ensures { result ≡ may_end self }
     {
         matches!(self.state, Open::Nothing) && self.cases > 0

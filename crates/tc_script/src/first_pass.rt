@@ -56,7 +56,7 @@ fn opening() -> Counts
 
 /// The lines of a text, or its first fault from BadByte to Cut.
 #[tactic(auto, using(crate::proofs::FirstPass::parsing_rules))]
-pub fn parse(alloc: Global, text: &[u8]) -> Result<KeptLines, ReadFault>
+pub(crate) fn parse(alloc: Global, text: &[u8]) -> Result<KeptLines, ReadFault>
     ensures lines { Reads (λ v. v) result (parsed [] (lines text.now)) }
     ensures few { IfOk result (λ v. length v ≤ 2 ^ 63) }
 {

@@ -12,7 +12,7 @@ use tc_line::{Line, Name};
 
 /// The behaviours of a test case, each with the number of its parameters, in the order of the text.
 #[derive(Drop)]
-pub struct Heads {
+pub(crate) struct Heads {
     map: IndexMap<Name, usize>,
 }
 
@@ -26,7 +26,7 @@ impl Model for Heads {
 
 impl Heads {
     /// No behaviour.
-    pub fn new(alloc: Global) -> Heads
+    pub(crate) fn new(alloc: Global) -> Heads
         ensures { result ≡ [] }
     {
         Heads {
@@ -36,7 +36,7 @@ impl Heads {
 
     /// How many parameters the behaviour of that name has, if there is one.
     #[tactic(auto, unfolding(tc_line::specs::Words::is_text, crate::specs::Scope::parameters_of))]
-    pub fn parameters_of(&self, name: &Name) -> Option<usize>
+    pub(crate) fn parameters_of(&self, name: &Name) -> Option<usize>
         ensures { result ≡ parameters_of name.now self.now }
     {
         self.map.get(name).copied()
@@ -44,7 +44,7 @@ impl Heads {
 
     /// The place of the behaviour of that name; the number of behaviours if there is none.
     #[tactic(auto, unfolding(tc_line::specs::Words::is_text, crate::specs::Names::index_of))]
-    pub fn place_of(&self, name: &Name) -> usize
+    pub(crate) fn place_of(&self, name: &Name) -> usize
         ensures place { result ≡ index_of name.now (names_of self.now) }
         ensures within { result ≤ length self.now }
     {
@@ -55,7 +55,7 @@ impl Heads {
     }
 
     /// Adds a behaviour after the others, if none of them has its name.
-    pub fn add(&mut self, name: &Name, parameters: usize) -> Result<(), AllocError>
+    pub(crate) fn add(&mut self, name: &Name, parameters: usize) -> Result<(), AllocError>
         ensures { OnOk result (self.new ≡ add_head name.now parameters self.old) }
     {
         if self.parameters_of(name).is_some() {
@@ -68,7 +68,7 @@ impl Heads {
 
 /// The behaviours of the test case whose lines these begin with.
 #[tactic(auto, unfolding(crate::specs::Scope::heads), using(crate::proofs::Behind::heading_rules))]
-pub fn heads_of(alloc: Global, lines: &Rest) -> Result<Heads, AllocError>
+pub(crate) fn heads_of(alloc: Global, lines: &Rest) -> Result<Heads, AllocError>
     ensures { IfOk result (λ h. h ≡ heads lines.now) }
 {
     let mut found = Heads::new(alloc);

@@ -10,7 +10,7 @@ use tc_line::{Call, Line, UserVerdict};
 /// What is kept for a line: a verdict call whole, since most lines are verdict calls; or that the line is kept apart.
 /// Lines in a row that say nothing have one mark.
 #[derive(Clone, Copy, Debug, PartialEq, Eq)]
-pub enum Mark {
+pub(crate) enum Mark {
     /// Lines that say nothing, one more than this number.
     Skipped(u8),
     Set(UserVerdict),
@@ -21,7 +21,7 @@ pub enum Mark {
 /// Lines in their order. A verdict call takes two bytes, as up to 256 lines that say nothing do; any other line has its own
 /// room.
 #[derive(Drop)]
-pub struct KeptLines {
+pub(crate) struct KeptLines {
     marks: Vec<Mark>,
     apart: Vec<Line>,
 }
@@ -40,7 +40,7 @@ impl Model for KeptLines {
 
 /// Kept lines that are still to be passed.
 #[derive(Drop)]
-pub struct Rest<'l> {
+pub(crate) struct Rest<'l> {
     marks: &'l [Mark],
     apart: &'l [Line],
 }
@@ -59,7 +59,7 @@ impl<'l> Model for Rest<'l> {
 
 /// The first of kept lines, or those at the head that have one mark.
 #[derive(Clone, Copy)]
-pub enum First<'l> {
+pub(crate) enum First<'l> {
     /// Lines that say nothing, one more than this number.
     Skipped(u8),
     Set(UserVerdict),
@@ -69,7 +69,7 @@ pub enum First<'l> {
 
 impl<'l> First<'l> {
     /// How many lines it is.
-    pub fn lines(self) -> usize
+    pub(crate) fn lines(self) -> usize
         ensures count { result ≡ lines_in self.entry }
         ensures few { result ≤ 256 }
     {
@@ -93,7 +93,7 @@ fn mark_of(line: &Line) -> Mark
 #[tactic(auto, using(crate::proofs::Kept::kept_rules))]
 impl KeptLines {
     /// No line.
-    pub fn new(alloc: Global) -> KeptLines
+    pub(crate) fn new(alloc: Global) -> KeptLines
         ensures { result ≡ [] }
     {
         KeptLines {
@@ -125,7 +125,7 @@ impl KeptLines {
     }
 
     /// Adds a line after the others.
-    pub fn push(&mut self, line: Line) -> Result<(), AllocError>
+    pub(crate) fn push(&mut self, line: Line) -> Result<(), AllocError>
         ensures pushed { OnOk result (self.new ≡ self.old ++ line ∷ []) }
         ensures same { OnErr result (self.new ≡ self.old) }
     {
@@ -141,7 +141,7 @@ impl KeptLines {
     }
 
     /// Adds lines that say nothing, one more than this number.
-    pub fn push_skipped(&mut self, more: u8) -> Result<(), AllocError>
+    pub(crate) fn push_skipped(&mut self, more: u8) -> Result<(), AllocError>
         ensures { OnOk result (self.new ≡ self.old ++ skipped (suc more) []) }
     {
         self.marks.push(Mark::Skipped(more))?;
@@ -149,7 +149,7 @@ impl KeptLines {
     }
 
     /// All of them.
-    pub fn rest(&self) -> Rest<'_>
+    pub(crate) fn rest(&self) -> Rest<'_>
         ensures { result ≡ self.now }
     {
         Rest {
@@ -162,7 +162,7 @@ impl KeptLines {
 #[tactic(auto, using(crate::proofs::Kept::kept_rules))]
 impl<'l> Rest<'l> {
     /// The same lines.
-    pub fn copy(&self) -> Rest<'l>
+    pub(crate) fn copy(&self) -> Rest<'l>
         ensures { result ≡ self.now }
     {
         Rest {
@@ -173,7 +173,7 @@ impl<'l> Rest<'l> {
 
     /// The lines of the first mark, and those after them.
     #[inline(always)]
-    pub fn split_first(&self) -> Option<(First<'l>, Rest<'l>)>
+    pub(crate) fn split_first(&self) -> Option<(First<'l>, Rest<'l>)>
         ensures { MatchOption result (self.now ≡ []) (λ r. self.now ≡ begun r.0 r.1) }
     {
         let (mark, marks) = self.marks.split_first()?;

@@ -10,7 +10,7 @@ use tc_line::Name;
 
 /// Distinct names, in the order in which they came.
 #[derive(Drop)]
-pub struct Names {
+pub(crate) struct Names {
     set: IndexSet<Name>,
 }
 
@@ -32,7 +32,7 @@ fn is_same(name: &Name, other: &Name) -> bool
 
 /// Whether the name is one of these.
 #[tactic(auto, unfolding(crate::specs::Names::among))]
-pub fn is_one_of(name: &Name, names: &[Name]) -> bool
+pub(crate) fn is_one_of(name: &Name, names: &[Name]) -> bool
     ensures { result ≡ among name.now names.now }
 {
     names.iter().any(|other| is_same(name, other))
@@ -40,7 +40,7 @@ pub fn is_one_of(name: &Name, names: &[Name]) -> bool
 
 impl Names {
     /// No name.
-    pub fn new(alloc: Global) -> Names
+    pub(crate) fn new(alloc: Global) -> Names
         ensures { result ≡ [] }
     {
         Names {
@@ -50,14 +50,14 @@ impl Names {
 
     /// Whether the name is one of them.
     #[tactic(auto, unfolding(tc_line::specs::Words::is_text, crate::specs::Names::among))]
-    pub fn contains(&self, name: &Name) -> bool
+    pub(crate) fn contains(&self, name: &Name) -> bool
         ensures { result ≡ among name.now self.now }
     {
         self.set.contains(name)
     }
 
     /// Whether there is no name.
-    pub fn is_empty(&self) -> bool
+    pub(crate) fn is_empty(&self) -> bool
         ensures { result ≡ (length self.now == 0) }
     {
         self.set.is_empty()
@@ -65,7 +65,7 @@ impl Names {
 
     /// The place of the name; the number of names if it is none of them.
     #[tactic(auto, unfolding(tc_line::specs::Words::is_text, crate::specs::Names::index_of))]
-    pub fn place_of(&self, name: &Name) -> usize
+    pub(crate) fn place_of(&self, name: &Name) -> usize
         ensures place { result ≡ index_of name.now self.now }
         ensures within { result ≤ length self.now }
     {
@@ -77,7 +77,7 @@ impl Names {
 
     /// Adds the name after the others, if it is none of them.
     #[tactic(auto, unfolding(tc_line::specs::Words::is_text, crate::specs::Names::among))]
-    pub fn add(&mut self, name: Name) -> Result<bool, AllocFailed<Name>>
+    pub(crate) fn add(&mut self, name: Name) -> Result<bool, AllocFailed<Name>>
         ensures new { IfOk result (λ is_new. is_new ≡ not (among name self.old)) }
         ensures added { OnOk result (self.new ≡ add name self.old) }
         ensures same { OnErr result (self.new ≡ self.old) }

@@ -17,7 +17,7 @@ use tc_line::{Call, GroupPlace, Line, Name, Place, ScriptKind, TargetPlace};
 
 /// The names that a line may not use again, and those that it may refer to.
 #[derive(Drop)]
-pub struct Scope {
+pub(crate) struct Scope {
     cases: Names,
     behaviours: Names,
     bound: Names,
@@ -53,7 +53,7 @@ fn any_twice(names: &[Name]) -> bool
 }
 
 /// The names that are bound where a behaviour with these parameters begins.
-pub fn bound_by(alloc: Global, parameters: &[Name]) -> Result<Names, AllocError>
+pub(crate) fn bound_by(alloc: Global, parameters: &[Name]) -> Result<Names, AllocError>
     ensures { IfOk result (λ n. n ≡ all_of [] parameters.now) }
 {
     let mut names = Names::new(alloc);
@@ -64,7 +64,7 @@ pub fn bound_by(alloc: Global, parameters: &[Name]) -> Result<Names, AllocError>
 }
 
 /// Binds the component of a create.
-pub fn bind(bound: &mut Names, call: &Call) -> Result<(), AllocError>
+pub(crate) fn bind(bound: &mut Names, call: &Call) -> Result<(), AllocError>
     ensures { OnOk result (bound.new ≡ with_bound call.now bound.old) }
 {
     match call {
@@ -78,7 +78,7 @@ pub fn bind(bound: &mut Names, call: &Call) -> Result<(), AllocError>
 
 impl Scope {
     /// The names before the first line.
-    pub fn new(alloc: Global) -> Scope
+    pub(crate) fn new(alloc: Global) -> Scope
         ensures { result ≡ record { cases = []; behaviours = []; bound = []; heads = [] } }
     {
         Scope {
@@ -176,7 +176,7 @@ impl Scope {
     }
 
     /// The first fault of a line among these names.
-    pub fn fault_of(&self, line: &Line) -> Option<ScriptKind>
+    pub(crate) fn fault_of(&self, line: &Line) -> Option<ScriptKind>
         ensures { result ≡ name_fault self.now line.now }
     {
         match line {
@@ -214,7 +214,7 @@ impl Scope {
     }
 
     /// Continues after a line, with the lines after it.
-    pub fn take(&mut self, alloc: Global, line: &Line, rest: &Rest) -> Result<(), AllocError>
+    pub(crate) fn take(&mut self, alloc: Global, line: &Line, rest: &Rest) -> Result<(), AllocError>
         ensures { OnOk result (self.new ≡ scope_after self.old line.now rest.now) }
     {
         match line {

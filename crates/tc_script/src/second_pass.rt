@@ -56,7 +56,7 @@ fn first_misnamed_in(
 }
 
 /// The first line with a fault of names.
-pub fn first_misnamed(alloc: Global, lines: &Rest) -> Result<Option<ScriptFault>, AllocError>
+pub(crate) fn first_misnamed(alloc: Global, lines: &Rest) -> Result<Option<ScriptFault>, AllocError>
     requires few { length lines.now ≤ 2 ^ 63 }
     ensures { IfOk result (λ fault. fault ≡ misnamed [] lines.now) }
 {

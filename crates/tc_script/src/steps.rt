@@ -112,7 +112,7 @@ fn steps_into<'l>(
 
 /// The steps up to the end of a behaviour with these parameters, whose lines these begin with, and the lines from that
 /// end on.
-pub fn steps_of<'l>(
+pub(crate) fn steps_of<'l>(
     alloc: Global,
     heads: &Heads,
     parameters: &[Name],

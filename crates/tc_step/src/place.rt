@@ -34,7 +34,7 @@ pub enum TargetPlace<P = Place> {
 
 impl Place {
     /// Whether the place is one of a behaviour that has that many components bound.
-    pub fn is_bound(self, count: usize) -> bool
+    pub(crate) fn is_bound(self, count: usize) -> bool
         ensures { IsTrue result ↔ IsBound count self }
     {
         match self {

@@ -66,7 +66,7 @@ fn is_start_bound(on: Place, args: &Places, count: usize) -> bool
 
 impl Step {
     /// Whether each place of the step is one of a behaviour that has that many components bound.
-    pub fn is_bound(&self, count: usize) -> bool
+    pub(crate) fn is_bound(&self, count: usize) -> bool
         ensures { IsTrue result ↔ All (IsBound count) (places self.now) }
     {
         match self {
