@@ -14,7 +14,7 @@ use Rattle.tc_board.specs.declared.rule.View.{View}
 use Rattle.tc_board.specs.Answers.{NeverShut, FindsWorst}
 use Rattle.tc_board.specs.Rule.{word_of, Agrees, Fits}
 use Rattle.tc_board.specs.Hand.{HandView}
-use Rattle.tc_board.specs.Board.{first_answers, first_record, first_records, new_hand, new_hands, new_keeper}
+use Rattle.tc_board.specs.Board.{first_answers, first_record, first_records, new_hand, new_hands}
 use Rattle.tc_board.specs.Inside.Seats.{list, answers_of, hand_view, keeper_view, first_lists, opening_view, split_off, left_over}
 use Rattle.tc_board.specs.Inside.Table.{Row, row, record_of, Knows, Stands, Holds}
 use Rattle.tc_board.specs.Inside.Steps.{Seated}
@@ -179,12 +179,6 @@ length-first k (suc n) = ap suc (length-first (suc k) n)
 
 pub keeper_shape : (n words : ℕ) (lists : List AnswerList) (me : Seated) → me ≡ (keeper_view (first_records 0 n) lists, []) → words ≡ n → (me ≡ (keeper_view me.0.records me.0.lists, [])) × (length me.0.records ≡ words)
 keeper_shape n words lists me is same = subst (λ (m : Seated). (m ≡ (keeper_view m.0.records m.0.lists, [])) × (length m.0.records ≡ words)) (sym is) (refl, length-first 0 n ∙ sym same)
-
--- the keeper once each hand has its list
-pub keeper_made : (board table : TableId) (n k left : ℕ) (me : Seated) → table ≡ board → me ≡ (keeper_view (first_records 0 n) (first_lists k left), []) → left ≡ 0
-    → record { board = table; records = me.0.records; gathered = me.0.lists } ≡ new_keeper board n
-keeper_made board table n k left me at is none_left = let a : record { board = table; records = me.0.records; gathered = me.0.lists } ≡ record { board = board; records = first_records 0 n; gathered = first_lists k left } = λ i. record { board = at i; records = (is i).0.records; gathered = (is i).0.lists } in
-    a ∙ ap (λ m. record { board = board; records = first_records 0 n; gathered = first_lists k m }) none_left
 
 new_hands-end : (board : TableId) (k n : ℕ) → new_hands board k n ++ new_hand board (k + n) ∷ [] ≡ new_hands board k (suc n)
 new_hands-end board k zero = let is : k + 0 ≡ k = omega arith in ap (λ i. new_hand board i ∷ []) is
