@@ -45,7 +45,7 @@ by_op own caller _ reply h plain = record {
   starts = refl;
 }
 
-pub asks_of : (own : Option Comp) (e : Entry) → asks e.op ≡ true → is_fault e.reply ≡ false → Asks own e
+asks_of : (own : Option Comp) (e : Entry) → asks e.op ≡ true → is_fault e.reply ≡ false → Asks own e
 asks_of own e = by_op own e.caller e.op e.reply
 
 -- what is kept of the components stays as it is

@@ -119,7 +119,7 @@ count-at p (x ∷ xs) zero d h = omega arith
 count-at p (x ∷ xs) (suc i) d h = omega (arith, count-at p xs i d (omega arith))
 
 -- a change of the main state is not counted
-pub recounted : (p : ComponentState → Bool) (xs : List ComponentState) (i : ℕ) (old y : ComponentState) (n m : ℕ) → i < length xs → old ≡ get_or xs i old → n ≡ count_of p (drop 1 xs) →
+recounted : (p : ComponentState → Bool) (xs : List ComponentState) (i : ℕ) (old y : ComponentState) (n m : ℕ) → i < length xs → old ≡ get_or xs i old → n ≡ count_of p (drop 1 xs) →
     m + bit (nat_lt 0 i && p old) ≡ n + bit (nat_lt 0 i && p y) → m ≡ count_of p (drop 1 (set xs i y))
 recounted p [] i old y n m h is a b = absurd (omega arith)
 recounted p (x ∷ xs) zero old y n m h is a b = omega arith
@@ -130,7 +130,7 @@ recounted p (x ∷ xs) (suc i) old y n m h is a b =
     let c : m + bit (p old) ≡ n + bit (p y) = rw t at b in
     omega arith
 
-pub counted_at : (p : ComponentState → Bool) (xs : List ComponentState) (i : ℕ) (old : ComponentState) (n : ℕ) → i < length xs → old ≡ get_or xs i old → n ≡ count_of p (drop 1 xs) → bit (nat_lt 0 i && p old) ≤ n
+counted_at : (p : ComponentState → Bool) (xs : List ComponentState) (i : ℕ) (old : ComponentState) (n : ℕ) → i < length xs → old ≡ get_or xs i old → n ≡ count_of p (drop 1 xs) → bit (nat_lt 0 i && p old) ≤ n
 counted_at p [] i old n h is a = absurd (omega arith)
 counted_at p (x ∷ xs) zero old n h is a = omega arith
 counted_at p (x ∷ xs) (suc i) old n h is a =
@@ -139,20 +139,20 @@ counted_at p (x ∷ xs) (suc i) old n h is a =
     let t : nat_lt 0 (suc i) ≡ true = grind (arith, nat_tests) in
     rw t (omega arith)
 
-pub few_counted : (p : ComponentState → Bool) (xs : List ComponentState) (n : ℕ) → length xs ≤ COMPONENTS → n ≡ count_of p (drop 1 xs) → n ≤ COMPONENTS
+few_counted : (p : ComponentState → Bool) (xs : List ComponentState) (n : ℕ) → length xs ≤ COMPONENTS → n ≡ count_of p (drop 1 xs) → n ≤ COMPONENTS
 few_counted p [] n h e = omega arith
 few_counted p (x ∷ xs) n h e = omega (arith, count_le p xs)
 
 -- the worst verdict
 
-pub worst-set : (xs : List ComponentState) (i : ℕ) (y d : ComponentState) → i < length xs → level_of (get_or xs i d).local ≤ level_of y.local → worst_local (set xs i y) ≡ worse (worst_local xs) y.local
+worst-set : (xs : List ComponentState) (i : ℕ) (y d : ComponentState) → i < length xs → level_of (get_or xs i d).local ≤ level_of y.local → worst_local (set xs i y) ≡ worse (worst_local xs) y.local
 unfolding worst_local
 worst-set [] i y d h k = absurd (omega arith)
 worst-set (x ∷ xs) zero y d h k = worse_later (worst_local xs) x.local y.local k
 worst-set (x ∷ xs) (suc i) y d h k =
     ap (λ w. worse w x.local) (worst-set xs i y d (omega arith) k) ∙ worse_swap (worst_local xs) x.local y.local
 
-pub worst-more : (xs : List ComponentState) (alive : Bool) → worst_local (xs ++ made_state alive ∷ []) ≡ worst_local xs
+worst-more : (xs : List ComponentState) (alive : Bool) → worst_local (xs ++ made_state alive ∷ []) ≡ worst_local xs
 unfolding worst_local
 worst-more [] alive = refl
 worst-more (x ∷ xs) alive = ap (λ w. worse w x.local) (worst-more xs alive)
@@ -166,7 +166,7 @@ counted-more p [] y k h = absurd (omega arith)
 counted-more p (x ∷ xs) y k h = count-more p xs y h
 
 module _ {states : List ComponentState} {running done killed lapsed : ℕ} {w : Verdict} where
-  pub counted_more : (alive : Bool) → IsCounted states running done killed lapsed w → length states < COMPONENTS → IsCounted (states ++ made_state alive ∷ []) running done killed lapsed w
+  counted_more : (alive : Bool) → IsCounted states running done killed lapsed w → length states < COMPONENTS → IsCounted (states ++ made_state alive ∷ []) running done killed lapsed w
   counted_more alive k h =
       let e = length-append states (made_state alive ∷ []) in
       record {

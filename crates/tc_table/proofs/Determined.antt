@@ -83,7 +83,7 @@ module _ {p q : List Entry} where
   alive_same s T.Any = any_of s (λ ph. not (is_killed ph))
   alive_same s T.All = all_of s (λ ph. not (is_killed ph))
 
-  pub holds_same : IsSame p q → (a : Awaited) → holds p a ≡ holds q a
+  holds_same : IsSame p q → (a : Awaited) → holds p a ≡ holds q a
   unfolding holds
   holds_same s a = rw (done_same s a.target, killed_same s a.target)
 
@@ -97,7 +97,7 @@ module _ {p q : List Entry} where
   still_same s P.Stopped = refl
   still_same s P.Killed = refl
 
-  pub stuck_same : IsSame p q → is_stuck p ≡ is_stuck q
+  stuck_same : IsSame p q → is_stuck p ≡ is_stuck q
   unfolding is_stuck
   stuck_same s =
       all_same _ _ (comps p) (λ c. ap (is_still p) (phase_same s c) ∙ still_same s (phase q c))

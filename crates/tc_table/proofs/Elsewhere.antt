@@ -93,7 +93,7 @@ kept_by : (kill : Bool) (start : Option Run) (halt out r : Bool) (vs : List Verd
 kept_by kill start halt out true vs s a b c d e f g = let h = sym (g refl) in rw (a, b, c, d, e, f) (ap (λ x. record s { excused = x }) h)
 kept_by kill start halt out false vs s a b c d e f g = rw (a, b, c, d, e, f)
 
-pub elsewhere : (own : Option Comp) (e : Entry) (c : ℕ) (s : ComponentState) → touches (touched own e) c ≡ false → (is_running s.phase ≡ true → s.excused ≡ false) → next_state own e c s ≡ s
+elsewhere : (own : Option Comp) (e : Entry) (c : ℕ) (s : ComponentState) → touches (touched own e) c ≡ false → (is_running s.phase ≡ true → s.excused ≡ false) → next_state own e c s ≡ s
 unfolding next_state
 elsewhere own e c s h settled =
     let l = leaves_by (ends_case e) (is_ended e.reply) own e c refl refl h in
@@ -106,7 +106,7 @@ local_le : (vs : List Verdict) (l : Verdict) → level_of l ≤ level_of (next_l
 local_le [] l = omega arith
 local_le (v ∷ vs) l = let a = local_le vs l in let b = worse_left (next_local vs l) v in omega arith
 
-pub no_better : (own : Option Comp) (e : Entry) (c : ℕ) (s : ComponentState) → level_of s.local ≤ level_of (next_state own e c s).local
+no_better : (own : Option Comp) (e : Entry) (c : ℕ) (s : ComponentState) → level_of s.local ≤ level_of (next_state own e c s).local
 unfolding next_state
 no_better own e c s = local_le (if is_comp own c then gives e.op e.reply else []) s.local
 

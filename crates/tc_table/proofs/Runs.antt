@@ -23,7 +23,7 @@ other_started (O.Start c run args) r b h ne =
     rw t
 other_started _ r b h ne = refl
 
-pub run_elsewhere : (e : Entry) (b : ℕ) (s : RunState) → b ≢ e.caller.0 → starts_run e.op b ≡ None → next_run e b s ≡ s
+run_elsewhere : (e : Entry) (b : ℕ) (s : RunState) → b ≢ e.caller.0 → starts_run e.op b ≡ None → next_run e b s ≡ s
 unfolding next_run
 run_elsewhere e b s ne none =
     let t : (e.caller.0 == b) ≡ false = grind (arith, nat_tests) in

@@ -163,7 +163,7 @@ not_found own caller (O.Kill (G.One i)) reply c p ends none = absurd cc
 not_found own caller _ reply c p ends none = absurd cc
 
 -- a component that is not found stays as it is
-pub left_as_it_is : (own : Option Comp) (e : Entry) (states : List ComponentState) → IsSettled states → ends_case e ≡ false →
+left_as_it_is : (own : Option Comp) (e : Entry) (states : List ComponentState) → IsSettled states → ends_case e ≡ false →
     (c : ℕ) (d : ComponentState) → c < length states → finds e.op (get_or states c d).phase ≡ false → next_state own e c (get_or states c d) ≡ get_or states c d
 left_as_it_is own e states settled ends c d within none =
     unchanged_if own e c (get_or states c d) (not_found own e.caller e.op e.reply c (get_or states c d).phase ends none) (settled.not_excused c d within)

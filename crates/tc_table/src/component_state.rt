@@ -8,7 +8,7 @@ use tc_verdict::{Run, Verdict};
 
 /// What is known of a component.
 #[derive(Clone, Copy, Debug)]
-pub struct ComponentState {
+pub(crate) struct ComponentState {
     pub phase: Phase,
     pub alive_type: bool,
     /// The last run on it.
@@ -18,7 +18,7 @@ pub struct ComponentState {
 }
 
 /// Whether the states are the same.
-pub fn are_same(one: ComponentState, other: ComponentState) -> bool
+pub(crate) fn are_same(one: ComponentState, other: ComponentState) -> bool
     ensures { IsTrue result ↔ (one ≡ other) }
 {
     one.phase == other.phase
@@ -28,26 +28,26 @@ pub fn are_same(one: ComponentState, other: ComponentState) -> bool
         && one.local == other.local
 }
 
-pub fn is_running(phase: Phase) -> bool
+pub(crate) fn is_running(phase: Phase) -> bool
     ensures { result ≡ status.is_running phase }
 {
     matches!(phase, Phase::Running(_))
 }
 
-pub fn is_killed(phase: Phase) -> bool
+pub(crate) fn is_killed(phase: Phase) -> bool
     ensures { result ≡ status.is_killed phase }
 {
     matches!(phase, Phase::Killed)
 }
 
-pub fn is_done(phase: Phase) -> bool
+pub(crate) fn is_done(phase: Phase) -> bool
     ensures { result ≡ status.is_done phase }
 {
     matches!(phase, Phase::Stopped | Phase::Killed)
 }
 
 #[tactic(auto, unfolding(crate::specs::Inside::States::all_below))]
-pub fn all_below(comps: &[Comp], count: usize) -> bool
+pub(crate) fn all_below(comps: &[Comp], count: usize) -> bool
     ensures { result ≡ tests.all_below comps.now count }
 {
     comps.iter().all(|c| (c.0 as usize) < count)

@@ -13,7 +13,7 @@ use tc_verdict::{NoMemory, Run, Verdict, worse_of};
 
 /// The states of all components, the main one first; the counts are over the others.
 #[derive(Drop)]
-pub struct ComponentStates {
+pub(crate) struct ComponentStates {
     states: Vec<ComponentState>,
     running: u32,
     done: u32,
@@ -65,7 +65,7 @@ fn recount(count: u32, was: bool, is: bool) -> u32
 #[tactic(auto, using(crate::proofs::Counting::counted_rules))]
 impl ComponentStates {
     /// The same states.
-    pub fn copied(&self, alloc: Global) -> Result<ComponentStates, NoMemory>
+    pub(crate) fn copied(&self, alloc: Global) -> Result<ComponentStates, NoMemory>
         ensures { IfOk result (λ s. s ≡ self.now) }
     {
         let mut states = Vec::with_capacity(alloc, self.states.len())?;
@@ -81,7 +81,7 @@ impl ComponentStates {
     }
 
     /// Only the main component, running run 0.
-    pub fn new(alloc: Global) -> Result<ComponentStates, AllocError>
+    pub(crate) fn new(alloc: Global) -> Result<ComponentStates, AllocError>
         ensures { IfOk result (λ s. s ≡ main_state ∷ []) }
     {
         let mut states = Vec::new(alloc);
@@ -104,7 +104,7 @@ impl ComponentStates {
         })
     }
 
-    pub fn as_slice(&self) -> &[ComponentState]
+    pub(crate) fn as_slice(&self) -> &[ComponentState]
         ensures same { result.now ≡ self.now }
         ensures some { 1 ≤ length self.now }
         ensures few { length self.now ≤ COMPONENTS }
@@ -113,7 +113,7 @@ impl ComponentStates {
     }
 
     #[inline(always)]
-    pub fn get(&self, i: usize) -> ComponentState
+    pub(crate) fn get(&self, i: usize) -> ComponentState
         requires { i < length self.now }
         ensures { result ≡ slice_index_or self.now i result }
     {
@@ -121,7 +121,7 @@ impl ComponentStates {
     }
 
     /// Adds a component that is not yet started.
-    pub fn add(&mut self, alive_type: bool) -> Result<(), AllocError>
+    pub(crate) fn add(&mut self, alive_type: bool) -> Result<(), AllocError>
         requires { length self.old < COMPONENTS }
         ensures ok { OnOk result (self.new ≡ self.old ++ made_state alive_type ∷ []) }
         ensures err { OnErr result (self.new ≡ self.old) }
@@ -177,7 +177,7 @@ impl ComponentStates {
 
     /// Changes the state of component i, whose local verdict gets no better. Most calls leave it as it was.
     #[inline(always)]
-    pub fn set(&mut self, i: usize, state: ComponentState)
+    pub(crate) fn set(&mut self, i: usize, state: ComponentState)
         requires within { i < length self.old }
         requires no_better { level_of (slice_index_or self.old i state).local ≤ level_of state.local }
         ensures { self.new ≡ slice_set self.old i state }
@@ -187,57 +187,57 @@ impl ComponentStates {
         }
     }
 
-    pub fn any_running(&self) -> bool
+    pub(crate) fn any_running(&self) -> bool
         ensures { result ≡ tests.any_running (drop 1 self.now) }
     {
         0 < self.running
     }
 
-    pub fn none_running(&self) -> bool
+    pub(crate) fn none_running(&self) -> bool
         ensures { result ≡ tests.none_running (drop 1 self.now) }
     {
         self.running == 0
     }
 
-    pub fn any_killed(&self) -> bool
+    pub(crate) fn any_killed(&self) -> bool
         ensures { result ≡ tests.any_killed (drop 1 self.now) }
     {
         0 < self.killed
     }
 
-    pub fn all_killed(&self) -> bool
+    pub(crate) fn all_killed(&self) -> bool
         ensures { result ≡ tests.all_killed (drop 1 self.now) }
     {
         self.killed as usize + 1 == self.states.as_slice().len()
     }
 
-    pub fn any_alive(&self) -> bool
+    pub(crate) fn any_alive(&self) -> bool
         ensures { result ≡ tests.any_alive (drop 1 self.now) }
     {
         self.killed as usize + 1 < self.states.as_slice().len()
     }
 
-    pub fn all_alive(&self) -> bool
+    pub(crate) fn all_alive(&self) -> bool
         ensures { result ≡ tests.all_alive (drop 1 self.now) }
     {
         self.killed == 0
     }
 
-    pub fn any_done(&self) -> bool
+    pub(crate) fn any_done(&self) -> bool
         ensures { result ≡ tests.any_done (drop 1 self.now) }
     {
         0 < self.done
     }
 
     /// Whether each that was ever started is running or excused.
-    pub fn none_lapsed(&self) -> bool
+    pub(crate) fn none_lapsed(&self) -> bool
         ensures { result ≡ tests.none_lapsed (drop 1 self.now) }
     {
         self.lapsed == 0
     }
 
     /// The worst of the local verdicts.
-    pub fn worst(&self) -> Verdict
+    pub(crate) fn worst(&self) -> Verdict
         ensures { result ≡ tests.worst_local self.now }
     {
         self.worst

@@ -9,19 +9,19 @@ use crate::awaited::Awaited;
 use tc_entry::{Comp, Entry, Op, Reply};
 use tc_verdict::Run;
 
-pub fn is_finish(op: &Op) -> bool
+pub(crate) fn is_finish(op: &Op) -> bool
     ensures { result ≡ history.is_finish op.now }
 {
     matches!(op, Op::Finish)
 }
 
-pub fn is_stop_case(op: &Op) -> bool
+pub(crate) fn is_stop_case(op: &Op) -> bool
     ensures { result ≡ history.is_stop_case op.now }
 {
     matches!(op, Op::StopCase)
 }
 
-pub fn is_stop_of(op: &Op, comp: u32) -> bool
+pub(crate) fn is_stop_of(op: &Op, comp: u32) -> bool
     ensures { result ≡ history.is_stop_of op.now comp }
 {
     match op {
@@ -30,7 +30,7 @@ pub fn is_stop_of(op: &Op, comp: u32) -> bool
     }
 }
 
-pub fn is_kill_of(op: &Op, comp: u32) -> bool
+pub(crate) fn is_kill_of(op: &Op, comp: u32) -> bool
     ensures { result ≡ history.is_kill_of op.now comp }
 {
     match op {
@@ -61,13 +61,13 @@ pub fn ends_case(entry: &Entry) -> bool
             || is_kill_of(&entry.op, 0))
 }
 
-pub fn kills(entry: &Entry, comp: u32) -> bool
+pub(crate) fn kills(entry: &Entry, comp: u32) -> bool
     ensures { result ≡ history.kills entry.now comp }
 {
     ends_case(entry) || (!entry.reply.is_ended() && is_kill_of(&entry.op, comp))
 }
 
-pub fn halts(own: Option<Comp>, entry: &Entry, comp: u32) -> bool
+pub(crate) fn halts(own: Option<Comp>, entry: &Entry, comp: u32) -> bool
     ensures { result ≡ history.halts own entry.now comp }
 {
     ends_case(entry)
@@ -77,7 +77,7 @@ pub fn halts(own: Option<Comp>, entry: &Entry, comp: u32) -> bool
                 || is_kill_of(&entry.op, comp)))
 }
 
-pub fn halts_from_outside(own: Option<Comp>, entry: &Entry, comp: u32) -> bool
+pub(crate) fn halts_from_outside(own: Option<Comp>, entry: &Entry, comp: u32) -> bool
     ensures { result ≡ phases.halts_from_outside own entry.now comp }
 {
     halts(own, entry, comp)
@@ -85,7 +85,7 @@ pub fn halts_from_outside(own: Option<Comp>, entry: &Entry, comp: u32) -> bool
         && !is_comp(own, comp)
 }
 
-pub fn start_in(entry: &Entry, comp: u32) -> Option<Run>
+pub(crate) fn start_in(entry: &Entry, comp: u32) -> Option<Run>
     ensures { result ≡ phases.start_in entry.now comp }
 {
     if entry.reply.is_ok() {
@@ -98,7 +98,7 @@ pub fn start_in(entry: &Entry, comp: u32) -> Option<Run>
     }
 }
 
-pub fn awaited(op: &Op) -> Option<Awaited>
+pub(crate) fn awaited(op: &Op) -> Option<Awaited>
     ensures { result ≡ waits.awaited op.now }
 {
     match op {
@@ -110,7 +110,7 @@ pub fn awaited(op: &Op) -> Option<Awaited>
     }
 }
 
-pub fn parks(op: &Op, reply: Reply) -> Option<Awaited>
+pub(crate) fn parks(op: &Op, reply: Reply) -> Option<Awaited>
     ensures { result ≡ waits.parks op.now reply }
 {
     match reply {
@@ -134,7 +134,7 @@ pub fn started_on(entry: &Entry, run: u16) -> Option<Comp>
 }
 
 /// The run that an operation starts.
-pub fn started_run(op: &Op) -> Option<Run>
+pub(crate) fn started_run(op: &Op) -> Option<Run>
     ensures { result ≡ step.started_run op.now }
 {
     match op {
@@ -157,7 +157,7 @@ pub fn created(op: &Op, reply: Reply) -> Option<Comp>
 }
 
 /// Whether a Create makes an alive-type component.
-pub fn is_alive_create(op: &Op) -> bool
+pub(crate) fn is_alive_create(op: &Op) -> bool
     ensures { result ≡ history.is_alive_create op.now }
 {
     match op {

@@ -8,13 +8,13 @@ use tc_entry::Comp;
 
 /// What is known of a run.
 #[derive(Clone, Copy, Debug)]
-pub struct RunState {
+pub(crate) struct RunState {
     pub comp: Option<Comp>,
     pub waiting: Option<Awaited>,
 }
 
 /// What is known of n runs at the opening of a case.
-pub fn opening_runs(alloc: Global, n: u16) -> Result<Vec<RunState>, AllocError>
+pub(crate) fn opening_runs(alloc: Global, n: u16) -> Result<Vec<RunState>, AllocError>
     ensures as_many { IfOk result (λ runs. length runs.items ≡ n) }
     ensures each { IfOk result (λ runs. (b : ℕ) (d : RunState) → b < n → slice_index_or runs.items b d ≡ run_of [] b) }
 {

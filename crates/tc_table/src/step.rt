@@ -58,7 +58,7 @@ fn next_excused(start: Option<Run>, outside: bool, phase: Phase, excused: bool) 
     }
 }
 
-pub fn next_local(op: &Op, reply: Reply, local: Verdict) -> Verdict
+pub(crate) fn next_local(op: &Op, reply: Reply, local: Verdict) -> Verdict
     ensures { result ≡ step.next_local (verdicts.gives op.now reply) local }
 {
     match reply {
@@ -116,7 +116,7 @@ fn next_state(own: Option<Comp>, entry: &Entry, comp: u32, state: ComponentState
 
 /// The components that an entry may change.
 #[derive(Clone, Copy, Debug)]
-pub enum Scope {
+pub(crate) enum Scope {
     Nothing,
     One(Comp),
     All,
@@ -245,7 +245,7 @@ fn take_in_many(states: &mut ComponentStates, own: Option<Comp>, entry: &Entry)
 /// Brings what is known of the components up to one more entry.
 #[tactic(auto, using(crate::proofs::Elsewhere::none_changed))]
 #[inline(always)]
-pub fn take_in(states: &mut ComponentStates, own: Option<Comp>, entry: &Entry)
+pub(crate) fn take_in(states: &mut ComponentStates, own: Option<Comp>, entry: &Entry)
     requires settled { step.IsSettled states.old }
     ensures as_many { length states.new ≡ length states.old }
     ensures each { step.AreNext own entry.now states.old states.new }
@@ -259,7 +259,7 @@ pub fn take_in(states: &mut ComponentStates, own: Option<Comp>, entry: &Entry)
 
 /// Whether the call asks or waits: without an error, it changes no component and starts no run.
 #[inline(always)]
-pub fn asks(op: &Op) -> bool
+pub(crate) fn asks(op: &Op) -> bool
     ensures { result ≡ step.asks op.now }
 {
     matches!(
@@ -313,7 +313,7 @@ fn take_in_run(runs: &mut Vec<RunState>, entry: &Entry, run: Run)
 
 /// The same of all runs, for an entry that starts none: it changes its caller.
 #[inline(always)]
-pub fn take_in_caller(runs: &mut Vec<RunState>, entry: &Entry)
+pub(crate) fn take_in_caller(runs: &mut Vec<RunState>, entry: &Entry)
     requires starts_none { step.started_run entry.now.op ≡ None }
     ensures as_many { length runs.new.items ≡ length runs.old.items }
     ensures each { (b : ℕ) → step.IsNextRun entry.now b runs.old.items runs.new.items }
@@ -323,7 +323,7 @@ pub fn take_in_caller(runs: &mut Vec<RunState>, entry: &Entry)
 
 /// Brings what is known of the runs up to one more entry: it changes its caller and the run that it starts.
 #[inline(always)]
-pub fn take_in_runs(runs: &mut Vec<RunState>, entry: &Entry)
+pub(crate) fn take_in_runs(runs: &mut Vec<RunState>, entry: &Entry)
     ensures as_many { length runs.new.items ≡ length runs.old.items }
     ensures each { (b : ℕ) → step.IsNextRun entry.now b runs.old.items runs.new.items }
 {

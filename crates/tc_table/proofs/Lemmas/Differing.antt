@@ -21,7 +21,7 @@ parted xs i d h =
     let t : take (i + 1) xs ≡ take i xs ++ get_or xs i d ∷ [] = rw add-one (take-suc xs i d h) in
     sym (take-append-drop (i + 1) xs) ∙ ap (λ l. l ++ drop (i + 1) xs) t
 
-pub not_legal : (n : ℕ) (list : List Entry) (at : ℕ) (reply : Reply) → DiffersAt n list at reply → IsLegal n (reverse list) → ⊥
+not_legal : (n : ℕ) (list : List Entry) (at : ℕ) (reply : Reply) → DiffersAt n list at reply → IsLegal n (reverse list) → ⊥
 not_legal n list at reply w legal =
     let d : Entry = record { caller = record { 0 = 0 }; op = O.Finish; reply = reply } in
     let e : Entry = get_or list at d in

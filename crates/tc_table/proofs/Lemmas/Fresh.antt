@@ -16,7 +16,7 @@ not_killed_if : (k : Bool) (r : Option Run) (h a : Bool) → phase_by k r h a �
 not_killed_if true r h a e = cc
 not_killed_if false r h a e = refl
 
-pub fresh_not_killed : (past : List Entry) (c : ℕ) → state_of past c ≡ blank → was_killed past c ≡ false
+fresh_not_killed : (past : List Entry) (c : ℕ) → state_of past c ≡ blank → was_killed past c ≡ false
 unfolding phase
 fresh_not_killed past c e = not_killed_if (was_killed past c) (last_run past c) (was_halted past c) (is_alive_type past c) (ap (λ s. s.phase) e)
 

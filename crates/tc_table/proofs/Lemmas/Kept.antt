@@ -77,11 +77,11 @@ module _ {n : ℕ} {past : List Entry} {states : List ComponentState} {runs : Li
   unfolding local_if_any
   no_local c kept h = rw (exists_unless c kept h)
 
-  pub states_are : IsKept n past states runs over → states ≡ map (state_of past) (comps past)
+  states_are : IsKept n past states runs over → states ≡ map (state_of past) (comps past)
   states_are kept =
       map-numbers_from (state_of past) 0 states (λ i d h. kept.each_state i d h ∙ ap (state_of past) (omega arith)) ∙ ap (map (state_of past)) (sym kept.numbered)
 
-  pub any_kept : (g : ComponentState → Bool) → IsKept n past states runs over → list_any (λ c. g (state_of past c)) (ptcs past) ≡ list_any g (drop 1 states)
+  any_kept : (g : ComponentState → Bool) → IsKept n past states runs over → list_any (λ c. g (state_of past c)) (ptcs past) ≡ list_any g (drop 1 states)
   any_kept g kept =
       sym (list_any-map g (state_of past) (ptcs past)) ∙ ap (list_any g) (sym (drop-one-map (state_of past) (comps past)) ∙ ap (drop 1) (sym (states_are kept)))
 

@@ -56,5 +56,3 @@ local_there n past c legal below = rw (there n past c legal below)
 
 pub local_more : (past : List Entry) (c : ℕ) → map (local past) (range_with_len 0 (c + 1)) ≡ map (local past) (range_with_len 0 c) ++ local past c ∷ []
 local_more past c = map-range_with_len_more (local past) 0 c c (omega arith)
-
-pub ruleset local_rules = (comps_numbered, local_there, local_more)

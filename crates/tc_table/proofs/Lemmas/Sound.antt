@@ -48,7 +48,7 @@ exist_by true false f h = (refl, h)
 exist_by false many f h = absurd cc
 
 -- if there is no error, the components that the call names exist
-pub names_exist : (n : ℕ) (past : List Entry) (b : ℕ) (op : Op) → fault n past b op ≡ None → all_exist past (names op) ≡ true
+names_exist : (n : ℕ) (past : List Entry) (b : ℕ) (op : Op) → fault n past b op ≡ None → all_exist past (names op) ≡ true
 unfolding fault
 names_exist n past b op h = (exist_by (all_exist past (names op)) (asks_many op && not (b == 0)) (special_fault n past op) h).0
 
