@@ -3,8 +3,10 @@ use Rattle.std.proofs.Common.{ℕ, Bool, ◌≡◌, ◌≢◌, ◌∙◌, ◌+�
 use Rattle.std.proofs.lemmas.List.{append-nil, length-append, length-map, map-append, nil_from_length}
 use Rattle.std.specs.Borrow.{Bor}
 use Rattle.tc_verdict.specs.declared.verdict.Verdict.{Verdict}
+use Rattle.tc_verdict.specs.declared.verdict.Verdict.TheVariants as V
 use Rattle.tc_text.specs.declared.fault.TextFault.{TextFault}
 use Rattle.tc_text.specs.declared.fault.TextFault.TheVariants as F
+use Rattle.tc_text.specs.declared.fault.TextKind.{TextKind}
 use Rattle.tc_text.specs.declared.fault.TextKind.TheVariants as T
 use Rattle.tc_text.specs.Lines.{lines_of}
 use Rattle.tc_text.proofs.Lemmas.LinesOf.{some_line}
@@ -19,7 +21,7 @@ use Rattle.tc_evidence.specs.declared.reading.Reading.{Reading}
 use Rattle.tc_evidence.specs.Line.{line_text}
 use Rattle.tc_evidence.specs.Met.{AreMet}
 use Rattle.tc_evidence.specs.Block.{header_text}
-use Rattle.tc_evidence.specs.Text.{AreBlocks, AreLines, IsBlock, IsFault, IsLine, IsTextOf, all_lines, block_lines, open_lines}
+use Rattle.tc_evidence.specs.Text.{AreBlocks, AreLines, AreWhole, CanContinue, IsBlock, IsFault, IsFaultAfter, IsFaultAt, IsLine, IsTextOf, all_lines, block_lines, open_lines}
 use Rattle.tc_evidence.specs.Inside.{AreInside, AreRead, AreTakenBy, GoesOn, IsBadInside, IsFirst, IsInsideFault, IsOpenTo, IsOpened, IsReadBy, IsReadOn, IsReadTo, IsRefused, IsWholeOf, Others, Refuses, Remains}
 use Rattle.tc_evidence.proofs.InsideLines.{head_is, none_yet, tail_is}
 use Rattle.tc_evidence.proofs.Notes.{line_no_end}
@@ -164,34 +166,30 @@ begun {H} {O} stands opens may before text rest made line h block so spelled hea
 -- no block can begin
 pub bad_header : {H O : Type 0} (stands : List Block → H → Type 0) (opens : ℕ → Header → List Line → O → Type 0) (may : Header → Type 0) (before : List (List ℕ)) (text : List ℕ) (made : H) (line : ℕ) →
     text ≢ [] → IsNoHeaderLine may text → IsReadTo {O = O} stands opens may before made None line → IsRefused may (before ++ lines_of text) (F.At line T.FirstLine)
-bad_header stands opens may before text made line some none so whole future is = (
-  record {
-    blocks = so.blocks;
-    bad_line = bad.0;
-    others = bad.1.0 ++ future;
-    fits = so.read.fits;
-    lines = lines;
-    number = so.place.1 ∙ so.read.number;
-    bad = λ h header same. none h bad.1.0 header (bad.1.1 ∙ ap (λ (x : List ℕ). x ∷ bad.1.0) same);
-  },
-  refused,
-)
+bad_header stands opens may before text made line some none so whole future is = record {
+  before = before;
+  rest = bad.0 ∷ (bad.1.0 ++ future);
+  lines = is ∙ (ap (λ x. (before ++ x) ++ future) bad.1.1 ∙ append_assoc before (bad.0 ∷ bad.1.0) future);
+  number = let number = so.read.number in let here = so.place.1 in let lines = ap length so.place.0 in omega (arith, number, here, lines);
+  right = ([], (so.blocks, so.read.fits, append-nil before ∙ so.place.0));
+  fault = (
+    (so.blocks, so.read.fits, so.place.0),
+    λ can.
+        let whole = can.1 in
+        let others = so.read.only (bad.0 ∷ can.0) whole.0 whole.1 (ap (λ x. x ++ bad.0 ∷ can.0) (sym so.place.0) ∙ (sym (append_assoc before (bad.0 ∷ []) can.0) ∙ whole.2)) in
+        by_tail can.0 others.tail others.spelled others.fits,
+  );
+}
   where
     bad : (line : List ℕ) × ((others : List (List ℕ)) × (lines_of text ≡ line ∷ others))
     bad = some_line text some
 
-    lines : lines_of whole ≡ all_lines so.blocks ++ bad.0 ∷ (bad.1.0 ++ future)
-    lines = is ∙ (ap (λ x. (x ++ lines_of text) ++ future) so.place.0 ∙ (ap (λ x. (all_lines so.blocks ++ x) ++ future) bad.1.1 ∙ append_assoc (all_lines so.blocks) (bad.0 ∷ bad.1.0) future))
-
-    by_tail : (tail : List Block) → bad.0 ∷ (bad.1.0 ++ future) ≡ all_lines tail → AreBlocks may so.at tail → F.At line T.FirstLine ≡ F.NoMemory
-    by_tail [] spelled right = absurd cc
-    by_tail (t ∷ ts) spelled right =
+    by_tail : (more : List (List ℕ)) (tail : List Block) → bad.0 ∷ more ≡ all_lines tail → AreBlocks may so.at tail → ⊥
+    by_tail more [] spelled right = absurd cc
+    by_tail more (t ∷ ts) spelled right =
         let first = right.0 in
         let same = head_is bad.0 (header_text t.header) _ _ (spelled ∙ block_and t (all_lines ts)) in
-        absurd (none t.header bad.1.0 first.header (bad.1.1 ∙ ap (λ (x : List ℕ). x ∷ bad.1.0) same))
-
-    refused : (all : List Block) → IsTextOf may whole all → F.At line T.FirstLine ≡ F.NoMemory
-    refused all text_is = let others = so.read.only (bad.0 ∷ (bad.1.0 ++ future)) all text_is.fits (sym lines ∙ text_is.lines) in by_tail others.tail others.spelled others.fits
+        none t.header bad.1.0 first.header (bad.1.1 ∙ ap (λ (x : List ℕ). x ∷ bad.1.0) same)
 
 -- ---- a block goes on
 
@@ -267,78 +265,86 @@ closed {H} {O} stands opens may before text made made' line next block met value
             ∙ (ap (λ x. all_lines so.blocks ++ x) (sym (append_assoc o m e) ∙ ap (λ x. x ++ e) (open_lines_more p.header p.inside goes.taken))
             ∙ sym (all_lines-more so.blocks b)))
 
-regroup_two : (o m : List (List ℕ)) (x : List ℕ) (r f : List (List ℕ)) → (o ++ (m ++ x ∷ r)) ++ f ≡ (o ++ m) ++ x ∷ (r ++ f)
-regroup_two [] m x r f = append_assoc m (x ∷ r) f
-regroup_two (y ∷ ys) m x r f = ap (λ l. y ∷ l) (regroup_two ys m x r f)
+-- ---- an open block
 
-regroup : (a o m : List (List ℕ)) (x : List ℕ) (r f : List (List ℕ)) → ((a ++ o) ++ (m ++ x ∷ r)) ++ f ≡ a ++ ((o ++ m) ++ x ∷ (r ++ f))
-regroup [] o m x r f = regroup_two o m x r f
-regroup (y ∷ ys) o m x r f = ap (λ l. y ∷ l) (regroup ys o m x r f)
+module _ (may : Header → Type 0) (blocks : List Block) (at : ℕ) (h : Header) (inside : List Line) (read : AreRead may blocks at) (header : may h) (only : (g : Header) → may g → header_text h ≡ header_text g → h ≡ g) (so : AreInside h.kind h.behaviours inside) where
+  abbrev lines_so : List (List ℕ)
+  lines_so = all_lines blocks ++ open_lines h inside
+
+  -- what whole blocks have after these lines
+  continued : (more : List (List ℕ)) → AreWhole may (lines_so ++ more) → (b : Block) × (others : List (List ℕ)) × Remains h.kind h.behaviours inside more b.lines b.verdict others
+  continued more whole = by_tail others.tail others.spelled others.fits
+    where
+      others : Others may blocks (open_lines h inside ++ more) at whole.0
+      others = read.only (open_lines h inside ++ more) whole.0 whole.1 (sym (append_assoc (all_lines blocks) (open_lines h inside) more) ∙ whole.2)
+
+      by_tail : (tail : List Block) → open_lines h inside ++ more ≡ all_lines tail → AreBlocks may at tail → (b : Block) × (others : List (List ℕ)) × Remains h.kind h.behaviours inside more b.lines b.verdict others
+      by_tail [] spelled right = absurd cc
+      by_tail (t ∷ ts) spelled right = let that = begins may at h inside more t (all_lines ts) only so right.0 spelled in (t, all_lines ts, that.remains)
+
+  open_continues : CanContinue may lines_so
+  open_continues =
+      let number = read.number in
+      let b = make h at inside V.None in (
+        end_text V.None ∷ [],
+        (
+          blocks ++ b ∷ [],
+          blocks_more may 1 at blocks b read.fits (omega (arith, number)) (record { header = header; inside = so.right; first = refl }),
+          append_assoc (all_lines blocks) (open_lines h inside) (end_text V.None ∷ []) ∙ sym (all_lines-more blocks b),
+        ),
+      )
+
+  open_is_not_whole : AreWhole may lines_so → ⊥
+  open_is_not_whole whole = let next = continued [] (subst (λ (x : List (List ℕ)). AreWhole may x) (sym (append-nil lines_so)) whole) in by_tail next.0 next.1 next.2.tail next.2.spelled
+    where
+      by_tail : (b : Block) (others : List (List ℕ)) (tail : List Line) → [] ≡ map line_text tail ++ end_text b.verdict ∷ others → ⊥
+      by_tail b others [] spelled = cc
+      by_tail b others (x ∷ xs) spelled = cc
+
+  -- neither a line that may come nor a last line
+  bad_next : (bad : List ℕ) → ((l : Line) → IsLine h.kind h.behaviours inside l → bad ≢ line_text l) → ((v : Verdict) → bad ≢ end_text v) → CanContinue may (lines_so ++ bad ∷ []) → ⊥
+  bad_next bad no_line no_end can =
+      let next = continued (bad ∷ can.0) (subst (λ (x : List (List ℕ)). AreWhole may x) (append_assoc lines_so (bad ∷ []) can.0) can.1) in
+      by_tail next.0 next.1 next.2.tail next.2.spelled next.2.right
+    where
+      by_tail : (b : Block) (others : List (List ℕ)) (tail : List Line) → bad ∷ can.0 ≡ map line_text tail ++ end_text b.verdict ∷ others → AreLines h.kind h.behaviours inside tail → ⊥
+      by_tail b others [] spelled right = no_end b.verdict (head_is bad (end_text b.verdict) can.0 others spelled)
+      by_tail b others (x ∷ xs) spelled right = no_line x right.0 (head_is bad (line_text x) can.0 (map line_text xs ++ end_text b.verdict ∷ others) spelled)
 
 -- in a line that may not come
-bad_line_refused : (may : Header → Type 0) (blocks : List Block) (at line : ℕ) (h : Header) (kind : Kind) (n : ℕ) (inside : List Line) (before : List (List ℕ)) (text : List ℕ) → AreRead may blocks at → may h → ((g : Header) → may g → header_text h ≡ header_text g → h ≡ g) →
-    kind ≡ h.kind → n ≡ h.behaviours → before ≡ all_lines blocks ++ open_lines h inside → IsBadInside kind n inside at text line → IsRefused may (before ++ lines_of text) (F.At line T.Entry)
-bad_line_refused may blocks at line h kind n inside before text read header only k few before_is bad whole future is = (
-  record {
-    header = h;
-    inside = bad.all;
-    bad_line = bad.bad_line;
-    others = bad.others ++ future;
-    opens = record {
-      blocks = blocks;
-      fits = read.fits;
-      header_is = header;
-      right = inside_is.right;
-      lines = lines;
-      number = let number = read.number in let here = bad.number in omega (arith, number, here);
-    };
-    no_line = λ l fits. bad.no_line l (subst (λ (x : Kind). IsLine x n bad.all l) (sym k) (subst (λ (m : ℕ). IsLine h.kind m bad.all l) (sym few) fits));
-    no_end = bad.no_end;
-  },
-  refused,
-)
+bad_line_refused : (may : Header → Type 0) (blocks : List Block) (at line : ℕ) (h : Header) (inside : List Line) (before : List (List ℕ)) (text : List ℕ) → AreRead may blocks at → may h → ((g : Header) → may g → header_text h ≡ header_text g → h ≡ g) →
+    before ≡ all_lines blocks ++ open_lines h inside → IsBadInside h.kind h.behaviours inside at text line → IsRefused may (before ++ lines_of text) (F.At line T.Entry)
+bad_line_refused may blocks at line h inside before text read header only before_is bad whole future is = record {
+  before = all_lines blocks ++ open_lines h bad.all;
+  rest = bad.bad_line ∷ (bad.others ++ future);
+  lines = is
+      ∙ (ap (λ x. (before ++ x) ++ future) bad.lines
+      ∙ (ap (λ x. x ++ future) (sym (append_assoc before (map line_text bad.taken) (bad.bad_line ∷ bad.others)))
+      ∙ (append_assoc (before ++ map line_text bad.taken) (bad.bad_line ∷ bad.others) future ∙ ap (λ x. x ++ bad.bad_line ∷ (bad.others ++ future)) longer)));
+  number =
+      let number = read.number in
+      let here = bad.number in
+      omega (arith, number, here, length-append (all_lines blocks) (open_lines h bad.all), length-map bad.all line_text);
+  right = open_continues may blocks at h bad.all read header only bad.read;
+  fault = (open_is_not_whole may blocks at h bad.all read header only bad.read, bad_next may blocks at h bad.all read header only bad.read bad.bad_line bad.no_line bad.no_end);
+}
   where
-    inside_is : AreInside h.kind h.behaviours bad.all
-    inside_is = as_header kind n h bad.all k few bad.read
-
-    lines : lines_of whole ≡ all_lines blocks ++ (open_lines h bad.all ++ bad.bad_line ∷ (bad.others ++ future))
-    lines = is
-        ∙ (ap (λ x. (x ++ lines_of text) ++ future) before_is
-        ∙ (ap (λ x. ((all_lines blocks ++ open_lines h inside) ++ x) ++ future) bad.lines
-        ∙ (regroup (all_lines blocks) (open_lines h inside) (map line_text bad.taken) bad.bad_line bad.others future
-        ∙ ap (λ x. all_lines blocks ++ (x ++ bad.bad_line ∷ (bad.others ++ future))) (open_lines_more h inside bad.taken ∙ ap (open_lines h) (sym bad.parts)))))
-
-    by_inside : (w : Verdict) (others : List (List ℕ)) (tail : List Line) → bad.bad_line ∷ (bad.others ++ future) ≡ map line_text tail ++ end_text w ∷ others → AreLines h.kind h.behaviours bad.all tail → ⊥
-    by_inside w others [] spelled right = bad.no_end w (head_is bad.bad_line (end_text w) (bad.others ++ future) others spelled)
-    by_inside w others (x ∷ xs) spelled right =
-        bad.no_line x (subst (λ (y : Kind). IsLine y n bad.all x) (sym k) (subst (λ (m : ℕ). IsLine h.kind m bad.all x) (sym few) right.0))
-        (head_is bad.bad_line (line_text x) (bad.others ++ future) (map line_text xs ++ end_text w ∷ others) spelled)
-
-    by_tail : (tail : List Block) → open_lines h bad.all ++ bad.bad_line ∷ (bad.others ++ future) ≡ all_lines tail → AreBlocks may at tail → F.At line T.Entry ≡ F.NoMemory
-    by_tail [] spelled right = absurd cc
-    by_tail (t ∷ ts) spelled right =
-        let that = begins may at h bad.all (bad.bad_line ∷ (bad.others ++ future)) t (all_lines ts) only inside_is right.0 spelled in
-        let remains = that.remains in
-        absurd (by_inside t.verdict (all_lines ts) remains.tail remains.spelled remains.right)
-
-    refused : (all : List Block) → IsTextOf may whole all → F.At line T.Entry ≡ F.NoMemory
-    refused all text_is =
-        let others = read.only (open_lines h bad.all ++ bad.bad_line ∷ (bad.others ++ future)) all text_is.fits (sym lines ∙ text_is.lines) in
-        by_tail others.tail others.spelled others.fits
-
-no_memory : (may : Header → Type 0) (lines : List (List ℕ)) → IsRefused may lines F.NoMemory
-no_memory may lines whole future is = (tt, λ all text_is. refl)
+    longer : before ++ map line_text bad.taken ≡ all_lines blocks ++ open_lines h bad.all
+    longer = ap (λ x. x ++ map line_text bad.taken) before_is
+        ∙ (append_assoc (all_lines blocks) (open_lines h inside) (map line_text bad.taken) ∙ ap (λ x. all_lines blocks ++ x) (open_lines_more h inside bad.taken ∙ ap (open_lines h) (sym bad.parts)))
 
 pub bad_line : {H O : Type 0} (stands : List Block → H → Type 0) (opens : ℕ → Header → List Line → O → Type 0) (may : Header → Type 0) (before : List (List ℕ)) (text : List ℕ) (made : H) (line : ℕ) (block : OpenBlock O) (fault : TextFault) →
     ((at : ℕ) (h : Header) (inside : List Line) → IsOpenTo opens block.kind block.behaviours at h inside block.met block.begun line → IsInsideFault block.kind block.behaviours inside at text fault) →
     IsReadTo stands opens may before made (Some block) line → IsRefused may (before ++ lines_of text) fault
 bad_line stands opens may before text made line block (F.At at T.Entry) bad so =
     let p = so.place in
-    bad_line_refused may so.blocks so.at at p.header block.kind block.behaviours p.inside before text so.read p.header_is p.header_only p.kind_is p.few p.lines_are (bad so.at p.header p.inside p.open_to)
+    let inside = bad so.at p.header p.inside p.open_to in
+    bad_line_refused may so.blocks so.at at p.header p.inside before text so.read p.header_is p.header_only p.lines_are
+    (subst (λ (m : ℕ). IsBadInside p.header.kind m p.inside so.at text at) p.few (subst (λ (x : Kind). IsBadInside x block.behaviours p.inside so.at text at) p.kind_is inside))
 bad_line stands opens may before text made line block (F.At at T.Early) bad so = let p = so.place in absurd (bad so.at p.header p.inside p.open_to)
 bad_line stands opens may before text made line block (F.At at T.FirstLine) bad so = let p = so.place in absurd (bad so.at p.header p.inside p.open_to)
 bad_line stands opens may before text made line block (F.At at T.Move) bad so = let p = so.place in absurd (bad so.at p.header p.inside p.open_to)
-bad_line stands opens may before text made line block F.NoMemory bad so = no_memory may (before ++ lines_of text)
+bad_line stands opens may before text made line block F.NoMemory bad so = λ whole future is. tt
 
 -- ---- part after part
 
@@ -386,67 +392,61 @@ whole_read stands opens may text made line later so = record {
     by_tail all [] parts spelled = subst (λ (bs : List Block). stands bs made) (sym (parts ∙ append-nil so.blocks)) so.made_is
     by_tail all (t ∷ ts) parts spelled = absurd cc
 
--- what is wrong with a text that ends too early, and that it is that of no blocks
-abbrev pub IsEarly : (Header → Type 0) → List ℕ → ℕ → Type 0
-IsEarly may text line = IsFault may text (F.At line T.Early) × ((all : List Block) → IsTextOf may text all → F.At line T.Early ≡ F.NoMemory)
+early_none : {H O : Type 0} (stands : List Block → H → Type 0) (opens : ℕ → Header → List Line → O → Type 0) (may : Header → Type 0) (text : List ℕ) (made : H) (line : ℕ) →
+    line ≡ 1 → IsReadTo {O = O} stands opens may (lines_of text) made None line → IsFaultAt may text line T.Early
+early_none stands opens may text made line first so = record {
+  before = [];
+  rest = [];
+  lines = let number = so.read.number in let here = so.place.1 in so.place.0 ∙ nil_from_length (all_lines so.blocks) (omega (arith, number, here, first));
+  number = first;
+  right = ([], ([], tt, refl));
+  fault = λ whole. refl;
+}
 
-pub early_none : {H O : Type 0} (stands : List Block → H → Type 0) (opens : ℕ → Header → List Line → O → Type 0) (may : Header → Type 0) (text : List ℕ) (made : H) (line : ℕ) →
-    line ≡ 1 → IsReadTo {O = O} stands opens may (lines_of text) made None line → IsEarly may text line
-early_none stands opens may text made line first so = (inl (nothing, first), refused)
-  where
-    nothing : lines_of text ≡ []
-    nothing = let number = so.read.number in let here = so.place.1 in so.place.0 ∙ nil_from_length (all_lines so.blocks) (omega (arith, number, here, first))
-
-    by_blocks : (all : List Block) → all ≢ [] → lines_of text ≡ all_lines all → F.At line T.Early ≡ F.NoMemory
-    by_blocks [] some lines = absurd (some refl)
-    by_blocks (b ∷ bs) some lines = let e = sym nothing ∙ lines in absurd cc
-
-    refused : (all : List Block) → IsTextOf may text all → F.At line T.Early ≡ F.NoMemory
-    refused all is = by_blocks all is.some is.lines
-
-pub early_open : {H O : Type 0} (stands : List Block → H → Type 0) (opens : ℕ → Header → List Line → O → Type 0) (may : Header → Type 0) (text : List ℕ) (made : H) (line : ℕ) (block : OpenBlock O) →
-    IsReadTo stands opens may (lines_of text) made (Some block) line → IsEarly may text line
+early_open : {H O : Type 0} (stands : List Block → H → Type 0) (opens : ℕ → Header → List Line → O → Type 0) (may : Header → Type 0) (text : List ℕ) (made : H) (line : ℕ) (block : OpenBlock O) →
+    IsReadTo stands opens may (lines_of text) made (Some block) line → IsFaultAt may text line T.Early
 early_open {H} {O} stands opens may text made line block so = by_place so.place
   where
-    by_place : IsOpened opens may so.blocks so.at (lines_of text) block line → IsEarly may text line
-    by_place p = (
-      inr (
-        p.header,
-        p.inside,
-        record {
-          blocks = so.blocks;
-          fits = so.read.fits;
-          header_is = p.header_is;
-          right = inside_is.right;
-          lines = p.lines_are ∙ ap (λ x. all_lines so.blocks ++ x) (sym (append-nil (open_lines p.header p.inside)));
-          number = let number = so.read.number in let here = p.open_to.line_is in omega (arith, number, here);
-        },
-      ),
-      refused,
-    )
+    by_place : IsOpened opens may so.blocks so.at (lines_of text) block line → IsFaultAt may text line T.Early
+    by_place p = record {
+      before = all_lines so.blocks ++ open_lines p.header p.inside;
+      rest = [];
+      lines = p.lines_are ∙ sym (append-nil (all_lines so.blocks ++ open_lines p.header p.inside));
+      number =
+          let number = so.read.number in
+          let here = p.open_to.line_is in
+          omega (arith, number, here, length-append (all_lines so.blocks) (open_lines p.header p.inside), length-map p.inside line_text);
+      right = open_continues may so.blocks so.at p.header p.inside so.read p.header_is p.header_only inside_is;
+      fault = λ whole. absurd (open_is_not_whole may so.blocks so.at p.header p.inside so.read p.header_is p.header_only inside_is whole);
+    }
       where
         inside_is : AreInside p.header.kind p.header.behaviours p.inside
         inside_is = as_header block.kind block.behaviours p.header p.inside p.kind_is p.few p.open_to.read
 
-        by_inside : (w : Verdict) (others : List (List ℕ)) (tail : List Line) → [] ≡ map line_text tail ++ end_text w ∷ others → ⊥
-        by_inside w others [] spelled = cc
-        by_inside w others (x ∷ xs) spelled = cc
-
-        by_tail : (tail : List Block) → open_lines p.header p.inside ≡ all_lines tail → AreBlocks may so.at tail → F.At line T.Early ≡ F.NoMemory
-        by_tail [] spelled right = absurd cc
-        by_tail (t ∷ ts) spelled right =
-            let that = begins may so.at p.header p.inside [] t (all_lines ts) p.header_only inside_is right.0 (append-nil (open_lines p.header p.inside) ∙ spelled) in
-            let remains = that.remains in
-            absurd (by_inside t.verdict (all_lines ts) remains.tail remains.spelled)
-
-        refused : (all : List Block) → IsTextOf may text all → F.At line T.Early ≡ F.NoMemory
-        refused all is = let others = so.read.only (open_lines p.header p.inside) all is.fits (sym p.lines_are ∙ is.lines) in by_tail others.tail others.spelled others.fits
-
 pub early_if : {H O : Type 0} (stands : List Block → H → Type 0) (opens : ℕ → Header → List Line → O → Type 0) (may : Header → Type 0) (text : List ℕ) (made : H) (line : ℕ) (block : Option (OpenBlock O)) →
-    (is_some block ≡ true) ⊎ (line ≡ 1) → IsReadTo stands opens may (lines_of text) made block line → IsEarly may text line
+    (is_some block ≡ true) ⊎ (line ≡ 1) → IsReadTo stands opens may (lines_of text) made block line → IsFaultAt may text line T.Early
 early_if stands opens may text made line None (inl some) so = absurd cc
 early_if stands opens may text made line None (inr first) so = early_none stands opens may text made line first so
 early_if stands opens may text made line (Some block) which so = early_open stands opens may text made line block so
+
+-- a text with a fault is that of no blocks
+pub fault_only : (may : Header → Type 0) (text : List ℕ) (fault : TextFault) (all : List Block) → IsFault may text fault → IsTextOf may text all → fault ≡ F.NoMemory
+fault_only may text F.NoMemory all bad is = refl
+fault_only may text (F.At line kind) all bad is = absurd (by_rest kind bad.rest (sym bad.lines ∙ is.lines) bad.fault)
+  where
+    nothing : (blocks : List Block) → blocks ≢ [] → [] ≡ all_lines blocks → ⊥
+    nothing [] some none = some refl
+    nothing (b ∷ bs) some none = cc
+
+    by_rest : (kind : TextKind) (rest : List (List ℕ)) → bad.before ++ rest ≡ all_lines all → IsFaultAfter may bad.before rest kind → ⊥
+    by_rest T.Early [] lines fault = let before_is = sym (append-nil bad.before) ∙ lines in nothing all is.some (sym (fault (all, is.fits, before_is)) ∙ before_is)
+    by_rest T.FirstLine (next ∷ rest) lines fault = fault.1 (rest, (all, is.fits, append_assoc bad.before (next ∷ []) rest ∙ lines))
+    by_rest T.Entry (next ∷ rest) lines fault = fault.1 (rest, (all, is.fits, append_assoc bad.before (next ∷ []) rest ∙ lines))
+    by_rest T.Early (next ∷ rest) lines fault = absurd fault
+    by_rest T.FirstLine [] lines fault = absurd fault
+    by_rest T.Entry [] lines fault = absurd fault
+    by_rest T.Move [] lines fault = absurd fault
+    by_rest T.Move (next ∷ rest) lines fault = absurd fault
 
 pub whole_if : {H O : Type 0} (stands : List Block → H → Type 0) (opens : ℕ → Header → List Line → O → Type 0) (may : Header → Type 0) (text : List ℕ) (made : H) (line : ℕ) (block : Option (OpenBlock O)) →
     is_some block ≡ false → line ≢ 1 → IsReadTo stands opens may (lines_of text) made block line → IsWholeOf stands may text made
@@ -496,14 +496,10 @@ refused_more stands opens before middle text rest fault so bad = record {
 -- ---- a text that is one part
 
 pub refused_whole : {H O : Type 0} (stands : List Block → H → Type 0) (opens : ℕ → Header → List Line → O → Type 0) (reading : Reading H O) (only : Bool) (text : List ℕ) (fault : TextFault) → reading.only_histories ≡ only → IsReadBy stands opens [] reading → Refuses stands opens reading text fault →
-    IsFault (IsFirst only) text fault × ((all : List Block) → IsTextOf (IsFirst only) text all → fault ≡ F.NoMemory)
-refused_whole stands opens reading only text fault same so bad =
-    subst (λ (o : Bool). IsFault (IsFirst o) text fault × ((all : List Block) → IsTextOf (IsFirst o) text all → fault ≡ F.NoMemory)) same (bad.refused [] so text [] (sym (append-nil (lines_of text))))
+    IsFault (IsFirst only) text fault
+refused_whole stands opens reading only text fault same so bad = subst (λ (o : Bool). IsFault (IsFirst o) text fault) same (bad.refused [] so text [] (sym (append-nil (lines_of text))))
 
 pub whole_by : {H O : Type 0} (stands : List Block → H → Type 0) (opens : ℕ → Header → List Line → O → Type 0) (before after : Reading H O) (text : List ℕ) → IsReadBy stands opens [] before → GoesOn stands opens before text after [] → IsReadBy stands opens (lines_of text) after
 whole_by stands opens before after text so one =
     as_first stands opens before.only_histories after.only_histories (lines_of text) after.made after.block after.line one.same
     (on_whole stands opens (IsFirst before.only_histories) [] text [] after.made after.block after.line refl (one.goes [] so))
-
-pub same_first : {H O : Type 0} (before after : Reading H O) (only : Bool) (text : List ℕ) (all : List Block) → before.only_histories ≡ only → after.only_histories ≡ before.only_histories → IsTextOf (IsFirst only) text all → IsTextOf (IsFirst after.only_histories) text all
-same_first before after only text all first same is = subst (λ (o : Bool). IsTextOf (IsFirst o) text all) (sym (same ∙ first)) is

@@ -12,9 +12,9 @@ use Rattle.tc_evidence.specs.declared.block.Block.{Block}
 use Rattle.tc_evidence.specs.declared.header.Header.{Header}
 use Rattle.tc_evidence.specs.declared.line.Line.{Line}
 use Rattle.tc_evidence.specs.declared.reading.Reading.{Reading}
-use Rattle.tc_evidence.specs.Text.{IsFault, IsTextOf}
-use Rattle.tc_evidence.specs.Inside.{GoesOn, IsFirst, IsKnown, IsPending, IsReadBy, IsReadInto, IsRefusedBytes, IsWholeOf, Refuses, RefusesPart, TakesPart}
-use Rattle.tc_evidence.proofs.PartByPart.{as_first, on_whole}
+use Rattle.tc_evidence.specs.Text.{IsFault, IsHeader, IsTextOf}
+use Rattle.tc_evidence.specs.Inside.{GoesOn, IsFirst, IsKnown, IsPending, IsReadBy, IsReadInto, IsWholeOf, Refuses, RefusesPart, TakesPart}
+use Rattle.tc_evidence.proofs.PartByPart.{as_first, fault_only, on_whole}
 
 -- ---- whole lines
 
@@ -99,16 +99,20 @@ pub part_refused : {H O : Type 0} (stands : List Block → H → Type 0) (opens 
     Refuses stands opens reading batch fault → RefusesPart stands opens reading unfinished part fault
 part_refused {H} {O} stands opens reading unfinished part batch rest end fault some within ended batch_is rest_is bad = record { refused = refused }
   where
-    refused : (bytes : List ℕ) → IsPending stands opens bytes reading unfinished → IsRefusedBytes (IsFirst reading.only_histories) (bytes ++ part) fault
+    refused : (bytes : List ℕ) → IsPending stands opens bytes reading unfinished → (others : List ℕ) → IsFault (IsFirst reading.only_histories) ((bytes ++ part) ++ others) fault
     refused bytes so others =
         let cut = is_cut bytes so.whole unfinished part batch rest end so.parts so.closed some within ended batch_is rest_is in
         bad.refused (lines_of so.whole) so.read ((bytes ++ part) ++ others) (lines_of (rest ++ others))
         (ap (λ x. lines_of (x ++ others)) cut.parts ∙ (ap lines_of (append_assoc (so.whole ++ batch) rest others) ∙ (cut.closed (rest ++ others) ∙ ap (λ x. x ++ lines_of (rest ++ others)) cut.lines)))
 
 pub part_without_memory : {H O : Type 0} (stands : List Block → H → Type 0) (opens : ℕ → Header → List Line → O → Type 0) (reading : Reading H O) (unfinished part : List ℕ) → RefusesPart stands opens reading unfinished part F.NoMemory
-part_without_memory stands opens reading unfinished part = record { refused = λ bytes so others. (tt, λ all is. refl) }
+part_without_memory stands opens reading unfinished part = record { refused = λ bytes so others. tt }
 
 -- ---- the end
+
+-- the first fault of a text
+text_refused : {H : Type 0} (stands : List Block → H → Type 0) (only : Bool) (text : List ℕ) (fault : TextFault) → only ≡ false → IsFault (IsFirst only) text fault → IsReadInto stands text (Err fault)
+text_refused stands only text fault any bad = let first = subst (λ (o : Bool). IsFault (IsFirst o) text fault) any bad in (first, λ all is. fault_only IsHeader text fault all first is)
 
 lines_whole : (bytes whole unfinished : List ℕ) → bytes ≡ whole ++ unfinished → ((others : List ℕ) → lines_of (whole ++ others) ≡ lines_of whole ++ lines_of others) → lines_of bytes ≡ lines_of whole ++ lines_of unfinished
 lines_whole bytes whole unfinished parts closed = ap lines_of parts ∙ closed unfinished
@@ -116,7 +120,7 @@ lines_whole bytes whole unfinished parts closed = ap lines_of parts ∙ closed u
 pub end_refused : {H O : Type 0} (stands : List Block → H → Type 0) (opens : ℕ → Header → List Line → O → Type 0) (reading : Reading H O) (unfinished bytes : List ℕ) (fault : TextFault) → reading.only_histories ≡ false → IsPending stands opens bytes reading unfinished → Refuses stands opens reading unfinished fault →
     IsReadInto stands bytes (Err fault)
 end_refused stands opens reading unfinished bytes fault any so bad =
-    subst (λ (o : Bool). IsFault (IsFirst o) bytes fault × ((all : List Block) → IsTextOf (IsFirst o) bytes all → fault ≡ F.NoMemory)) any
+    text_refused stands reading.only_histories bytes fault any
     (bad.refused (lines_of so.whole) so.read bytes [] (lines_whole bytes so.whole unfinished so.parts so.closed ∙ sym (append-nil (lines_of so.whole ++ lines_of unfinished))))
 
 pub end_read : {H O : Type 0} (stands : List Block → H → Type 0) (opens : ℕ → Header → List Line → O → Type 0) (reading after : Reading H O) (unfinished bytes : List ℕ) → IsPending stands opens bytes reading unfinished → GoesOn stands opens reading unfinished after [] → IsReadBy stands opens (lines_of bytes) after
@@ -127,17 +131,15 @@ end_read stands opens reading after unfinished bytes so one =
 
 pub finished : {H O : Type 0} (stands : List Block → H → Type 0) (opens : ℕ → Header → List Line → O → Type 0) (reading : Reading H O) (bytes : List ℕ) (result : Result H TextFault) → reading.only_histories ≡ false → IsReadBy stands opens (lines_of bytes) reading →
     IfOk result (λ made. (text : List ℕ) → IsReadBy stands opens (lines_of text) reading → IsWholeOf stands (IsFirst reading.only_histories) text made) →
-    IfErr result (λ e. (text : List ℕ) → IsReadBy stands opens (lines_of text) reading → IsFault (IsFirst reading.only_histories) text e) →
-    ((text : List ℕ) (all : List Block) → IsReadBy stands opens (lines_of text) reading → IsTextOf (IsFirst reading.only_histories) text all → IfErr result (λ e. e ≡ F.NoMemory)) → IsReadInto stands bytes result
-finished stands opens reading bytes (Ok made) any so ok fault only =
+    IfErr result (λ e. (text : List ℕ) → IsReadBy stands opens (lines_of text) reading → IsFault (IsFirst reading.only_histories) text e) → IsReadInto stands bytes result
+finished stands opens reading bytes (Ok made) any so ok fault =
     let whole = ok bytes so in
     record {
       blocks = whole.blocks;
       evidence = subst (λ (o : Bool). IsTextOf (IsFirst o) bytes whole.blocks) any whole.text_is;
       holds = λ all is. whole.made_is all (subst (λ (o : Bool). IsTextOf (IsFirst o) bytes all) (sym any) is);
     }
-finished stands opens reading bytes (Err e) any so ok fault only =
-    (subst (λ (o : Bool). IsFault (IsFirst o) bytes e) any (fault bytes so), λ all is. only bytes all so (subst (λ (o : Bool). IsTextOf (IsFirst o) bytes all) (sym any) is))
+finished stands opens reading bytes (Err e) any so ok fault = text_refused stands reading.only_histories bytes e any (fault bytes so)
 
 -- ---- an input
 
@@ -189,7 +191,7 @@ refused_input stands opens before now after limit left reading unfinished part b
   (bytes ++ part) ++ rest,
   let counted = consumed.counted in omega (arith, counted, fits, length-append (bytes ++ part) rest),
   given_all before after ((bytes ++ part) ++ rest) (consumes_two before now after (bytes ++ part) rest consumed.consumed skipped) end,
-  subst (λ (o : Bool). IsFault (IsFirst o) ((bytes ++ part) ++ rest) fault × ((all : List Block) → IsTextOf (IsFirst o) ((bytes ++ part) ++ rest) all → fault ≡ F.NoMemory)) any (bad.refused bytes so rest),
+  text_refused stands reading.only_histories ((bytes ++ part) ++ rest) fault any (bad.refused bytes so rest),
 )
 
 -- what is pending of an input, of which these bytes are consumed

@@ -198,9 +198,9 @@ pub record IsReadOn {H O : Type 0} (stands : List Block → H → Type 0) (opens
   pub lines : lines_of text ≡ taken ++ lines_of rest
   pub read : IsReadTo stands opens may (before ++ taken) made block line
 
--- the fault is the first one of each text that begins with these lines; unless memory ran out, the text is that of no blocks
+-- the fault is the first one of each text that begins with these lines
 abbrev pub IsRefused : (Header → Type 0) → List (List ℕ) → TextFault → Type 0
-IsRefused may lines fault = (whole : List ℕ) (future : List (List ℕ)) → lines_of whole ≡ lines ++ future → IsFault may whole fault × ((all : List Block) → IsTextOf may whole all → fault ≡ F.NoMemory)
+IsRefused may lines fault = (whole : List ℕ) (future : List (List ℕ)) → lines_of whole ≡ lines ++ future → IsFault may whole fault
 
 -- the text is that of blocks, and of whatever blocks it is, the value is what they make
 pub record IsWholeOf {H : Type 0} (stands : List Block → H → Type 0) (may : Header → Type 0) (text : List ℕ) (made : H) : Type 0 where
@@ -240,13 +240,10 @@ pub record IsPending {H O : Type 0} (stands : List Block → H → Type 0) (open
 pub record TakesPart {H O : Type 0} (stands : List Block → H → Type 0) (opens : ℕ → Header → List Line → O → Type 0) (reading : Reading H O) (unfinished : List ℕ) (part : List ℕ) (after : Reading H O) (unfinished' : List ℕ) : Type 0 where
   pub takes : (bytes : List ℕ) → IsPending stands opens bytes reading unfinished → IsPending stands opens (bytes ++ part) after unfinished'
 
--- the fault is the first one of each text that begins with these bytes; unless memory ran out, the text is that of no blocks
-abbrev pub IsRefusedBytes : (Header → Type 0) → List ℕ → TextFault → Type 0
-IsRefusedBytes may bytes fault = (rest : List ℕ) → IsFault may (bytes ++ rest) fault × ((all : List Block) → IsTextOf may (bytes ++ rest) all → fault ≡ F.NoMemory)
-
 -- with this part, the bytes have this fault, whatever comes after them
 pub record RefusesPart {H O : Type 0} (stands : List Block → H → Type 0) (opens : ℕ → Header → List Line → O → Type 0) (reading : Reading H O) (unfinished : List ℕ) (part : List ℕ) (fault : TextFault) : Type 0 where
-  pub refused : (bytes : List ℕ) → IsPending stands opens bytes reading unfinished → IsRefusedBytes (IsFirst reading.only_histories) (bytes ++ part) fault
+  pub refused : (bytes : List ℕ) → IsPending stands opens bytes reading unfinished
+      → (rest : List ℕ) → IsFault (IsFirst reading.only_histories) ((bytes ++ part) ++ rest) fault
 
 -- the same, of what is pending
 abbrev pub TakesIn : {H O : Type 0} → (List Block → H → Type 0) → (ℕ → Header → List Line → O → Type 0) → Pending H O → List ℕ → Pending H O → Type 0

@@ -1,6 +1,5 @@
 -- Texts of histories and evidence, and what is wrong with other texts.
-use Rattle.std.specs.Prelude.{ℕ, ◌≡◌, ◌≢◌, ◌<◌, ◌+◌, ◌⊎◌, false, List, [], ◌∷◌, ◌++◌, length, map}
-use Rattle.tc_verdict.specs.declared.verdict.Verdict.{Verdict}
+use Rattle.std.specs.Prelude.{ℕ, ◌≡◌, ◌≢◌, ◌<◌, ◌+◌, false, List, [], ◌∷◌, ◌++◌, length, map}
 use Rattle.tc_entry.specs.Limits.{IsBehaviours}
 use Rattle.tc_entry.specs.Name.{IsName}
 use Rattle.tc_text.specs.declared.fault.TextFault.{TextFault}
@@ -91,41 +90,30 @@ pub record IsTextOf (may : Header → Type 0) (text : List ℕ) (blocks : List B
 abbrev pub AreEvidence : List ℕ → List Block → Type 0
 AreEvidence text blocks = IsTextOf IsHeader text blocks
 
--- some blocks, and then, in the line of this number, no first line that a block may have
-pub record IsBadHeader (may : Header → Type 0) (text : List ℕ) (line : ℕ) : Type 0 where
-  pub blocks : List Block
-  pub bad_line : List ℕ
-  pub others : List (List ℕ)
-  pub fits : AreBlocks may 1 blocks
-  pub lines : lines_of text ≡ all_lines blocks ++ bad_line ∷ others
-  pub number : line ≡ length (all_lines blocks) + 1
-  pub bad : (h : Header) → may h → bad_line ≢ header_text h
+-- the lines are those of blocks with first lines that they may have
+abbrev pub AreWhole : (Header → Type 0) → List (List ℕ) → Type 0
+AreWhole may lines = (blocks : List Block) × AreBlocks may 1 blocks × (lines ≡ all_lines blocks)
 
--- some blocks, this first line and these lines inside, and then, from the line of this number on, the rest
-pub record Opens (may : Header → Type 0) (text : List ℕ) (h : Header) (inside : List Line) (line : ℕ) (rest : List (List ℕ)) : Type 0 where
-  pub blocks : List Block
-  pub fits : AreBlocks may 1 blocks
-  pub header_is : may h
-  pub right : AreLines h.kind h.behaviours [] inside
-  pub lines : lines_of text ≡ all_lines blocks ++ (open_lines h inside ++ rest)
-  pub number : line ≡ length (all_lines blocks) + (length inside + 2)
+-- the lines can go on to those of such blocks
+abbrev pub CanContinue : (Header → Type 0) → List (List ℕ) → Type 0
+CanContinue may lines = (more : List (List ℕ)) × AreWhole may (lines ++ more)
 
--- in the line of this number, inside a block, neither a line that may come nor the end of the block
-pub record IsBadLine (may : Header → Type 0) (text : List ℕ) (line : ℕ) : Type 0 where
-  pub header : Header
-  pub inside : List Line
-  pub bad_line : List ℕ
-  pub others : List (List ℕ)
-  pub opens : Opens may text header inside line (bad_line ∷ others)
-  pub no_line : (l : Line) → IsLine header.kind header.behaviours inside l → bad_line ≢ line_text l
-  pub no_end : (v : Verdict) → bad_line ≢ end_text v
+-- after lines that can go on, the rest has this fault: it is empty, while a block is open or there is none; or its first line
+-- can't come there, where a block would begin, or while one is open
+abbrev pub IsFaultAfter : (Header → Type 0) → List (List ℕ) → List (List ℕ) → TextKind → Type 0
+IsFaultAfter may lines [] T.Early = AreWhole may lines → lines ≡ []
+IsFaultAfter may lines (next ∷ rest) T.FirstLine = AreWhole may lines × (CanContinue may (lines ++ next ∷ []) → ⊥)
+IsFaultAfter may lines (next ∷ rest) T.Entry = (AreWhole may lines → ⊥) × (CanContinue may (lines ++ next ∷ []) → ⊥)
+IsFaultAfter may lines rest kind = ⊥
 
--- the first fault of the text is of this kind and in this line; Early is in the line after the last
-abbrev pub IsFaultAt : (Header → Type 0) → List ℕ → ℕ → TextKind → Type 0
-IsFaultAt may text line T.Early = ((lines_of text ≡ []) × (line ≡ 1)) ⊎ ((h : Header) × (inside : List Line) × Opens may text h inside line [])
-IsFaultAt may text line T.FirstLine = IsBadHeader may text line
-IsFaultAt may text line T.Entry = IsBadLine may text line
-IsFaultAt may text line T.Move = ⊥
+-- the lines of the text before this one can go on, and after them comes a fault of this kind
+pub record IsFaultAt (may : Header → Type 0) (text : List ℕ) (line : ℕ) (kind : TextKind) : Type 0 where
+  pub before : List (List ℕ)
+  pub rest : List (List ℕ)
+  pub lines : lines_of text ≡ before ++ rest
+  pub number : line ≡ length before + 1
+  pub right : CanContinue may before
+  pub fault : IsFaultAfter may before rest kind
 
 -- what a fault says of a text whose blocks may have these first lines; if memory runs out, nothing is said
 abbrev pub IsFault : (Header → Type 0) → List ℕ → TextFault → Type 0

@@ -1,8 +1,7 @@
 //! Blocks that are read part by part.
 ghost use Rattle.std.specs.Prelude.{◌≡◌, ◌≢◌, ◌<◌, ◌≤◌, ◌+◌, ℕ, List, [], None, length, IfOk, IfErr, OnOk};
 ghost use Rattle.tc_text.specs.Lines.{lines_of};
-ghost use Rattle.tc_evidence.specs.declared.block.Block.{Block as AnyBlock};
-ghost use Rattle.tc_evidence.specs.Text.{IsFault, IsTextOf};
+ghost use Rattle.tc_evidence.specs.Text.{IsFault};
 ghost use Rattle.tc_evidence.specs.Inside.{GoesOn, IsFirst, IsKnown, IsReadBy, IsWholeOf, Refuses};
 
 use crate::header::take_first_line;
@@ -129,8 +128,6 @@ pub(crate) fn finish<H: TakesEvidence + Drop>(reading: Reading<H>) -> Result<H, 
         → IsReadBy H.stands H.opens (lines_of text) reading → IsWholeOf H.stands (IsFirst reading.only_histories) text made) }
     ensures fault { IfErr result (λ e. (text : List ℕ)
         → IsReadBy H.stands H.opens (lines_of text) reading → IsFault (IsFirst reading.only_histories) text e) }
-    ensures only { (text : List ℕ) (all : List AnyBlock)
-        → IsReadBy H.stands H.opens (lines_of text) reading → IsTextOf (IsFirst reading.only_histories) text all → IfErr result (λ e. e ≡ TextFault.NoMemory) }
 {
     let Reading {
         made,

@@ -5,7 +5,7 @@ ghost use Rattle.tc_evidence.specs.declared.block.Block.{Block as AnyBlock};
 ghost use Rattle.tc_evidence.specs.declared.header.Header.{Header as AnyHeader};
 ghost use Rattle.tc_evidence.specs.declared.line.Line.{Line as AnyLine};
 ghost use Rattle.tc_evidence.specs.Met.{AreMet};
-ghost use Rattle.tc_evidence.specs.Text.{AreEvidence, IsFault, IsHeader, IsLine, IsTextOf, format_of};
+ghost use Rattle.tc_evidence.specs.Text.{AreEvidence, IsFault, IsHeader, IsLine, format_of};
 ghost use Rattle.tc_evidence.specs.Histories.{AreHistories, IsHistoryHeader};
 ghost use Rattle.tc_evidence.specs.Inside.{AreTakenBy, IsFirst, IsFound, IsInsideFault, IsLineTakenBy, IsNoEntryLine, IsNoLine, IsOpenTo, IsWholeOf};
 
@@ -139,7 +139,6 @@ fn read_into<H: TakesEvidence + Drop>(
 ) -> Result<H, TextFault>
     ensures ok { IfOk result (λ made. IsWholeOf H.stands (IsFirst only_histories) text.now made) }
     ensures fault { IfErr result (λ e. IsFault (IsFirst only_histories) text.now e) }
-    ensures only { (all : List AnyBlock) → IsTextOf (IsFirst only_histories) text.now all → IfErr result (λ e. e ≡ TextFault.NoMemory) }
 {
     let mut reading = Reading::new(alloc, only_histories);
     take_part(alloc, &mut reading, text)?;
@@ -148,6 +147,7 @@ fn read_into<H: TakesEvidence + Drop>(
 
 /// What the blocks that the text spells make, histories and evidence in any order, otherwise the text's first fault;
 /// NoMemory may come instead.
+#[tactic(auto, using(crate::proofs::PartByPart::fault_only))]
 pub fn read_evidence_into<H: TakesEvidence + Drop>(
     alloc: Global,
     text: &[u8],

@@ -3,6 +3,7 @@ use Rattle.tc_text.specs.declared.fault.TextFault.TheVariants as F
 use Rattle.tc_evidence.specs.Histories.{IsHistoryHeader}
 use Rattle.tc_evidence.specs.Laws.{history_of}
 use Rattle.tc_evidence.specs.Text.{IsFault}
+use Rattle.tc_evidence.proofs.PartByPart.{fault_only}
 use Rattle.tc_evidence.proofs.read.read_history.Goals as goal
 
 pub returns-in_err-blocks-clause-fault : goal.returns-in_err-blocks-clause-fault
@@ -12,7 +13,7 @@ returns-in_err-blocks-clause-fault c =
 
 pub returns-in_err-blocks-clause-only : goal.returns-in_err-blocks-clause-only
 returns-in_err-blocks-clause-only c all are =
-    let only : c.in_err-blocks.field-0.0 ≡ F.NoMemory = c.in_err-blocks.ensures.only are.0 are.1 in
+    let only : c.in_err-blocks.field-0.0 ≡ F.NoMemory = fault_only IsHistoryHeader c.args.text.now c.in_err-blocks.field-0.0 are.0 c.in_err-blocks.ensures.fault are.1 in
     search (rules, only)
 
 pub returns-clause-ok : goal.returns-clause-ok

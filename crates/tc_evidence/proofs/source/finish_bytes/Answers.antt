@@ -10,7 +10,7 @@ returns-in-Ok g c bytes so =
     let done = c.finish.ensures in
     let part = subst (λ (x : List ℕ). GoesOn g.H.TakesEvidence.stands g.H.TakesEvidence.opens reading x after []) c.as_slice.ensures.value c.in-Ok.ensures.read in
     finished g.H.TakesEvidence.stands g.H.TakesEvidence.opens after bytes c.finish.result (part.same ∙ c.requires.any)
-    (end_read g.H.TakesEvidence.stands g.H.TakesEvidence.opens reading after c.args.pending.unfinished.items bytes so part) done.ok done.fault done.only
+    (end_read g.H.TakesEvidence.stands g.H.TakesEvidence.opens reading after c.args.pending.unfinished.items bytes so part) done.ok done.fault
 
 pub returns-in-Err : goal.returns-in-Err
 returns-in-Err g c bytes so =
