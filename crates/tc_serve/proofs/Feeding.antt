@@ -16,8 +16,8 @@ use Rattle.tc_serve.specs.declared.order.TheConstants.{LINE_BYTES}
 use Rattle.tc_serve.specs.Protocol.{AllEnded, Asks, Came, Comes, IsNobodys, IsOf, NoLf, Refuses, Sent, Stand, finished, seen, taken, was_done, was_lost, was_refused}
 use Rattle.tc_serve.specs.Refusal.{why_text}
 use Rattle.tc_serve.specs.Text.{bytes_of, end_told, lost_text, refusal_text, told_of, worst_of}
-use Rattle.tc_serve.specs.Serve.{IsWhy}
-use Rattle.tc_serve.specs.Inside.{Closes, Counts, Fails, Feeds, Finishes, IsAtLine, IsBadLine, IsEnd, IsFed, Serves, StandsAs, Stops, StopsIn, TakesPiece, TellsRun, Tries, TriesLine, is_refused}
+use Rattle.tc_serve.specs.Serve.{HasEnded, IsWhy, served, stopped}
+use Rattle.tc_serve.specs.Inside.{Closes, Counts, Fails, Feeds, IsAtLine, IsBadLine, IsEnd, IsFed, Serves, StandsAs, StopsIn, TakesPiece, TellsRun, Tries, TriesLine, is_refused}
 use Rattle.tc_serve.proofs.Going.{appended}
 
 -- ---- lines
@@ -208,29 +208,22 @@ why_line F.Read line behind lines s input all plain bad = absurd bad
 why_line F.Write line behind lines s input all plain bad = absurd bad
 why_line F.NoMemory line behind lines s input all plain bad = tt
 
--- nothing more was appended
-stops_here : (bytes behind : List ℕ) (v : Serving) (before out written before' told told' : List ℕ) (input : Option (List ℕ)) (f : ServeFault) → (fed : IsFed bytes v before out before' told) → IsWhy f fed.lines fed.stand (fed.last ++ behind) input → written ≡ out → told' ≡ told →
-    Stops (bytes ++ behind) input before written before' told' f
-stops_here bytes behind v before out written before' told told' input f fed why same same_told = record {
-  lines = fed.lines;
-  stand = fed.stand;
-  rest = fed.last ++ behind;
-  parts = ap (λ (l : List ℕ). l ++ behind) fed.parts ∙ append_assoc (bytes_of fed.lines) fed.last behind;
-  served = fed.counts.served;
-  last = inl fed.all;
-  why = why;
-  text = ap (λ (l : List ℕ). before ++ l) same ∙ fed.counts.stands.text;
-  tells = ap (λ (l : List ℕ). before' ++ l) same_told ∙ fed.counts.tells;
-}
+-- nothing more was appended, and the rest was not served
+pub stops_here : (read rest bytes : List ℕ) (v : Serving) (before out written before' told told' : List ℕ) (input : Option (List ℕ)) (f : ServeFault) → (fed : IsFed bytes v before out before' told) → read ≡ bytes_of fed.lines ++ rest →
+    IsWhy f fed.lines fed.stand rest input → written ≡ out → told' ≡ told → HasEnded read input (before ++ written) (before' ++ told') (Err f)
+stops_here read rest bytes v before out written before' told told' input f fed parts why same same_told =
+    stopped fed.lines fed.stand rest f fed.counts.served parts (inl fed.all) why (ap (λ (l : List ℕ). before ++ l) same ∙ fed.counts.stands.text) (ap (λ (l : List ℕ). before' ++ l) same_told ∙ fed.counts.tells)
 
 pub stops_line : (bytes behind : List ℕ) (v : Serving) (before out written before' told told' : List ℕ) (input : Option (List ℕ)) (f : ServeFault) → IsFed bytes v before out before' told → Fails true v out told f → written ≡ out → told' ≡ told →
-    Stops (bytes ++ 10 ∷ behind) input before written before' told' f
+    HasEnded (bytes ++ 10 ∷ behind) input (before ++ written) (before' ++ told') (Err f)
 stops_line bytes behind v before out written before' told told' input f fed fails same same_told =
-    stops_here bytes (10 ∷ behind) v before out written before' told told' input f fed
+    stops_here (bytes ++ 10 ∷ behind) (fed.last ++ 10 ∷ behind) bytes v before out written before' told told' input f fed
+    (ap (λ (l : List ℕ). l ++ 10 ∷ behind) fed.parts ∙ append_assoc (bytes_of fed.lines) fed.last (10 ∷ behind))
     (why_line f fed.last behind fed.lines fed.stand input fed.all fed.last_is (fails fed.last fed.lines fed.stand before before' (at_line bytes before out before' told v fed))) same same_told
 
 pub stops_bytes : (bytes : List ℕ) (v : Serving) (out told : List ℕ) → StopsIn bytes v out out told told F.NoMemory
-stops_bytes bytes v out told read before before' input fed = stops_here read bytes v before out out before' told told input F.NoMemory fed tt refl refl
+stops_bytes bytes v out told read before before' input fed =
+    stops_here (read ++ bytes) (fed.last ++ bytes) read v before out out before' told told input F.NoMemory fed (ap (λ (l : List ℕ). l ++ bytes) fed.parts ∙ append_assoc (bytes_of fed.lines) fed.last bytes) tt refl refl
 
 -- ---- pieces
 
@@ -256,9 +249,9 @@ module _ (bytes piece rest : List ℕ) (b : ℕ) (behind : List ℕ) (v w : Serv
   }
 
   pub stops_at_line : (written told' : List ℕ) (f : ServeFault) →
-      ((bytes more before before' : List ℕ) (input : Option (List ℕ)) → IsFed bytes w before out before' told → Stops (bytes ++ 10 ∷ more) input before written before' told' f) → StopsIn bytes v out written told told' f
+      ((bytes more before before' : List ℕ) (input : Option (List ℕ)) → IsFed bytes w before out before' told → HasEnded (bytes ++ 10 ∷ more) input (before ++ written) (before' ++ told') (Err f)) → StopsIn bytes v out written told told' f
   stops_at_line written told' f stops read before before' input was =
-      subst (λ (l : List ℕ). Stops l input before written before' told' f) (append_assoc read piece (10 ∷ behind) ∙ ap (λ (l : List ℕ). read ++ l) (sym whole)) (stops (read ++ piece) behind before before' input (fed read before before' was))
+      subst (λ (l : List ℕ). HasEnded l input (before ++ written) (before' ++ told') (Err f)) (append_assoc read piece (10 ∷ behind) ∙ ap (λ (l : List ℕ). read ++ l) (sym whole)) (stops (read ++ piece) behind before before' input (fed read before before' was))
 
 -- these bytes were taken, except the rest
 pub record IsTakenTo (bytes rest : List ℕ) (v w : Serving) (out written told told' : List ℕ) : Type 0 where
@@ -281,7 +274,7 @@ taken_all bytes rest v w out written told told' so none = subst (λ (l : List �
 
 pub taken_bad : (bytes rest : List ℕ) (v w : Serving) (out mid written told said told' : List ℕ) (f : ServeFault) → IsTakenTo bytes rest v w out mid told said → StopsIn rest w mid written said told' f → StopsIn bytes v out written told told' f
 taken_bad bytes rest v w out mid written told said told' f so stops read before before' input fed =
-    subst (λ (l : List ℕ). Stops l input before written before' told' f) (append_assoc read so.before rest ∙ ap (λ (l : List ℕ). read ++ l) (sym so.parts)) (stops (read ++ so.before) before before' input (so.fed read before before' fed))
+    subst (λ (l : List ℕ). HasEnded l input (before ++ written) (before' ++ told') (Err f)) (append_assoc read so.before rest ∙ ap (λ (l : List ℕ). read ++ l) (sym so.parts)) (stops (read ++ so.before) before before' input (so.fed read before before' fed))
 
 -- ---- the end
 
@@ -328,45 +321,21 @@ why_last F.Write line lines s input end all plain some bad = absurd bad
 why_last F.NoMemory line lines s input end all plain some bad = tt
 
 pub stops_last : (bytes before before' : List ℕ) (v : Serving) (out written told told' : List ℕ) (input : Option (List ℕ)) (f : ServeFault) → IsAtEnd input → IsFed bytes v before out before' told → v.line.items ≢ [] → Fails false v out told f → written ≡ out → told' ≡ told →
-    Stops bytes input before written before' told' f
-stops_last bytes before before' v out written told told' input f end fed some fails same same_told = record {
-  lines = fed.lines;
-  stand = fed.stand;
-  rest = fed.last;
-  parts = fed.parts;
-  served = fed.counts.served;
-  last = inl fed.all;
-  why = why_last f fed.last fed.lines fed.stand input end fed.all fed.last_is (some_seen fed.last v.line.items fed.kept some) (fails fed.last fed.lines fed.stand before before' (at_line bytes before out before' told v fed));
-  text = ap (λ (l : List ℕ). before ++ l) same ∙ fed.counts.stands.text;
-  tells = ap (λ (l : List ℕ). before' ++ l) same_told ∙ fed.counts.tells;
-}
+    HasEnded bytes input (before ++ written) (before' ++ told') (Err f)
+stops_last bytes before before' v out written told told' input f end fed some fails same same_told =
+    stops_here bytes fed.last bytes v before out written before' told told' input f fed fed.parts
+    (why_last f fed.last fed.lines fed.stand input end fed.all fed.last_is (some_seen fed.last v.line.items fed.kept some) (fails fed.last fed.lines fed.stand before before' (at_line bytes before out before' told v fed))) same same_told
 
 -- the test case that is open is closed
-pub finishes : (bytes before before' : List ℕ) (v w : Serving) (out written told told' : List ℕ) (r : Served) → IsEnd bytes v before out before' told → Closes v w out written told told' → w.refused ≡ v.refused →
-    ((s : Stand) (before out : List ℕ) → StandsAs w.server s before out → r.worst ≡ worst_of s) → r.refused ≡ w.refused → Finishes bytes before written before' told' r
-finishes bytes before before' v w out written told told' r at_end closes same worst refuses =
+pub finishes : (bytes before before' : List ℕ) (v w : Serving) (out written told told' : List ℕ) (input : Option (List ℕ)) (r : Served) → IsAtEnd input → IsEnd bytes v before out before' told → Closes v w out written told told' → w.refused ≡ v.refused →
+    ((s : Stand) (before out : List ℕ) → StandsAs w.server s before out → r.worst ≡ worst_of s) → r.refused ≡ w.refused → HasEnded bytes input (before ++ written) (before' ++ told') (Ok r)
+finishes bytes before before' v w out written told told' input r end at_end closes same worst refuses =
     let so = closes at_end.lines at_end.stand before before' at_end.counts in
-    record {
-      lines = at_end.lines;
-      stand = at_end.stand;
-      parts = at_end.parts;
-      served = at_end.counts.served;
-      text = so.0.text;
-      tells = so.1;
-      worst_is = worst (finished at_end.stand) before written so.0;
-      refused_is = refuses ∙ (same ∙ at_end.counts.refused);
-    }
+    served at_end.lines at_end.stand r at_end.counts.served at_end.parts end (worst (finished at_end.stand) before written so.0) (refuses ∙ (same ∙ at_end.counts.refused)) so.0.text so.1
 
 -- memory runs out as it is closed
-pub stops_close : (bytes before before' : List ℕ) (v : Serving) (out written told told' : List ℕ) (input : Option (List ℕ)) → IsAtEnd input → IsEnd bytes v before out before' told → written ≡ out → told' ≡ told → Stops bytes input before written before' told' F.NoMemory
-stops_close bytes before before' v out written told told' input end at_end same same_told = record {
-  lines = at_end.lines;
-  stand = at_end.stand;
-  rest = [];
-  parts = at_end.parts ∙ sym (append-nil (bytes_of at_end.lines));
-  served = at_end.counts.served;
-  last = inr (refl, end);
-  why = tt;
-  text = ap (λ (l : List ℕ). before ++ l) same ∙ at_end.counts.stands.text;
-  tells = ap (λ (l : List ℕ). before' ++ l) same_told ∙ at_end.counts.tells;
-}
+pub stops_close : (bytes before before' : List ℕ) (v : Serving) (out written told told' : List ℕ) (input : Option (List ℕ)) → IsAtEnd input → IsEnd bytes v before out before' told → written ≡ out → told' ≡ told →
+    HasEnded bytes input (before ++ written) (before' ++ told') (Err F.NoMemory)
+stops_close bytes before before' v out written told told' input end at_end same same_told =
+    stopped at_end.lines at_end.stand [] F.NoMemory at_end.counts.served (at_end.parts ∙ sym (append-nil (bytes_of at_end.lines))) (inr (refl, end)) tt
+    (ap (λ (l : List ℕ). before ++ l) same ∙ at_end.counts.stands.text) (ap (λ (l : List ℕ). before' ++ l) same_told ∙ at_end.counts.tells)

@@ -1,17 +1,17 @@
 -- What is read and written, and what goes to standard error, turn by turn.
-use Rattle.std.proofs.Common.{ℕ, ◌≡◌, ◌≢◌, ◌∙◌, ◌+◌, ◌-◌, ◌<◌, ◌≤◌, ◌^◌, ◌↔◌, inl, inr, Bool, true, false, MatchOption, Option, Some, None, Result, Ok, Err, IfErr, IfOk, List, [], ◌∷◌, ◌++◌, length, take, zero-add, suc-add, refl, ap, sym, subst, append_assoc, arith}
-use Rattle.std.specs.Io.KnownBytes.{Appends, Consumes, IsAtEnd, Keeps}
+use Rattle.std.proofs.Common.{ℕ, ◌≡◌, ◌∙◌, ◌+◌, ◌-◌, ◌<◌, ◌≤◌, ◌^◌, ◌↔◌, ◌⊎◌, inl, inr, Bool, true, false, Option, Some, None, Result, Ok, Err, IfErr, List, [], ◌∷◌, ◌++◌, length, take, zero-add, suc-add, refl, ap, sym, subst, append_assoc, arith}
+use Rattle.std.specs.Io.KnownBytes.{Appends, Consumes, Keeps}
 use Rattle.std.proofs.lemmas.Grind.{common_steps}
-use Rattle.std.proofs.lemmas.List.{append-nil, length-append, take_all}
+use Rattle.std.proofs.lemmas.List.{append-nil, length-append}
 use Rattle.tc_stream.specs.Output.{AppendsPrefix}
 use Rattle.tc_serve.specs.declared.fault.ServeFault.{ServeFault}
 use Rattle.tc_serve.specs.declared.fault.ServeFault.TheVariants as F
+use Rattle.tc_serve.specs.declared.service.Ending.{Ending}
 use Rattle.tc_serve.specs.declared.service.Served.{Served}
 use Rattle.tc_serve.specs.declared.serving.Serving.{Serving}
-use Rattle.tc_serve.specs.Protocol.{finished}
-use Rattle.tc_serve.specs.Text.{bytes_of, stand_text, told_of}
-use Rattle.tc_serve.specs.Serve.{Devices, IsWhy, devices}
-use Rattle.tc_serve.specs.Inside.{Finishes, Hears, IsAt, IsFed, IsOwn, IsServed, IsStopped, IsTaken, Stops}
+use Rattle.tc_serve.specs.Serve.{Devices, HasEnded, IsEnding, IsTaken, IsWhy, devices}
+use Rattle.tc_serve.specs.Inside.{Hears, IsAt, IsFed, IsOwn, IsTurn}
+use Rattle.tc_serve.proofs.Feeding.{stops_here}
 
 -- ---- bytes
 
@@ -40,9 +40,6 @@ take_behind (b ∷ bs) y n = ap (λ (k : ℕ). take k (b ∷ (bs ++ y))) (suc-ad
 take_before : (x y : List ℕ) (n : ℕ) → n ≤ length x → take n (x ++ y) ≡ take n x
 take_before x y n within = grind (arith, common_steps)
 
-take_whole : (x : List ℕ) → take (length x) x ≡ x
-take_whole x = take_all (length x) x (omega arith)
-
 prefix_behind : (a b c : Option (List ℕ)) (x y : List ℕ) → Appends a b x → AppendsPrefix b c y → AppendsPrefix a c (x ++ y)
 prefix_behind a b c x y p q =
     (length x + q.0, omega (arith, q.1, length-append x y), rw (take_behind x y q.0) (appends_join a b c x (take q.0 y) p q.2))
@@ -50,18 +47,7 @@ prefix_behind a b c x y p q =
 prefix_longer : (a b : Option (List ℕ)) (x y : List ℕ) → AppendsPrefix a b x → AppendsPrefix a b (x ++ y)
 prefix_longer a b x y p = (p.0, omega (arith, p.1, length-append x y), rw (take_before x y p.0 p.1) p.2)
 
-prefix_whole : (a b : Option (List ℕ)) (x : List ℕ) → Appends a b x → AppendsPrefix a b x
-prefix_whole a b x p = (length x, omega arith, rw (take_whole x) p)
-
 -- ---- reports
-
-taken_whole : (told : Bool) (a b : Option (List ℕ)) (x : List ℕ) → IsTaken told a b x → told ≡ true → Appends a b x
-taken_whole true a b x taken all = taken
-taken_whole false a b x taken all = absurd cc
-
-taken_part : (told : Bool) (a b : Option (List ℕ)) (x : List ℕ) → IsTaken told a b x → AppendsPrefix a b x
-taken_part true a b x taken = prefix_whole a b x taken
-taken_part false a b x taken = taken
 
 told_join : (heard told : Bool) (a b c : Option (List ℕ)) (x y : List ℕ) → IsTaken heard a b x → Hears heard told b c y → IsTaken told a c (x ++ y)
 told_join true true a b c x y p q = appends_join a b c x y p q
@@ -90,36 +76,27 @@ fed_again bytes v before out before' told fed = record {
   };
 }
 
--- no more is read
-stopped_at : (from to : Devices) (told : Bool) (turns : ℕ) (v : Serving) (f : ServeFault) → (at_ : IsAt from to told turns v) → IsWhy f at_.fed.lines at_.fed.stand at_.fed.last to.input → IsStopped from to told f
-stopped_at from to told turns v f at_ why =
-    let text = sym (append-nil at_.before) ∙ at_.fed.counts.stands.text in
-    let reports = (sym (append-nil at_.before') ∙ at_.fed.counts.tells) ∙ sym (append-nil (told_of at_.fed.lines)) in
-    let written = subst (λ (l : List ℕ). Appends from.output to.output l) text at_.written in
-    let reported = subst (λ (l : List ℕ). IsTaken told from.errors to.errors l) reports at_.told_is in
-    record {
-      lines = at_.fed.lines;
-      stand = at_.fed.stand;
-      served = at_.fed.counts.served;
-      rest = at_.fed.last;
-      read = subst (λ (l : List ℕ). Consumes from.input to.input l) at_.fed.parts at_.read;
-      last = inl at_.fed.all;
-      ended = false;
-      end = λ e. absurd cc;
-      all = tt;
-      refused = tt;
-      why = (λ e. absurd cc, why);
-      whole = λ other. written;
-      part = prefix_whole from.output to.output (stand_text at_.fed.stand) written;
-      told_whole = taken_whole told from.errors to.errors _ reported;
-      told_part = taken_part told from.errors to.errors _ reported;
-    }
+abbrev ending : Result Served ServeFault → Bool → Ending
+ending outcome told = record { outcome = outcome; told = told }
 
-pub uncounted : (from to : Devices) (told : Bool) (turns : ℕ) (v : Serving) → 2 ^ 64 - 1 ≤ turns → IsAt from to told turns v → IsStopped from to told F.TooLong
+-- no more is read
+stopped_at : (from to : Devices) (told : Bool) (turns : ℕ) (v : Serving) (f : ServeFault) → (at_ : IsAt from to told turns v) → IsWhy f at_.fed.lines at_.fed.stand at_.fed.last to.input → IsEnding from to (ending (Err f) told)
+stopped_at from to told turns v f at_ why = record {
+  bytes = at_.bytes;
+  text = at_.before ++ [];
+  reports = at_.before' ++ [];
+  due = Err f;
+  read = at_.read;
+  ended = stops_here at_.bytes at_.fed.last at_.bytes v at_.before [] [] at_.before' [] [] to.input f at_.fed at_.fed.parts why refl refl;
+  written = inl (refl, subst (λ (l : List ℕ). Appends from.output to.output l) (sym (append-nil at_.before)) at_.written);
+  reported = subst (λ (l : List ℕ). IsTaken told from.errors to.errors l) (sym (append-nil at_.before')) at_.told_is;
+}
+
+pub uncounted : (from to : Devices) (told : Bool) (turns : ℕ) (v : Serving) → 2 ^ 64 - 1 ≤ turns → IsAt from to told turns v → IsEnding from to (ending (Err F.TooLong) told)
 uncounted from to told turns v most at_ =
     stopped_at from to told turns v F.TooLong at_ (subst (λ (l : List ℕ). 2 ^ 64 - 1 ≤ length l) at_.fed.parts (omega (arith, most, at_.many)))
 
-pub unread : (from : Devices) (left rest output errors : Option (List ℕ)) (told : Bool) (turns : ℕ) (v : Serving) → IsAt from (devices left output errors) told turns v → Keeps left rest → IsStopped from (devices rest output errors) told F.Read
+pub unread : (from : Devices) (left rest output errors : Option (List ℕ)) (told : Bool) (turns : ℕ) (v : Serving) → IsAt from (devices left output errors) told turns v → Keeps left rest → IsEnding from (devices rest output errors) (ending (Err F.Read) told)
 unread from left rest output errors told turns v at_ kept =
     let still : IsAt from (devices rest output errors) told turns v = record {
       bytes = at_.bytes;
@@ -137,129 +114,46 @@ module _ (from : Devices) (left rest output output' errors errors' : Option (Lis
   all_read : Consumes from.input rest (at_.bytes ++ chunk)
   all_read = consumes_join from.input left rest at_.bytes chunk at_.read read
 
-  reports : (x : List ℕ) → at_.before' ++ said ≡ x → IsTaken told from.errors errors' x
-  reports x is = subst (λ (l : List ℕ). IsTaken told from.errors errors' l) is (told_join heard told from.errors errors errors' at_.before' said at_.told_is hears)
+  reports : IsTaken told from.errors errors' (at_.before' ++ said)
+  reports = told_join heard told from.errors errors errors' at_.before' said at_.told_is hears
 
-  written_whole : (x : List ℕ) → at_.before ++ out ≡ x → Appends output output' out → Appends from.output output' x
-  written_whole x is wrote = subst (λ (l : List ℕ). Appends from.output output' l) is (appends_join from.output output output' at_.before out at_.written wrote)
+  written_whole : Appends output output' out → Appends from.output output' (at_.before ++ out)
+  written_whole wrote = appends_join from.output output output' at_.before out at_.written wrote
 
-  written_part : (x : List ℕ) → at_.before ++ out ≡ x → AppendsPrefix output output' out → AppendsPrefix from.output output' x
-  written_part x is wrote = subst (λ (l : List ℕ). AppendsPrefix from.output output' l) is (prefix_behind from.output output output' at_.before out at_.written wrote)
+  -- this was due, and that came of it
+  ends : (due o : Result Served ServeFault) → HasEnded (at_.bytes ++ chunk) rest (at_.before ++ out) (at_.before' ++ said) due →
+      ((o ≡ due) × Appends from.output output' (at_.before ++ out)) ⊎ ((o ≡ Err F.Write) × AppendsPrefix from.output output' (at_.before ++ out)) → IsEnding from (devices rest output' errors') (ending o told)
+  ends due o so written =
+      record { bytes = at_.bytes ++ chunk; text = at_.before ++ out; reports = at_.before' ++ said; due = due; read = all_read; ended = so; written = written; reported = reports }
 
-  pub goes_on : 0 < length chunk → IsFed (at_.bytes ++ chunk) w at_.before out at_.before' said → Appends output output' out → IsAt from (devices rest output' errors') told (turns + 1) w
-  goes_on some fed wrote = record {
+  fails : (due : Result Served ServeFault) → HasEnded (at_.bytes ++ chunk) rest (at_.before ++ out) (at_.before' ++ said) due → AppendsPrefix output output' out → IsEnding from (devices rest output' errors') (ending (Err F.Write) told)
+  fails due so wrote = ends due (Err F.Write) so (inr (refl, prefix_behind from.output output output' at_.before out at_.written wrote))
+
+  -- what the texts of the turn say
+  abbrev IsDue : Result (Option Served) ServeFault → Type 0
+  IsDue result =
+      IsTurn ((0 < length chunk) × IsFed (at_.bytes ++ chunk) w at_.before out at_.before' said) (HasEnded (at_.bytes ++ chunk) rest (at_.before ++ out) (at_.before' ++ said)) result
+
+  -- they were written
+  pub written : (result : Result (Option Served) ServeFault) → IsDue result → Appends output output' out → IsTurn (IsAt from (devices rest output' errors') told (turns + 1) w) (λ o. IsEnding from (devices rest output' errors') (ending o told)) result
+  written (Ok None) so wrote = record {
     bytes = at_.bytes ++ chunk;
     read = all_read;
-    many = omega (arith, some, at_.many, length-append at_.bytes chunk);
+    many = omega (arith, so.0, at_.many, length-append at_.bytes chunk);
     before = at_.before ++ out;
     before' = at_.before' ++ said;
-    fed = fed_again _ w at_.before out at_.before' said fed;
-    written = written_whole _ refl wrote;
-    told_is = reports _ refl;
+    fed = fed_again _ w at_.before out at_.before' said so.1;
+    written = written_whole wrote;
+    told_is = reports;
   }
-
-  pub ends : IsAtEnd rest → (r : Served) → chunk ≡ [] → Finishes at_.bytes at_.before out at_.before' said r → Appends output output' out → IsServed from (devices rest output' errors') told r
-  ends end r none so wrote = record {
-    lines = so.lines;
-    stand = so.stand;
-    served = so.served;
-    rest = [];
-    read = subst (λ (l : List ℕ). Consumes from.input rest l) ((ap (λ (l : List ℕ). at_.bytes ++ l) none ∙ append-nil at_.bytes) ∙ (so.parts ∙ sym (append-nil (bytes_of so.lines)))) all_read;
-    last = inr (refl, end);
-    ended = true;
-    end = λ e. (refl, end);
-    all = (refl, so.worst_is);
-    refused = so.refused_is;
-    why = tt;
-    whole = λ other. written_whole _ so.text wrote;
-    part = prefix_whole from.output output' (stand_text (finished so.stand)) (written_whole _ so.text wrote);
-    told_whole = taken_whole told from.errors errors' _ (reports _ so.tells);
-    told_part = taken_part told from.errors errors' _ (reports _ so.tells);
-  }
-
-  -- the service stopped for the first fault, and this one ended it
-  stopping : (f g : ServeFault) (so : Stops (at_.bytes ++ chunk) rest at_.before out at_.before' said f) → IsWhy g so.lines so.stand so.rest rest →
-      (◌≢◌ {A = Result Served ServeFault} (Err g) (Err F.Write) → Appends from.output output' (stand_text so.stand)) → AppendsPrefix from.output output' (stand_text so.stand) → IsStopped from (devices rest output' errors') told g
-  stopping f g so why whole part = record {
-    lines = so.lines;
-    stand = so.stand;
-    served = so.served;
-    rest = so.rest;
-    read = subst (λ (l : List ℕ). Consumes from.input rest l) so.parts all_read;
-    last = so.last;
-    ended = false;
-    end = λ e. absurd cc;
-    all = tt;
-    refused = tt;
-    why = (λ e. absurd cc, why);
-    whole = whole;
-    part = part;
-    told_whole = taken_whole told from.errors errors' _ (reports _ (so.tells ∙ sym (append-nil (told_of so.lines))));
-    told_part = taken_part told from.errors errors' _ (reports _ (so.tells ∙ sym (append-nil (told_of so.lines))));
-  }
-
-  pub stops_on : (f : ServeFault) → Stops (at_.bytes ++ chunk) rest at_.before out at_.before' said f → Appends output output' out → IsStopped from (devices rest output' errors') told f
-  stops_on f so wrote =
-      let written = written_whole _ so.text wrote in
-      stopping f f so so.why (λ other. written) (prefix_whole from.output output' (stand_text so.stand) written)
+  written (Ok (Some r)) so wrote = ends (Ok r) (Ok r) so (inl (refl, written_whole wrote))
+  written (Err f) so wrote = ends (Err f) (Err f) so (inl (refl, written_whole wrote))
 
   -- the output failed
-  pub stops_unwritten : (f : ServeFault) → Stops (at_.bytes ++ chunk) rest at_.before out at_.before' said f → AppendsPrefix output output' out → IsStopped from (devices rest output' errors') told F.Write
-  stops_unwritten f so wrote = stopping f F.Write so tt (λ other. absurd (other refl)) (written_part _ so.text wrote)
-
-  pub on_unwritten : IsFed (at_.bytes ++ chunk) w at_.before out at_.before' said → AppendsPrefix output output' out → IsStopped from (devices rest output' errors') told F.Write
-  on_unwritten fed wrote = stops_unwritten F.Write so wrote
-    where
-      so : Stops (at_.bytes ++ chunk) rest at_.before out at_.before' said F.Write
-      so = record {
-        lines = fed.lines;
-        stand = fed.stand;
-        rest = fed.last;
-        parts = fed.parts;
-        served = fed.counts.served;
-        last = inl fed.all;
-        why = tt;
-        text = fed.counts.stands.text;
-        tells = fed.counts.tells;
-      }
-
-  pub end_unwritten : IsAtEnd rest → (r : Served) → chunk ≡ [] → Finishes at_.bytes at_.before out at_.before' said r → AppendsPrefix output output' out → IsStopped from (devices rest output' errors') told F.Write
-  end_unwritten end r none so wrote = record {
-    lines = so.lines;
-    stand = so.stand;
-    served = so.served;
-    rest = [];
-    read = subst (λ (l : List ℕ). Consumes from.input rest l) ((ap (λ (l : List ℕ). at_.bytes ++ l) none ∙ append-nil at_.bytes) ∙ (so.parts ∙ sym (append-nil (bytes_of so.lines)))) all_read;
-    last = inr (refl, end);
-    ended = true;
-    end = λ e. (refl, end);
-    all = tt;
-    refused = tt;
-    why = (λ e. refl, tt);
-    whole = λ other. absurd (other refl);
-    part = written_part _ so.text wrote;
-    told_whole = taken_whole told from.errors errors' _ (reports _ so.tells);
-    told_part = taken_part told from.errors errors' _ (reports _ so.tells);
-  }
-
-  -- what was read, and what may come of it
-  abbrev IsGoing : Option Served → Type 0
-  IsGoing end = MatchOption end ((0 < length chunk) × IsFed (at_.bytes ++ chunk) w at_.before out at_.before' said) (λ r. (chunk ≡ []) × Finishes at_.bytes at_.before out at_.before' said r)
-
-  pub going : (end : Option Served) → (length chunk ≡ 0 → IsAtEnd rest) → IsGoing end → Appends output output' out →
-      MatchOption end (IsAt from (devices rest output' errors') told (turns + 1) w) (IsServed from (devices rest output' errors') told)
-  going None none so wrote = goes_on so.0 so.1 wrote
-  going (Some r) none so wrote = ends (none (ap length so.0)) r so.0 so.1 wrote
-
-  pub going_unwritten : (end : Option Served) → (length chunk ≡ 0 → IsAtEnd rest) → IsGoing end → AppendsPrefix output output' out → IsStopped from (devices rest output' errors') told F.Write
-  going_unwritten None none so wrote = on_unwritten so.1 wrote
-  going_unwritten (Some r) none so wrote = end_unwritten (none (ap length so.0)) r so.0 so.1 wrote
-
-  -- by what came of it
-  pub unwritten : (result : Result (Option Served) ServeFault) → (length chunk ≡ 0 → IsAtEnd rest) → IfOk result IsGoing →
-      IfErr result (λ f. Stops (at_.bytes ++ chunk) rest at_.before out at_.before' said f) → AppendsPrefix output output' out → IsStopped from (devices rest output' errors') told F.Write
-  unwritten (Ok end) none so stops wrote = going_unwritten end none so wrote
-  unwritten (Err f) none so stops wrote = stops_unwritten f stops wrote
+  pub unwritten : (result : Result (Option Served) ServeFault) → IsDue result → AppendsPrefix output output' out → IsEnding from (devices rest output' errors') (ending (Err F.Write) told)
+  unwritten (Ok None) so wrote = let fed = so.1 in fails (Err F.Write) (stops_here (at_.bytes ++ chunk) fed.last _ w at_.before out out at_.before' said said rest F.Write fed fed.parts tt refl refl) wrote
+  unwritten (Ok (Some r)) so wrote = fails (Ok r) so wrote
+  unwritten (Err f) so wrote = fails (Err f) so wrote
 
 -- ---- faults of devices
 

@@ -1,8 +1,7 @@
 -- What the functions inside say.
-use Rattle.std.specs.Prelude.{ℕ, ◌≡◌, ◌+◌, ◌-◌, ◌<◌, ◌≤◌, ◌^◌, ◌⊎◌, ◌==◌, suc, if◌then◌else◌, Bool, true, false, is_some, is_none, Option, Some, None, Result, Ok, Err, List, [], ◌∷◌, ◌++◌, length, take, drop, insert, MatchResult}
+use Rattle.std.specs.Prelude.{ℕ, ◌≡◌, ◌+◌, ◌-◌, ◌<◌, ◌≤◌, ◌^◌, ◌==◌, suc, if◌then◌else◌, Bool, true, false, is_some, is_none, Option, Some, None, Result, Ok, Err, List, [], ◌∷◌, ◌++◌, length, take, drop, insert, MatchResult}
 use Rattle.std.specs.List.{list_any}
-use Rattle.std.specs.Io.KnownBytes.{Appends, Consumes, IsAtEnd}
-use Rattle.tc_stream.specs.Output.{AppendsPrefix}
+use Rattle.std.specs.Io.KnownBytes.{Appends, Consumes}
 use Rattle.tc_verdict.specs.declared.run.Run.{Run}
 use Rattle.tc_entry.specs.Limits.{IsBehaviours}
 use Rattle.tc_table.specs.declared.awaited.Awaited.{Awaited}
@@ -31,7 +30,7 @@ use Rattle.tc_serve.specs.declared.sleepers.Sleeper.{Sleeper}
 use Rattle.tc_serve.specs.Laws.{IsSettled}
 use Rattle.tc_serve.specs.Order.{order_text}
 use Rattle.tc_serve.specs.Protocol.{AllEnded, AreServed, Asks, Came, IsNobodys, IsOf, NoLf, Played, Refuses, Sent, Stand, called, done_of, finished, moved, past_of, refused, seen, sleep_of, taken, woken_from}
-use Rattle.tc_serve.specs.Serve.{Devices, IsEnding, IsWhy}
+use Rattle.tc_serve.specs.Serve.{Devices, HasEnded, IsTaken}
 use Rattle.tc_serve.specs.Text.{bytes_of, end_told, stand_text, told_of, worst_of}
 
 -- the line is neither a move nor a remark
@@ -264,18 +263,6 @@ abbrev pub Closes : Serving → Serving → List ℕ → List ℕ → List ℕ �
 Closes v w out written told told' = (lines : List Sent) (s : Stand) (before before' : List ℕ) → Counts v lines s before out before' told
     → StandsAs w.server (finished s) before written × (before' ++ told' ≡ told_at_end lines s)
 
--- of these bytes in all, the lines before the fault were served
-pub record Stops (bytes : List ℕ) (input : Option (List ℕ)) (before out before' told : List ℕ) (f : ServeFault) : Type 0 where
-  pub lines : List Sent
-  pub stand : Stand
-  pub rest : List ℕ
-  pub parts : bytes ≡ bytes_of lines ++ rest
-  pub served : AreServed lines stand
-  pub last : AllEnded lines ⊎ ((rest ≡ []) × IsAtEnd input)
-  pub why : IsWhy f lines stand rest input
-  pub text : before ++ out ≡ stand_text stand
-  pub tells : before' ++ told ≡ told_of lines
-
 -- these bytes are taken
 abbrev pub Feeds : List ℕ → Serving → Serving → List ℕ → List ℕ → List ℕ → List ℕ → Type 0
 Feeds bytes v w out written told told' = (read before before' : List ℕ) → IsFed read v before out before' told → IsFed (read ++ bytes) w before written before' told'
@@ -290,7 +277,8 @@ pub record TakesPiece (bytes rest : List ℕ) (v w : Serving) (out written told 
 -- the service ends in these bytes
 abbrev pub StopsIn : List ℕ → Serving → List ℕ → List ℕ → List ℕ → List ℕ → ServeFault → Type 0
 StopsIn bytes v out written told told' f =
-    (read before before' : List ℕ) (input : Option (List ℕ)) → IsFed read v before out before' told → Stops (read ++ bytes) input before written before' told' f
+    (read before before' : List ℕ) (input : Option (List ℕ)) → IsFed read v before out before' told
+    → HasEnded (read ++ bytes) input (before ++ written) (before' ++ told') (Err f)
 
 -- these bytes are lines that were served, of which the last may lack its LF
 pub record IsEnd (bytes : List ℕ) (v : Serving) (before out before' told : List ℕ) : Type 0 where
@@ -299,31 +287,13 @@ pub record IsEnd (bytes : List ℕ) (v : Serving) (before out before' told : Lis
   pub parts : bytes ≡ bytes_of lines
   pub counts : Counts v lines stand before out before' told
 
--- the input ends after these bytes
-pub record Finishes (bytes : List ℕ) (before out before' told : List ℕ) (r : Served) : Type 0 where
-  pub lines : List Sent
-  pub stand : Stand
-  pub parts : bytes ≡ bytes_of lines
-  pub served : AreServed lines stand
-  pub text : before ++ out ≡ stand_text (finished stand)
-  pub tells : before' ++ told ≡ told_at_end lines stand
-  pub worst_is : r.worst ≡ worst_of (finished stand)
-  pub refused_is : r.refused ≡ list_any (λ l. is_refused l.came) lines
-
 -- ---- devices
 
--- the input was served to its end so
-abbrev pub IsServed : Devices → Devices → Bool → Served → Type 0
-IsServed from to told r = IsEnding from to (record { outcome = Ok r; told = told })
-
--- the service stopped so
-abbrev pub IsStopped : Devices → Devices → Bool → ServeFault → Type 0
-IsStopped from to told f = IsEnding from to (record { outcome = Err f; told = told })
-
--- a device took the text, or a prefix of it
-abbrev pub IsTaken : Bool → Option (List ℕ) → Option (List ℕ) → List ℕ → Type 0
-IsTaken true before after text = Appends before after text
-IsTaken false before after text = AppendsPrefix before after text
+-- what comes of a turn: the service goes on, or it ends so
+abbrev pub IsTurn : Type 0 → (Result Served ServeFault → Type 0) → Result (Option Served) ServeFault → Type 0
+IsTurn Goes Ends (Ok None) = Goes
+IsTurn Goes Ends (Ok (Some r)) = Ends (Ok r)
+IsTurn Goes Ends (Err f) = Ends (Err f)
 
 -- standard error gets the text if it took all before it
 abbrev pub Hears : Bool → Bool → Option (List ℕ) → Option (List ℕ) → List ℕ → Type 0

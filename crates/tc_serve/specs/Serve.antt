@@ -1,5 +1,5 @@
 -- The service: what is written, by what is read.
-use Rattle.std.specs.Prelude.{ℕ, ◌≡◌, ◌≢◌, ◌+◌, ◌-◌, ◌≤◌, ◌^◌, ◌⊎◌, ◌&&◌, if◌then◌else◌, Bool, true, false, is_some, is_none, Option, Err, IfOk, IfErr, List, [], ◌∷◌, ◌++◌, length}
+use Rattle.std.specs.Prelude.{ℕ, ◌≡◌, ◌≢◌, ◌+◌, ◌-◌, ◌≤◌, ◌^◌, ◌⊎◌, Bool, true, false, is_some, is_none, Option, Result, Ok, Err, List, [], ◌∷◌, ◌++◌, length}
 use Rattle.std.specs.List.{list_any}
 use Rattle.std.specs.Io.KnownBytes.{Appends, Consumes, IsAtEnd}
 use Rattle.tc_stream.specs.Output.{AppendsPrefix}
@@ -7,6 +7,7 @@ use Rattle.tc_serve.specs.declared.fault.ServeFault.{ServeFault}
 use Rattle.tc_serve.specs.declared.fault.ServeFault.TheVariants as F
 use Rattle.tc_serve.specs.declared.refusal.Refusal.{Refusal}
 use Rattle.tc_serve.specs.declared.service.Ending.{Ending}
+use Rattle.tc_serve.specs.declared.service.Served.{Served}
 use Rattle.tc_serve.specs.Protocol.{AllEnded, AreServed, NoLf, Refuses, Sent, Stand, done_of, finished, seen}
 use Rattle.tc_serve.specs.Text.{bytes_of, end_told, stand_text, told_of, worst_of}
 
@@ -33,22 +34,30 @@ IsWhy F.TooLong lines s rest input = 2 ^ 64 - 1 ≤ length (bytes_of lines ++ re
 IsWhy F.Read lines s rest input = NoLf rest
 IsWhy _ lines s rest input = Unit {0}
 
--- how the service ended: these lines were served, and the end of the input, or a fault came before it was; only a failure of the
--- output may come later. What the text is then was written, or, if the output failed, a prefix of it. What is due on standard error
--- for the lines and for the end was printed, or a prefix of it
+-- how a service ends that read these bytes, and the text and the reports that it owes then
+pub data HasEnded (bytes : List ℕ) (input : Option (List ℕ)) (text reports : List ℕ) : Result Served ServeFault → Type 0 where
+  -- the input ended: its lines were served, and the test case that was open was closed
+  served : (lines : List Sent) (s : Stand) (r : Served) → AreServed lines s → bytes ≡ bytes_of lines → IsAtEnd input
+      → r.worst ≡ worst_of (finished s) → r.refused ≡ list_any (λ l. is_none (done_of l.came)) lines
+      → text ≡ stand_text (finished s) → reports ≡ told_of lines ++ end_told (is_some s.current) → HasEnded bytes input text reports (Ok r)
+  -- or this fault came: these lines were served, and the rest was not; only a last line of the input may lack its LF
+  stopped : (lines : List Sent) (s : Stand) (rest : List ℕ) (f : ServeFault) → AreServed lines s → bytes ≡ bytes_of lines ++ rest
+      → AllEnded lines ⊎ ((rest ≡ []) × IsAtEnd input) → IsWhy f lines s rest input
+      → text ≡ stand_text s → reports ≡ told_of lines → HasEnded bytes input text reports (Err f)
+
+-- a device took the text, or a prefix of it
+abbrev pub IsTaken : Bool → Option (List ℕ) → Option (List ℕ) → List ℕ → Type 0
+IsTaken true before after text = Appends before after text
+IsTaken false before after text = AppendsPrefix before after text
+
+-- the service ended as was due, and its text was written; or the output failed, and took a prefix of it. Standard error took
+-- the reports, or a prefix of them
 pub record IsEnding (from to : Devices) (e : Ending) : Type 0 where
-  pub lines : List Sent
-  pub stand : Stand
-  pub served : AreServed lines stand
-  pub rest : List ℕ
-  pub read : Consumes from.input to.input (bytes_of lines ++ rest)
-  pub last : AllEnded lines ⊎ ((rest ≡ []) × IsAtEnd to.input)
-  pub ended : Bool
-  pub end : ended ≡ true → (rest ≡ []) × IsAtEnd to.input
-  pub all : IfOk e.outcome (λ r. (ended ≡ true) × (r.worst ≡ worst_of (finished stand)))
-  pub refused : IfOk e.outcome (λ r. r.refused ≡ list_any (λ l. is_none (done_of l.came)) lines)
-  pub why : IfErr e.outcome (λ f. (ended ≡ true → f ≡ F.Write) × IsWhy f lines stand rest to.input)
-  pub whole : e.outcome ≢ Err F.Write → Appends from.output to.output (stand_text (if ended then finished stand else stand))
-  pub part : AppendsPrefix from.output to.output (stand_text (if ended then finished stand else stand))
-  pub told_whole : e.told ≡ true → Appends from.errors to.errors (told_of lines ++ end_told (ended && is_some stand.current))
-  pub told_part : AppendsPrefix from.errors to.errors (told_of lines ++ end_told (ended && is_some stand.current))
+  pub bytes : List ℕ
+  pub text : List ℕ
+  pub reports : List ℕ
+  pub due : Result Served ServeFault
+  pub read : Consumes from.input to.input bytes
+  pub ended : HasEnded bytes to.input text reports due
+  pub written : ((e.outcome ≡ due) × Appends from.output to.output text) ⊎ ((e.outcome ≡ Err F.Write) × AppendsPrefix from.output to.output text)
+  pub reported : IsTaken e.told from.errors to.errors reports

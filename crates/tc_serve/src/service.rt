@@ -1,9 +1,9 @@
 //! The service itself.
-ghost use Rattle.std.specs.Prelude.{◌≡◌, ◌+◌, ◌≤◌, ◌<◌, ◌^◌, ◌↔◌, not, true, false, [], ℕ, Bool, List, Option, is_err, length, OnOk, OnErr, IfOk, IfErr, IsErrOf, MatchOption};
+ghost use Rattle.std.specs.Prelude.{◌≡◌, ◌+◌, ◌≤◌, ◌<◌, ◌^◌, ◌↔◌, not, true, false, [], ℕ, Bool, List, Option, is_err, length, OnOk, OnErr, IsErrOf};
 ghost use Rattle.std.specs.Borrow.{GName};
 ghost use Rattle.std.specs.Io.KnownBytes.{Appends};
 ghost use Rattle.tc_stream.specs.Output.{AppendsPrefix};
-ghost use Rattle.tc_serve.specs.Inside.{Hears, IsAt, IsFed, IsServed, IsStopped};
+ghost use Rattle.tc_serve.specs.Inside.{Hears, IsAt, IsFed, IsTurn};
 ghost use Rattle.tc_serve.specs.Serve.{Devices as AnyDevices, IsEnding, devices};
 
 use crate::fault::ServeFault;
@@ -137,13 +137,10 @@ fn turn<R: CountedRead, W: FlushedWrite, E: CountedWrite>(
     requires read { R.has_failed reader.old ≡ false }
     requires reads { R.reads reader.old + 1 < 2 ^ 128 }
     requires written { W.has_failed writer.old ≡ false }
-    ensures served { IfOk result (λ end. (from : AnyDevices) (turns : ℕ)
+    ensures turn { (from : AnyDevices) (turns : ℕ)
         → IsAt from (devices (R.remaining reader.old) (W.contents writer.old) (E.contents errors.old)) heard.old turns serving.old
-        → MatchOption end (IsAt from (devices (R.remaining reader.new) (W.contents writer.new) (E.contents errors.new)) heard.new (turns + 1) serving.new)
-        (IsServed from (devices (R.remaining reader.new) (W.contents writer.new) (E.contents errors.new)) heard.new)) }
-    ensures stopped { IfErr result (λ f. (from : AnyDevices) (turns : ℕ)
-        → IsAt from (devices (R.remaining reader.old) (W.contents writer.old) (E.contents errors.old)) heard.old turns serving.old
-        → IsStopped from (devices (R.remaining reader.new) (W.contents writer.new) (E.contents errors.new)) heard.new f) }
+        → IsTurn (IsAt from (devices (R.remaining reader.new) (W.contents writer.new) (E.contents errors.new)) heard.new (turns + 1) serving.new)
+        (λ o. IsEnding from (devices (R.remaining reader.new) (W.contents writer.new) (E.contents errors.new)) (record { outcome = o; told = heard.new })) result }
     ensures heard { heard.new ≡ not (E.has_failed errors.new) }
     ensures counted { E.writes errors.new ≤ E.writes errors.old + 2 ^ 64 }
     ensures read { IsErrOf result ServeFault.Read ↔ (R.has_failed reader.new ≡ true) }

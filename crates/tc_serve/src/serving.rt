@@ -1,9 +1,10 @@
 //! Lines that come in pieces.
-ghost use Rattle.std.specs.Prelude.{◌≡◌, ◌≢◌, ◌<◌, ◌-◌, ◌++◌, ◌∷◌, [], ℕ, List, Option, IfOk, IfErr, OnOk, OnErr, MatchOption, length, take};
+ghost use Rattle.std.specs.Prelude.{◌≡◌, ◌≢◌, ◌<◌, ◌-◌, ◌++◌, ◌∷◌, [], ℕ, List, Option, Err, IfOk, IfErr, OnOk, OnErr, length, take};
 ghost use Rattle.std.specs.Io.{StartsWith};
 ghost use Rattle.std.specs.Io.KnownBytes.{IsAtEnd};
-ghost use Rattle.tc_serve.specs.Inside.{Closes, Fails, Feeds, Finishes, IsEnd, IsFed, IsOwn, Serves, Stops, StopsIn, TakesPiece};
+ghost use Rattle.tc_serve.specs.Inside.{Closes, Fails, Feeds, IsEnd, IsFed, IsOwn, IsTurn, Serves, StopsIn, TakesPiece};
 ghost use Rattle.tc_serve.specs.Protocol.{NoLf};
+ghost use Rattle.tc_serve.specs.Serve.{HasEnded};
 ghost use Rattle.tc_serve.specs.Text.{end_told, refusal_text};
 
 use crate::fault::ServeFault;
@@ -149,7 +150,7 @@ impl Serving {
             → IsFed (bytes ++ 10 ∷ []) self.new before out.new.items before' told.new.items) }
         ensures stopped { IfErr result (λ f. (bytes more before before' : List ℕ) (input : Option (List ℕ))
             → IsFed bytes self.old before out.old.items before' told.old.items
-            → Stops (bytes ++ 10 ∷ more) input before out.new.items before' told.new.items f) }
+            → HasEnded (bytes ++ 10 ∷ more) input (before ++ out.new.items) (before' ++ told.new.items) (Err f)) }
         ensures own { IfErr result IsOwn }
     {
         match self.serve_line(alloc, true, out, told) {
@@ -232,7 +233,8 @@ impl Serving {
         ensures ok { OnOk result ((bytes before before' : List ℕ) → IsFed bytes self.old before out.old.items before' told.old.items
             → IsEnd bytes self.new before out.new.items before' told.new.items) }
         ensures stopped { IfErr result (λ f. (bytes before before' : List ℕ) (input : Option (List ℕ)) → IsAtEnd input
-            → IsFed bytes self.old before out.old.items before' told.old.items → Stops bytes input before out.new.items before' told.new.items f) }
+            → IsFed bytes self.old before out.old.items before' told.old.items
+            → HasEnded bytes input (before ++ out.new.items) (before' ++ told.new.items) (Err f)) }
         ensures own { IfErr result IsOwn }
     {
         if self.line.is_empty() {
@@ -271,10 +273,9 @@ impl Serving {
         out: &mut Vec<u8>,
         told: &mut Vec<u8>,
     ) -> Result<Served, ServeFault>
-        ensures ok { IfOk result (λ r. (bytes before before' : List ℕ) → IsFed bytes self.old before out.old.items before' told.old.items
-            → Finishes bytes before out.new.items before' told.new.items r) }
-        ensures stopped { IfErr result (λ f. (bytes before before' : List ℕ) (input : Option (List ℕ)) → IsAtEnd input
-            → IsFed bytes self.old before out.old.items before' told.old.items → Stops bytes input before out.new.items before' told.new.items f) }
+        ensures ended { (bytes before before' : List ℕ) (input : Option (List ℕ)) → IsAtEnd input
+            → IsFed bytes self.old before out.old.items before' told.old.items
+            → HasEnded bytes input (before ++ out.new.items) (before' ++ told.new.items) result }
         ensures own { IfErr result IsOwn }
     {
         if let Err(fault) = self.end_last(alloc, out, told) {
@@ -299,11 +300,10 @@ impl Serving {
         out: &mut Vec<u8>,
         told: &mut Vec<u8>,
     ) -> Result<Option<Served>, ServeFault>
-        ensures ok { IfOk result (λ end. (read before before' : List ℕ) → IsFed read self.old before out.old.items before' told.old.items
-            → MatchOption end ((0 < length bytes.now) × IsFed (read ++ bytes.now) self.new before out.new.items before' told.new.items)
-            (λ r. (bytes.now ≡ []) × Finishes read before out.new.items before' told.new.items r)) }
-        ensures stopped { IfErr result (λ f. (read before before' : List ℕ) (input : Option (List ℕ)) → (length bytes.now ≡ 0 → IsAtEnd input)
-            → IsFed read self.old before out.old.items before' told.old.items → Stops (read ++ bytes.now) input before out.new.items before' told.new.items f) }
+        ensures turn { (read before before' : List ℕ) (input : Option (List ℕ)) → (length bytes.now ≡ 0 → IsAtEnd input)
+            → IsFed read self.old before out.old.items before' told.old.items
+            → IsTurn ((0 < length bytes.now) × IsFed (read ++ bytes.now) self.new before out.new.items before' told.new.items)
+            (HasEnded (read ++ bytes.now) input (before ++ out.new.items) (before' ++ told.new.items)) result }
         ensures own { IfErr result IsOwn }
     {
         if bytes.is_empty() {

@@ -10,7 +10,7 @@ returns-in-Ok-Some-clause-ending g c =
     let first = c.in-Ok-Some.field-0-is in
     let second = c.in-Ok-Some.served-is in
     let is : c.in-Ok-Some.field-0 ≡ Some c.in-Ok-Some.served = cc in
-    rw is at ((rw c.in-Ok-Some.is at c.turn.ensures.served) _ _ c.loop-turns.invariant.at_)
+    rw is at ((rw c.in-Ok-Some.is at c.turn.ensures.turn) _ _ c.loop-turns.invariant.at_)
 
 pub returns-in-Err-clause-ending : goal.returns-in-Err-clause-ending
-returns-in-Err-clause-ending g c = c.in-Err.ensures.stopped _ _ c.loop-turns.invariant.at_
+returns-in-Err-clause-ending g c = (rw c.in-Err.is at c.turn.ensures.turn) _ _ c.loop-turns.invariant.at_

@@ -1,35 +1,20 @@
 use Rattle.std.proofs.Common.{◌∙◌, ap, is_err, arith, rules}
-use Rattle.std.proofs.lemmas.Result.{IfErr-weaker, IfOk-weaker}
 use Rattle.tc_serve.specs.declared.fault.ServeFault.TheVariants as F
-use Rattle.tc_serve.proofs.Turns.{going, is_no_device, stops_on, unread, unwritten}
+use Rattle.tc_serve.proofs.Turns.{is_no_device, unread, unwritten, written}
 use Rattle.tc_serve.proofs.service.turn.Goals as goal
 
-pub returns-in-Ok-put-clause-served : goal.returns-in-Ok-put-clause-served
-returns-in-Ok-put-clause-served g c =
-    IfOk-weaker c.take_read-end.result _ _
-    (λ end so from turns at_.
-    going from _ _ _ _ _ _ _ _ turns c.args.serving.now c.take_read-end.new.self _ _ _ at_ c.in-Ok.ensures.bytes.0 (rw c.as_slice.ensures.value at c.tell-taken.ensures.taken) end
-    (λ none. c.in-Ok.ensures.bytes.1 (omega (arith, none, c.in-Ok.ensures.bound.1)) (search rules))
-    (rw (c.clear.ensures.items, c.clear-2.ensures.items) at (so at_.bytes at_.before at_.before') at_.fed) (rw c.as_slice-2.ensures.value at c.in-Ok-put.ensures.all))
-    c.take_read-end.ensures.ok
-
-pub returns-in-Ok-put-clause-stopped : goal.returns-in-Ok-put-clause-stopped
-returns-in-Ok-put-clause-stopped g c =
-    IfErr-weaker c.take_read-end.result _ _
-    (λ f so from turns at_.
-    stops_on from _ _ _ _ _ _ _ _ turns c.args.serving.now c.take_read-end.new.self _ _ _ at_ c.in-Ok.ensures.bytes.0 (rw c.as_slice.ensures.value at c.tell-taken.ensures.taken) f
-    ((rw (c.clear.ensures.items, c.clear-2.ensures.items) at (so at_.bytes at_.before at_.before')) _
+pub returns-in-Ok-put-clause-turn : goal.returns-in-Ok-put-clause-turn
+returns-in-Ok-put-clause-turn g c = λ from turns at_.
+    written from _ _ _ _ _ _ _ _ turns c.args.serving.now c.take_read-end.new.self _ _ _ at_ c.in-Ok.ensures.bytes.0 (rw c.as_slice.ensures.value at c.tell-taken.ensures.taken) c.take_read-end.result
+    ((rw (c.clear.ensures.items, c.clear-2.ensures.items) at (c.take_read-end.ensures.turn at_.bytes at_.before at_.before')) (g.R.CountedRead.remaining c.read.new.self)
     (λ none. c.in-Ok.ensures.bytes.1 (omega (arith, none, c.in-Ok.ensures.bound.1)) (search rules)) at_.fed)
-    (rw c.as_slice-2.ensures.value at c.in-Ok-put.ensures.all))
-    c.take_read-end.ensures.stopped
+    (rw c.as_slice-2.ensures.value at c.in-Ok-put.ensures.all)
 
-pub returns-in-Err-clause-stopped : goal.returns-in-Err-clause-stopped
-returns-in-Err-clause-stopped g c = λ from turns at_.
+pub returns-in-Err-clause-turn : goal.returns-in-Err-clause-turn
+returns-in-Err-clause-turn g c = λ from turns at_.
     unwritten from _ _ _ _ _ _ _ _ turns c.args.serving.now c.take_read-end.new.self _ _ _ at_ c.in-Ok.ensures.bytes.0 (rw c.as_slice.ensures.value at c.tell-taken.ensures.taken) c.take_read-end.result
-    (λ none. c.in-Ok.ensures.bytes.1 (omega (arith, none, c.in-Ok.ensures.bound.1)) (search rules))
-    (IfOk-weaker c.take_read-end.result _ _ (λ end so. rw (c.clear.ensures.items, c.clear-2.ensures.items) at (so at_.bytes at_.before at_.before') at_.fed) c.take_read-end.ensures.ok)
-    (IfErr-weaker c.take_read-end.result _ _ (λ f so. (rw (c.clear.ensures.items, c.clear-2.ensures.items) at (so at_.bytes at_.before at_.before')) _
-    (λ none. c.in-Ok.ensures.bytes.1 (omega (arith, none, c.in-Ok.ensures.bound.1)) (search rules)) at_.fed) c.take_read-end.ensures.stopped)
+    ((rw (c.clear.ensures.items, c.clear-2.ensures.items) at (c.take_read-end.ensures.turn at_.bytes at_.before at_.before')) (g.R.CountedRead.remaining c.read.new.self)
+    (λ none. c.in-Ok.ensures.bytes.1 (omega (arith, none, c.in-Ok.ensures.bound.1)) (search rules)) at_.fed)
     (rw c.as_slice-2.ensures.value at c.in-Err.ensures.part)
 
 pub returns-in-Ok-put-clause-read : goal.returns-in-Ok-put-clause-read
@@ -38,6 +23,6 @@ returns-in-Ok-put-clause-read g c = is_no_device c.take_read-end.result F.Read _
 pub returns-in-Ok-put-clause-written : goal.returns-in-Ok-put-clause-written
 returns-in-Ok-put-clause-written g c = is_no_device c.take_read-end.result F.Write _ c.take_read-end.ensures.own (λ own. own) (c.put.ensures.failed ∙ ap is_err c.in-Ok-put.is)
 
-pub returns-in_default-clause-stopped : goal.returns-in_default-clause-stopped
-returns-in_default-clause-stopped g c = λ from turns at_.
+pub returns-in_default-clause-turn : goal.returns-in_default-clause-turn
+returns-in_default-clause-turn g c = λ from turns at_.
     unread from (g.R.CountedRead.remaining c.args.reader.now) (g.R.CountedRead.remaining c.read.new.self) _ _ _ turns c.args.serving.now at_ c.in_default.ensures.bytes
