@@ -37,6 +37,7 @@ UNREFUSED: Tuple[Exempt, ...] = (
     (("append_whole_block",), "no program writes whole blocks of evidence"),
     (("answer_alone",), "it makes the calls of answer; tests/play takes the memory from it"),
     (("stop_word",), "it is handed no allocator: its one fault is that the word names no verdict"),
+    (("Course::opening", "Course::copied", "Course::with", "Standing::take_in"), "is_course and explore make them"),
 )
 # What these are handed holds no allocator, so that they can ask for no memory; memory.py looks at their heads.
 WITHOUT_ALLOCATOR = (
@@ -54,13 +55,13 @@ WITHOUT_ALLOCATOR = (
     "read_reply", "Reply::copy", "Reply::same", "Reply::is_ok", "Reply::is_ended", "Reply::is_fault", "Entry::copy", "Entry::same",
     "ends_case", "ends_pass", "created", "started_on", "OutFault::text", "CaseError::text", "CloseFault::text",
     "verdict_status", "MetRuns::none", "MetRuns::add_refused", "MetRuns::contains", "take_behaviours", "take_end_line",
-    "take_entry_line", "take_short_line", "counts", "is_met", "Everyone::allow",
+    "take_entry_line", "take_short_line", "counts", "is_met", "Everyone::allow", "has_gone_on",
 )
 # These take no memory, and are not made with every growth refused by themselves.
 UNTRIED: Tuple[Exempt, ...] = (
     (WITHOUT_ALLOCATOR, "they are handed no allocator"),
     (("CountedReader::new", "CountedWriter::new", "NarrowWriter::new", "LiveWriter::new", "Progress::new", "Script::new", "ScriptJob::new",
-      "Kept::into_results", "bare_summary"), "they put together what they are handed"),
+      "Kept::into_results", "bare_summary", "Standing::opening"), "they put together what they are handed"),
     (("Progress::begin", "Progress::take", "LiveWriter::take"),
      "the sweeps of the whole program refuse what they write: they have no answer for that, and the end of the run has"),
     (("write_whole", "write_counted", "write_abort", "CountedReader::read", "CountedWriter::write"),
@@ -70,5 +71,8 @@ UNTRIED: Tuple[Exempt, ...] = (
     (("tc_answer",), "it makes answer_alone, and has no answer but its text if memory runs out"),
     (("Words::record_of", "Words::follow"), "Book::word_of, Book::wake and Book::leave make them"),
     (("Campaign::take_first", "CaseScript::take_first", "Script::steps", "Script::parameters"), "run makes them, and each of its growths is refused"),
-    (("Sentence::bytes", "MetRuns::add_line", "Words::carried_to", "Explored::status"), "they only look at what they are lent"),
+    (("Sentence::bytes", "MetRuns::add_line", "Words::carried_to", "Explored::status", "steps_of", "next_call", "Course::known", "Course::turn",
+      "Course::would", "Course::carried", "Course::is_over", "Course::components", "Course::phase_of", "Course::is_alive_type",
+      "Course::is_active", "Course::comp_of", "Course::local", "Course::verdict", "Course::history", "Standing::comp", "Standing::bound",
+      "Standing::called", "Standing::wake"), "they only look at what they are lent"),
 )

@@ -31,10 +31,10 @@ use Rattle.tc_table.proofs.Lemmas.Keeping.{all_exist_same}
 use Rattle.tc_table.proofs.Lemmas.Over.{on_existing}
 use Rattle.tc_table.proofs.Lemmas.Going.{starts_still}
 use Rattle.tc_table.proofs.Lemmas.Sound.{plain_if}
-use Rattle.tc_explore.specs.Course.{Stand, stand, goes_on, IsCourse}
+use Rattle.tc_course.specs.Course.{Stand, stand, goes_on, IsCourse}
 use Rattle.tc_explore.specs.Inside.Simulation.{IsAlike, IsQuietAt, call_at, IsLastAt, WasParked, IsLeaving, IsEnding, IsAhead, IsBarredBefore}
 use Rattle.tc_explore.proofs.Alike.{is_plain_call, phase_next, overall_next, next_no_better}
-use Rattle.tc_explore.proofs.Lemmas.Standings.{stand_comp, stand_other}
+use Rattle.tc_course.proofs.Lemmas.Standings.{stand_comp, stand_other}
 use Rattle.tc_verdict.specs.Verdict.{level_of}
 use Rattle.tc_verdict.specs.declared.verdict.Verdict.{Verdict}
 

@@ -12,11 +12,11 @@ use Rattle.tc_table.specs.Case.{Case, past_of}
 use Rattle.tc_table.specs.History.{is_over}
 use Rattle.tc_table.specs.Local.{overall}
 use Rattle.tc_table.specs.Answers.{answer}
-use Rattle.tc_explore.specs.declared.witness.Witness.{Witness}
+use Rattle.tc_course.specs.declared.witness.Witness.{Witness}
 use Rattle.tc_explore.specs.declared.search.Met.{Met}
-use Rattle.tc_explore.specs.Told.{is_found}
-use Rattle.tc_explore.specs.Course.{goes_on, turn, IsTurn, IsCourse}
-use Rattle.tc_explore.specs.Inside.Going.{taken, IsOn, CannotGo}
+use Rattle.tc_course.specs.Witnesses.{is_found}
+use Rattle.tc_course.specs.Course.{goes_on, turn, IsTurn, IsCourse}
+use Rattle.tc_course.specs.Cases.{taken, IsOn, CannotGo}
 use Rattle.tc_explore.specs.Inside.Simulation.{is_spent, IsCovered, GoesOn, IsClosedFor, IsWithin}
 use Rattle.tc_explore.specs.Inside.Seen.{IsSeen, IsLonger, StandsOn, IsAfter, IsRunClosed, IsCalm, IsState, IsStillAt, AreStill, IsFull}
 use Rattle.tc_explore.proofs.Seeing.{closed_for_longer, covered_by}

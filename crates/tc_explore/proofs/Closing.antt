@@ -31,17 +31,17 @@ use Rattle.tc_table.proofs.Lemmas.Deciding.{equal_if, and_right}
 use Rattle.tc_table.proofs.Lemmas.Over.{on_existing, all_over}
 use Rattle.tc_table.proofs.Lemmas.Stuck.{one_false}
 use Rattle.tc_table.proofs.Lemmas.Going.{started_by_entry}
-use Rattle.tc_explore.specs.declared.witness.Witness.{Witness}
+use Rattle.tc_course.specs.declared.witness.Witness.{Witness}
 use Rattle.std.specs.Option.{unwrap_or}
-use Rattle.tc_explore.specs.Course.{Stand, stand, goes_on, after_own, after_other_by, is_wake, is_idle, turn, steps_of, IsTurn, IsCourse, IsComplete}
-use Rattle.tc_explore.specs.Inside.Standing.{wake_if, call_of}
-use Rattle.tc_explore.specs.Told.{is_found}
+use Rattle.tc_course.specs.Course.{Stand, stand, goes_on, after_own, after_other_by, is_wake, is_idle, turn, steps_of, IsTurn, IsCourse, IsComplete}
+use Rattle.tc_course.specs.Inside.Standing.{wake_if, call_of}
+use Rattle.tc_course.specs.Witnesses.{is_found}
 use Rattle.tc_explore.specs.Inside.Simulation.{IsAlike, is_quiet, is_late, is_met, is_spent, IsQuietAt, call_at, IsWakeOf, IsBefore, IsParkedAt, IsFollowed, IsLastAt, WasParked, IsLeaving, place_of, IsEnding, IsAhead, IsFor, IsCovered, GoesOn, IsClosed, IsWithin, is_barred, IsBarredBefore, AreOrdered}
-use Rattle.tc_explore.proofs.Legality.{course_legal}
+use Rattle.tc_course.proofs.Lemmas.Histories.{course_legal}
 use Rattle.tc_explore.proofs.Alike.{ChangesNothing, alike_sym, alike_unchanged, active_alike, holds_alike, is_plain_call, overall_next, overall_grows, next_within}
 use Rattle.tc_explore.proofs.Ahead.{holds_ahead, ending_active, ended_inactive, not_ending_run, died_before, active_back, active_forth, none_too, some_too, fault_ahead, answer_ahead, ahead_self, ahead_after, ahead_turn, ahead_step}
 use Rattle.tc_explore.proofs.Leaving.{Ends, running_on, ends_no_case, after_end}
-use Rattle.tc_explore.proofs.Lemmas.Standings.{HasTurn, has_turn, turn_of, never_wake, stand_own, stand_comp, stand_unstarted, unstarted, IsAwaitedBy, waiting_wake, wake_after_other, run_in_range}
+use Rattle.tc_course.proofs.Lemmas.Standings.{HasTurn, has_turn, turn_of, never_wake, stand_own, stand_comp, stand_unstarted, unstarted, IsAwaitedBy, waiting_wake, wake_after_other, run_in_range}
 use Rattle.tc_explore.proofs.Late.{IsGone, late_for, late_reply, late_halts, IsMetFor, met_for, met_reply, met_or_parked, met_holds, halt_not_ending, other_than_gone, ahead_late, late_free}
 use Rattle.tc_explore.proofs.Ordered.{order_opening}
 use Rattle.tc_explore.proofs.Simulation.{unchanged_ended, unchanged_quiet, unchanged_wait, unchanged_wake, some_if, stay, stutter, both, ended_kept, wait_kept, wake_kept, quiet_within}

@@ -2,7 +2,7 @@
 use Rattle.std.proofs.Common.{◌≤◌, List, [], length, reverse, ap, ◌≡◌, subst, sym, arith}
 use Rattle.tc_step.specs.Steps.{ScriptView}
 use Rattle.tc_table.specs.Case.{Case, past_of}
-use Rattle.tc_explore.specs.declared.witness.Witness.{Witness}
+use Rattle.tc_course.specs.declared.witness.Witness.{Witness}
 use Rattle.tc_explore.specs.Inside.Simulation.{IsCovered}
 use Rattle.tc_explore.specs.Inside.Seen.{AreClosed, IsSeen, AllTold, IsToldBy}
 use Rattle.tc_explore.proofs.Sameness.{same_for}

@@ -25,15 +25,15 @@ use Rattle.tc_table.proofs.Lemmas.Deciding.{equal_if, self_equal}
 use Rattle.tc_table.proofs.Lemmas.Over.{on_existing, stays}
 use Rattle.tc_table.proofs.Lemmas.Sound.{plain_if}
 use Rattle.std.specs.Option.{unwrap_or}
-use Rattle.tc_explore.specs.Course.{stand, steps_of, turn, IsCourse}
-use Rattle.tc_explore.specs.Inside.Standing.{call_of}
+use Rattle.tc_course.specs.Course.{stand, steps_of, turn, IsCourse}
+use Rattle.tc_course.specs.Inside.Standing.{call_of}
 use Rattle.tc_explore.specs.Inside.Simulation.{is_barred, is_late, call_at, IsQuietAt, IsFollowed, IsEnding, IsFor, IsFelling}
-use Rattle.tc_explore.proofs.Legality.{course_legal}
+use Rattle.tc_course.proofs.Lemmas.Histories.{course_legal}
 use Rattle.tc_explore.proofs.Alike.{phase_next}
 use Rattle.tc_explore.proofs.Ahead.{KeepsQuiet, leaving_later}
 use Rattle.tc_explore.proofs.Leaving.{barred_leaves}
 use Rattle.tc_explore.proofs.Late.{IsGone, HaltsOne, stop_halts, late_if, late_special, halt_elsewhere, halt_comps, halt_kinds, halt_runs, halt_overall, halt_not_ending}
-use Rattle.tc_explore.proofs.Lemmas.Standings.{has_turn, stand_own, stand_other, stand_comp}
+use Rattle.tc_course.proofs.Lemmas.Standings.{has_turn, stand_own, stand_other, stand_comp}
 use Rattle.tc_explore.proofs.Places.{keeps_quiet, ahead, barred_sets, spent_late, still_no_fault_by}
 use Rattle.tc_explore.proofs.Ordered.{was_active}
 use Rattle.tc_explore.proofs.Simulation.{some_if, followed_later}

@@ -21,13 +21,13 @@ use Rattle.tc_table.specs.Legal.{IsLegal}
 use Rattle.tc_table.proofs.Lemmas.Deciding.{equal_if}
 use Rattle.tc_table.proofs.Lemmas.Sound.{plain_if}
 use Rattle.tc_table.proofs.Lemmas.Going.{halted_by_entry}
-use Rattle.tc_explore.specs.Course.{Stand, stand, goes_on, after_other_by, IsTurn, IsCourse}
-use Rattle.tc_explore.specs.Inside.Standing.{ends}
-use Rattle.tc_explore.specs.Inside.Going.{taken, IsOn}
+use Rattle.tc_course.specs.Course.{Stand, stand, goes_on, after_other_by, IsTurn, IsCourse}
+use Rattle.tc_course.specs.Inside.Standing.{ends}
+use Rattle.tc_course.specs.Cases.{taken, IsOn}
 use Rattle.tc_explore.specs.Inside.Simulation.{IsSilent, IsWithin}
 use Rattle.tc_explore.specs.Inside.Seen.{IsSame, HasNoWake, IsOpen, IsCalmAt, IsCalm, IsCalmAfter, IsState}
-use Rattle.tc_explore.proofs.Legality.{course_legal}
-use Rattle.tc_explore.proofs.Lemmas.Standings.{has_turn, stand_own, stand_other, stand_comp, stand_unstarted, wake_after_other}
+use Rattle.tc_course.proofs.Lemmas.Histories.{course_legal}
+use Rattle.tc_course.proofs.Lemmas.Standings.{has_turn, stand_own, stand_other, stand_comp, stand_unstarted, wake_after_other}
 use Rattle.tc_explore.proofs.Simulation.{unchanged_quiet, unchanged_wait, quiet_within, wait_kept}
 use Rattle.tc_explore.proofs.Leaving.{running_on}
 use Rattle.tc_explore.proofs.Late.{late_reply, late_halts, met_for, halt_overall}

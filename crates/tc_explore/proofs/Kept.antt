@@ -13,11 +13,11 @@ use Rattle.tc_table.specs.Case.{Case, past_of}
 use Rattle.tc_table.proofs.Lemmas.Deciding.{equal_if, self_equal}
 use Rattle.tc_explore.specs.declared.findings.Findings.{Findings}
 use Rattle.tc_explore.specs.declared.search.Met.{Met}
-use Rattle.tc_explore.specs.declared.witness.Witness.{Witness}
-use Rattle.tc_explore.specs.Course.{carried, IsCourse}
+use Rattle.tc_course.specs.declared.witness.Witness.{Witness}
+use Rattle.tc_course.specs.Course.{carried, IsCourse}
 use Rattle.tc_explore.specs.Inside.Going.{Reaches}
 use Rattle.tc_explore.specs.Found.{AreReached, AreCourses, AreCovered, Covers, AreMet}
-use Rattle.tc_explore.specs.Inside.Going.{IsOn}
+use Rattle.tc_course.specs.Cases.{IsOn}
 use Rattle.tc_explore.specs.Inside.Keys.{key_of}
 use Rattle.tc_explore.specs.Inside.Seen.{AreKept, AreKeyed, IsCountedTo, IsLonger, IsNoLess, IsState, IsWith}
 use Rattle.tc_explore.proofs.Keys.{AreApart, keys_apart}

@@ -21,11 +21,11 @@ use Rattle.tc_explore.specs.declared.search.Met.{Met}
 use Rattle.tc_explore.specs.Inside.Keys.{phase_code, comp_code, number_of, run_key, run_key_of, comp_key, key_of}
 use Rattle.tc_explore.specs.Inside.Seen.{AreKeyed, IsSame, IsSeen, IsState}
 use Rattle.tc_explore.proofs.Sameness.{alike_of, same_verdict, same_phase, same_comp}
-use Rattle.tc_explore.specs.Course.{Stand, stand, IsCourse}
+use Rattle.tc_course.specs.Course.{Stand, stand, IsCourse}
 use Rattle.tc_explore.specs.Inside.Simulation.{IsAlike}
 use Rattle.tc_explore.proofs.Keeping.{active_stays}
-use Rattle.tc_explore.proofs.Legality.{course_legal}
-use Rattle.tc_explore.proofs.Lemmas.Standings.{run_in_range}
+use Rattle.tc_course.proofs.Lemmas.Histories.{course_legal}
+use Rattle.tc_course.proofs.Lemmas.Standings.{run_in_range}
 use Rattle.tc_explore.proofs.Simulation.{some_if}
 use Rattle.tc_verdict.specs.declared.verdict.Verdict.{Verdict}
 

@@ -14,12 +14,13 @@ use Rattle.tc_table.specs.Local.{local, local_if_any, overall, gives}
 use Rattle.tc_table.specs.Answers.{answer}
 use Rattle.tc_table.proofs.Lemmas.Deciding.{equal_if, if_same}
 use Rattle.tc_table.proofs.Lemmas.Over.{all_over}
-use Rattle.tc_explore.specs.Course.{Stand, stand, after_own, after_other_by, turn, turn_on, steps_of, is_idle, IsTurn, IsCourse, IsComplete}
-use Rattle.tc_explore.specs.Inside.Going.{taken, IsOn, CannotGo, IsStepped, HasSameLocals}
-use Rattle.tc_explore.proofs.Legality.{course_legal}
+use Rattle.tc_course.specs.Course.{Stand, stand, after_own, after_other_by, turn, turn_on, steps_of, is_idle, IsTurn, IsCourse, IsComplete}
+use Rattle.tc_course.specs.Cases.{taken, IsOn, CannotGo}
+use Rattle.tc_explore.specs.Inside.Going.{IsStepped, HasSameLocals}
+use Rattle.tc_course.proofs.Lemmas.Histories.{course_legal}
 use Rattle.tc_explore.proofs.Alike.{alike_unchanged, exists_same, local_next, overall_next}
 use Rattle.tc_explore.proofs.Simulation.{unchanged_ended}
-use Rattle.tc_explore.proofs.Lemmas.Standings.{has_turn, stand_own}
+use Rattle.tc_course.proofs.Lemmas.Standings.{has_turn, stand_own}
 
 -- ---- local verdicts
 

@@ -25,8 +25,8 @@ use Rattle.tc_table.specs.Inside.Step.{next_phase, next_local}
 use Rattle.tc_table.proofs.Lemmas.Deciding.{self_equal, equal_if, ok_is}
 use Rattle.tc_table.proofs.Lemmas.Sound.{IsPlain, plain_if, no_special, startable}
 use Rattle.tc_table.proofs.Lemmas.Over.{stays}
-use Rattle.tc_explore.specs.Course.{stand, is_wake, IsCourse}
-use Rattle.tc_explore.specs.Inside.Standing.{ends, wake_if}
+use Rattle.tc_course.specs.Course.{stand, is_wake, IsCourse}
+use Rattle.tc_course.specs.Inside.Standing.{ends, wake_if}
 use Rattle.tc_explore.specs.Inside.Simulation.{IsAlike, is_gone, is_late, is_met, IsLeaving, IsEnding, IsAhead, is_barred}
 use Rattle.tc_explore.proofs.Alike.{phase_next, fresh, kind_kept, first_kept, kept_by, overall_next}
 use Rattle.tc_explore.proofs.Ahead.{leaving_other}

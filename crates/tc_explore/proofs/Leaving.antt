@@ -24,13 +24,13 @@ use Rattle.tc_table.proofs.Lemmas.Deciding.{self_equal, equal_if, and_left}
 use Rattle.tc_table.proofs.Lemmas.Over.{on_existing}
 use Rattle.tc_table.proofs.Lemmas.LawsOfHistories.{runs_if_active}
 use Rattle.tc_table.proofs.Lemmas.Going.{halted_by_entry, started_by_entry}
-use Rattle.tc_explore.specs.Course.{Stand, stand, steps_of, IsCourse}
-use Rattle.tc_explore.specs.Inside.Standing.{call_of}
+use Rattle.tc_course.specs.Course.{Stand, stand, steps_of, IsCourse}
+use Rattle.tc_course.specs.Inside.Standing.{call_of}
 use Rattle.tc_explore.specs.Inside.Simulation.{is_gone, is_spent, IsQuietAt, IsWakeOf, call_at, IsBefore, IsParkedAt, IsFollowed, IsLastAt, WasParked, IsLeaving, IsEnding, place_of, place_by, IsOrdered, IsFor, is_barred, IsBarredBefore, AreOrdered}
-use Rattle.tc_explore.proofs.Legality.{course_legal}
+use Rattle.tc_course.proofs.Lemmas.Histories.{course_legal}
 use Rattle.tc_explore.proofs.Alike.{phase_next, kind_kept, first_kept, fresh, overall_next}
 use Rattle.tc_explore.proofs.Ahead.{KeepsQuiet, leaving_later, leaving_other, ended_inactive}
-use Rattle.tc_explore.proofs.Lemmas.Standings.{stand_comp, stand_other}
+use Rattle.tc_course.proofs.Lemmas.Standings.{stand_comp, stand_other}
 use Rattle.tc_explore.proofs.Simulation.{some_if, followed_later}
 use Rattle.tc_explore.proofs.Places.{keeps_quiet}
 use Rattle.tc_explore.proofs.Late.{gone_is}

@@ -1,5 +1,4 @@
 -- The lemmas of this crate.
-pub mod Lemmas
 pub mod Legality
 pub mod NextAim
 pub mod Alike
@@ -28,8 +27,6 @@ pub mod States
 pub mod Numbers
 pub mod Saying
 pub mod Prefixes
-pub mod Followed
-pub mod Taking
 pub mod Late
 pub mod Ordered
 pub mod Twins

@@ -20,11 +20,11 @@ use Rattle.tc_table.specs.History.{ends_case, is_over}
 use Rattle.tc_table.specs.Answers.{is_active}
 use Rattle.tc_table.proofs.Lemmas.Over.{all_over}
 use Rattle.tc_explore.specs.declared.search.Met.{Met}
-use Rattle.tc_explore.specs.Course.{stand, steps_of, turn, IsTurn, IsCourse, IsComplete}
-use Rattle.tc_explore.specs.Inside.Standing.{call_of}
+use Rattle.tc_course.specs.Course.{stand, steps_of, turn, IsTurn, IsCourse, IsComplete}
+use Rattle.tc_course.specs.Inside.Standing.{call_of}
 use Rattle.tc_explore.specs.Locals.{is_local, AllLocalsFound}
 use Rattle.tc_explore.specs.Found.{HasCourses}
-use Rattle.tc_explore.specs.Inside.Going.{taken, IsOn, CannotGo}
+use Rattle.tc_course.specs.Cases.{taken, IsOn, CannotGo}
 use Rattle.tc_explore.specs.Inside.Seen.{IsLonger, IsWith}
 use Rattle.tc_explore.specs.Inside.Twins.{IsTwin, IsGoing, AreGoing, HasTwinKeys, IsMore, HasLocals, IsTwinSeen, IsLocalsAfter, IsLocalsRun, AreLocalsRuns, IsLocalsAt, AreLocalsClosed, twin_key}
 use Rattle.tc_explore.proofs.Alike.{active_alike}
@@ -32,9 +32,9 @@ use Rattle.tc_explore.proofs.Closed.{same_entry}
 use Rattle.tc_explore.proofs.Closing.{answer_inactive}
 use Rattle.tc_explore.proofs.Keeping.{active_stays, comp_main, main_goes}
 use Rattle.tc_explore.proofs.Kept.{all_with, courses_of, longer_with, no_courses}
-use Rattle.tc_explore.proofs.Legality.{course_legal}
+use Rattle.tc_course.proofs.Lemmas.Histories.{course_legal}
 use Rattle.tc_explore.proofs.LastCalls.{locals_ended}
-use Rattle.tc_explore.proofs.Lemmas.Standings.{run_in_range, stand_comp, turn_of}
+use Rattle.tc_course.proofs.Lemmas.Standings.{run_in_range, stand_comp, turn_of}
 use Rattle.tc_explore.proofs.Seeing.{get_last, get_more}
 use Rattle.tc_explore.proofs.Simulation.{some_if}
 use Rattle.tc_explore.proofs.States.{get_longer}

@@ -12,11 +12,12 @@ use Rattle.tc_table.specs.Faults.{components}
 use Rattle.tc_table.specs.History.{exists}
 use Rattle.tc_table.specs.Local.{local_if_any}
 use Rattle.tc_table.proofs.Lemmas.Deciding.{equal_if, self_equal}
-use Rattle.tc_explore.specs.Course.{IsComplete}
+use Rattle.tc_course.specs.Course.{IsComplete}
 use Rattle.tc_explore.specs.Locals.{AreLocals, GivesLocal, is_local}
-use Rattle.tc_explore.specs.Inside.Going.{IsOn, HasSameLocals}
+use Rattle.tc_course.specs.Cases.{IsOn}
+use Rattle.tc_explore.specs.Inside.Going.{HasSameLocals}
 use Rattle.tc_explore.specs.Inside.Twins.{HasLocal, HasLocals, IsMarked, IsMore, IsPadded}
-use Rattle.tc_explore.proofs.Legality.{course_legal}
+use Rattle.tc_course.proofs.Lemmas.Histories.{course_legal}
 use Rattle.tc_explore.proofs.Sameness.{exists_below, same_verdict}
 
 -- ---- one place

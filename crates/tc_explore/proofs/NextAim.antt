@@ -5,9 +5,8 @@ use Rattle.tc_verdict.specs.declared.verdict.Verdict.{Verdict}
 use Rattle.tc_verdict.specs.declared.verdict.Verdict.TheVariants as V
 use Rattle.tc_verdict.specs.Verdict.{level_of}
 use Rattle.tc_step.specs.Steps.{ScriptView}
-use Rattle.tc_explore.specs.declared.witness.Witness.{Witness}
-use Rattle.tc_explore.specs.Told.{is_found}
-use Rattle.tc_explore.specs.Found.{AllFound}
+use Rattle.tc_course.specs.declared.witness.Witness.{Witness}
+use Rattle.tc_course.specs.Witnesses.{is_found, AllFound}
 use Rattle.tc_explore.specs.Inside.Seen.{IsLonger, IsToldBy, AllTold, is_found_within, next_aim, AreFoundAbove}
 use Rattle.tc_explore.proofs.Sameness.{same_verdict}
 use Rattle.tc_explore.proofs.Seeing.{found_longer}

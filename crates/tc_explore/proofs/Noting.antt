@@ -12,10 +12,10 @@ use Rattle.tc_verdict.specs.declared.verdict.Verdict.{Verdict}
 use Rattle.tc_verdict.specs.Verdict.{level_of}
 use Rattle.tc_step.specs.Steps.{ScriptView}
 use Rattle.tc_table.proofs.Lemmas.Deciding.{equal_if, self_equal}
-use Rattle.tc_explore.specs.declared.witness.Witness.{Witness}
-use Rattle.tc_explore.specs.Found.{IsWitness, AllFound, AreCovered, AreFromBest, Covers}
+use Rattle.tc_course.specs.declared.witness.Witness.{Witness}
+use Rattle.tc_course.specs.Witnesses.{IsWitness, AllFound, is_found}
+use Rattle.tc_explore.specs.Found.{AreCovered, AreFromBest, Covers}
 use Rattle.tc_explore.specs.Inside.Going.{AreNoted, IsOnce}
-use Rattle.tc_explore.specs.Told.{is_found}
 use Rattle.tc_explore.proofs.Sameness.{same_verdict}
 
 or_yes : (t : Bool) → (t || true) ≡ true

@@ -14,12 +14,12 @@ use Rattle.tc_table.specs.Legal.{IsLegal}
 use Rattle.tc_table.proofs.Lemmas.Deciding.{equal_if, and_left}
 use Rattle.tc_table.proofs.Lemmas.Going.{halted_by_entry, started_by_entry}
 use Rattle.std.specs.Option.{unwrap_or}
-use Rattle.tc_explore.specs.Course.{Stand, stand, after_own, is_wake, steps_of, IsTurn, IsCourse}
-use Rattle.tc_explore.specs.Inside.Standing.{wake_if, call_of}
+use Rattle.tc_course.specs.Course.{Stand, stand, after_own, is_wake, steps_of, IsTurn, IsCourse}
+use Rattle.tc_course.specs.Inside.Standing.{wake_if, call_of}
 use Rattle.tc_explore.specs.Inside.Simulation.{IsAlike, is_gone, call_at, place_by, IsAhead, IsOrdered, AreOrdered}
-use Rattle.tc_explore.proofs.Legality.{course_legal}
+use Rattle.tc_course.proofs.Lemmas.Histories.{course_legal}
 use Rattle.tc_explore.proofs.Alike.{any_phase_same, first_kept}
-use Rattle.tc_explore.proofs.Lemmas.Standings.{HasTurn, has_turn, never_wake, stand_own, stand_other, stand_comp}
+use Rattle.tc_course.proofs.Lemmas.Standings.{HasTurn, has_turn, never_wake, stand_own, stand_other, stand_comp}
 use Rattle.tc_explore.proofs.Late.{gone_is, gone_if, gone_next}
 use Rattle.tc_explore.proofs.Places.{kept_bound}
 use Rattle.tc_verdict.specs.declared.verdict.Verdict.{Verdict}

@@ -28,20 +28,21 @@ use Rattle.tc_table.specs.Legal.{IsLegal}
 use Rattle.tc_table.proofs.Lemmas.Deciding.{self_equal, equal_if}
 use Rattle.tc_table.proofs.Lemmas.Going.{last_on_it}
 use Rattle.tc_table.proofs.Lemmas.Steps.{phase_by}
-use Rattle.tc_explore.specs.declared.witness.Witness.{Witness}
-use Rattle.tc_explore.specs.Course.{Stand, stand, goes_on, carried, after_other_by, is_wake, turn, steps_of, IsTurn, IsCourse}
-use Rattle.tc_explore.specs.Inside.Standing.{one_more_if, call_of}
-use Rattle.tc_explore.specs.Told.{is_found}
-use Rattle.tc_explore.specs.Inside.Going.{IsOn, IsStepped, IsSteppedIfActive}
+use Rattle.tc_course.specs.declared.witness.Witness.{Witness}
+use Rattle.tc_course.specs.Course.{Stand, stand, goes_on, carried, after_other_by, is_wake, turn, steps_of, IsTurn, IsCourse}
+use Rattle.tc_course.specs.Inside.Standing.{one_more_if, call_of}
+use Rattle.tc_course.specs.Witnesses.{is_found}
+use Rattle.tc_course.specs.Cases.{IsOn}
+use Rattle.tc_explore.specs.Inside.Going.{IsStepped, IsSteppedIfActive}
 use Rattle.tc_explore.specs.Found.{Covers}
 use Rattle.tc_explore.specs.Inside.Simulation.{IsAlike, is_quiet, GoesOn}
 use Rattle.tc_explore.specs.Inside.Seen.{HasNoWake, IsOpen, IsRunClosed, AreStill, AreHeld}
-use Rattle.tc_explore.proofs.Legality.{course_legal}
+use Rattle.tc_course.proofs.Lemmas.Histories.{course_legal}
 use Rattle.tc_explore.proofs.Alike.{ChangesNothing, holds_alike, active_alike, fault_alike, alike_unchanged, overall_next}
 use Rattle.tc_explore.proofs.Simulation.{unchanged_wait, some_if}
 use Rattle.tc_explore.proofs.Places.{not_ending}
-use Rattle.tc_explore.proofs.Lemmas.Turning.{other_not_idle}
-use Rattle.tc_explore.proofs.Lemmas.Standings.{has_turn, turn_of, never_wake, stand_own, stand_other, stand_comp, run_in_range}
+use Rattle.tc_course.proofs.Lemmas.Turning.{other_not_idle}
+use Rattle.tc_course.proofs.Lemmas.Standings.{has_turn, turn_of, never_wake, stand_own, stand_other, stand_comp, run_in_range}
 use Rattle.tc_explore.proofs.Closing.{not_ended, answer_plain, answer_fault, quiet_reply, parks_wait, fault_of_wait, error_is_worst}
 use Rattle.tc_explore.proofs.Keeping.{active_stays, main_goes, comp_main}
 use Rattle.tc_explore.proofs.LastCalls.{turn_by}

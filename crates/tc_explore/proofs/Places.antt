@@ -20,8 +20,8 @@ use Rattle.tc_table.specs.Faults.{fault, all_exist, names, asks_many, special_fa
 use Rattle.tc_table.specs.Legal.{IsLegal}
 use Rattle.tc_table.proofs.Lemmas.Over.{stays}
 use Rattle.std.specs.Option.{option_to_list}
-use Rattle.tc_explore.specs.Course.{Stand, after_own, is_wake}
-use Rattle.tc_explore.specs.Inside.Standing.{ends, wake_for, wake_if}
+use Rattle.tc_course.specs.Course.{Stand, after_own, is_wake}
+use Rattle.tc_course.specs.Inside.Standing.{ends, wake_for, wake_if}
 use Rattle.tc_explore.specs.Inside.Simulation.{is_quiet, is_late, is_met, is_spent, WasParked, IsQuietAt, call_at, IsWakeOf, IsBefore, IsParkedAt, IsFollowed, IsLastAt, IsLeaving, is_barred, IsBarredBefore}
 use Rattle.tc_explore.proofs.Alike.{ChangesNothing, overall_grows}
 use Rattle.tc_explore.proofs.Ahead.{KeepsQuiet}

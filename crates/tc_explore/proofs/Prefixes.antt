@@ -1,6 +1,6 @@
 -- What is in front of a legal history is legal; the names in a history.
-use Rattle.std.proofs.Common.{ℕ, ◌≡◌, ◌∙◌, ◌+◌, ◌<◌, if◌then◌else◌, Option, Some, None, List, [], ◌∷◌, ◌++◌, length, take, drop, get_or, reverse, refl, sym, ap, subst}
-use Rattle.std.proofs.lemmas.List.{take_more, reverse-append, take-append-drop}
+use Rattle.std.proofs.Common.{ℕ, ◌≡◌, ◌∙◌, if◌then◌else◌, Option, Some, None, List, [], ◌∷◌, ◌++◌, take, drop, reverse, refl, sym, ap, subst}
+use Rattle.std.proofs.lemmas.List.{reverse-append, take-append-drop}
 use Rattle.tc_entry.specs.declared.entry.Entry.{Entry}
 use Rattle.tc_table.specs.Deciding.{name_in, name_of}
 use Rattle.tc_table.specs.History.{created, first_some, is_comp}
@@ -15,10 +15,6 @@ front_legal n history k legal =
     let parts : reverse history ≡ reverse (drop k history) ++ reverse (take k history) =
     ap reverse (sym (take-append-drop k history)) ∙ reverse-append (take k history) (drop k history) in
     earlier_legal n (reverse (drop k history)) (reverse (take k history)) (subst (λ l. IsLegal n l) parts legal)
-
--- one entry more in front
-pub reverse_more : (xs : List Entry) (i : ℕ) (d : Entry) → i < length xs → reverse (take (i + 1) xs) ≡ get_or xs i d ∷ reverse (take i xs)
-reverse_more xs i d h = ap reverse (take_more xs i d h) ∙ reverse-append (take i xs) (get_or xs i d ∷ [])
 
 -- ---- names
 

@@ -4,10 +4,10 @@ use Rattle.std.proofs.lemmas.List.{get_or-set_same, get_or-set_other, get_or-rep
 use Rattle.tc_step.specs.Steps.{ScriptView}
 use Rattle.tc_table.specs.Case.{Case, past_of}
 use Rattle.tc_table.proofs.Lemmas.Deciding.{equal_if, self_equal}
-use Rattle.tc_explore.specs.Course.{carried}
+use Rattle.tc_course.specs.Course.{carried}
 use Rattle.tc_explore.specs.Inside.Going.{Reaches}
 use Rattle.tc_explore.specs.Found.{AreReached}
-use Rattle.tc_explore.specs.Inside.Going.{IsOn}
+use Rattle.tc_course.specs.Cases.{IsOn}
 
 -- nothing was called at the opening
 pub reached_none : (scripts : List ScriptView) → AreReached scripts (replicate (length scripts) 0)

@@ -19,14 +19,14 @@ use Rattle.tc_table.specs.Legal.{IsLegal}
 use Rattle.tc_table.specs.Inside.Kept.{numbers_from}
 use Rattle.tc_table.proofs.Lemmas.Numbers.{length-numbers_from, numbers_from-more, is_in-numbers_from}
 use Rattle.tc_table.proofs.Lemmas.Sound.{next}
-use Rattle.tc_explore.specs.Course.{stand, IsCourse}
+use Rattle.tc_course.specs.Course.{stand, IsCourse}
 use Rattle.tc_explore.specs.Inside.Simulation.{IsAlike, IsFor, IsFollowed}
 use Rattle.tc_explore.specs.Inside.Keys.{phase_code, comp_code}
 use Rattle.tc_explore.specs.Inside.Seen.{IsSame}
-use Rattle.tc_explore.proofs.Legality.{course_legal}
+use Rattle.tc_course.proofs.Lemmas.Histories.{course_legal}
 use Rattle.tc_explore.proofs.Alike.{alike_sym, active_alike, fresh}
 use Rattle.tc_explore.proofs.Ahead.{ahead_after, KeepsQuiet}
-use Rattle.tc_explore.proofs.Lemmas.Standings.{stand_comp, run_in_range}
+use Rattle.tc_course.proofs.Lemmas.Standings.{stand_comp, run_in_range}
 use Rattle.tc_explore.proofs.Ordered.{order_alike}
 use Rattle.tc_explore.proofs.Simulation.{quiet_alike, followed_later}
 

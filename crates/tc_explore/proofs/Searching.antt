@@ -18,13 +18,13 @@ use Rattle.tc_table.specs.History.{comp_of, is_alive_type, exists}
 use Rattle.tc_table.specs.Local.{overall}
 use Rattle.tc_table.specs.Answers.{answer}
 use Rattle.tc_table.proofs.Lemmas.Sound.{plain_if}
-use Rattle.tc_explore.specs.Course.{stand, IsTurn, IsCourse, turn}
-use Rattle.tc_explore.specs.Inside.Going.{taken, IsOn}
+use Rattle.tc_course.specs.Course.{stand, IsTurn, IsCourse, turn}
+use Rattle.tc_course.specs.Cases.{taken, IsOn}
 use Rattle.tc_explore.specs.Inside.Simulation.{IsAlike, is_quiet, is_late, is_met, is_spent, IsQuietAt, IsWakeOf, IsFollowed, IsFor, IsEnd, IsSilent, is_barred, IsBarredNow, IsFelled, IsFelling}
 use Rattle.tc_explore.specs.Inside.Seen.{StandsOn}
-use Rattle.tc_explore.proofs.Legality.{course_legal}
+use Rattle.tc_course.proofs.Lemmas.Histories.{course_legal}
 use Rattle.tc_explore.proofs.Alike.{alike_unchanged, fault_alike}
-use Rattle.tc_explore.proofs.Lemmas.Standings.{stand_own, stand_comp}
+use Rattle.tc_course.proofs.Lemmas.Standings.{stand_own, stand_comp}
 use Rattle.tc_explore.proofs.Simulation.{unchanged_quiet, unchanged_wait, some_if, followed_later, lead, quiet_made}
 use Rattle.tc_explore.proofs.Leaving.{Ends, running_on, lead_end}
 use Rattle.tc_explore.proofs.Late.{late_for, late_reply, late_halts, met_for, met_reply, alike_late, halt_not_ending, other_than_gone}

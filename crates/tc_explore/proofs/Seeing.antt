@@ -10,8 +10,8 @@ use Rattle.tc_verdict.specs.Verdict.{level_of}
 use Rattle.tc_entry.specs.declared.entry.Entry.{Entry}
 use Rattle.tc_step.specs.Steps.{ScriptView}
 use Rattle.tc_table.specs.Case.{Case, past_of}
-use Rattle.tc_explore.specs.declared.witness.Witness.{Witness}
-use Rattle.tc_explore.specs.Told.{is_found}
+use Rattle.tc_course.specs.declared.witness.Witness.{Witness}
+use Rattle.tc_course.specs.Witnesses.{is_found}
 use Rattle.tc_explore.specs.Inside.Simulation.{IsCovered, IsClosedFor}
 use Rattle.tc_explore.specs.Inside.Seen.{IsSame, IsSeen, IsLonger, StandsOn}
 

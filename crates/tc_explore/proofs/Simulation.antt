@@ -22,12 +22,12 @@ use Rattle.tc_table.specs.Inside.Step.{next_local}
 use Rattle.tc_table.proofs.Lemmas.Deciding.{equal_if, if_same, and_left}
 use Rattle.tc_table.proofs.Lemmas.Going.{others_halt_nothing, halted_by_entry}
 use Rattle.tc_table.proofs.Lemmas.Kept.{inactive}
-use Rattle.tc_explore.specs.Course.{Stand, stand, IsCourse}
+use Rattle.tc_course.specs.Course.{Stand, stand, IsCourse}
 use Rattle.tc_explore.specs.Inside.Simulation.{IsAlike, is_quiet, call_at, IsWakeOf, IsBefore, IsParkedAt, IsFollowed, IsLeaving, IsEnding, IsAhead, IsFor}
-use Rattle.tc_explore.proofs.Legality.{course_legal}
+use Rattle.tc_course.proofs.Lemmas.Histories.{course_legal}
 use Rattle.tc_explore.proofs.Alike.{ChangesNothing, alike_sym, alike_unchanged, active_alike, fault_alike, late_alike, met_alike, overall_next, overall_grows, worse_most}
 use Rattle.tc_explore.proofs.Ahead.{KeepsQuiet, ahead_after, ahead_turn}
-use Rattle.tc_explore.proofs.Lemmas.Standings.{stand_other, stand_comp}
+use Rattle.tc_course.proofs.Lemmas.Standings.{stand_other, stand_comp}
 use Rattle.tc_explore.proofs.Ordered.{order_stays, order_alike, order_both}
 use Rattle.tc_verdict.proofs.Lemmas.Order.{worse_right}
 use Rattle.tc_explore.proofs.Places.{keeps_quiet}

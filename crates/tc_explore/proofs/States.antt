@@ -8,9 +8,9 @@ use Rattle.tc_step.specs.Steps.{ScriptView}
 use Rattle.tc_table.specs.Case.{Case, past_of}
 use Rattle.tc_table.specs.History.{is_over}
 use Rattle.tc_table.specs.Answers.{is_active}
-use Rattle.tc_explore.specs.declared.witness.Witness.{Witness}
-use Rattle.tc_explore.specs.Told.{is_found}
-use Rattle.tc_explore.specs.Course.{stand, IsCourse}
+use Rattle.tc_course.specs.declared.witness.Witness.{Witness}
+use Rattle.tc_course.specs.Witnesses.{is_found}
+use Rattle.tc_course.specs.Course.{stand, IsCourse}
 use Rattle.tc_explore.specs.Inside.Simulation.{IsCovered, GoesOn, IsClosed, IsWithin}
 use Rattle.tc_explore.specs.Inside.Seen.{IsClosedAt, AreClosed, IsSeen, IsLonger, StandsOn, IsRunClosed, IsState, AllTold}
 use Rattle.tc_explore.proofs.Seeing.{seen_longer, found_longer, closed_for_longer, covered_by, get_more}

@@ -21,15 +21,15 @@ use Rattle.tc_table.specs.Local.{local, local_if_any}
 use Rattle.tc_table.specs.Answers.{is_active}
 use Rattle.tc_table.proofs.Lemmas.Deciding.{equal_if}
 use Rattle.tc_explore.specs.declared.search.Met.{Met}
-use Rattle.tc_explore.specs.Course.{Stand, stand, after_other_by, is_wake, IsCourse}
-use Rattle.tc_explore.specs.Inside.Standing.{wake_if}
+use Rattle.tc_course.specs.Course.{Stand, stand, after_other_by, is_wake, IsCourse}
+use Rattle.tc_course.specs.Inside.Standing.{wake_if}
 use Rattle.tc_explore.specs.Inside.Keys.{key_of}
 use Rattle.tc_explore.specs.Inside.Simulation.{IsAlike}
 use Rattle.tc_explore.specs.Inside.Twins.{IsTwin, HasTwinKeys, IsGoing, IsTwinSeen, local_code, local_key, twin_key, wake_key, wake_key_of}
 use Rattle.tc_explore.proofs.Alike.{active_alike, fresh}
 use Rattle.tc_explore.proofs.Keys.{Ends, alike_by_key, append_same, key_found, parts_same, stand_by_key}
-use Rattle.tc_explore.proofs.Legality.{course_legal}
-use Rattle.tc_explore.proofs.Lemmas.Standings.{run_in_range, stand_own, wake_after_other}
+use Rattle.tc_course.proofs.Lemmas.Histories.{course_legal}
+use Rattle.tc_course.proofs.Lemmas.Standings.{run_in_range, stand_own, wake_after_other}
 use Rattle.tc_explore.proofs.Simulation.{some_if}
 use Rattle.tc_explore.proofs.Sameness.{exists_below, same_verdict}
 

@@ -23,15 +23,15 @@ use Rattle.tc_table.specs.Answers.{answer, plain_answer, wake_reply, local_reply
 use Rattle.tc_table.specs.Legal.{IsLegal}
 use Rattle.tc_table.proofs.Lemmas.Deciding.{self_equal, equal_if, and_left}
 use Rattle.tc_table.proofs.Lemmas.Going.{halted_by_entry, last_on_it}
-use Rattle.tc_explore.specs.Course.{Stand, stand, next, after_own, after_other_by, turn, IsTurn, IsCourse}
-use Rattle.tc_explore.specs.Inside.Standing.{ends, wake_if}
+use Rattle.tc_course.specs.Course.{Stand, stand, next, after_own, after_other_by, turn, IsTurn, IsCourse}
+use Rattle.tc_course.specs.Inside.Standing.{ends, wake_if}
 use Rattle.tc_explore.specs.Inside.Simulation.{IsAlike, is_quiet}
 use Rattle.tc_explore.specs.Inside.Twins.{IsTwin}
-use Rattle.tc_explore.proofs.Legality.{course_legal}
+use Rattle.tc_course.proofs.Lemmas.Histories.{course_legal}
 use Rattle.tc_explore.proofs.Alike.{alike_sym, alike_unchanged, active_alike, fault_alike, holds_alike, exists_same, components_same, phase_next, local_next}
 use Rattle.tc_explore.proofs.Closing.{answer_fault, answer_plain, answer_inactive}
 use Rattle.tc_explore.proofs.LastCalls.{local_kept, turn_by}
-use Rattle.tc_explore.proofs.Lemmas.Standings.{stand_own, stand_other, stand_comp, stand_unstarted, wake_after_other}
+use Rattle.tc_course.proofs.Lemmas.Standings.{stand_own, stand_other, stand_comp, stand_unstarted, wake_after_other}
 use Rattle.tc_explore.proofs.Parking.{alike_then, active_if, phase_running}
 use Rattle.tc_explore.proofs.Simulation.{some_if, unchanged_ended, unchanged_quiet}
 

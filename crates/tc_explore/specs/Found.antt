@@ -1,29 +1,12 @@
 -- What is found of a test case: the overall verdicts of its complete courses.
-use Rattle.std.specs.Prelude.{ℕ, ◌≡◌, ◌<◌, ◌≤◌, true, List, length, reverse, slice_index_or, All}
+use Rattle.std.specs.Prelude.{ℕ, ◌≡◌, ◌<◌, ◌≤◌, List, length, reverse, slice_index_or, All}
 use Rattle.std.specs.List.{AllPairs}
-use Rattle.tc_verdict.specs.declared.verdict.Verdict.{Verdict}
 use Rattle.tc_verdict.specs.Verdict.{level_of}
 use Rattle.tc_entry.specs.declared.entry.Entry.{Entry}
 use Rattle.tc_step.specs.Steps.{ScriptView}
-use Rattle.tc_table.specs.Local.{overall}
 use Rattle.tc_table.specs.Legal.{IsLegal}
-use Rattle.tc_explore.specs.declared.witness.Witness.{Witness}
-use Rattle.tc_explore.specs.Told.{is_found}
-use Rattle.tc_explore.specs.Course.{carried, IsCourse, IsComplete}
-
--- this list, the oldest entry first, is a complete course that ends with this verdict
-pub record IsWitness (scripts : List ScriptView) (history : List Entry) (v : Verdict) : Type 0 where
-  pub course : IsCourse scripts (reverse history)
-  pub complete : IsComplete scripts (reverse history)
-  pub verdict : v ≡ overall (reverse history)
-
--- the verdict of each complete course is found
-abbrev pub AllFound : List ScriptView → List Witness → Type 0
-AllFound scripts found = (history : List Entry) (v : Verdict) → IsWitness scripts history v → is_found found v ≡ true
-
--- each of these is a witness
-abbrev pub AreWitnesses : List ScriptView → List Witness → Type 0
-AreWitnesses scripts found = All (λ w. IsWitness scripts w.history w.verdict) found
+use Rattle.tc_course.specs.declared.witness.Witness.{Witness}
+use Rattle.tc_course.specs.Course.{carried, IsCourse}
 
 -- the verdict of each is better than those after it
 abbrev pub AreFromBest : List Witness → Type 0

@@ -1,6 +1,6 @@
 -- The definitions that the contracts of this crate cite.
-pub mod Course
 pub mod Found
+pub mod Limits
 pub mod Told
 pub mod Inside
 pub mod Race

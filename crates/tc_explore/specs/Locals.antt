@@ -9,7 +9,7 @@ use Rattle.tc_step.specs.Steps.{ScriptView}
 use Rattle.tc_table.specs.Local.{local_if_any}
 use Rattle.tc_text.specs.Said.{Line}
 use Rattle.tc_explore.specs.declared.locals.Locals.{Locals}
-use Rattle.tc_explore.specs.Course.{IsCourse, IsComplete}
+use Rattle.tc_course.specs.Course.{IsCourse, IsComplete}
 use Rattle.tc_explore.specs.Told.{comp_words, if_complete, verdicts_where}
 
 -- in a list that has five places for each component, one for each verdict, component c is found with this one

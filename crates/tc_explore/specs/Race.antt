@@ -4,7 +4,7 @@ use Rattle.std.specs.Fmt.{decimal}
 use Rattle.std.specs.List.{common_prefix_len, flat_map}
 use Rattle.tc_entry.specs.declared.entry.Entry.{Entry}
 use Rattle.tc_history.specs.Block.{entry_text}
-use Rattle.tc_explore.specs.declared.witness.Witness.{Witness}
+use Rattle.tc_course.specs.declared.witness.Witness.{Witness}
 use Rattle.tc_text.specs.Said.{Line}
 use Rattle.tc_verdict.specs.Verdict.{name_of}
 

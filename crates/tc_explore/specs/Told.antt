@@ -1,21 +1,17 @@
 -- What is printed about a test case that was explored.
 use Rattle.std.specs.Prelude.{ℕ, ◌==◌, if◌then◌else◌, nat_lt, Bool, Option, List, [], ◌∷◌, ◌++◌, codes, filter, length}
-use Rattle.std.specs.List.{flat_map, list_any}
+use Rattle.std.specs.List.{flat_map}
 use Rattle.std.specs.Fmt.{decimal}
 use Rattle.std.specs.Option.{option_to_list}
 use Rattle.tc_verdict.specs.declared.verdict.Verdict.{Verdict}
 use Rattle.tc_verdict.specs.declared.verdict.Verdict.TheVariants as V
-use Rattle.tc_verdict.specs.Verdict.{level_of, name_of}
+use Rattle.tc_verdict.specs.Verdict.{name_of}
 use Rattle.tc_history.specs.Block.{block_text}
 use Rattle.tc_text.specs.Said.{Line}
-use Rattle.tc_explore.specs.declared.witness.Witness.{Witness}
+use Rattle.tc_course.specs.Witnesses.{is_found}
 use Rattle.tc_explore.specs.declared.explored.Ending.{Ending}
 use Rattle.tc_explore.specs.declared.explored.Ending.TheVariants as E
 use Rattle.tc_explore.specs.declared.explored.Explored.{Explored}
-
--- the verdict is that of some witness
-abbrev pub is_found : List Witness → Verdict → Bool
-is_found found v = list_any (λ w. level_of w.verdict == level_of v) found
 
 -- the verdicts that pass, from the best to the worst
 unfoldable pub verdicts_where : (Verdict → Bool) → List Verdict

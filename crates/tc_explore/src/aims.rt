@@ -1,15 +1,16 @@
 //! The searches for the verdicts of a test case, each up to a better verdict than the last.
 ghost use Rattle.std.specs.Prelude.{◌≡◌, ◌≤◌, true, false, IfOk, length};
 ghost use Rattle.tc_entry.specs.declared.limits.TheConstants.{BEHAVIOURS};
-ghost use Rattle.tc_explore.specs.Found.{AllFound, AreFromBest, AreMet};
+ghost use Rattle.tc_course.specs.Witnesses.{AllFound};
+ghost use Rattle.tc_explore.specs.Found.{AreFromBest, AreMet};
 ghost use Rattle.tc_explore.specs.Inside.Seen as seen;
 ghost use Rattle.tc_explore.specs.Inside.Seen.{IsNoted};
 
 use crate::findings::{Findings, order};
 use crate::search::{Extent, search_all};
 use crate::told::{is_found, level};
-use crate::witness::Witness;
 use std::alloc::Global;
+use tc_course::Witness;
 use tc_step::Script;
 use tc_verdict::{NoMemory, Verdict};
 

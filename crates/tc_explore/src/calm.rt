@@ -5,16 +5,14 @@ ghost use Rattle.tc_entry.specs.declared.limits.TheConstants.{BEHAVIOURS};
 ghost use Rattle.tc_entry.specs.Reply as reply;
 ghost use Rattle.tc_table.specs.Case.{past_of};
 ghost use Rattle.tc_table.specs.Answers as answers;
-ghost use Rattle.tc_explore.specs.Course as courses;
+ghost use Rattle.tc_course.specs.Course as courses;
 ghost use Rattle.tc_explore.specs.Inside.Simulation as moves;
-ghost use Rattle.tc_explore.specs.Inside.Going.{IsOn};
+ghost use Rattle.tc_course.specs.Cases.{IsOn};
 ghost use Rattle.tc_explore.specs.Inside.Simulation.{IsWithin};
 ghost use Rattle.tc_explore.specs.Inside.Seen.{IsOpen, IsState, IsCalm, IsCalmAfter, IsLoudAt, StandsOn};
 
-use crate::course::Course;
-use crate::entries::has_gone_on;
 use crate::told::level;
-use crate::turns::next_call;
+use tc_course::{Course, has_gone_on, next_call};
 use tc_entry::{Comp, Group, Op, Phase, Target};
 use tc_step::{STEPS, Script};
 use tc_verdict::{NoMemory, Run, Verdict, from_user};
@@ -164,7 +162,7 @@ struct Advance {
 }
 
 // The course with the next call of a run, if nobody can see that it was made.
-#[tactic(auto, using(crate::proofs::Searching::searching_rules, crate::proofs::Keeping::call_rules, crate::proofs::Lemmas::Turning::turn_rules))]
+#[tactic(auto, using(crate::proofs::Searching::searching_rules, crate::proofs::Keeping::call_rules, tc_course::proofs::Lemmas::Turning::turn_rules))]
 fn with_silent_call(
     aim: Verdict,
     course: Course,

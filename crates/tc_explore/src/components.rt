@@ -16,8 +16,8 @@ ghost use Rattle.tc_text.specs.Said.{TellsAmong};
 
 use crate::parts::{push_number, push_text, push_word};
 use crate::state::state_after;
-use crate::witness::Witness;
 use std::alloc::Global;
+use tc_course::Witness;
 use tc_entry::{Comp, Entry, Name, Op};
 use tc_table::{CaseState, created, is_comp};
 use tc_text::{Part, append_parts};

@@ -12,8 +12,8 @@ use crate::explored::{Ending, Explored};
 use crate::race::append_races;
 use crate::unseen::append_unseen;
 use crate::waits::append_waits;
-use crate::witness::Witness;
 use std::alloc::Global;
+use tc_course::Witness;
 use tc_step::Script;
 use tc_verdict::NoMemory;
 

@@ -1,16 +1,16 @@
 //! The search for the overall verdicts of a test case.
 ghost use Rattle.std.specs.Prelude.{◌≡◌, ◌≤◌, [], IfOk, IfSome, length};
 ghost use Rattle.tc_entry.specs.declared.limits.TheConstants.{BEHAVIOURS};
-ghost use Rattle.tc_explore.specs.Found.{AreWitnesses, AreLegal, AreFromBest, AreCovered, AreMet, AreReached};
-ghost use Rattle.tc_explore.specs.Course as courses;
-ghost use Rattle.tc_explore.specs.Course.{room_of, weight_of};
-ghost use Rattle.tc_explore.specs.Found.{AllFound};
+ghost use Rattle.tc_course.specs.Witnesses.{AreWitnesses, AllFound};
+ghost use Rattle.tc_explore.specs.Found.{AreLegal, AreFromBest, AreCovered, AreMet, AreReached};
+ghost use Rattle.tc_explore.specs.Limits as limits;
+ghost use Rattle.tc_explore.specs.Limits.{room_of, weight_of};
 ghost use Rattle.tc_explore.specs.declared.explored.Ending.TheVariants.{Complete, Undecided};
 
 use crate::aims::search_verdicts;
 use crate::findings::no_findings;
-use crate::witness::Witness;
 use std::alloc::Global;
+use tc_course::Witness;
 use tc_entry::Sequence;
 use tc_step::Script;
 use tc_verdict::NoMemory;
@@ -37,7 +37,8 @@ pub struct Explored {
     pub ending: Ending,
 }
 
-// How many entries the states of a search may have together: each keeps those of a course.
+// How many entries the states of a search may have room for together: each keeps those of a course, and memory is to hold
+// them.
 const KEPT: usize = 2_000_000;
 
 // One more than the steps of the scripts together, if a number can hold it.
@@ -53,7 +54,8 @@ fn room_for_one(scripts: &[Script]) -> Option<usize>
     Some(entries)
 }
 
-// For how much of the behaviours times the room of its test case a state counts for one more.
+// The size for which a state counts for one more, its behaviours times its room: each call continues from a copy, and a
+// larger one takes longer.
 const SIZE_OF_ONE_MORE: usize = 2_000;
 
 // What a state counts for by the limit, if a number can hold it.
@@ -68,7 +70,7 @@ fn weight_for(scripts: &[Script], room: usize) -> Option<usize>
 
 /// How many states a search looks at, at most, if numbers can hold what they have room for.
 pub(crate) fn most_states(scripts: &[Script], limit: usize) -> Option<usize>
-    ensures { IfSome result (λ n. n ≡ courses.most_states scripts.now limit) }
+    ensures { IfSome result (λ n. n ≡ limits.most_states scripts.now limit) }
 {
     let room = room_for_one(scripts)?;
     let weight = weight_for(scripts, room)?;
@@ -90,8 +92,8 @@ pub fn explore(alloc: Global, scripts: &[Script], limit: usize) -> Result<Explor
     ensures met { IfOk result (λ e. AreMet scripts.now e.reached e.states) }
     ensures complete { IfOk result (λ e. e.ending ≡ Complete → AllFound scripts.now e.found) }
     ensures within { IfOk result (λ e. e.states ≤ limit) }
-    ensures most { IfOk result (λ e. e.states ≤ courses.most_states scripts.now limit) }
-    ensures undecided { IfOk result (λ e. e.ending ≡ Undecided → 1 ≤ length scripts.now → e.states ≡ courses.most_states scripts.now limit) }
+    ensures most { IfOk result (λ e. e.states ≤ limits.most_states scripts.now limit) }
+    ensures undecided { IfOk result (λ e. e.ending ≡ Undecided → 1 ≤ length scripts.now → e.states ≡ limits.most_states scripts.now limit) }
     ensures nothing { IfOk result (λ e. scripts.now ≡ [] → (e.ending ≡ Undecided) × (e.found ≡ []) × (e.states ≡ 0)) }
 {
     let mut found = no_findings(alloc, scripts)?;

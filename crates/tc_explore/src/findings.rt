@@ -5,13 +5,12 @@ ghost use Rattle.tc_entry.specs.declared.limits.TheConstants.{BEHAVIOURS};
 ghost use Rattle.std.specs.List.Sorted.{IsNonDecreasingBy, IsPermutation};
 ghost use Rattle.tc_verdict.specs.Verdict.{level_of};
 ghost use Rattle.tc_explore.specs.Found.{AreReached, Covers};
-ghost use Rattle.tc_explore.specs.Inside.Going.{IsOn};
+ghost use Rattle.tc_course.specs.Cases.{IsOn};
 ghost use Rattle.tc_explore.specs.Inside.Seen.{IsNoLess, IsNoted};
 
-use crate::course::Course;
 use crate::told::level;
-use crate::witness::Witness;
 use std::alloc::Global;
+use tc_course::{Course, Witness};
 use tc_step::Script;
 use tc_verdict::{NoMemory, Run};
 

@@ -3,7 +3,7 @@ ghost use Rattle.std.specs.Prelude.{◌≡◌, ◌≤◌, ◌+◌, ◌*◌, ◌/
 ghost use Rattle.std.specs.Fmt.{decimal};
 ghost use Rattle.std.specs.List.{flat_map, range_with_len};
 ghost use Rattle.tc_entry.specs.declared.limits.TheConstants.{BEHAVIOURS};
-ghost use Rattle.tc_explore.specs.Course as courses;
+ghost use Rattle.tc_explore.specs.Limits as limits;
 ghost use Rattle.tc_explore.specs.Found.{HasCourses};
 ghost use Rattle.tc_explore.specs.Inside.Adding.{AddsWords};
 ghost use Rattle.tc_explore.specs.Locals as told;
@@ -60,8 +60,8 @@ pub fn explore_locals(alloc: Global, scripts: &[Script], limit: usize) -> Result
     ensures sound { IfOk result (λ l. AreLocals scripts.now l.found) }
     ensures complete { IfOk result (λ l. l.ending ≡ Complete → AllLocalsFound scripts.now l.found) }
     ensures met { IfOk result (λ l. HasCourses scripts.now l.states) }
-    ensures most { IfOk result (λ l. l.states ≤ courses.most_states scripts.now limit) }
-    ensures undecided { IfOk result (λ l. l.ending ≡ Undecided → 1 ≤ length scripts.now → l.states ≡ courses.most_states scripts.now limit) }
+    ensures most { IfOk result (λ l. l.states ≤ limits.most_states scripts.now limit) }
+    ensures undecided { IfOk result (λ l. l.ending ≡ Undecided → 1 ≤ length scripts.now → l.states ≡ limits.most_states scripts.now limit) }
 {
     let mut marks = Marks::new(alloc);
     if scripts.is_empty() {

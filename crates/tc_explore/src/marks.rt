@@ -3,16 +3,16 @@ ghost use Rattle.std.specs.Prelude.{◌≡◌, ◌≤◌, ◌<◌, true, [], OnO
 ghost use Rattle.tc_entry.specs.declared.limits.TheConstants.{BEHAVIOURS};
 ghost use Rattle.tc_table.specs.Case.{past_of};
 ghost use Rattle.tc_table.specs.History.{is_over};
-ghost use Rattle.tc_explore.specs.Course.{IsComplete};
+ghost use Rattle.tc_course.specs.Course.{IsComplete};
 ghost use Rattle.tc_explore.specs.Locals.{AreLocals};
-ghost use Rattle.tc_explore.specs.Inside.Going.{IsOn};
+ghost use Rattle.tc_course.specs.Cases.{IsOn};
 ghost use Rattle.tc_explore.specs.Inside.Twins.{HasLocal, HasLocals, IsMarked, IsMore, IsPadded};
 
 use crate::components::name_at;
-use crate::course::Course;
 use crate::told::level;
 use crate::turns::step_all;
 use std::alloc::Global;
+use tc_course::Course;
 use tc_entry::{Entry, Name};
 use tc_step::Script;
 use tc_verdict::NoMemory;

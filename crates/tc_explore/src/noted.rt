@@ -5,18 +5,19 @@ ghost use Rattle.tc_verdict.specs.declared.verdict.Verdict.TheVariants.{Error};
 ghost use Rattle.tc_table.specs.Case.{past_of};
 ghost use Rattle.tc_table.specs.History.{is_over};
 ghost use Rattle.tc_table.specs.Local.{overall};
-ghost use Rattle.tc_explore.specs.Course.{carried, IsComplete};
-ghost use Rattle.tc_explore.specs.Found.{Covers, IsWitness};
-ghost use Rattle.tc_explore.specs.Told as told;
-ghost use Rattle.tc_explore.specs.Inside.Going.{IsOn, IsSteppedIfActive};
+ghost use Rattle.tc_course.specs.Course.{carried, IsComplete};
+ghost use Rattle.tc_explore.specs.Found.{Covers};
+ghost use Rattle.tc_course.specs.Witnesses.{IsWitness};
+ghost use Rattle.tc_course.specs.Witnesses as witnesses;
+ghost use Rattle.tc_course.specs.Cases.{IsOn};
+ghost use Rattle.tc_explore.specs.Inside.Going.{IsSteppedIfActive};
 ghost use Rattle.tc_explore.specs.Inside.Seen.{IsLonger, IsNoLess, IsNoted, IsOpen, AreHeld};
 
-use crate::course::Course;
 use crate::findings::{Findings, reach};
 use crate::told::is_found;
 use crate::turns::{step, step_all};
-use crate::witness::Witness;
 use std::alloc::Global;
+use tc_course::{Course, Witness};
 use tc_entry::Sequence;
 use tc_step::Script;
 use tc_table::copied_entries;
@@ -51,7 +52,7 @@ pub(crate) fn note(
     ensures more_found { IsLonger found.old.witnesses.items found.new.witnesses.items }
     ensures more { IsNoLess found.old.reached.items found.new.reached.items }
     ensures covers { Covers found.new.reached.items (past_of course) }
-    ensures told { OnOk result (told.is_found found.new.witnesses.items (overall (past_of course)) ≡ true) }
+    ensures told { OnOk result (witnesses.is_found found.new.witnesses.items (overall (past_of course)) ≡ true) }
 {
     reach(&mut found.reached, scripts, &course);
     if is_found(&found.witnesses, course.verdict()) {

@@ -6,8 +6,8 @@ ghost use Rattle.tc_explore.specs.Race.{alike_count as count_alike, race, races}
 ghost use Rattle.tc_text.specs.Said.{TellsAmong, TellsLine};
 ghost use Rattle.tc_verdict.specs.Verdict.{name_of as verdict_name};
 
-use crate::witness::Witness;
 use std::alloc::Global;
+use tc_course::Witness;
 use tc_entry::Entry;
 use tc_text::{Part, append_parts, append_text, write_move, write_reply};
 use tc_verdict::{NoMemory, name as name_of};

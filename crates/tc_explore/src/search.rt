@@ -3,25 +3,23 @@
 ghost use Rattle.std.specs.Prelude.{◌≡◌, ◌≤◌, ◌<◌, ◌&&◌, ◌∷◌, true, false, IfOk, OnOk, All, length, slice_index_or};
 ghost use Rattle.tc_entry.specs.declared.limits.TheConstants.{BEHAVIOURS};
 ghost use Rattle.tc_table.specs.Case.{past_of};
-ghost use Rattle.tc_explore.specs.Inside.Going as going;
-ghost use Rattle.tc_explore.specs.Inside.Going.{IsOn, IsNext};
+ghost use Rattle.tc_course.specs.Cases.{IsOn, IsNext, taken};
 ghost use Rattle.tc_explore.specs.Inside.Simulation as moves;
 ghost use Rattle.tc_explore.specs.Inside.Simulation.{IsClosed};
 ghost use Rattle.tc_verdict.specs.declared.verdict.Verdict.TheVariants.{Error};
 ghost use Rattle.tc_explore.specs.Found.{AreMet};
-ghost use Rattle.tc_explore.specs.Course.{carried, goes_on};
+ghost use Rattle.tc_course.specs.Course.{carried, goes_on};
 ghost use Rattle.tc_table.specs.Answers.{answer};
 ghost use Rattle.tc_explore.specs.Inside.Seen.{AreClosed, IsSeen, IsLonger, IsNoLess, IsNoted, IsOpen, IsState, AreKept, AreKeyed, IsWith, IsFull, AreHeld, IsStillAt, AreStill, AllTold, IsCallClosed, IsRunClosed, AreRunsClosed};
 
 use crate::calm::calmed;
-use crate::course::Course;
-use crate::entries::has_gone_on;
 use crate::findings::{Findings, reach};
 use crate::noted::{note, with_stuck};
+use crate::state_keys::state_key;
 use crate::told::{is_found, level};
-use crate::turns::next_call;
 use indexmap::IndexSet;
 use std::alloc::Global;
+use tc_course::{Course, has_gone_on, next_call};
 use tc_entry::Op;
 use tc_step::Script;
 use tc_verdict::{NoMemory, Run, Verdict};
@@ -74,7 +72,7 @@ fn place(
     ensures seen { IfOk result (λ is_seen. is_seen ≡ true → IsSeen met.new.states.items (past_of course)) }
     ensures full { IfOk result (λ is_seen. is_seen ≡ false → IsFull met.old) }
 {
-    let key = course.key(alloc, scripts.len() as u16)?;
+    let key = state_key(&course, alloc, scripts.len() as u16)?;
     if met.keys.contains(&key) {
         return Ok(true);
     }
@@ -87,7 +85,7 @@ fn place(
 }
 
 /// The course with one more call; the course itself is kept.
-#[tactic(auto, using(crate::proofs::Closed::closed_rules, crate::proofs::Lemmas::Turning::turn_rules))]
+#[tactic(auto, using(crate::proofs::Closed::closed_rules, tc_course::proofs::Lemmas::Turning::turn_rules))]
 pub(crate) fn with_call(
     alloc: Global,
     scripts: &[Script],
@@ -98,7 +96,7 @@ pub(crate) fn with_call(
     requires on { IsOn scripts.now course.now }
     requires turn { IsNext scripts.now course.now run op }
     ensures on { IfOk result (λ c. IsOn scripts.now c) }
-    ensures added { IfOk result (λ c. past_of c ≡ going.taken course.now.behaviours (past_of course.now) run op ∷ past_of course.now) }
+    ensures added { IfOk result (λ c. past_of c ≡ taken course.now.behaviours (past_of course.now) run op ∷ past_of course.now) }
 {
     course.copied(alloc)?.with(run, op)
 }
@@ -319,7 +317,7 @@ fn expand_all(
 
 /// Makes the calls of all runs from each state that is met, within a limit. It comes to its end unless it meets the limit.
 /// Then for each complete course whose verdict is no worse than is looked for, a verdict is found that is as bad.
-#[tactic(auto, using(crate::proofs::States::complete_by, crate::proofs::Lemmas::Turning::turn_rules, crate::proofs::Seeing::seeing_rules, crate::proofs::Keeping::open_opening, crate::proofs::Kept::kept_rules))]
+#[tactic(auto, using(crate::proofs::States::complete_by, tc_course::proofs::Lemmas::Turning::turn_rules, crate::proofs::Seeing::seeing_rules, crate::proofs::Keeping::open_opening, crate::proofs::Kept::kept_rules))]
 pub(crate) fn search_all(
     aim: Verdict,
     alloc: Global,

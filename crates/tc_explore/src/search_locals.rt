@@ -4,16 +4,16 @@ ghost use Rattle.tc_entry.specs.declared.limits.TheConstants.{BEHAVIOURS};
 ghost use Rattle.tc_table.specs.Case.{past_of};
 ghost use Rattle.tc_explore.specs.Found.{HasCourses};
 ghost use Rattle.tc_explore.specs.Locals.{AllLocalsFound, AreLocals};
-ghost use Rattle.tc_explore.specs.Inside.Going.{taken, IsNext};
+ghost use Rattle.tc_course.specs.Cases.{taken, IsNext};
 ghost use Rattle.tc_explore.specs.Inside.Seen.{IsFull, IsLonger, IsWith};
 ghost use Rattle.tc_explore.specs.Inside.Twins.{AreGoing, AreLocalsClosed, AreLocalsRuns, HasTwinKeys, IsGoing, IsLocalsAfter, IsLocalsRun, IsMore, IsTwinSeen};
 
-use crate::course::Course;
 use crate::marks::Marks;
 use crate::search::{Extent, Met, extent_of, with_call};
-use crate::turns::next_call;
+use crate::state_keys::state_key_with_locals;
 use indexmap::IndexSet;
 use std::alloc::Global;
+use tc_course::{Course, next_call};
 use tc_entry::Op;
 use tc_step::Script;
 use tc_verdict::{NoMemory, Run};
@@ -34,7 +34,7 @@ fn place(alloc: Global, scripts: &[Script], course: Course, met: &mut Met) -> Re
     ensures seen { IfOk result (λ is_seen. is_seen ≡ true → IsTwinSeen met.new.states.items (past_of course)) }
     ensures full { IfOk result (λ is_seen. is_seen ≡ false → IsFull met.old) }
 {
-    let key = course.twin_key(alloc, scripts.len() as u16)?;
+    let key = state_key_with_locals(&course, alloc, scripts.len() as u16)?;
     if met.keys.contains(&key) {
         return Ok(true);
     }
@@ -178,7 +178,7 @@ fn expand_all(
 
 /// Makes the calls of all runs from each state that is met, within a limit. It comes to its end unless it meets the
 /// limit, and then the local verdicts of each complete course are found.
-#[tactic(auto, using(crate::proofs::Lemmas::Turning::turn_rules, crate::proofs::Seeing::seeing_rules, crate::proofs::LocalsClosed::opening_rules))]
+#[tactic(auto, using(tc_course::proofs::Lemmas::Turning::turn_rules, crate::proofs::Seeing::seeing_rules, crate::proofs::LocalsClosed::opening_rules))]
 pub(crate) fn search_locals(
     alloc: Global,
     scripts: &[Script],

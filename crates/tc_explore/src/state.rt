@@ -3,10 +3,10 @@ ghost use Rattle.std.specs.Prelude.{◌≡◌, ◌≤◌, IfOk, reverse};
 ghost use Rattle.tc_entry.specs.declared.limits.TheConstants.{BEHAVIOURS};
 ghost use Rattle.tc_table.specs.Legal.{IsLegal};
 ghost use Rattle.tc_table.specs.Standing.{StandsFor};
-ghost use Rattle.tc_explore.specs.Course.{stand};
+ghost use Rattle.tc_course.specs.Course.{stand};
 
-use crate::standing::Standing;
 use std::alloc::Global;
+use tc_course::Standing;
 use tc_entry::Entry;
 use tc_table::{CaseState, CheckFault, replay};
 use tc_verdict::NoMemory;
@@ -30,7 +30,7 @@ pub(crate) fn state_after(
 }
 
 /// What is known of a run after these entries.
-#[tactic(auto, using(crate::proofs::Prefixes::reverse_more))]
+#[tactic(auto, using(tc_course::proofs::Lemmas::Histories::reverse_more))]
 pub(crate) fn standing_after(
     alloc: Global,
     entries: &[Entry],

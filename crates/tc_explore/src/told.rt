@@ -2,10 +2,11 @@
 ghost use Rattle.std.specs.Prelude.{◌≡◌, ◌==◌, ◌≤◌, ◌++◌, [], OnOk, codes, if◌then◌else◌, length, nat_lt};
 ghost use Rattle.std.specs.List.{flat_map};
 ghost use Rattle.tc_verdict.specs.Verdict.{level_of, name_of as verdict_name};
+ghost use Rattle.tc_course.specs.Witnesses.{is_found as is_found_among};
 ghost use Rattle.tc_explore.specs.Told as told;
 
 use crate::explored::{Ending, Explored};
-use crate::witness::Witness;
+use tc_course::Witness;
 use tc_entry::Name;
 use tc_history::write_block;
 use tc_text::{append_number, append_text};
@@ -27,7 +28,7 @@ pub(crate) fn level(verdict: Verdict) -> u64
 
 /// Whether a verdict is that of some witness.
 pub(crate) fn is_found(found: &[Witness], verdict: Verdict) -> bool
-    ensures { result ≡ told.is_found found.now verdict }
+    ensures { result ≡ is_found_among found.now verdict }
 {
     let wanted = level(verdict);
     found.iter().any(|witness| level(witness.verdict) == wanted)
@@ -35,7 +36,7 @@ pub(crate) fn is_found(found: &[Witness], verdict: Verdict) -> bool
 
 // One for a verdict that was found.
 fn found_once(found: &[Witness], verdict: Verdict) -> u64
-    ensures is { result ≡ (if told.is_found found.now verdict then 1 else 0) }
+    ensures is { result ≡ (if is_found_among found.now verdict then 1 else 0) }
     ensures few { result ≤ 1 }
 {
     if is_found(found, verdict) { 1 } else { 0 }
@@ -43,7 +44,7 @@ fn found_once(found: &[Witness], verdict: Verdict) -> u64
 
 #[tactic(auto, using(crate::proofs::Verdicts::count_where))]
 fn verdict_count(found: &[Witness]) -> u64
-    ensures { result ≡ length (told.verdicts_where (told.is_found found.now)) }
+    ensures { result ≡ length (told.verdicts_where (is_found_among found.now)) }
 {
     let error = found_once(found, Verdict::Error);
     let fail = found_once(found, Verdict::Fail);
@@ -55,7 +56,7 @@ fn verdict_count(found: &[Witness]) -> u64
 
 // Appends the name of a verdict after a space, if it was found; if memory runs out, a part of it.
 fn append_verdict(out: &mut Vec<u8>, found: &[Witness], verdict: Verdict) -> Result<(), NoMemory>
-    ensures { OnOk result (out.new.items ≡ out.old.items ++ (if told.is_found found.now verdict then codes " " ++ verdict_name verdict else [])) }
+    ensures { OnOk result (out.new.items ≡ out.old.items ++ (if is_found_among found.now verdict then codes " " ++ verdict_name verdict else [])) }
 {
     if !is_found(found, verdict) {
         return Ok(());
@@ -68,7 +69,7 @@ fn append_verdict(out: &mut Vec<u8>, found: &[Witness], verdict: Verdict) -> Res
 #[tactic(auto, using(crate::proofs::Verdicts::words_where))]
 fn append_verdicts(out: &mut Vec<u8>, found: &[Witness]) -> Result<(), NoMemory>
     ensures { OnOk result (out.new.items ≡ out.old.items
-        ++ flat_map (λ v. codes " " ++ verdict_name v) (told.verdicts_where (told.is_found found.now))) }
+        ++ flat_map (λ v. codes " " ++ verdict_name v) (told.verdicts_where (is_found_among found.now))) }
 {
     append_verdict(out, found, Verdict::None)?;
     append_verdict(out, found, Verdict::Pass)?;

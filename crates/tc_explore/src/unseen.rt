@@ -6,9 +6,9 @@ ghost use Rattle.std.specs.Fmt.{decimal};
 ghost use Rattle.tc_explore.specs.Details as details;
 ghost use Rattle.tc_explore.specs.Details.{unseen, unseen_among};
 
-use crate::course::steps_of;
 use crate::steps::append_step;
 use std::alloc::Global;
+use tc_course::steps_of;
 use tc_step::{Place, Script, Step, TargetPlace};
 use tc_text::{Part, append_parts};
 use tc_verdict::{NoMemory, Run};

@@ -7,9 +7,9 @@ ghost use Rattle.tc_text.specs.Said.{TellsAmong};
 use crate::components::{name_at, push_comp};
 use crate::parts::{push_number, push_text, push_word};
 use crate::state::{standing_after, state_after};
-use crate::witness::Witness;
 use std::alloc::Global;
-use tc_entry::{Comp, Entry, Fault, Phase, Reply, Target};
+use tc_course::{Standing, Witness};
+use tc_entry::{Comp, Entry, Fault, Op, Phase, Reply, Target};
 use tc_table::{Awaited, CaseState};
 use tc_text::{Part, append_parts};
 use tc_verdict::{NoMemory, Run};
@@ -86,6 +86,18 @@ fn push_wait<'a>(
     push_target(parts, history, state, awaited.target)
 }
 
+// The component of a run and what it waits for, if a Wake is to come.
+fn awaited_by(known: &Standing) -> Option<(Comp, Awaited)> {
+    let (Some(comp), Some(Op::Wake { killed, target })) = (known.comp(), known.wake()) else {
+        return None;
+    };
+    let awaited = Awaited {
+        killed: *killed,
+        target: *target,
+    };
+    Some((comp, awaited))
+}
+
 // Appends the line of a run, if it continues and waits; if memory runs out, a part of it.
 #[tactic(auto, using(tc_text::proofs::Lemmas::Among::among_rules))]
 fn append_wait(
@@ -102,7 +114,7 @@ fn append_wait(
         return Ok(());
     }
     let standing = standing_after(alloc, before, run)?;
-    let awaited = standing.awaited();
+    let awaited = awaited_by(&standing);
     drop(standing);
     let Some((comp, awaited)) = awaited else {
         return Ok(());

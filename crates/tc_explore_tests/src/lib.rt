@@ -1,5 +1,5 @@
-//! The tests of `tc_explore` by its public calls, in a crate of their own: a check of them doesn't prove the library
-//! again.
+//! The tests of `tc_course` and `tc_explore` by their public calls, in a crate of their own: a check of them doesn't prove
+//! the libraries again.
 #![tactic(auto)]
 
 #[cfg(test)]

@@ -9,7 +9,7 @@ use Rattle.tc_program.specs.Report.{IsReport}
 use Rattle.tc_evidence.specs.declared.block.Block.{Block}
 use Rattle.tc_evidence.specs.Line.{entries_of}
 use Rattle.tc_evidence.specs.Text.{AreEvidence, HoldsOfBlocks}
-use Rattle.tc_explore.specs.Found.{IsWitness}
+use Rattle.tc_course.specs.Witnesses.{IsWitness}
 use Rattle.tc_step.specs.Steps.{ScriptView}
 use Rattle.tc_line.specs.Words.{is_text}
 use Rattle.tc_script.specs.Campaign.{CampaignView}

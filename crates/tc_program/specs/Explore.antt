@@ -5,8 +5,9 @@ use Rattle.tc_command.specs.declared.task.ExploreOptions.{ExploreOptions}
 use Rattle.tc_script.specs.Campaign.{CampaignView}
 use Rattle.tc_explore.specs.Details.{details as of_details}
 use Rattle.tc_text.specs.Said.{TellsAmong}
-use Rattle.tc_explore.specs.Course.{most_states}
-use Rattle.tc_explore.specs.Found.{AllFound, AreFromBest, AreWitnesses, AreLegal, AreMet, AreReached, HasCourses}
+use Rattle.tc_explore.specs.Limits.{most_states}
+use Rattle.tc_course.specs.Witnesses.{AllFound, AreWitnesses}
+use Rattle.tc_explore.specs.Found.{AreFromBest, AreLegal, AreMet, AreReached, HasCourses}
 use Rattle.tc_explore.specs.declared.explored.Ending.TheVariants as E
 use Rattle.tc_explore.specs.declared.explored.Explored.{Explored}
 use Rattle.tc_explore.specs.declared.locals.Locals.{Locals}

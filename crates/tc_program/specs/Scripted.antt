@@ -5,7 +5,7 @@ use Rattle.tc_exec.specs.Case.{AreCalled, IsMadeOf}
 use Rattle.tc_exec.specs.Logs.{AreLogsBy}
 use Rattle.tc_behaviour.specs.Acts.{MakesItsCalls}
 use Rattle.tc_script.specs.Names.{Word}
-use Rattle.tc_explore.specs.Found.{IsWitness}
+use Rattle.tc_course.specs.Witnesses.{IsWitness}
 use Rattle.tc_report.specs.declared.results.Finished.{Finished}
 use Rattle.tc_campaign.specs.Outline.{Outline}
 

@@ -30,9 +30,9 @@ use Rattle.tc_behaviour.specs.Acts.{MakesItsCalls}
 use Rattle.tc_behaviour.specs.Calls.{Calls, HasCalled, bound_behind, ending}
 use Rattle.tc_behaviour.specs.Calls.HasCalled.{none, one_more}
 use Rattle.std.specs.Option.{unwrap_or, option_to_list}
-use Rattle.tc_explore.specs.Course.{Stand, after_own, is_idle, is_wake, turn_on}
-use Rattle.tc_explore.specs.Inside.Standing.{call_of, wake_for, wake_if}
-use Rattle.tc_explore.proofs.Lemmas.Turning.{other_not_idle}
+use Rattle.tc_course.specs.Course.{Stand, after_own, is_idle, is_wake, turn_on}
+use Rattle.tc_course.specs.Inside.Standing.{call_of, wake_for, wake_if}
+use Rattle.tc_course.proofs.Lemmas.Turning.{other_not_idle}
 
 -- ---- a run and its own entries
 

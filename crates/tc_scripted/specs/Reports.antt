@@ -4,10 +4,8 @@ use Rattle.tc_step.specs.Steps.{ScriptView}
 use Rattle.tc_case.specs.declared.closed.Closed.{Closed}
 use Rattle.tc_exec.specs.Case.{IsCaseReport, IsMadeOf}
 use Rattle.tc_behaviour.specs.Acts.{MakesItsCalls}
-use Rattle.tc_explore.specs.declared.witness.Witness.{Witness}
-use Rattle.tc_explore.specs.Found.{IsWitness}
-use Rattle.tc_explore.specs.Found.{AllFound}
-use Rattle.tc_explore.specs.Told.{is_found}
+use Rattle.tc_course.specs.declared.witness.Witness.{Witness}
+use Rattle.tc_course.specs.Witnesses.{IsWitness, AllFound, is_found}
 
 -- this is the report of a run of these scripts: one history, made of the logs of passes with which each script made its calls
 pub record IsReportOf (scripts : List ScriptView) (c : Closed) : Type 0 where

@@ -11,7 +11,7 @@ use Rattle.tc_table.specs.Phases.{phase_if_any}
 use Rattle.tc_table.specs.Local.{overall}
 use Rattle.tc_table.specs.Faults.{components}
 use Rattle.tc_table.specs.Answers.{is_active}
-use Rattle.tc_explore.specs.Course.{Stand, stand}
+use Rattle.tc_course.specs.Course.{Stand, stand}
 
 -- what a component is doing, as a number
 abbrev pub phase_code : Option Phase → ℕ

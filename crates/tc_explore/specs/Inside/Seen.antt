@@ -12,13 +12,14 @@ use Rattle.tc_table.specs.Case.{Case, past_of}
 use Rattle.tc_table.specs.History.{is_over}
 use Rattle.tc_table.specs.Local.{overall}
 use Rattle.tc_table.specs.Answers.{answer, is_active}
-use Rattle.tc_explore.specs.declared.witness.Witness.{Witness}
+use Rattle.tc_course.specs.declared.witness.Witness.{Witness}
 use Rattle.tc_explore.specs.declared.findings.Findings.{Findings}
 use Rattle.tc_explore.specs.declared.search.Met.{Met}
-use Rattle.tc_explore.specs.Found.{AreReached, AreCovered, Covers, IsWitness}
-use Rattle.tc_explore.specs.Told.{is_found}
-use Rattle.tc_explore.specs.Course.{carried, stand, goes_on, IsTurn, IsCourse}
-use Rattle.tc_explore.specs.Inside.Going.{taken, IsOn, AreNoted}
+use Rattle.tc_explore.specs.Found.{AreReached, AreCovered, Covers}
+use Rattle.tc_course.specs.Witnesses.{IsWitness, is_found}
+use Rattle.tc_course.specs.Course.{carried, stand, goes_on, IsTurn, IsCourse}
+use Rattle.tc_course.specs.Cases.{taken, IsOn}
+use Rattle.tc_explore.specs.Inside.Going.{AreNoted}
 use Rattle.tc_explore.specs.Inside.Keys.{key_of}
 use Rattle.tc_explore.specs.Inside.Simulation.{IsAlike, is_spent, IsWithin, IsFor, IsCovered, IsClosedFor, IsClosed}
 

@@ -22,10 +22,10 @@ use Rattle.tc_table.specs.Phases.{phase, phase_if_any}
 use Rattle.tc_table.specs.Local.{overall}
 use Rattle.tc_table.specs.Faults.{fault}
 use Rattle.tc_table.specs.Answers.{is_active}
-use Rattle.tc_explore.specs.declared.witness.Witness.{Witness}
-use Rattle.tc_explore.specs.Course.{Stand, stand, goes_on, steps_of, turn, IsTurn, IsCourse}
-use Rattle.tc_explore.specs.Inside.Standing.{call_of}
-use Rattle.tc_explore.specs.Told.{is_found}
+use Rattle.tc_course.specs.declared.witness.Witness.{Witness}
+use Rattle.tc_course.specs.Course.{Stand, stand, goes_on, steps_of, turn, IsTurn, IsCourse}
+use Rattle.tc_course.specs.Inside.Standing.{call_of}
+use Rattle.tc_course.specs.Witnesses.{is_found}
 
 -- the same components in the same phases, the same runs on them
 pub record IsAlike (p q : List Entry) : Type 0 where

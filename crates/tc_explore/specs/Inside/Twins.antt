@@ -15,9 +15,9 @@ use Rattle.tc_table.specs.Local.{local, local_if_any}
 use Rattle.tc_table.specs.Faults.{components}
 use Rattle.tc_table.specs.Answers.{is_active}
 use Rattle.tc_explore.specs.declared.search.Met.{Met}
-use Rattle.tc_explore.specs.Course.{stand, IsTurn}
+use Rattle.tc_course.specs.Course.{stand, IsTurn}
 use Rattle.tc_explore.specs.Locals.{is_local}
-use Rattle.tc_explore.specs.Inside.Going.{IsOn}
+use Rattle.tc_course.specs.Cases.{IsOn}
 use Rattle.tc_explore.specs.Inside.Keys.{key_of}
 use Rattle.tc_explore.specs.Inside.Simulation.{IsAlike}
 

@@ -29,11 +29,11 @@ use Rattle.tc_exec.proofs.Lemmas.Logs.{log_of_run}
 use Rattle.tc_behaviour.specs.Acts.{MakesItsCalls}
 use Rattle.tc_behaviour.proofs.Lemmas.Running.{run_grown}
 use Rattle.std.specs.Option.{option_map_or}
-use Rattle.tc_explore.specs.Course.{Stand, after_own, after_other_by, arguments, stand, steps_of, turn, turn_on, IsTurn, IsCourse}
-use Rattle.tc_explore.specs.Found.{IsWitness}
+use Rattle.tc_course.specs.Course.{Stand, after_own, after_other_by, arguments, stand, steps_of, turn, turn_on, IsTurn, IsCourse}
+use Rattle.tc_course.specs.Witnesses.{IsWitness}
 use Rattle.tc_scripted.specs.Reports.{ReportIsCourse, ReportIsFound}
 use Rattle.tc_scripted.proofs.Logging.{AreTurns, IsLogOf, IsOwnTurn, after_all, after_append, after_comp, fresh, log_left, turn_at}
-use Rattle.tc_explore.proofs.Lemmas.Standings.{run_in_range, stand_other, stand_own, unstarted}
+use Rattle.tc_course.proofs.Lemmas.Standings.{run_in_range, stand_other, stand_own, unstarted}
 
 -- ---- what a run was started with
 

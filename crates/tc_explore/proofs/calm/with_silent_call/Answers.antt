@@ -2,8 +2,8 @@ use Rattle.std.proofs.Common.{rules, ◌≡◌, ◌∷◌, true, false}
 use Rattle.tc_entry.specs.Reply.{is_fault}
 use Rattle.tc_table.specs.Case.{past_of}
 use Rattle.tc_table.specs.Answers.{answer}
-use Rattle.tc_explore.specs.Course.{goes_on, IsTurn}
-use Rattle.tc_explore.specs.Inside.Going.{taken, IsOn}
+use Rattle.tc_course.specs.Course.{goes_on, IsTurn}
+use Rattle.tc_course.specs.Cases.{taken, IsOn}
 use Rattle.tc_explore.specs.Inside.Simulation.{IsSilent}
 use Rattle.tc_explore.proofs.Keeping.{on_not_ended, open_silent, within_silent}
 use Rattle.tc_explore.proofs.Searching.{lead_call}

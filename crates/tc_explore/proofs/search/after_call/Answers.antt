@@ -1,7 +1,7 @@
 use Rattle.std.proofs.Common.{rules, ◌≡◌, false}
 use Rattle.tc_table.specs.Case.{past_of}
 use Rattle.tc_table.specs.History.{is_over}
-use Rattle.tc_explore.specs.Inside.Going.{taken}
+use Rattle.tc_course.specs.Cases.{taken}
 use Rattle.tc_explore.proofs.Closed.{after_seen}
 use Rattle.tc_explore.proofs.Kept.{kept_with, longer_with}
 use Rattle.tc_explore.proofs.search.after_call.Goals as goal

@@ -1,8 +1,8 @@
 use Rattle.std.proofs.Common.{rules, ◌≡◌, ◌<◌, ◌∙◌, ◌+◌, arith, true, false, reverse, ap, sym, subst}
 use Rattle.tc_verdict.specs.declared.verdict.Verdict.TheVariants as V
 use Rattle.tc_table.specs.Case.{past_of}
-use Rattle.tc_explore.specs.Course.{carried}
-use Rattle.tc_explore.specs.Told.{is_found}
+use Rattle.tc_course.specs.Course.{carried}
+use Rattle.tc_course.specs.Witnesses.{is_found}
 use Rattle.tc_explore.specs.Inside.Seen.{AreHeld}
 use Rattle.tc_explore.proofs.Parking.{held_if, never_held, reached_main}
 use Rattle.tc_explore.proofs.States.{closed_going, closed_stuck, closed_error, closed_better}

@@ -1,8 +1,8 @@
 use Rattle.std.proofs.Common.{rules, ◌≡◌, true}
 use Rattle.tc_table.specs.Case.{past_of}
 use Rattle.tc_table.specs.Answers.{answer}
-use Rattle.tc_explore.specs.Course.{goes_on, IsTurn}
-use Rattle.tc_explore.specs.Inside.Going.{taken}
+use Rattle.tc_course.specs.Course.{goes_on, IsTurn}
+use Rattle.tc_course.specs.Cases.{taken}
 use Rattle.tc_explore.proofs.Closed.{run_closed}
 use Rattle.tc_explore.proofs.search.try_run.Goals as goal
 

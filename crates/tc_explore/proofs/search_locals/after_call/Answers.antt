@@ -1,7 +1,7 @@
 use Rattle.std.proofs.Common.{rules, ◌≡◌, ◌∷◌, false}
 use Rattle.tc_table.specs.Case.{past_of}
 use Rattle.tc_table.specs.History.{is_over}
-use Rattle.tc_explore.specs.Inside.Going.{taken}
+use Rattle.tc_course.specs.Cases.{taken}
 use Rattle.tc_explore.proofs.Kept.{longer_with}
 use Rattle.tc_explore.proofs.LocalsClosed.{going_next, going_with, locals_seen}
 use Rattle.tc_explore.proofs.search_locals.after_call.Goals as goal

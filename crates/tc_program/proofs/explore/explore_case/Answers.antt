@@ -1,8 +1,9 @@
 use Rattle.std.proofs.Common.{◌≡◌, ◌≤◌, ◌∙◌, List, length, ap, subst, sym}
 use Rattle.std.proofs.lemmas.List.{length-map}
 use Rattle.tc_step.specs.Steps.{ScriptView}
-use Rattle.tc_explore.specs.Course.{most_states}
-use Rattle.tc_explore.specs.Found.{AllFound, AreLegal, AreMet, AreReached, AreWitnesses}
+use Rattle.tc_explore.specs.Limits.{most_states}
+use Rattle.tc_course.specs.Witnesses.{AllFound, AreWitnesses}
+use Rattle.tc_explore.specs.Found.{AreLegal, AreMet, AreReached}
 use Rattle.tc_explore.specs.declared.explored.Ending.TheVariants as E
 use Rattle.tc_program.specs.Explore.{TellsAfter}
 use Rattle.tc_program.specs.Scripted.{scripts_of}

@@ -1,0 +1,4 @@
+-- The lemmas that other crates cite.
+pub mod Standings
+pub mod Turning
+pub mod Histories

@@ -1,0 +1,7 @@
+use Rattle.std.proofs.Common.{◌≡◌, take, reverse}
+use Rattle.tc_table.specs.Case.{past_of}
+use Rattle.tc_course.specs.Cases.{IsOn}
+use Rattle.tc_course.proofs.following.is_course.Given as goal
+
+abbrev pub invariant-loop-entry : goal.invariant-loop-entry
+invariant-loop-entry l = IsOn l.scripts l.course × (past_of l.course ≡ reverse (take l.entry-index l.history))

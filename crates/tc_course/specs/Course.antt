@@ -1,0 +1,118 @@
+-- Courses of a test case whose behaviours are scripts: what each run has called, and what it calls next. As in the
+-- component table's definitions `past` lists entries, the newest first, and runs are numbers.
+use Rattle.std.specs.Prelude.{ℕ, ◌≡◌, ◌==◌, ◌<◌, ◌+◌, ◌++◌, ◌&&◌, ◌||◌, if◌then◌else◌, Bool, true, false, Option, Some, None, is_some, List, [], ◌∷◌, length, slice_get}
+use Rattle.std.specs.Option.{option_map_or, option_to_list, unwrap_or}
+use Rattle.tc_entry.specs.declared.comp.Comp.{Comp}
+use Rattle.tc_entry.specs.declared.entry.Entry.{Entry}
+use Rattle.tc_entry.specs.declared.op.Op.{Op}
+use Rattle.tc_entry.specs.declared.op.Op.TheVariants as O
+use Rattle.tc_entry.specs.declared.reply.Reply.{Reply}
+use Rattle.tc_entry.specs.declared.reply.Reply.TheVariants as R
+use Rattle.tc_step.specs.declared.step.Step.{Step}
+use Rattle.tc_step.specs.Operation.{operation}
+use Rattle.tc_step.specs.Steps.{ScriptView}
+use Rattle.tc_table.specs.History.{created, started_on, ends_pass}
+use Rattle.tc_table.specs.Answers.{answer}
+
+-- ---- what is known of one run
+
+-- the component that it is on, once it was started; the components bound in it; how many of its steps it has called.
+-- Whether its pass has ended, and the Wake to come, if its last call was parked.
+pub record Stand : Type 0 where
+  pub comp : Option Comp
+  pub bound : List Comp
+  pub called : ℕ
+  pub left : Bool
+  pub wake : Option Op
+
+-- at the opening run 0 is on the main component, and no other run is started
+abbrev pub opening : ℕ → Stand
+opening b = record { comp = if b == 0 then Some (record { 0 = 0 }) else None; bound = []; called = 0; left = false; wake = None }
+
+-- the operation is a Wake
+abbrev pub is_wake : Op → Bool
+is_wake (O.Wake killed target) = true
+is_wake _ = false
+
+-- the Wake to come after a call with this reply: after a wait that was parked, and after a Wake that was parked again
+abbrev pub wake_after : Reply → Op → Option Op
+wake_after R.Parked (O.Wait killed target) = Some (O.Wake killed target)
+wake_after R.Parked (O.Wake killed target) = Some (O.Wake killed target)
+wake_after _ _ = None
+
+-- the arguments with which this operation starts run b
+abbrev pub arguments : Op → ℕ → List Comp
+arguments (O.Start c run args) b = if run.0 == b then args else []
+arguments _ b = []
+
+-- after an entry of its own
+abbrev pub after_own : Entry → Stand → Stand
+after_own e s = record {
+  comp = s.comp;
+  bound = s.bound ++ option_to_list (created e.op e.reply);
+  called = if is_wake e.op then s.called else s.called + 1;
+  left = s.left || option_map_or (λ own. ends_pass own e) s.comp false;
+  wake = wake_after e.reply e.op;
+}
+
+-- after an entry of another run: the first Start of run b that is replied Ok starts it
+abbrev pub after_other_by : Option Comp → Entry → ℕ → Stand → Stand
+after_other_by own e b s = if is_some own then s else option_map_or (λ c. record s { comp = Some c; bound = arguments e.op b }) (started_on e b) s
+
+-- after one more entry
+abbrev pub next : Entry → ℕ → Stand → Stand
+next e b s = if e.caller.0 == b then after_own e s else after_other_by s.comp e b s
+
+-- what is known of run b
+abbrev pub stand : List Entry → ℕ → Stand
+stand [] b = opening b
+stand (e ∷ past) b = next e b (stand past b)
+
+-- after this reply the caller has continued, or the case is over
+abbrev pub goes_on : Reply → Bool
+goes_on R.Ended = false
+goes_on R.Parked = false
+goes_on _ = true
+
+-- how many calls run b has carried out: its steps, and its end, without calls that are answered ended, and waits that
+-- are not over
+abbrev pub carried : List Entry → ℕ → ℕ
+carried [] b = 0
+carried (e ∷ past) b = if (e.caller.0 == b) && goes_on e.reply then carried past b + 1 else carried past b
+
+-- ---- what a run calls next
+
+-- what a run on this component calls next: the Wake to come, or the call of the next of its steps, and after the last the end of its behaviour
+abbrev pub turn_on : Option Comp → List Step → Stand → Option Op
+turn_on (Some me) steps s = if s.left then None else Some (unwrap_or s.wake (option_map_or (operation me s.bound) (slice_get steps s.called) O.Finish))
+turn_on None steps s = None
+
+-- the steps of the script of run b
+abbrev pub steps_of : List ScriptView → ℕ → List Step
+steps_of scripts b = option_map_or (λ s. s.steps) (slice_get scripts b) []
+
+-- what run b calls next, if it was started and its pass has not ended
+unfoldable pub turn : List ScriptView → List Entry → ℕ → Option Op
+turn scripts past b = let s = stand past b in turn_on s.comp (steps_of scripts b) s
+
+-- ---- courses
+
+-- a Wake that is parked again; none is recorded
+abbrev pub is_idle : Op → Reply → Bool
+is_idle op R.Parked = is_wake op
+is_idle op _ = false
+
+-- the entry is what its caller calls next, with the component table's reply
+pub record IsTurn (scripts : List ScriptView) (past : List Entry) (e : Entry) : Type 0 where
+  pub turn : turn scripts past e.caller.0 ≡ Some e.op
+  pub reply : e.reply ≡ answer (length scripts) past e.caller.0 e.op
+  pub not_idle : is_idle e.op e.reply ≡ false
+
+-- a course of the test case whose run b has the b-th of these scripts
+abbrev pub IsCourse : List ScriptView → List Entry → Type 0
+IsCourse scripts [] = Unit {0}
+IsCourse scripts (e ∷ past) = IsTurn scripts past e × IsCourse scripts past
+
+-- it is complete: no run has a call left
+abbrev pub IsComplete : List ScriptView → List Entry → Type 0
+IsComplete scripts past = (b : ℕ) → b < length scripts → turn scripts past b ≡ None

@@ -1,0 +1,59 @@
+//! What one entry says of its caller and of the run that it starts.
+ghost use Rattle.std.specs.Prelude.{◌≡◌};
+ghost use Rattle.tc_course.specs.Course as courses;
+ghost use Rattle.tc_course.specs.Inside.Standing.{ends as own_ends};
+
+use tc_entry::{Comp, Entry, Op, Reply};
+use tc_table::ends_pass;
+
+/// Whether an entry by a run on this component ends its pass.
+pub(crate) fn ends(own: Option<Comp>, entry: &Entry) -> bool
+    ensures { result ≡ own_ends own entry.now }
+{
+    match own {
+        Some(own) => ends_pass(own, entry),
+        None => false,
+    }
+}
+
+/// Whether the operation is a Wake.
+pub(crate) fn is_wake(op: &Op) -> bool
+    ensures { result ≡ courses.is_wake op.now }
+{
+    matches!(op, Op::Wake { .. })
+}
+
+/// The Wake to come after this entry.
+pub(crate) fn wake_after(entry: &Entry) -> Option<Op>
+    ensures { result ≡ courses.wake_after entry.now.reply entry.now.op }
+{
+    match (entry.reply, &entry.op) {
+        (Reply::Parked, Op::Wait { killed, target } | Op::Wake { killed, target }) => {
+            Some(Op::Wake {
+                killed: *killed,
+                target: *target,
+            })
+        }
+        _ => None,
+    }
+}
+
+/// Whether after this reply the caller has continued, or the case is over.
+pub fn has_gone_on(reply: Reply) -> bool
+    ensures { result ≡ courses.goes_on reply }
+{
+    match reply {
+        Reply::Ended | Reply::Parked => false,
+        _ => true,
+    }
+}
+
+/// The arguments with which this operation starts the run.
+pub(crate) fn arguments(op: &Op, run: u16) -> &[Comp]
+    ensures { result.now ≡ courses.arguments op.now run }
+{
+    match op {
+        Op::Start { run: b, args, .. } => { if b.0 == run { args.as_slice() } else { &[] } }
+        _ => &[],
+    }
+}

@@ -1,3 +1,0 @@
--- The lemmas that other crates cite.
-pub mod Standings
-pub mod Turning

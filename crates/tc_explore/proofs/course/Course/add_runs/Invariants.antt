@@ -1,8 +1,0 @@
-use Rattle.std.proofs.Common.{◌≡◌, ◌++◌}
-use Rattle.std.specs.List.{flat_map, range_with_len}
-use Rattle.tc_table.specs.Case.{past_of}
-use Rattle.tc_explore.specs.Inside.Keys.{run_key_of}
-use Rattle.tc_explore.proofs.course.Course.add_runs.Given as goal
-
-abbrev pub invariant-loop-run : goal.invariant-loop-run
-invariant-loop-run l = l.key.items ≡ l.fn.key.items ++ flat_map (run_key_of (past_of l.self)) (range_with_len 0 l.run)

@@ -1,5 +1,0 @@
-use Rattle.std.proofs.Common.{◌≡◌, take}
-use Rattle.tc_explore.proofs.course.copied_standings.Given as goal
-
-abbrev pub invariant-loop-standing : goal.invariant-loop-standing
-invariant-loop-standing l = l.all.items ≡ take l.standing-index l.standings

@@ -1,7 +1,0 @@
-use Rattle.std.proofs.Common.{◌≡◌, take, reverse}
-use Rattle.tc_table.specs.Case.{past_of}
-use Rattle.tc_explore.specs.Inside.Going.{IsOn}
-use Rattle.tc_explore.proofs.following.is_course.Given as goal
-
-abbrev pub invariant-loop-entry : goal.invariant-loop-entry
-invariant-loop-entry l = IsOn l.scripts l.course × (past_of l.course ≡ reverse (take l.entry-index l.history))

@@ -1,0 +1,8 @@
+use Rattle.std.proofs.Common.{◌≡◌, ◌++◌}
+use Rattle.std.specs.List.{flat_map, range_with_len}
+use Rattle.tc_table.specs.Case.{past_of}
+use Rattle.tc_explore.specs.Inside.Twins.{local_key}
+use Rattle.tc_explore.proofs.state_keys.add_locals.Given as goal
+
+abbrev pub invariant-loop-comp : goal.invariant-loop-comp
+invariant-loop-comp l = l.key.items ≡ l.fn.key.items ++ flat_map (local_key (past_of l.course)) (range_with_len 0 l.comp)

@@ -1,0 +1,184 @@
+//! The keys of states: all that what can still come depends on, as numbers.
+ghost use Rattle.std.specs.Prelude.{◌≡◌, ◌++◌, ◌∷◌, [], IfOk, OnOk, map};
+ghost use Rattle.std.specs.List.{flat_map, range_with_len};
+ghost use Rattle.tc_table.specs.Case.{past_of};
+ghost use Rattle.tc_table.specs.Faults as faults;
+ghost use Rattle.tc_explore.specs.Inside.Keys.{comp_code, comp_key, key_of, number_of, phase_code, run_key, run_key_of};
+ghost use Rattle.tc_explore.specs.Inside.Twins.{local_code, local_key, target_key, twin_key, wake_key, wake_key_of};
+
+use crate::told::level;
+use std::alloc::Global;
+use tc_course::{Course, Standing};
+use tc_entry::{Comp, Op, Phase, Target};
+use tc_verdict::{NoMemory, Run, Verdict};
+
+// What a component is doing, as a number.
+fn phase_number(phase: Option<Phase>) -> u64
+    ensures { result ≡ phase_code phase }
+{
+    match phase {
+        None => 0,
+        Some(Phase::Inactive) => 1,
+        Some(Phase::Stopped) => 2,
+        Some(Phase::Killed) => 3,
+        Some(Phase::Running(run)) => u64::from(run.0) + 4,
+    }
+}
+
+// A local verdict as a number.
+fn local_number(local: Option<Verdict>) -> u64
+    ensures { result ≡ local_code local }
+{
+    match local {
+        None => 0,
+        Some(verdict) => level(verdict) + 1,
+    }
+}
+
+// Adds two numbers.
+fn add_pair(key: &mut Vec<u64>, first: u64, second: u64) -> Result<(), NoMemory>
+    ensures { OnOk result (key.new.items ≡ key.old.items ++ first ∷ second ∷ []) }
+{
+    key.push(first)?;
+    key.push(second)?;
+    Ok(())
+}
+
+// Adds what is waited for.
+fn add_target(key: &mut Vec<u64>, killed: bool, target: Target) -> Result<(), NoMemory>
+    ensures { OnOk result (key.new.items ≡ key.old.items ++ target_key killed target) }
+{
+    match target {
+        Target::One(comp) => add_pair(key, if killed { 2 } else { 1 }, u64::from(comp.0)),
+        Target::Any => add_pair(key, if killed { 4 } else { 3 }, 0),
+        Target::All => add_pair(key, if killed { 6 } else { 5 }, 0),
+    }
+}
+
+// A component as a number.
+fn comp_number(comp: Option<Comp>) -> u64
+    ensures { result ≡ comp_code comp }
+{
+    match comp {
+        None => 0,
+        Some(comp) => u64::from(comp.0) + 1,
+    }
+}
+
+// Adds the numbers of components.
+fn add_numbers(key: &mut Vec<u64>, comps: &[Comp]) -> Result<(), NoMemory>
+    ensures { OnOk result (key.new.items ≡ key.old.items ++ map number_of comps.now) }
+{
+    for comp in comps {
+        key.push(u64::from(comp.0))?;
+    }
+    Ok(())
+}
+
+// Adds what a run can still call depends on, as numbers; of one that is halted its component.
+fn add_run(key: &mut Vec<u64>, known: &Standing, goes_on: bool) -> Result<(), NoMemory>
+    ensures { OnOk result (key.new.items ≡ key.old.items ++ run_key goes_on known.now) }
+{
+    key.push(comp_number(known.comp()))?;
+    if !goes_on {
+        key.push(0)?;
+        return Ok(());
+    }
+    key.push(1)?;
+    key.push(known.called() as u64)?;
+    key.push(known.bound().len() as u64)?;
+    add_numbers(key, known.bound())
+}
+
+// Adds what a run that continues waits for, as numbers.
+fn add_wake(key: &mut Vec<u64>, known: &Standing, goes_on: bool) -> Result<(), NoMemory>
+    ensures { OnOk result (key.new.items ≡ key.old.items ++ wake_key goes_on known.now.wake) }
+{
+    if !goes_on {
+        return add_pair(key, 0, 0);
+    }
+    match known.wake() {
+        Some(Op::Wake { killed, target }) => add_target(key, *killed, *target),
+        _ => add_pair(key, 0, 0),
+    }
+}
+
+// Adds what each component does, and its kind.
+fn add_components(course: &Course, key: &mut Vec<u64>) -> Result<(), NoMemory>
+    ensures { OnOk result (key.new.items ≡ key.old.items
+        ++ flat_map (comp_key (past_of course.now)) (range_with_len 0 (faults.components (past_of course.now)))) }
+{
+    for comp in 0..course.components() {
+        key.push(phase_number(course.phase_of(Comp(comp))))?;
+        key.push(u64::from(course.is_alive_type(comp)))?;
+    }
+    Ok(())
+}
+
+// Adds what each of n runs can still call depends on.
+fn add_runs(course: &Course, key: &mut Vec<u64>, n: u16) -> Result<(), NoMemory>
+    requires { n ≡ course.now.behaviours }
+    ensures { OnOk result (key.new.items ≡ key.old.items ++ flat_map (run_key_of (past_of course.now)) (range_with_len 0 n)) }
+{
+    for run in 0..n {
+        let goes_on = course.is_active(Run(run));
+        add_run(key, course.known(Run(run)), goes_on)?;
+    }
+    Ok(())
+}
+
+/// All that what can still come in a case of n behaviours depends on, as numbers.
+#[tactic(auto, unfolding(crate::specs::Inside::Keys::key_of))]
+pub(crate) fn state_key(course: &Course, alloc: Global, n: u16) -> Result<Vec<u64>, NoMemory>
+    requires { n ≡ course.now.behaviours }
+    ensures { IfOk result (λ key. key.items ≡ key_of n (past_of course.now)) }
+{
+    let mut key = Vec::new(alloc);
+    key.push(level(course.verdict()))?;
+    key.push(u64::from(course.components()))?;
+    add_components(course, &mut key)?;
+    add_runs(course, &mut key, n)?;
+    Ok(key)
+}
+
+// Adds the local verdict of each component.
+fn add_locals(course: &Course, key: &mut Vec<u64>) -> Result<(), NoMemory>
+    ensures { OnOk result (key.new.items ≡ key.old.items
+        ++ flat_map (local_key (past_of course.now)) (range_with_len 0 (faults.components (past_of course.now)))) }
+{
+    for comp in 0..course.components() {
+        key.push(local_number(course.local(comp)))?;
+    }
+    Ok(())
+}
+
+// Adds what each of n runs waits for.
+fn add_wakes(course: &Course, key: &mut Vec<u64>, n: u16) -> Result<(), NoMemory>
+    requires { n ≡ course.now.behaviours }
+    ensures { OnOk result (key.new.items ≡ key.old.items ++ flat_map (wake_key_of (past_of course.now)) (range_with_len 0 n)) }
+{
+    for run in 0..n {
+        let goes_on = course.is_active(Run(run));
+        add_wake(key, course.known(Run(run)), goes_on)?;
+    }
+    Ok(())
+}
+
+/// All that what can still come depends on, local verdicts included, as numbers.
+#[tactic(auto, unfolding(crate::specs::Inside::Twins::twin_key))]
+pub(crate) fn state_key_with_locals(
+    course: &Course,
+    alloc: Global,
+    n: u16,
+) -> Result<Vec<u64>, NoMemory>
+    requires { n ≡ course.now.behaviours }
+    ensures { IfOk result (λ key. key.items ≡ twin_key n (past_of course.now)) }
+{
+    let rest = state_key(course, alloc, n)?;
+    let mut key = Vec::new(alloc);
+    key.push(u64::from(course.components()))?;
+    add_locals(course, &mut key)?;
+    add_wakes(course, &mut key, n)?;
+    key.extend_from_slice(rest.as_slice())?;
+    Ok(key)
+}
