@@ -8,13 +8,13 @@ use Rattle.tc_entry.specs.declared.entry.Entry.{Entry}
 use Rattle.tc_verdict.specs.declared.run.Run.{Run}
 use Rattle.tc_table.specs.History.{comp_of}
 use Rattle.tc_case.specs.declared.run_log.RunLog.{RunLog}
-use Rattle.tc_case.specs.Merge.{is_other, is_verdict_call, head, after_others, started, in_place, late, end_of, merge, log_of as log_by, logged}
+use Rattle.tc_case.specs.Merge.{is_other, is_verdict_call, verdict_calls_after, calls_of, started, in_place, late, end_of, merge, log_of as log_by, logged}
 use Rattle.tc_merge.specs.Inside.{head_at_start}
 use Rattle.tc_merge.proofs.Lemmas.Kept.{others-merge}
 use Rattle.tc_merge.proofs.Lemmas.Table.{log_or, log_or-none, log_or-last, log_of-beyond}
 use Rattle.tc_book.specs.Closing.{IsWhole, run_log}
 use Rattle.tc_book.specs.OpenCase.{AreOthers}
-use Rattle.tc_case.specs.Parts.{is_by, part, log_if, logs_below}
+use Rattle.tc_case.specs.Parts.{part, log_if, logs_below}
 use Rattle.tc_book.specs.Passes.{LeftState}
 use Rattle.tc_book.specs.Inside.{ArePlaced, IsJoined, KnowsStarts}
 use Rattle.tc_book.proofs.Reporting.{no_others, whole_logged}
@@ -26,13 +26,13 @@ join : (a a' b b' c c' : List Entry) (e : Entry) → a ≡ a' → b ≡ b' → c
 join a a' b b' c c' e p q r = rw (p, q, r) refl
 
 start_same : (f g : ℕ → List Entry) → ((b : ℕ) → f b ≡ g b) → (o : Option Run) → head_at_start f o ≡ head_at_start g o
-start_same f g same (Some run) = ap head (same run.0)
+start_same f g same (Some run) = ap (verdict_calls_after 0) (same run.0)
 start_same f g same None = refl
 
 in_place_same : (f g : ℕ → List Entry) → ((b : ℕ) → f b ≡ g b) → (past : List Entry) → in_place f past ≡ in_place g past
-in_place_same f g same [] = ap head (same 0)
+in_place_same f g same [] = ap (verdict_calls_after 0) (same 0)
 in_place_same f g same (e ∷ past) =
-    join _ _ _ _ _ _ e (in_place_same f g same past) (ap (λ l. head (after_others (length (filter (is_by e.caller.0) (e ∷ past))) l)) (same e.caller.0)) (start_same f g same (started e))
+    join _ _ _ _ _ _ e (in_place_same f g same past) (ap (verdict_calls_after (calls_of e.caller.0 (e ∷ past))) (same e.caller.0)) (start_same f g same (started e))
 
 late_same : (f g : ℕ → List Entry) → ((b : ℕ) → f b ≡ g b) → (n : ℕ) → late f n ≡ late g n
 unfolding late

@@ -38,24 +38,12 @@ end_of (l ∷ ls) = max (l.run.0 + 1) (end_of ls)
 abbrev pub logged : List RunLog → ℕ
 logged logs = sum_by (λ log. length log.entries) logs
 
--- the verdict entries at the head of a log, up to its first other entry, without those replied Ended
-abbrev pub head : List Entry → List Entry
-head [] = []
-head (e ∷ es) = if is_other e then [] else if is_late e then head es else e ∷ head es
-
--- what follows the first other entry of a log
-abbrev pub after_other : List Entry → List Entry
-after_other [] = []
-after_other (e ∷ es) = if is_other e then es else after_other es
-
--- what follows the k-th other entry of a log; the whole log for none
-abbrev pub after_others : ℕ → List Entry → List Entry
-after_others zero log = log
-after_others (suc k) log = after_other (after_others k log)
-
--- what follows the last of these entries of run b in its log, which has as many other entries up to there
-abbrev pub follows : (ℕ → List Entry) → List Entry → ℕ → List Entry
-follows log past b = after_others (length (filter (is_by b) past)) (log b)
+-- The verdict entries of a log after its k-th other entry and before the next, without those replied Ended. After none
+-- come those that the log begins with.
+abbrev pub verdict_calls_after : ℕ → List Entry → List Entry
+verdict_calls_after k [] = []
+verdict_calls_after zero (e ∷ es) = if is_other e then [] else if is_late e then verdict_calls_after 0 es else e ∷ verdict_calls_after 0 es
+verdict_calls_after (suc k) (e ∷ es) = verdict_calls_after (if is_other e then k else suc k) es
 
 -- the run that an operation starts
 abbrev pub run_of : Op → Option Run
@@ -66,12 +54,18 @@ run_of _ = None
 abbrev pub started : Entry → Option Run
 started e = if is_ok e.reply then run_of e.op else None
 
--- At the opening come the verdict entries at the head of run 0's log. After each entry come first the verdict entries
--- that follow it in its caller's log, and then those at the head of the log of the run that it starts.
+-- how many of these entries are by run b
+abbrev pub calls_of : ℕ → List Entry → ℕ
+calls_of b past = length (filter (is_by b) past)
+
+-- At the opening come the verdict entries that run 0's log begins with. After each entry come first those after it in
+-- its caller's log, which has as many other entries up to there, and then those that the log of the run that it starts
+-- begins with.
 abbrev pub in_place : (ℕ → List Entry) → List Entry → List Entry
-in_place log [] = head (log 0)
+in_place log [] = verdict_calls_after 0 (log 0)
 in_place log (e ∷ past) =
-    in_place log past ++ (e ∷ head (follows log (e ∷ past) e.caller.0) ++ option_map_or (λ run. head (log run.0)) (started e) [])
+    in_place log past ++ (e ∷ verdict_calls_after (calls_of e.caller.0 (e ∷ past)) (log e.caller.0)
+    ++ option_map_or (λ run. verdict_calls_after 0 (log run.0)) (started e) [])
 
 -- the verdict entries replied Ended of the runs below n, in the order of their numbers
 unfoldable pub late : (ℕ → List Entry) → ℕ → List Entry

@@ -1,5 +1,5 @@
 -- Each log is its run's part of the merge.
-use Rattle.std.proofs.Common.{◌≡◌, ◌≢◌, ℕ, zero, suc, ◌<◌, ◌≤◌, ◌==◌, if◌then◌else◌, Bool, true, false, Option, Some, None, List, [], ◌∷◌, ◌++◌, filter, length, reverse, refl, sym, ap, ◌∙◌, subst, append_assoc, eq-eqb, arith, ◌⊎◌, inl, inr}
+use Rattle.std.proofs.Common.{◌≡◌, ◌≢◌, ℕ, zero, suc, ◌<◌, ◌≤◌, ◌==◌, if◌then◌else◌, Bool, true, false, Option, Some, None, List, [], ◌∷◌, ◌++◌, drop, filter, reverse, refl, sym, ap, ◌∙◌, subst, append_assoc, eq-eqb, arith, ◌⊎◌, inl, inr}
 use Rattle.std.specs.List.{All}
 use Rattle.std.proofs.lemmas.Bool.{ne_eqb, cases_eq, cases_lt}
 use Rattle.std.proofs.lemmas.List.{append-nil, reverse-append, reverse-reverse}
@@ -12,11 +12,11 @@ use Rattle.tc_entry.specs.declared.op.Op.TheVariants as O
 use Rattle.tc_entry.specs.Reply.{is_ended, is_ok}
 use Rattle.tc_table.specs.History.{comp_of, first_some, starts_run}
 use Rattle.tc_case.specs.declared.run_log.RunLog.{RunLog}
-use Rattle.tc_case.specs.Merge.{is_other, is_late, is_verdict_call, head, after_other, after_others, follows, started, run_of, in_place, late, log_of, end_of, merge}
+use Rattle.tc_case.specs.Merge.{is_other, is_late, is_verdict_call, verdict_calls_after, calls_of, started, run_of, in_place, late, log_of, end_of, merge}
 use Rattle.tc_case.specs.Parts.{is_by, part}
 use Rattle.tc_merge.specs.Inside.{head_at_start}
 use Rattle.tc_merge.specs.OneCase.{AreByStarted, AreStartedOnce, AreOfOneCase, stops_when_late}
-use Rattle.tc_merge.proofs.InPlace.{follows_same, follows_more}
+use Rattle.tc_merge.proofs.InPlace.{calls_same, calls_more}
 use Rattle.tc_merge.proofs.Lemmas.Table.{log_of-beyond}
 
 -- the part of a history by run b, as it computes
@@ -69,27 +69,22 @@ abbrev keep : List Entry → List Entry
 keep [] = []
 keep (e ∷ es) = if is_late e then keep es else e ∷ keep es
 
--- from the next other entry on
-abbrev from_other : List Entry → List Entry
-from_other [] = []
-from_other (e ∷ es) = if is_other e then e ∷ es else from_other es
+-- what is not too late, of a log up to before its other entry after the k-th
+abbrev kept_to : ℕ → List Entry → List Entry
+kept_to zero log = verdict_calls_after 0 log
+kept_to (suc k) [] = []
+kept_to (suc k) (e ∷ es) = if is_other e then e ∷ kept_to k es else if is_late e then kept_to (suc k) es else e ∷ kept_to (suc k) es
 
 by_if : (b : ℕ) (t : Bool) (xs ys : List Entry) → AllBy b xs → AllBy b ys → AllBy b (if t then xs else ys)
 by_if b true xs ys p q = p
 by_if b false xs ys p q = q
 
-by_after_other : (b : ℕ) (xs : List Entry) → AllBy b xs → AllBy b (after_other xs)
-by_after_other b [] p = p
-by_after_other b (e ∷ es) p = by_if b (is_other e) es (after_other es) p.1 (by_after_other b es p.1)
-
-by_after_others : (b k : ℕ) (xs : List Entry) → AllBy b xs → AllBy b (after_others k xs)
-by_after_others b zero xs p = p
-by_after_others b (suc k) xs p = by_after_other b (after_others k xs) (by_after_others b k xs p)
-
-by_head : (b : ℕ) (xs : List Entry) → AllBy b xs → AllBy b (head xs)
-by_head b [] p = p
-by_head b (e ∷ es) p =
-    by_if b (is_other e) [] _ tt (by_if b (is_late e) (head es) (e ∷ head es) (by_head b es p.1) (p.0, by_head b es p.1))
+by_calls : (b k : ℕ) (xs : List Entry) → AllBy b xs → AllBy b (verdict_calls_after k xs)
+by_calls b k [] p = tt
+by_calls b (suc k) (e ∷ es) p = by_calls b (if is_other e then k else suc k) es p.1
+by_calls b zero (e ∷ es) p =
+    let more : AllBy b (verdict_calls_after 0 es) = by_calls b 0 es p.1 in
+    by_if b (is_other e) [] _ tt (by_if b (is_late e) (verdict_calls_after 0 es) (e ∷ verdict_calls_after 0 es) more (p.0, more))
 
 pub part_same : (h : List Entry) (e : Entry) (b : ℕ) → e.caller.0 ≡ b → entries_by (e ∷ h) b ≡ e ∷ entries_by h b
 part_same h e b same = let test : (e.caller.0 == b) ≡ true = eq-eqb e.caller.0 b same in rw test refl
@@ -108,41 +103,48 @@ part_none b c (e ∷ es) p other = part_miss es e b (λ h. other (sym p.0 ∙ h)
 part_append : (b : ℕ) (xs ys : List Entry) → entries_by (xs ++ ys) b ≡ entries_by xs b ++ entries_by ys b
 part_append b xs ys = filter-append (is_by b) xs ys
 
--- the head of a list and what is kept from its next other entry on
-head_and_kept : (xs : List Entry) → head xs ++ keep (from_other xs) ≡ keep xs
-head_and_kept [] = refl
-head_and_kept (e ∷ es) =
-    elim (bool_or (is_verdict_call e.op)) [
-      | inl s ↦ elim (bool_or (is_ended e.reply)) [
-        | inl n ↦ rw (s, n) (head_and_kept es)
-        | inr n ↦ rw (s, n) (ap (λ l. e ∷ l) (head_and_kept es))
-      ]
-      | inr s ↦ rw (s, s) refl
-    ]
+drop_more : (k : ℕ) (xs : List Entry) (e : Entry) (ys : List Entry) → drop k xs ≡ e ∷ ys → drop (suc k) xs ≡ ys
+drop_more zero [] e ys is = absurd cc
+drop_more zero (x ∷ xs) e ys is = cc
+drop_more (suc k) [] e ys is = absurd cc
+drop_more (suc k) (x ∷ xs) e ys is = drop_more k xs e ys is
 
--- the next other entry of a list, if it is known
-pub record NextIs (xs : List Entry) (e : Entry) (ys : List Entry) : Type 0 where
-  pub at : from_other xs ≡ e ∷ after_other xs
-  pub rest : others (after_other xs) ≡ ys
-  pub other : is_verdict_call e.op ≡ false
+-- one other entry more, if it is known
+kept_more : (k : ℕ) (xs : List Entry) (e : Entry) (ys : List Entry) → drop k (others xs) ≡ e ∷ ys → kept_to (suc k) xs ≡ kept_to k xs ++ e ∷ verdict_calls_after (suc k) xs
+kept_more zero [] e ys is = absurd cc
+kept_more (suc k) [] e ys is = absurd cc
+kept_more zero (x ∷ xs) e ys is = elim (bool_or (is_verdict_call x.op)) [
+  | inl s ↦
+      let more = kept_more zero xs e ys (rw s at is) in
+      elim (bool_or (is_ended x.reply)) [ inl n ↦ rw (s, n) more | inr n ↦ rw (s, n) (ap (λ l. x ∷ l) more) ]
+  | inr s ↦
+      let here : x ∷ others xs ≡ e ∷ ys = rw s at is in
+      let same : x ≡ e = cc in
+      rw s (ap (λ y. y ∷ verdict_calls_after 0 xs) same)
+]
+kept_more (suc k) (x ∷ xs) e ys is = elim (bool_or (is_verdict_call x.op)) [
+  | inl s ↦
+      let more = kept_more (suc k) xs e ys (rw s at is) in
+      elim (bool_or (is_ended x.reply)) [ inl n ↦ rw (s, n) more | inr n ↦ rw (s, n) (ap (λ l. x ∷ l) more) ]
+  | inr s ↦ let more = kept_more k xs e ys (rw s at is) in rw s (ap (λ l. x ∷ l) more)
+]
 
-next_is : (xs : List Entry) (e : Entry) (ys : List Entry) → others xs ≡ e ∷ ys → NextIs xs e ys
-next_is [] e ys h = absurd cc
-next_is (x ∷ xs) e ys h =
-    elim (bool_or (is_verdict_call x.op)) [
-      | inl s ↦ let k = next_is xs e ys (rw s at h) in record { at = rw s k.at; rest = rw s k.rest; other = k.other }
-      | inr s ↦ let k : x ∷ others xs ≡ e ∷ ys = rw s at h in
-          let here : x ≡ e = cc in let there : others xs ≡ ys = cc in
-          record { at = rw s (ap (λ y. y ∷ xs) here); rest = rw s there; other = subst (λ y. is_verdict_call y.op ≡ false) here s }
-    ]
-
-none_left : (xs : List Entry) → others xs ≡ [] → from_other xs ≡ []
-none_left [] h = refl
-none_left (x ∷ xs) h =
-    elim (bool_or (is_verdict_call x.op)) [
-      | inl s ↦ rw s (none_left xs (rw s at h))
-      | inr s ↦ let k : x ∷ others xs ≡ [] = rw s at h in absurd cc
-    ]
+-- there is no other entry more
+kept_all : (k : ℕ) (xs : List Entry) → drop k (others xs) ≡ [] → kept_to k xs ≡ keep xs
+kept_all zero [] is = refl
+kept_all (suc k) [] is = refl
+kept_all zero (x ∷ xs) is = elim (bool_or (is_verdict_call x.op)) [
+  | inl s ↦
+      let more = kept_all zero xs (rw s at is) in
+      elim (bool_or (is_ended x.reply)) [ inl n ↦ rw (s, n) more | inr n ↦ rw (s, n) (ap (λ l. x ∷ l) more) ]
+  | inr s ↦ let k : x ∷ others xs ≡ [] = rw s at is in absurd cc
+]
+kept_all (suc k) (x ∷ xs) is = elim (bool_or (is_verdict_call x.op)) [
+  | inl s ↦
+      let more = kept_all (suc k) xs (rw s at is) in
+      elim (bool_or (is_ended x.reply)) [ inl n ↦ rw (s, n) more | inr n ↦ rw (s, n) (ap (λ l. x ∷ l) more) ]
+  | inr s ↦ let more = kept_all k xs (rw s at is) in rw s (ap (λ l. x ∷ l) more)
+]
 
 -- if nothing follows a late entry, it is the last
 keep_and_late : (xs : List Entry) → stops_when_late xs ≡ true → keep xs ++ filter is_late xs ≡ xs
@@ -163,15 +165,13 @@ part_of_more : (b : ℕ) (e : Entry) (past rest : List Entry) → entries_by (re
 part_of_more b e past rest = ap (λ l. entries_by l b) (ap (λ l. l ++ rest) (reverse-append (e ∷ []) past) ∙ append_assoc (reverse past) (e ∷ []) rest)
 
 -- the other entries that follow are those that the table is still to make
-align : (b : ℕ) (log : ℕ → List Entry) (past rest : List Entry) → others (log b) ≡ entries_by (reverse past ++ rest) b → others (follows log past b) ≡ entries_by rest b
+align : (b : ℕ) (log : ℕ → List Entry) (past rest : List Entry) → others (log b) ≡ entries_by (reverse past ++ rest) b → drop (calls_of b past) (others (log b)) ≡ entries_by rest b
 align b log [] rest h = h
 align b log (e ∷ past) rest h =
-    let k : others (follows log past b) ≡ entries_by (e ∷ rest) b = align b log past (e ∷ rest) (h ∙ part_of_more b e past rest) in
+    let k : drop (calls_of b past) (others (log b)) ≡ entries_by (e ∷ rest) b = align b log past (e ∷ rest) (h ∙ part_of_more b e past rest) in
     elim (cases_eq e.caller.0 b) [
-      | inl same ↦ let f : follows log (e ∷ past) b ≡ after_other (follows log past b) =
-          subst (λ c. follows log (e ∷ past) c ≡ after_other (follows log past c)) same (follows_more log past e) in
-          rw f (next_is (follows log past b) e (entries_by rest b) (k ∙ part_same rest e b same)).rest
-      | inr other ↦ rw (follows_same log past e b other) (k ∙ part_miss rest e b other)
+      | inl same ↦ rw (calls_more past e b same) (drop_more (calls_of b past) (others (log b)) e (entries_by rest b) (k ∙ part_same rest e b same))
+      | inr other ↦ rw (calls_same past e b other) (k ∙ part_miss rest e b other)
     ]
 
 -- the entry starts run b
@@ -179,7 +179,7 @@ pub record Opens (b : ℕ) (log : ℕ → List Entry) (o : Option Run) : Type 0 
   pub run : Run
   pub is : o ≡ Some run
   pub same : run.0 ≡ b
-  pub said : entries_by (head_at_start log o) b ≡ head (log b)
+  pub said : entries_by (head_at_start log o) b ≡ verdict_calls_after 0 (log b)
 
 -- it does not
 pub record Skips (b : ℕ) (log : ℕ → List Entry) (o : Option Run) : Type 0 where
@@ -194,72 +194,59 @@ opens_or b log (Some run) own =
         run = run;
         is = refl;
         same = same;
-        said = subst (λ c. entries_by (head (log c)) b ≡ head (log b)) (sym same) (part_all b (head (log b)) (by_head b (log b) (own b)));
+        said = subst (λ c. entries_by (verdict_calls_after 0 (log c)) b ≡ verdict_calls_after 0 (log b)) (sym same) (part_all b _ (by_calls b 0 (log b) (own b)));
       })
       | inr other ↦ inr (record {
         not = ne_eqb run.0 b other;
-        said = part_none b run.0 (head (log run.0)) (by_head run.0 (log run.0) (own run.0)) other;
+        said = part_none b run.0 _ (by_calls run.0 0 (log run.0) (own run.0)) other;
       })
     ]
 
--- run b after the entries of past: nothing of it is placed, or what is placed and what follows make its log
+-- run b after the entries of past: it has none and nothing of it is placed, or its log up to before its next is
 pub record Before (log : ℕ → List Entry) (past : List Entry) (b : ℕ) : Type 0 where
   pub closed : comp_of past b ≡ None
   pub none : entries_by (in_place log past) b ≡ []
-  pub whole : follows log past b ≡ log b
+  pub whole : calls_of b past ≡ 0
 
 pub record After (log : ℕ → List Entry) (past : List Entry) (b : ℕ) : Type 0 where
   pub opened : comp_of past b ≢ None
-  pub made : entries_by (in_place log past) b ++ keep (from_other (follows log past b)) ≡ keep (log b)
+  pub made : entries_by (in_place log past) b ≡ kept_to (calls_of b past) (log b)
 
 opening : (b : ℕ) (log : ℕ → List Entry) → ((c : ℕ) → AllBy c (log c)) → Before log [] b ⊎ After log [] b
 opening b log own =
     elim (cases_eq b 0) [
       | inl is ↦ inr (record {
         opened = let test : (b == 0) ≡ true = eq-eqb b 0 is in λ h. let zero_comp : Comp = record { 0 = 0 } in let q : Some zero_comp ≡ None = rw test at h in cc;
-        made = let p : entries_by (head (log 0)) b ≡ head (log b) =
-            subst (λ c. entries_by (head (log c)) b ≡ head (log b)) is (part_all b (head (log b)) (by_head b (log b) (own b))) in
-            rw p (head_and_kept (log b));
+        made = subst (λ c. entries_by (verdict_calls_after 0 (log c)) b ≡ verdict_calls_after 0 (log b)) is (part_all b _ (by_calls b 0 (log b) (own b)));
       })
       | inr other ↦ inl (record {
         closed = let test : (b == 0) ≡ false = ne_eqb b 0 other in rw test refl;
-        none = part_none b 0 (head (log 0)) (by_head 0 (log 0) (own 0)) (λ h. other (sym h));
+        none = part_none b 0 _ (by_calls 0 0 (log 0) (own 0)) (λ h. other (sym h));
         whole = refl;
       })
     ]
 
-by_follows : (log : ℕ → List Entry) (past : List Entry) (c : ℕ) → AllBy c (log c) → AllBy c (head (follows log past c))
-by_follows log past c own = by_head c (follows log past c) (by_after_others c (length (filter (is_by c) past)) (log c) own)
-
 placed_other : (b : ℕ) (log : ℕ → List Entry) (past : List Entry) (e : Entry) → AllBy e.caller.0 (log e.caller.0) → e.caller.0 ≢ b →
     entries_by (in_place log (e ∷ past)) b ≡ entries_by (in_place log past) b ++ entries_by (head_at_start log (started e)) b
 placed_other b log past e own other =
-    let said : List Entry = head (follows log (e ∷ past) e.caller.0) in
+    let count : ℕ = calls_of e.caller.0 (e ∷ past) in
+    let said : List Entry = verdict_calls_after count (log e.caller.0) in
     let start : List Entry = head_at_start log (started e) in
     let p : entries_by (e ∷ said ++ start) b ≡ entries_by start b =
-    part_miss (said ++ start) e b other ∙ (part_append b said start ∙ ap (λ l. l ++ entries_by start b) (part_none b e.caller.0 said (by_follows log (e ∷ past) e.caller.0 own) other)) in
+    part_miss (said ++ start) e b other ∙ (part_append b said start ∙ ap (λ l. l ++ entries_by start b) (part_none b e.caller.0 said (by_calls e.caller.0 count (log e.caller.0) own) other)) in
     part_append b (in_place log past) (e ∷ said ++ start) ∙ ap (λ l. entries_by (in_place log past) b ++ l) p
 
 placed_same : (b : ℕ) (log : ℕ → List Entry) (past : List Entry) (e : Entry) → AllBy b (log b) → e.caller.0 ≡ b →
     entries_by (head_at_start log (started e)) b ≡ [] →
-    entries_by (in_place log (e ∷ past)) b ≡ entries_by (in_place log past) b ++ (e ∷ head (follows log (e ∷ past) b))
+    entries_by (in_place log (e ∷ past)) b ≡ entries_by (in_place log past) b ++ (e ∷ verdict_calls_after (calls_of b (e ∷ past)) (log b))
 placed_same b log past e own same none =
-    let said : List Entry = head (follows log (e ∷ past) e.caller.0) in
+    let said_of : ℕ → List Entry = λ c. verdict_calls_after (calls_of c (e ∷ past)) (log c) in
     let start : List Entry = head_at_start log (started e) in
-    let q : entries_by said b ≡ head (follows log (e ∷ past) b) =
-    subst (λ c. entries_by (head (follows log (e ∷ past) c)) b ≡ head (follows log (e ∷ past) b)) (sym same)
-    (part_all b (head (follows log (e ∷ past) b)) (by_follows log (e ∷ past) b own)) in
-    let r : entries_by (said ++ start) b ≡ head (follows log (e ∷ past) b) =
-    part_append b said start ∙ rw (q, none) (append-nil (head (follows log (e ∷ past) b))) in
-    let p : entries_by (e ∷ said ++ start) b ≡ e ∷ head (follows log (e ∷ past) b) =
-    part_same (said ++ start) e b same ∙ ap (λ l. e ∷ l) r in
-    part_append b (in_place log past) (e ∷ said ++ start) ∙ ap (λ l. entries_by (in_place log past) b ++ l) p
-
-keep_other : (e : Entry) (es : List Entry) → is_verdict_call e.op ≡ false → keep (e ∷ es) ≡ e ∷ keep es
-keep_other e es h = rw h refl
-
-grown : (p x y k l : List Entry) (e : Entry) → p ++ (e ∷ k) ≡ l → x ++ y ≡ k → (p ++ (e ∷ x)) ++ y ≡ l
-grown p x y k l e h g = append_assoc p (e ∷ x) y ∙ (ap (λ z. p ++ (e ∷ z)) g ∙ h)
+    let q : entries_by (said_of e.caller.0) b ≡ said_of b =
+    subst (λ c. entries_by (said_of c) b ≡ said_of b) (sym same) (part_all b (said_of b) (by_calls b (calls_of b (e ∷ past)) (log b) own)) in
+    let r : entries_by (said_of e.caller.0 ++ start) b ≡ said_of b = part_append b (said_of e.caller.0) start ∙ rw (q, none) (append-nil (said_of b)) in
+    let p : entries_by (e ∷ said_of e.caller.0 ++ start) b ≡ e ∷ said_of b = part_same (said_of e.caller.0 ++ start) e b same ∙ ap (λ l. e ∷ l) r in
+    part_append b (in_place log past) (e ∷ said_of e.caller.0 ++ start) ∙ ap (λ l. entries_by (in_place log past) b ++ l) p
 
 was_closed : (b : ℕ) (log : ℕ → List Entry) (past : List Entry) (e : Entry) → Opens b log (started e) →
     ((run : Run) → started e ≡ Some run → comp_of past run.0 ≡ None) → comp_of past b ≡ None
@@ -276,22 +263,22 @@ still_closed b log past e s closed =
 
 step : (b : ℕ) (log : ℕ → List Entry) (past rest : List Entry) (e : Entry) → ((c : ℕ) → AllBy c (log c)) →
     comp_of past e.caller.0 ≢ None → ((run : Run) → started e ≡ Some run → comp_of past run.0 ≡ None) →
-    others (follows log past b) ≡ entries_by (e ∷ rest) b →
+    drop (calls_of b past) (others (log b)) ≡ entries_by (e ∷ rest) b →
     Before log past b ⊎ After log past b → Before log (e ∷ past) b ⊎ After log (e ∷ past) b
 step b log past rest e own caller fresh next (inl before) =
     let other : e.caller.0 ≢ b = λ same. caller (ap (comp_of past) same ∙ before.closed) in
     let w : entries_by (in_place log (e ∷ past)) b ≡ entries_by (head_at_start log (started e)) b =
     placed_other b log past e (own e.caller.0) other ∙ ap (λ l. l ++ entries_by (head_at_start log (started e)) b) before.none in
-    let f : follows log (e ∷ past) b ≡ log b = follows_same log past e b other ∙ before.whole in
+    let none : calls_of b (e ∷ past) ≡ 0 = calls_same past e b other ∙ before.whole in
     elim (opens_or b log (started e) own) [
       | inl o ↦ inr (record {
         opened = opened_by b log past e o before.closed;
-        made = rw (w, o.said, f) (head_and_kept (log b));
+        made = w ∙ (o.said ∙ sym (ap (λ n. kept_to n (log b)) none));
       })
       | inr s ↦ inl (record {
         closed = still_closed b log past e s before.closed;
         none = w ∙ s.said;
-        whole = f;
+        whole = none;
       })
     ]
 step b log past rest e own caller fresh next (inr after) =
@@ -301,18 +288,18 @@ step b log past rest e own caller fresh next (inr after) =
         | inl same ↦ inr (record {
           opened = kept_some (comp_of past b) (starts_in e b) after.opened;
           made =
-              let n = next_is (follows log past b) e (entries_by rest b) (next ∙ part_same rest e b same) in
-              let f : follows log (e ∷ past) b ≡ after_other (follows log past b) =
-              subst (λ c. follows log (e ∷ past) c ≡ after_other (follows log past c)) same (follows_more log past e) in
-              let k : keep (from_other (follows log past b)) ≡ e ∷ keep (follows log (e ∷ past) b) =
-              ap keep n.at ∙ (keep_other e (after_other (follows log past b)) n.other ∙ ap (λ l. e ∷ keep l) (sym f)) in
-              rw (placed_same b log past e (own b) same s.said)
-              (grown (entries_by (in_place log past) b) (head (follows log (e ∷ past) b)) (keep (from_other (follows log (e ∷ past) b)))
-              (keep (follows log (e ∷ past) b)) (keep (log b)) e (sym (ap (λ l. entries_by (in_place log past) b ++ l) k) ∙ after.made) (head_and_kept (follows log (e ∷ past) b)));
+              let n : ℕ = calls_of b past in
+              let count : calls_of b (e ∷ past) ≡ suc n = calls_more past e b same in
+              placed_same b log past e (own b) same s.said
+              ∙ (ap (λ l. l ++ e ∷ verdict_calls_after (calls_of b (e ∷ past)) (log b)) after.made
+              ∙ (ap (λ m. kept_to n (log b) ++ e ∷ verdict_calls_after m (log b)) count
+              ∙ (sym (kept_more n (log b) e (entries_by rest b) (next ∙ part_same rest e b same)) ∙ sym (ap (λ m. kept_to m (log b)) count))));
         })
         | inr other ↦ inr (record {
           opened = kept_some (comp_of past b) (starts_in e b) after.opened;
-          made = rw (placed_other b log past e (own e.caller.0) other, s.said, append-nil, follows_same log past e b other) after.made;
+          made =
+              let kept : entries_by (in_place log (e ∷ past)) b ≡ kept_to (calls_of b past) (log b) = rw (placed_other b log past e (own e.caller.0) other, s.said, append-nil) after.made in
+              kept ∙ sym (ap (λ m. kept_to m (log b)) (calls_same past e b other));
         })
       ]
     ]
@@ -376,9 +363,7 @@ part-merge history logs one b =
     as_entries_by (in_place log past ++ late log n) b ∙ (whole ∙ elim (steps b log past [] own one.started one.once h) [
       | inl before ↦ let e : log b ≡ [] = one.unstarted b before.closed in rw (before.none, e) refl
       | inr after ↦
-          let none : from_other (follows log past b) ≡ [] = none_left (follows log past b) (align b log past [] h) in
-          let k : entries_by (in_place log past) b ≡ keep (log b) =
-          sym (append-nil (entries_by (in_place log past) b)) ∙ (sym (ap (λ l. entries_by (in_place log past) b ++ keep l) none) ∙ after.made) in
+          let k : entries_by (in_place log past) b ≡ keep (log b) = after.made ∙ kept_all (calls_of b past) (log b) (align b log past [] h) in
           ap (λ l. l ++ filter is_late (log b)) k ∙ keep_and_late (log b) (one.stop b)
     ])
 

@@ -65,7 +65,7 @@ pub(crate) fn move_on<'a>(rests: &mut Vec<&'a [Entry]>, run: Run) -> &'a [Entry]
     ensures len { length rests.new.items ≡ length rests.old.items }
     ensures same { (b : ℕ) (d : _) → b ≢ run.0 → slice_index_or rests.new.items b d ≡ slice_index_or rests.old.items b d }
     ensures moved { IsMovedOn rests.old.items rests.new.items run.0 }
-    ensures within { (d : _) → run.0 < length rests.old.items → result.now ≡ rules.after_other (entries_of rests.old.items run.0 d) }
+    ensures within { (d : _) → run.0 < length rests.old.items → result.now ≡ entries_of rests.new.items run.0 d }
     ensures beyond { length rests.old.items ≤ run.0 → result.now ≡ [] }
 {
     let at = usize::from(run.0);

@@ -1,6 +1,7 @@
 //! The verdict entries at the head of a log, and those replied Ended.
 ghost use Rattle.std.specs.Prelude.{◌≡◌, ◌++◌, OnOk, filter};
 ghost use Rattle.tc_case.specs.Merge as rules;
+ghost use Rattle.tc_merge.specs.Inside.{AreAfterOther};
 
 use crate::entries::{is_late, is_other};
 use tc_entry::Entry;
@@ -8,7 +9,7 @@ use tc_verdict::NoMemory;
 
 /// What follows the first other entry of a log.
 pub(crate) fn after_other(log: &[Entry]) -> &[Entry]
-    ensures { result.now ≡ rules.after_other log.now }
+    ensures { AreAfterOther log.now result.now }
 {
     let mut rest = log;
     while let Some((entry, others)) = rest.split_first() {
@@ -22,7 +23,7 @@ pub(crate) fn after_other(log: &[Entry]) -> &[Entry]
 
 /// Adds the verdict entries at the head of a log, without those replied Ended.
 pub(crate) fn add_head(all: &mut Vec<Entry>, log: &[Entry]) -> Result<(), NoMemory>
-    ensures { OnOk result (all.new.items ≡ all.old.items ++ rules.head log.now) }
+    ensures { OnOk result (all.new.items ≡ all.old.items ++ rules.verdict_calls_after 0 log.now) }
 {
     let mut rest = log;
     while let Some((entry, others)) = rest.split_first() {

@@ -6,7 +6,7 @@ use Rattle.tc_verdict.specs.declared.run.Run.{Run}
 use Rattle.tc_entry.specs.declared.entry.Entry.{Entry}
 use Rattle.tc_entry.specs.Reply.{is_ended}
 use Rattle.tc_case.specs.declared.run_log.RunLog.{RunLog}
-use Rattle.tc_case.specs.Merge.{is_other, is_late, is_verdict_call, head, follows, started, in_place, late, log_of, end_of, merge}
+use Rattle.tc_case.specs.Merge.{is_other, is_late, is_verdict_call, verdict_calls_after, calls_of, started, in_place, late, log_of, end_of, merge}
 use Rattle.tc_merge.specs.Inside.{head_at_start}
 
 abbrev others : List Entry → List Entry
@@ -15,12 +15,16 @@ others h = filter is_other h
 others-append : (xs ys : List Entry) → others (xs ++ ys) ≡ others xs ++ others ys
 others-append xs ys = filter-append is_other xs ys
 
-others-head : (xs : List Entry) → others (head xs) ≡ []
-others-head [] = refl
-others-head (e ∷ es) = by_test (is_verdict_call e.op) (is_ended e.reply) refl (others-head es)
+others-calls : (k : ℕ) (xs : List Entry) → others (verdict_calls_after k xs) ≡ []
+others-calls k [] = refl
+others-calls (suc k) (e ∷ es) = others-calls (if is_other e then k else suc k) es
+others-calls zero (e ∷ es) = by_test (is_verdict_call e.op) (is_ended e.reply) refl (others-calls 0 es)
   where
-    by_test : (verdict ended : Bool) → is_verdict_call e.op ≡ verdict → others (head es) ≡ [] →
-        others (if not verdict then [] else if verdict && ended then head es else e ∷ head es) ≡ []
+    calls : List Entry
+    calls = verdict_calls_after 0 es
+
+    by_test : (verdict ended : Bool) → is_verdict_call e.op ≡ verdict → others calls ≡ [] →
+        others (if not verdict then [] else if verdict && ended then calls else e ∷ calls) ≡ []
     by_test false ended is more = refl
     by_test true true is more = more
     by_test true false is more = rw is more
@@ -41,18 +45,19 @@ others-lates log zero = refl
 others-lates log (suc b) = others-append (late log b) (filter is_late (log b)) ∙ rw (others-lates log b) (others-late (log b))
 
 others-start : (log : ℕ → List Entry) (o : Option Run) → others (head_at_start log o) ≡ []
-others-start log (Some run) = others-head (log run.0)
+others-start log (Some run) = others-calls 0 (log run.0)
 others-start log None = refl
 
 others-one : (e : Entry) (xs : List Entry) → others xs ≡ [] → others (e ∷ xs) ≡ others (e ∷ [])
 others-one e xs none = ap (λ l. if is_other e then e ∷ l else l) none
 
 others-in_place : (log : ℕ → List Entry) (past : List Entry) → others (in_place log past) ≡ others (reverse past)
-others-in_place log [] = others-head (log 0)
+others-in_place log [] = others-calls 0 (log 0)
 others-in_place log (e ∷ past) =
-    let said : List Entry = head (follows log (e ∷ past) e.caller.0) in
+    let count : ℕ = calls_of e.caller.0 (e ∷ past) in
+    let said : List Entry = verdict_calls_after count (log e.caller.0) in
     let start : List Entry = head_at_start log (started e) in
-    let none : others (said ++ start) ≡ [] = others-append said start ∙ rw (others-head (follows log (e ∷ past) e.caller.0)) (others-start log (started e)) in
+    let none : others (said ++ start) ≡ [] = others-append said start ∙ rw (others-calls count (log e.caller.0)) (others-start log (started e)) in
     let back : reverse (e ∷ past) ≡ reverse past ++ e ∷ [] = reverse-append (e ∷ []) past in
     others-append (in_place log past) (e ∷ said ++ start)
     ∙ (ap (λ l. l ++ others (e ∷ said ++ start)) (others-in_place log past)

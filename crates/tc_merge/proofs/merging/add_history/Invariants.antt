@@ -1,10 +1,10 @@
 use Rattle.std.proofs.Common.{◌≡◌, ◌++◌, ℕ, List, take, reverse}
 use Rattle.tc_entry.specs.declared.entry.Entry.{Entry}
-use Rattle.tc_case.specs.Merge.{in_place, follows}
-use Rattle.tc_merge.specs.Inside.{Has}
+use Rattle.tc_case.specs.Merge.{calls_of, in_place}
+use Rattle.tc_merge.specs.Inside.{Has, HasRests}
 use Rattle.tc_merge.proofs.merging.add_history.Given as goal
 
 -- the entries passed so far are in their place, and the table has what follows them
 abbrev pub invariant-loop-entry : goal.invariant-loop-entry
 invariant-loop-entry l = (log : ℕ → List Entry) → Has l.logs log → Has l.initial.rests.items log →
-    (Has l.rests.items (follows log (reverse (take l.entry-index l.history))) × (l.all.items ≡ l.fn.all.items ++ in_place log (reverse (take l.entry-index l.history))))
+    (HasRests l.rests.items log (λ b. calls_of b (reverse (take l.entry-index l.history))) × (l.all.items ≡ l.fn.all.items ++ in_place log (reverse (take l.entry-index l.history))))
