@@ -10,7 +10,7 @@ use Rattle.tc_entry.specs.declared.op.Op.{Op}
 use Rattle.tc_entry.specs.declared.reply.Reply.{Reply}
 use Rattle.tc_board.specs.declared.record.Record.{Record}
 use Rattle.tc_table.specs.Case.{Case, past_of}
-use Rattle.tc_words.specs.Words.{AreTold, carried_to, carried_to_newest}
+use Rattle.tc_words.specs.Words.{WordsAgree, carried_to, carried_to_newest}
 use Rattle.tc_book.specs.declared.places.Places.{Places}
 use Rattle.tc_book.specs.Inside.{IsKept, start_at}
 use Rattle.tc_book.specs.OpenCase.{opening_place}
@@ -25,9 +25,9 @@ pub opening_len : (n : ℕ) → n ≤ BEHAVIOURS → length (replicate n opening
 opening_len n few = rw (length-replicate n opening_place) few
 
 pub kept_at_opening : (n m : ℕ) (h : List Entry) (started : List (Option (Comp × List Comp))) (places : List Places) (count room : ℕ) (words : List Record) →
-    m ≡ n → h ≡ [] → 1 ≤ n → n ≤ BEHAVIOURS → length started ≡ n → ((b : ℕ) → start_at started b ≡ None) → places ≡ replicate n opening_place → count ≡ n → count ≤ room → AreTold n [] words →
+    m ≡ n → h ≡ [] → 1 ≤ n → n ≤ BEHAVIOURS → length started ≡ n → ((b : ℕ) → start_at started b ≡ None) → places ≡ replicate n opening_place → count ≡ n → count ≤ room → WordsAgree n [] words →
     IsKept m (reverse h) started places count room words
-kept_at_opening n m h started places count room words same none some few as_many none_started are counted covered told =
+kept_at_opening n m h started places count room words same none some few as_many none_started are counted covered agree =
     rw (same, none, are) (record {
       some = some;
       few = few;
@@ -38,16 +38,16 @@ kept_at_opening n m h started places count room words same none some few as_many
       counted = counted ∙ sym (total_opening n);
       covered = covered;
       others = tt;
-      told = told;
+      agreeing = agree;
     })
 
 abbrev entry : Run → Op → Reply → Entry
 entry caller op reply = record { caller = caller; op = op; reply = reply }
 
 -- the words before an entry follow from the entries before it
-pub told_before : (t t' : Case) (words : List Record) (caller : Run) (op : Op) (reply : Reply) → t'.behaviours ≡ t.behaviours → t'.history ≡ t.history ++ entry caller op reply ∷ [] →
-    AreTold t.behaviours (past_of t) words → AreTold t'.behaviours (drop 1 (past_of t')) words
-told_before t t' words caller op reply same added told = rw (same, added, reverse-append t.history (entry caller op reply ∷ [])) told
+pub agree_before : (t t' : Case) (words : List Record) (caller : Run) (op : Op) (reply : Reply) → t'.behaviours ≡ t.behaviours → t'.history ≡ t.history ++ entry caller op reply ∷ [] →
+    WordsAgree t.behaviours (past_of t) words → WordsAgree t'.behaviours (drop 1 (past_of t')) words
+agree_before t t' words caller op reply same added agree = rw (same, added, reverse-append t.history (entry caller op reply ∷ [])) agree
 
 pub carried_before : (t t' : Case) (words : List Record) (caller : Run) (op : Op) (reply : Reply) (u : UserVerdict) → t'.history ≡ t.history ++ entry caller op reply ∷ [] →
     u ≡ carried_to words (past_of t) op → u ≡ carried_to_newest words (past_of t')

@@ -17,7 +17,7 @@ use Rattle.tc_case.specs.Parts.{part, logs_below, is_by}
 use Rattle.tc_book.specs.Closing.{IsOneEach, IsWhole, run_log}
 use Rattle.tc_case.specs.Merge.{is_other, log_of, merge}
 use Rattle.tc_book.specs.OpenCase.{AreOthers, has_leave, has_wake, OpenCase, past_of, reply_to}
-use Rattle.tc_words.specs.Words.{AreTold}
+use Rattle.tc_words.specs.Words.{WordsAgree}
 use Rattle.tc_board.specs.Hand.{HandView, answered}
 use Rattle.tc_board.specs.declared.record.Record.{Record}
 use Rattle.tc_book.specs.Passes.{LeftState, ended_by, entry_of}
@@ -122,7 +122,7 @@ pub record IsKept (n : ℕ) (past : List Entry) (starts : List (Option (Comp × 
   pub counted : count ≡ total places
   pub covered : count ≤ room
   pub others : AreOthers past
-  pub told : AreTold n past words
+  pub agreeing : WordsAgree n past words
 
 -- a call of the hand had the answer of an entry with this reply
 abbrev pub Says : Op → Reply → HandView → HandView → Type 0

@@ -10,7 +10,7 @@ ghost use Rattle.tc_book.specs.OpenCase.{AreOthers, has_leave, has_wake, opening
 ghost use Rattle.tc_book.specs.Replies.{suits};
 ghost use Rattle.tc_book.specs.Starts as starts;
 ghost use Rattle.tc_book.specs.Waking.{WouldPark};
-ghost use Rattle.tc_words.specs.Words.{record_at, AreTold};
+ghost use Rattle.tc_words.specs.Words.{WordsAgree, record_at};
 ghost use Rattle.tc_case.specs.Merge.{is_verdict_call};
 ghost use Rattle.tc_board.specs.Board.{new_keeper};
 ghost use Rattle.std.specs.Arc.{arc_value};
@@ -238,7 +238,7 @@ impl Book {
     /// What was done with the word of a run.
     pub fn word_of(&self, run: Run) -> Record
         ensures word { result ≡ record_at self.now.words run.0 }
-        ensures told { AreTold self.now.behaviours (past_of self.now) self.now.words }
+        ensures agreeing { WordsAgree self.now.behaviours (past_of self.now) self.now.words }
         ensures others { AreOthers (past_of self.now) }
     {
         self.words.record_of(run)

@@ -19,9 +19,9 @@ use Rattle.tc_table.specs.Legal.{IsLegal}
 use Rattle.tc_table.proofs.Lemmas.Going.{halted_by_entry, started_by_entry, starts_still, last_on_it, last_stands}
 use Rattle.tc_table.proofs.Lemmas.Sound.{plain_if, no_special, start_in_range, starts_fresh}
 use Rattle.tc_board.specs.declared.record.Record.{Record}
-use Rattle.tc_board.specs.declared.record.Record.TheVariants.{Unbegun, Open}
-use Rattle.tc_words.specs.Words.{record_at, record_for, left_by, closing, is_closed, last_on, run_before, carried, carried_to, AreTold}
-use Rattle.tc_words.specs.Inside.{Lags, ArePartlyTold, CanBegin, with_start}
+use Rattle.tc_board.specs.declared.record.Record.TheVariants.{Unbegun, Open, Closed}
+use Rattle.tc_words.specs.Words.{IsWordOf, WordsAgree, record_at, left_by, closing, is_closed, last_on, run_before, carried, carried_to}
+use Rattle.tc_words.specs.Inside.{Lags, WordsLag, CanBegin, with_start}
 use Rattle.tc_words.proofs.Settling.{at_same, at_other}
 
 first_true : (a b : Bool) → (a && b) ≡ true → a ≡ true
@@ -50,23 +50,23 @@ if_some false x y a none is = cc
 before_same : (past : List Entry) (e : Entry) (b : ℕ) (a : Run) → started_on e b ≡ None → run_before (e ∷ past) b ≡ Some a → run_before past b ≡ Some a
 before_same past e b a none is = if_some (is_some (comp_of past b)) (run_before past b) (last_on past (started_on e b)) a (ap (last_on past) none) is
 
-record_same : (o : Option Comp) (was : Bool) (words : List Record) (x y : Option Run) (v : UserVerdict) →
-    record_for o was (left_by words x) v ≡ record_for o was (left_by words (if is_some o then x else y)) v
-record_same None was words x y v = refl
-record_same (Some c) was words x y v = refl
+word_same : (o : Option Comp) (was : Bool) (words : List Record) (x y : Option Run) (r : Record) →
+    IsWordOf o was (left_by words x) r → IsWordOf o was (left_by words (if is_some o then x else y)) r
+word_same None was words x y r is = is
+word_same (Some c) was words x y r is = is
 
 -- the word of a run that the entry does not start lags at most
-lags_other : (n : ℕ) (past : List Entry) (e : Entry) (words : List Record) (b : ℕ) → IsLegal n (e ∷ past) → started_on e b ≡ None → b < n → AreTold n past words → Lags (e ∷ past) words b
+lags_other : (n : ℕ) (past : List Entry) (e : Entry) (words : List Record) (b : ℕ) → IsLegal n (e ∷ past) → started_on e b ≡ None → b < n → WordsAgree n past words → Lags (e ∷ past) words b
 lags_other n past e words b legal none less t = record {
   was = is_active past b;
   active = active_before n past e b legal none;
   is = rw (comp_same past e b none)
-      (t.each b less ∙ record_same (comp_of past b) (is_active past b) words (run_before past b) (last_on past (started_on e b)) (closing (record_at words b)));
+      (word_same (comp_of past b) (is_active past b) words (run_before past b) (last_on past (started_on e b)) (record_at words b) (t.each b less));
 }
 
 -- after an entry that starts no run
-partly_after : (n : ℕ) (past : List Entry) (e : Entry) (words : List Record) → IsLegal n (e ∷ past) → ((b : ℕ) → started_on e b ≡ None) → AreTold n past words →
-    ArePartlyTold n (e ∷ past) words 0
+partly_after : (n : ℕ) (past : List Entry) (e : Entry) (words : List Record) → IsLegal n (e ∷ past) → ((b : ℕ) → started_on e b ≡ None) → WordsAgree n past words →
+    WordsLag n (e ∷ past) words 0
 partly_after n past e words legal none t = record {
   as_many = t.as_many;
   each = λ b less. lags_other n past e words b legal (none b) less t;
@@ -79,12 +79,13 @@ left_kept words i r None other = refl
 left_kept words i r (Some a) other = ap closing (at_other words i a.0 r (other a refl))
 
 -- the last run on a component that is not running has its word closed
-last_closed : (n : ℕ) (past : List Entry) (words : List Record) (c : ℕ) (a : Run) → 0 < n → IsLegal n past → AreTold n past words →
+last_closed : (n : ℕ) (past : List Entry) (words : List Record) (c : ℕ) (a : Run) → 0 < n → IsLegal n past → WordsAgree n past words →
     is_running (phase past c) ≡ false → last_run past c ≡ Some a → is_closed (record_at words a.0) ≡ true
 last_closed n past words c a some legal t still h =
     let k = last_on_it n past c a some legal h in
     let off : is_active past a.0 ≡ false = last_stands past c a k.0 still in
-    ap is_closed (t.each a.0 k.1) ∙ rw (k.0, off) refl
+    let halted : (v : UserVerdict) × (record_at words a.0 ≡ Closed (carried words past a.0) v) = rw (k.0, off) at (t.each a.0 k.1) in
+    ap is_closed halted.1
 
 abbrev pub start : Run → Comp → Run → List Comp → Entry
 start caller comp run args = record { caller = caller; op = O.Start comp run args; reply = R.Ok }
@@ -94,8 +95,8 @@ same_test m = grind (arith, nat_tests)
 
 -- after a Start replied Ok, whose word is begun with what the close of the last run on the component gave
 partly_started : (n : ℕ) (past : List Entry) (words : List Record) (caller : Run) (comp : Comp) (run : Run) (args : List Comp) →
-    IsLegal n (start caller comp run args ∷ past) → AreTold n past words →
-    ArePartlyTold n (start caller comp run args ∷ past) (set words run.0 (Open (left_by words (last_run past comp.0)))) 0
+    IsLegal n (start caller comp run args ∷ past) → WordsAgree n past words →
+    WordsLag n (start caller comp run args ∷ past) (set words run.0 (Open (left_by words (last_run past comp.0)))) 0
 partly_started n past words caller comp run args legal t =
     let e : Entry = start caller comp run args in
     let ok : R.Ok ≡ answer n past caller.0 (O.Start comp run args) = legal.0 in
@@ -107,7 +108,7 @@ partly_started n past words caller comp run args legal t =
     let still : is_running (phase past comp.0) ≡ false = starts_still n past e comp.0 run legal.0 begins in
     let w : Record = Open (left_by words (last_run past comp.0)) in
     let within : run.0 < length words = rw t.as_many below in
-    let empty : record_at words run.0 ≡ Unbegun = t.each run.0 below ∙ rw free refl in
+    let empty : record_at words run.0 ≡ Unbegun = rw free at (t.each run.0 below) in
     let not_it : (a : ℕ) → is_closed (record_at words a) ≡ true → a ≢ run.0 =
     λ a d is. let q : is_closed (record_at words run.0) ≡ true = subst (λ k. is_closed (record_at words k) ≡ true) is d in
     let z : is_closed Unbegun ≡ true = rw empty at q in let y : false ≡ true = z in cc in
@@ -152,19 +153,19 @@ entry caller op reply = record { caller = caller; op = op; reply = reply }
 
 -- after any entry, if the word of a run that it starts is begun
 pub after_entry : (n : ℕ) (past : List Entry) (words : List Record) (caller : Run) (op : Op) (reply : Reply) →
-    IsLegal n (entry caller op reply ∷ past) → AreTold n past words →
-    ArePartlyTold n (entry caller op reply ∷ past) (with_start op reply (carried_to words past op) words) 0
+    IsLegal n (entry caller op reply ∷ past) → WordsAgree n past words →
+    WordsLag n (entry caller op reply ∷ past) (with_start op reply (carried_to words past op) words) 0
 after_entry n past words caller (O.Start c run args) R.Ok legal t = partly_started n past words caller c run args legal t
 after_entry n past words caller (O.Start c run args) reply legal t = partly_after n past (entry caller (O.Start c run args) reply) words legal (λ b. refl) t
 after_entry n past words caller op reply legal t = partly_after n past (entry caller op reply) words legal (λ b. if_none (is_ok reply)) t
 
 -- the word of a run that is started is unbegun
-pub can_begin : (n : ℕ) (past : List Entry) (words : List Record) (caller : Run) (op : Op) (reply : Reply) → AreTold n past words → reply ≡ answer n past caller.0 op → CanBegin op reply words
+pub can_begin : (n : ℕ) (past : List Entry) (words : List Record) (caller : Run) (op : Op) (reply : Reply) → WordsAgree n past words → reply ≡ answer n past caller.0 op → CanBegin op reply words
 can_begin n past words caller (O.Start c run args) R.Ok t ok =
     let plain = plain_if n past caller.0 (O.Start c run args) R.Ok refl refl ok in
     let below : run.0 < n = start_in_range n past c.0 run.0 (no_special n past caller.0 (O.Start c run args) plain.no_fault) in
     let begins : start_in (start caller c run args) c.0 ≡ Some run = rw (same_test c.0) refl in
     let free : comp_of past run.0 ≡ None = (starts_fresh n past (start caller c run args) c.0 run ok begins).1.free in
-    (rw t.as_many below, t.each run.0 below ∙ rw free refl)
+    (rw t.as_many below, rw free at (t.each run.0 below))
 can_begin n past words caller (O.Start c run args) reply t ok = tt
 can_begin n past words caller op reply t ok = tt

@@ -1,5 +1,5 @@
 -- The words after the newest entry, before any word is closed.
-use Rattle.std.proofs.Common.{ℕ, ◌≡◌, ◌<◌, ◌&&◌, not, Bool, true, false, Option, Some, None, List, [], ◌∷◌, ◌++◌, drop, reverse, refl, ap, sym, ◌∙◌, subst, inl, inr}
+use Rattle.std.proofs.Common.{ℕ, ◌≡◌, ◌<◌, ◌&&◌, not, Bool, true, false, Some, None, List, [], ◌∷◌, ◌++◌, drop, reverse, refl, ap, sym, ◌∙◌, subst, inl, inr}
 use Rattle.std.proofs.lemmas.Bool.{cases_eq}
 use Rattle.std.proofs.lemmas.List.{reverse-append}
 use Rattle.tc_verdict.specs.declared.run.Run.{Run}
@@ -19,16 +19,10 @@ use Rattle.tc_table.proofs.Lemmas.Going.{halted_by_entry, started_by_entry, othe
 use Rattle.tc_table.proofs.Lemmas.Sound.{starts_fresh}
 use Rattle.tc_board.specs.declared.record.Record.{Record}
 use Rattle.tc_board.specs.declared.record.Record.TheVariants.{Open}
-use Rattle.tc_words.specs.Words.{record_at, record_for, is_closed, carried, carried_to, carried_to_newest, closing, AreTold, StayClosed}
-use Rattle.tc_words.specs.Inside.{is_open, ArePartlyTold, CanBegin, with_start}
-use Rattle.tc_words.proofs.Settling.{all_told, at_other, stay_closed}
+use Rattle.tc_words.specs.Words.{StayClosed, WordsAgree, record_at, is_closed, carried, carried_to, carried_to_newest}
+use Rattle.tc_words.specs.Inside.{is_open, WordsLag, CanBegin, with_start}
+use Rattle.tc_words.proofs.Settling.{all_agree, at_other, open_means, stay_closed}
 use Rattle.tc_words.proofs.Lagging.{after_entry, can_begin, entry, same_test, start}
-
--- an open word is of a run that was started and is active
-open_means : (o : Option Comp) (active : Bool) (u v : UserVerdict) (r : Record) → r ≡ record_for o active u v → is_open r ≡ true → (c : Comp) × (o ≡ Some c) × (active ≡ true)
-open_means None active u v r is h = let e : false ≡ true = sym (ap is_open is) ∙ h in absurd cc
-open_means (Some c) true u v r is h = (c, refl, refl)
-open_means (Some c) false u v r is h = let e : false ≡ true = sym (ap is_open is) ∙ h in absurd cc
 
 both : (a h : Bool) → a ≡ true → h ≡ false → (a && not h) ≡ true
 both true false p q = refl
@@ -36,10 +30,10 @@ both false h p q = absurd cc
 both true true p q = absurd cc
 
 -- a run with an open word continues after an entry that halts nothing
-goes_on : (n : ℕ) (past : List Entry) (e : Entry) (words : List Record) (b : ℕ) → IsLegal n (e ∷ past) → AreTold n past words → may_halt e.op e.reply ≡ false → b < n →
+goes_on : (n : ℕ) (past : List Entry) (e : Entry) (words : List Record) (b : ℕ) → IsLegal n (e ∷ past) → WordsAgree n past words → may_halt e.op e.reply ≡ false → b < n →
     is_open (record_at words b) ≡ true → is_active (e ∷ past) b ≡ true
-goes_on n past e words b legal told quiet less h =
-    let m = open_means (comp_of past b) (is_active past b) (carried words past b) (closing (record_at words b)) (record_at words b) (told.each b less) h in
+goes_on n past e words b legal agree quiet less h =
+    let m = open_means (comp_of past b) (is_active past b) (carried words past b) (record_at words b) (agree.each b less) h in
     halted_by_entry n past e b m.0 legal m.1 ∙ both (is_active past b) (halts (comp_of past e.caller.0) e m.0.0) m.2 (others_halt_nothing (comp_of past e.caller.0) e m.0.0 quiet)
 
 -- so does the run that the entry starts
@@ -53,35 +47,35 @@ starts_going n past caller comp run args legal =
 
 -- each open word is of a run that continues after the entry
 open_go_on : (n : ℕ) (past : List Entry) (words : List Record) (caller : Run) (op : Op) (reply : Reply) (u : UserVerdict) →
-    IsLegal n (entry caller op reply ∷ past) → AreTold n past words → may_halt op reply ≡ false → (b : ℕ) → b < n →
+    IsLegal n (entry caller op reply ∷ past) → WordsAgree n past words → may_halt op reply ≡ false → (b : ℕ) → b < n →
     is_open (record_at (with_start op reply u words) b) ≡ true → is_active (entry caller op reply ∷ past) b ≡ true
-open_go_on n past words caller (O.Start c run args) R.Ok u legal told quiet b less h =
+open_go_on n past words caller (O.Start c run args) R.Ok u legal agree quiet b less h =
     elim (cases_eq b run.0) [
       | inl same ↦ subst (λ k. is_active (start caller c run args ∷ past) k ≡ true) (sym same) (starts_going n past caller c run args legal)
       | inr other ↦
-          goes_on n past (start caller c run args) words b legal told quiet less
+          goes_on n past (start caller c run args) words b legal agree quiet less
           (sym (ap is_open (at_other words run.0 b (Open u) other)) ∙ h)
     ]
-open_go_on n past words caller (O.Start c run args) reply u legal told quiet b less h = goes_on n past (entry caller (O.Start c run args) reply) words b legal told quiet less h
-open_go_on n past words caller op reply u legal told quiet b less h = goes_on n past (entry caller op reply) words b legal told quiet less h
+open_go_on n past words caller (O.Start c run args) reply u legal agree quiet b less h = goes_on n past (entry caller (O.Start c run args) reply) words b legal agree quiet less h
+open_go_on n past words caller op reply u legal agree quiet b less h = goes_on n past (entry caller op reply) words b legal agree quiet less h
 
 -- the words lag at most
-pub lags_at_most : (n : ℕ) (whole past : List Entry) (e : Entry) (words after : List Record) (u : UserVerdict) → whole ≡ e ∷ past → IsLegal n whole → AreTold n (drop 1 whole) words →
-    u ≡ carried_to_newest words whole → after ≡ with_start e.op e.reply u words → ArePartlyTold n whole after 0
-lags_at_most n whole past e words after u is legal told carries begun =
+pub lags_at_most : (n : ℕ) (whole past : List Entry) (e : Entry) (words after : List Record) (u : UserVerdict) → whole ≡ e ∷ past → IsLegal n whole → WordsAgree n (drop 1 whole) words →
+    u ≡ carried_to_newest words whole → after ≡ with_start e.op e.reply u words → WordsLag n whole after 0
+lags_at_most n whole past e words after u is legal agree carries begun =
     let now : IsLegal n (e ∷ past) = subst (λ p. IsLegal n p) is legal in
-    let before : AreTold n past words = subst (λ p. AreTold n (drop 1 p) words) is told in
+    let before : WordsAgree n past words = subst (λ p. WordsAgree n (drop 1 p) words) is agree in
     let begins : u ≡ carried_to words past e.op = carries ∙ ap (carried_to_newest words) is in
     rw (begun, begins, is) (after_entry n past words e.caller e.op e.reply now before)
 
 -- and not at all if the entry halts nothing
-pub told_quietly : (n : ℕ) (whole past : List Entry) (e : Entry) (words after : List Record) (u : UserVerdict) → whole ≡ e ∷ past → IsLegal n whole → AreTold n (drop 1 whole) words →
-    u ≡ carried_to_newest words whole → after ≡ with_start e.op e.reply u words → may_halt e.op e.reply ≡ false → AreTold n whole after
-told_quietly n whole past e words after u is legal told carries begun quiet =
-    let p = lags_at_most n whole past e words after u is legal told carries begun in
+pub agree_quietly : (n : ℕ) (whole past : List Entry) (e : Entry) (words after : List Record) (u : UserVerdict) → whole ≡ e ∷ past → IsLegal n whole → WordsAgree n (drop 1 whole) words →
+    u ≡ carried_to_newest words whole → after ≡ with_start e.op e.reply u words → may_halt e.op e.reply ≡ false → WordsAgree n whole after
+agree_quietly n whole past e words after u is legal agree carries begun quiet =
+    let p = lags_at_most n whole past e words after u is legal agree carries begun in
     let now : IsLegal n (e ∷ past) = subst (λ p. IsLegal n p) is legal in
-    let before : AreTold n past words = subst (λ p. AreTold n (drop 1 p) words) is told in
-    all_told n whole after (record {
+    let before : WordsAgree n past words = subst (λ p. WordsAgree n (drop 1 p) words) is agree in
+    all_agree n whole after (record {
       as_many = p.as_many;
       each = p.each;
       before = p.before;
@@ -89,10 +83,10 @@ told_quietly n whole past e words after u is legal told carries begun quiet =
     })
 
 -- the word that the entry begins is unbegun
-pub can_begin_newest : (n : ℕ) (whole past : List Entry) (e : Entry) (words : List Record) → whole ≡ e ∷ past → IsLegal n whole → AreTold n (drop 1 whole) words → CanBegin e.op e.reply words
-can_begin_newest n whole past e words is legal told =
+pub can_begin_newest : (n : ℕ) (whole past : List Entry) (e : Entry) (words : List Record) → whole ≡ e ∷ past → IsLegal n whole → WordsAgree n (drop 1 whole) words → CanBegin e.op e.reply words
+can_begin_newest n whole past e words is legal agree =
     let now : IsLegal n (e ∷ past) = subst (λ p. IsLegal n p) is legal in
-    can_begin n past words e.caller e.op e.reply (subst (λ p. AreTold n (drop 1 p) words) is told) now.0
+    can_begin n past words e.caller e.op e.reply (subst (λ p. WordsAgree n (drop 1 p) words) is agree) now.0
 
 -- the word that an entry begins was not closed
 pub begun_stay_closed : (op : Op) (reply : Reply) (u : UserVerdict) (words : List Record) → CanBegin op reply words → StayClosed words (with_start op reply u words)

@@ -11,7 +11,7 @@ use Rattle.tc_board.specs.Keeper.{IsOpen, carried_by, carried_in}
 use Rattle.tc_table.specs.History.{comp_of}
 use Rattle.tc_table.specs.Phases.{phase}
 use Rattle.tc_table.specs.Answers.{is_active}
-use Rattle.tc_words.specs.Words.{record_at, record_for, carried, closing, AreTold}
+use Rattle.tc_words.specs.Words.{IsWordOf, WordsAgree, record_at, carried}
 use Rattle.tc_words.specs.Inside.{is_open, opening}
 
 unbegun_from : (k n : ℕ) → replicate n Unbegun ≡ first_records (suc k) n
@@ -52,12 +52,12 @@ main_goes_on : is_active [] 0 ≡ true
 unfolding is_active phase
 main_goes_on = refl
 
-opening_word : (b : ℕ) (words : List Record) → first_record b ≡ record_for (comp_of [] b) (is_active [] b) (carried words [] b) (closing (first_record b))
+opening_word : (b : ℕ) (words : List Record) → IsWordOf (comp_of [] b) (is_active [] b) (carried words [] b) (first_record b)
 opening_word zero words = rw main_goes_on refl
 opening_word (suc b) words = let k : (suc b == 0) ≡ false = grind (arith, nat_tests) in rw k refl
 
-told_at_opening : (n : ℕ) → AreTold n [] (first_records 0 n)
-told_at_opening n = record {
+agree_at_opening : (n : ℕ) → WordsAgree n [] (first_records 0 n)
+agree_at_opening n = record {
   as_many = length_from 0 n;
   each = λ b less.
       let here : record_at (first_records 0 n) b ≡ first_record b = record_from 0 n b less ∙ ap first_record (let e : 0 + b ≡ b = omega arith in e) in
@@ -65,7 +65,7 @@ told_at_opening n = record {
   before = λ b a is. absurd cc;
 }
 
-pub told_of_new : (n : ℕ) → 1 ≤ n → AreTold n [] (set (replicate n Unbegun) 0 (Open U.None))
-told_of_new n some = rw (first_words n some) (told_at_opening n)
+pub agree_of_new : (n : ℕ) → 1 ≤ n → WordsAgree n [] (set (replicate n Unbegun) 0 (Open U.None))
+agree_of_new n some = rw (first_words n some) (agree_at_opening n)
 
-pub ruleset word_rules = (first_words, told_of_new, get_at, open_at, carried_at)
+pub ruleset word_rules = (first_words, agree_of_new, get_at, open_at, carried_at)

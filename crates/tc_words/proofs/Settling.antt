@@ -9,15 +9,15 @@ use Rattle.tc_table.specs.History.{comp_of}
 use Rattle.tc_table.specs.Answers.{is_active}
 use Rattle.tc_board.specs.declared.record.Record.{Record}
 use Rattle.tc_board.specs.declared.record.Record.TheVariants.{Unbegun, Open, Closed}
-use Rattle.tc_words.specs.Words.{record_at, record_for, left_by, closing, is_closed, run_before, carried, AreTold, StayClosed}
-use Rattle.tc_words.specs.Inside.{is_open, opening, Lags, ArePartlyTold}
+use Rattle.tc_words.specs.Words.{IsWordOf, StayClosed, WordsAgree, record_at, left_by, closing, is_closed, run_before, carried}
+use Rattle.tc_words.specs.Inside.{is_open, opening, Lags, WordsLag}
 
--- an open word is of a run that was started and that continued
-open_by : (c : Option Comp) (was : Bool) (u v : UserVerdict) (r : Record) → r ≡ record_for c was u v → is_open r ≡ true →
-    (was ≡ true) × ((w : UserVerdict) → Closed (opening r) w ≡ record_for c false u w)
-open_by None was u v r is begun = let e = sym (ap is_open is) ∙ begun in cc
-open_by (Some c) true u v r is begun = (refl, λ w. ap (λ x. Closed (opening x) w) is)
-open_by (Some c) false u v r is begun = let e = sym (ap is_open is) ∙ begun in cc
+-- an open word is of a run that was started and is active
+pub open_means : (o : Option Comp) (active : Bool) (u : UserVerdict) (r : Record) → IsWordOf o active u r → is_open r ≡ true →
+    (c : Comp) × (o ≡ Some c) × (active ≡ true) × (r ≡ Open u)
+open_means None active u r is h = let e : false ≡ true = sym (ap is_open is) ∙ h in absurd cc
+open_means (Some c) true u r is h = (c, refl, refl, is)
+open_means (Some c) false u r is h = let e : false ≡ true = sym (ap is_open is.1) ∙ h in absurd cc
 
 not_closed_if_open : (r : Record) → is_open r ≡ true → is_closed r ≡ true → is_closed Unbegun ≡ true
 not_closed_if_open Unbegun a b = a
@@ -37,20 +37,20 @@ left_by_same words i r (Some a) begun done =
     let other : a.0 ≢ i = λ is. let e = not_closed_if_open (record_at words i) begun (subst (λ k. is_closed (record_at words k) ≡ true) is (done a refl)) in cc in
     ap closing (at_other words i a.0 r other)
 
-pub close_one : (n : ℕ) (past : List Entry) (words : List Record) (i : ℕ) (w : UserVerdict) → ArePartlyTold n past words i → i < n →
+pub close_one : (n : ℕ) (past : List Entry) (words : List Record) (i : ℕ) (w : UserVerdict) → WordsLag n past words i → i < n →
     is_open (record_at words i) ≡ true → is_active past i ≡ false →
-    ArePartlyTold n past (set words i (Closed (opening (record_at words i)) w)) (i + 1)
+    WordsLag n past (set words i (Closed (opening (record_at words i)) w)) (i + 1)
 close_one n past words i w p less begun halted =
     let r : Record = Closed (opening (record_at words i)) w in
     let within : i < length words = rw p.as_many less in
     let same : (b : ℕ) → carried (set words i r) past b ≡ carried words past b =
     λ b. left_by_same words i r (run_before past b) begun (p.before b) in
+    let begins = open_means (comp_of past i) (p.each i less).was (carried words past i) (record_at words i) (p.each i less).is begun in
     let here : Lags past (set words i r) i =
     record {
       was = false;
       active = λ a. sym halted ∙ a;
-      is = rw (at_same words i r within, same i)
-          ((open_by (comp_of past i) (p.each i less).was (carried words past i) (closing (record_at words i)) (record_at words i) (p.each i less).is begun).1 w);
+      is = rw (at_same words i r within, same i, begins.1) (w, ap (λ x. Closed (opening x) w) begins.3);
     } in
     record {
       as_many = rw length-set p.as_many;
@@ -71,18 +71,18 @@ close_one n past words i w p less begun halted =
           (rw (at_same words i r within) (λ e. let q : false ≡ true = e in cc));
     }
 
-told_by : (c : Option Comp) (was active : Bool) (u v : UserVerdict) (r : Record) → r ≡ record_for c was u v →
-    (active ≡ true → was ≡ true) → (is_open r ≡ true → active ≡ true) → r ≡ record_for c active u v
-told_by None was active u v r is a s = is
-told_by (Some c) true true u v r is a s = is
-told_by (Some c) true false u v r is a s = let e = s (ap is_open is) in cc
-told_by (Some c) false true u v r is a s = let e = a refl in cc
-told_by (Some c) false false u v r is a s = is
+word_of : (o : Option Comp) (was active : Bool) (u : UserVerdict) (r : Record) → IsWordOf o was u r →
+    (active ≡ true → was ≡ true) → (is_open r ≡ true → active ≡ true) → IsWordOf o active u r
+word_of None was active u r is a s = is
+word_of (Some c) true true u r is a s = is
+word_of (Some c) true false u r is a s = let e = s (ap is_open is) in cc
+word_of (Some c) false true u r is a s = let e = a refl in cc
+word_of (Some c) false false u r is a s = is
 
-pub all_told : (n : ℕ) (past : List Entry) (words : List Record) → ArePartlyTold n past words n → AreTold n past words
-all_told n past words p = record {
+pub all_agree : (n : ℕ) (past : List Entry) (words : List Record) → WordsLag n past words n → WordsAgree n past words
+all_agree n past words p = record {
   as_many = p.as_many;
-  each = λ b less. told_by (comp_of past b) (p.each b less).was (is_active past b) (carried words past b) (closing (record_at words b)) (record_at words b)
+  each = λ b less. word_of (comp_of past b) (p.each b less).was (is_active past b) (carried words past b) (record_at words b)
       (p.each b less).is (p.each b less).active (p.settled b less);
   before = p.before;
 }

@@ -12,7 +12,7 @@ use Rattle.tc_table.specs.History.{comp_of}
 use Rattle.tc_table.specs.Answers.{is_active}
 use Rattle.tc_board.specs.declared.record.Record.{Record}
 use Rattle.tc_board.specs.declared.record.Record.TheVariants.{Unbegun, Open, Closed}
-use Rattle.tc_words.specs.Words.{record_at, record_for, carried, closing, is_closed, run_before}
+use Rattle.tc_words.specs.Words.{IsWordOf, record_at, carried, is_closed, run_before}
 
 -- the word was begun and not closed yet
 abbrev pub is_open : Record → Bool
@@ -29,10 +29,10 @@ opening Unbegun = U.None
 pub record Lags (past : List Entry) (words : List Record) (b : ℕ) : Type 0 where
   pub was : Bool
   pub active : is_active past b ≡ true → was ≡ true
-  pub is : record_at words b ≡ record_for (comp_of past b) was (carried words past b) (closing (record_at words b))
+  pub is : IsWordOf (comp_of past b) was (carried words past b) (record_at words b)
 
 -- the words of the runs below i follow from the history, the others may lag
-pub record ArePartlyTold (n : ℕ) (past : List Entry) (words : List Record) (i : ℕ) : Type 0 where
+pub record WordsLag (n : ℕ) (past : List Entry) (words : List Record) (i : ℕ) : Type 0 where
   pub as_many : length words ≡ n
   pub each : (b : ℕ) → b < n → Lags past words b
   pub before : (b : ℕ) (a : Run) → run_before past b ≡ Some a → is_closed (record_at words a.0) ≡ true

@@ -47,17 +47,17 @@ run_before (e ∷ past) b = if is_some (comp_of past b) then run_before past b e
 abbrev pub carried : List Record → List Entry → ℕ → UserVerdict
 carried words past b = left_by words (run_before past b)
 
--- the record of the word of a run, by the component that it was started on, whether it is active, and both verdicts
-abbrev pub record_for : Option Comp → Bool → UserVerdict → UserVerdict → Record
-record_for None active u v = Unbegun
-record_for (Some c) true u v = Open u
-record_for (Some c) false u v = Closed u v
+-- The word of a run, by its component, whether it is active, and what it began with. It is unbegun if the run was never
+-- started, open if it is active, and closed if it was halted.
+abbrev pub IsWordOf : Option Comp → Bool → UserVerdict → Record → Type 0
+IsWordOf None active u word = word ≡ Unbegun
+IsWordOf (Some c) true u word = word ≡ Open u
+IsWordOf (Some c) false u word = (v : UserVerdict) × (word ≡ Closed u v)
 
--- The word of a run is unbegun if it was never started, open if it is active, and closed if it was halted. It was begun
--- with what the close of the word of the run before it on its component gave, or with none if there is no such run.
-pub record AreTold (n : ℕ) (past : List Entry) (words : List Record) : Type 0 where
+-- the word of each run is as the history says, and was begun with what its component carried
+pub record WordsAgree (n : ℕ) (past : List Entry) (words : List Record) : Type 0 where
   pub as_many : length words ≡ n
-  pub each : (b : ℕ) → b < n → record_at words b ≡ record_for (comp_of past b) (is_active past b) (carried words past b) (closing (record_at words b))
+  pub each : (b : ℕ) → b < n → IsWordOf (comp_of past b) (is_active past b) (carried words past b) (record_at words b)
   -- the word of the run before another on its component is closed
   pub before : (b : ℕ) (a : Run) → run_before past b ≡ Some a → is_closed (record_at words a.0) ≡ true
 

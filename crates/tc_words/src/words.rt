@@ -5,9 +5,9 @@ ghost use Rattle.tc_table.specs.Case.{past_of};
 ghost use Rattle.tc_board.specs.Board.{new_keeper};
 ghost use Rattle.tc_board.specs.declared.record.Record.TheVariants.{Unbegun, Open as IsOpen, Closed as IsClosed};
 ghost use Rattle.tc_words.specs.Words as rules;
-ghost use Rattle.tc_words.specs.Words.{AreTold, StayClosed};
+ghost use Rattle.tc_words.specs.Words.{StayClosed, WordsAgree};
 ghost use Rattle.tc_words.specs.Inside as inside;
-ghost use Rattle.tc_words.specs.Inside.{ArePartlyTold, CanBegin, opening, with_start};
+ghost use Rattle.tc_words.specs.Inside.{CanBegin, WordsLag, opening, with_start};
 ghost use Rattle.tc_table.specs.Laws as laws;
 
 use std::alloc::Global;
@@ -82,7 +82,7 @@ impl Words {
     ) -> Result<Words, NoMemory>
         requires some { 1 ≤ behaviours }
         requires keeper { keeper ≡ new_keeper (arc_value board) behaviours }
-        ensures { IfOk result (λ w. AreTold behaviours [] w) }
+        ensures { IfOk result (λ w. WordsAgree behaviours [] w) }
     {
         let mut records = vec![in alloc; Record::Unbegun; usize::from(behaviours)]?;
         records[0] = Record::Open(UserVerdict::None);
@@ -117,9 +117,9 @@ impl Words {
     /// Brings the words up to the newest entry of the table. Begins the word of the run that it starts with what the
     /// run's component carried, and closes the word of each run that it halts. It takes no memory.
     pub fn follow(&mut self, table: &Table, carried: UserVerdict)
-        requires told { AreTold table.now.behaviours (drop 1 (past_of table.now)) self.old }
+        requires agreeing { WordsAgree table.now.behaviours (drop 1 (past_of table.now)) self.old }
         requires carried { carried ≡ rules.carried_to_newest self.old (past_of table.now) }
-        ensures told { AreTold table.now.behaviours (past_of table.now) self.new }
+        ensures agreeing { WordsAgree table.now.behaviours (past_of table.now) self.new }
         ensures closed { StayClosed self.old self.new }
     {
         if let Some((entry, _)) = table.history().split_last() {
@@ -175,8 +175,8 @@ impl Words {
     /// Closes the word of a run that no longer continues.
     fn settle_one(&mut self, table: &Table, b: u16)
         requires within { b < table.now.behaviours }
-        requires partly { ArePartlyTold table.now.behaviours (past_of table.now) self.old b }
-        ensures partly { ArePartlyTold table.now.behaviours (past_of table.now) self.new (b + 1) }
+        requires lagging { WordsLag table.now.behaviours (past_of table.now) self.old b }
+        ensures lagging { WordsLag table.now.behaviours (past_of table.now) self.new (b + 1) }
         ensures closed { StayClosed self.old self.new }
     {
         let run = Run(b);
@@ -187,8 +187,8 @@ impl Words {
 
     /// Closes the word of each run that no longer continues.
     fn settle(&mut self, table: &Table)
-        requires lagging { ArePartlyTold table.now.behaviours (past_of table.now) self.old 0 }
-        ensures told { AreTold table.now.behaviours (past_of table.now) self.new }
+        requires lagging { WordsLag table.now.behaviours (past_of table.now) self.old 0 }
+        ensures agreeing { WordsAgree table.now.behaviours (past_of table.now) self.new }
         ensures closed { StayClosed self.old self.new }
     {
         for b in 0..table.behaviours() {
