@@ -1,5 +1,5 @@
 -- What the answer to a step's call says of the pass after it.
-use Rattle.std.proofs.Common.{ℕ, ◌≡◌, ◌∙◌, inl, inr, ◌++◌, Bool, true, false, not, is_ok, Option, List, [], ◌∷◌, length, Result, Ok, Err, refl, sym, ap}
+use Rattle.std.proofs.Common.{ℕ, ◌≡◌, ◌∙◌, inl, inr, ◌++◌, Bool, true, false, not, is_ok, Option, MatchOption, List, [], ◌∷◌, length, Result, Ok, Err, refl, sym, ap}
 use Rattle.std.proofs.lemmas.List.Folds.{list_any-append}
 use Rattle.std.proofs.lemmas.Bool.{or_left, or_right}
 use Rattle.std.specs.List.{list_any}
@@ -17,7 +17,7 @@ use Rattle.tc_step.specs.declared.step.Step.{Step}
 use Rattle.tc_step.specs.declared.step.Step.TheVariants as S
 use Rattle.tc_step.specs.Operation.{operation, target}
 use Rattle.tc_step.specs.Steps.{count_after}
-use Rattle.tc_book.specs.Passes.{PassState, has_ended, entry_of, added, By, IsCall, IsWait, Waits}
+use Rattle.tc_book.specs.Passes.{IsCall, IsWait, PassState, Waits, has_ended, entry_of, added, reply_of}
 use Rattle.tc_table.specs.History.{ends_pass}
 use Rattle.tc_book.specs.Replies.{is_parked}
 use Rattle.tc_book.specs.declared.halt.Halt.{Halt}
@@ -26,7 +26,7 @@ use Rattle.tc_behaviour.specs.Calls.{Calls, bound_behind}
 use Rattle.tc_behaviour.specs.Inside.{is_refused, Carried, IsStepped, creates, waits}
 
 pub carried : {A : Type 0} (said : A → Reply) (P Q : Reply → Type 0) (same same-new : Type 0) (answer : Result A Halt) (result : Result (Unit {0}) NoMemory)
-    → By said P same answer → is_ok result ≡ not (is_refused answer) → ((r : Reply) → P r → Q r) → (same → same-new) → Carried Q same-new result
+    → MatchOption (reply_of said answer) same P → is_ok result ≡ not (is_refused answer) → ((r : Reply) → P r → Q r) → (same → same-new) → Carried Q same-new result
 carried said P Q same same-new (Ok a) (Ok u) by is more less = (said a, more (said a) by)
 carried said P Q same same-new (Err H.Ended) (Ok u) by is more less = (R.Ended, more R.Ended by)
 carried said P Q same same-new (Err (H.Fault f)) (Ok u) by is more less = (R.Fault f, more (R.Fault f) by)
@@ -97,12 +97,13 @@ pub plain_step : {A : Type 0} (said : A → Reply) (s : Step) (op : Op) (made : 
     → IsCall said op p q answer → is_ok result ≡ not (is_refused answer) → op ≡ operation p.me (p.args ++ made) s → has_ended p ≡ false → creates s ≡ false → waits s ≡ false
     → Carried (IsStepped s (p.args ++ made) p (q.args ++ made) q) ((q ≡ p) × (made ≡ made)) result
 plain_step said s op made p q answer result call is same on quiet no-wait =
-    carried said (λ r. q ≡ added p op r) (IsStepped s (p.args ++ made) p (q.args ++ made) q) (q ≡ p) ((q ≡ p) × (made ≡ made)) answer result (call.heard on) is
+    carried said (λ r. q ≡ added p op r) (IsStepped s (p.args ++ made) p (q.args ++ made) q) (q ≡ p) ((q ≡ p) × (made ≡ made)) answer result (call.replied on) is
     (λ r e. stepped s made p q r quiet (calls_plain s (p.args ++ made) p q r no-wait (e ∙ ap (λ o. added p o r) same)))
     (λ e. (e, refl))
 
 -- what a wait is answered by is not that it was parked
-awake : (P : Reply → Type 0) (same : Type 0) (answer : Result (Unit {0}) Halt) → By (λ _. R.Matched) P same answer → By (λ _. R.Matched) (λ r. P r × (is_parked r ≡ false)) same answer
+awake : (P : Reply → Type 0) (same : Type 0) (answer : Result (Unit {0}) Halt)
+    → MatchOption (reply_of (λ _. R.Matched) answer) same P → MatchOption (reply_of (λ _. R.Matched) answer) same (λ r. P r × (is_parked r ≡ false))
 awake P same (Ok a) by = (by, refl)
 awake P same (Err H.Ended) by = (by, refl)
 awake P same (Err (H.Fault f)) by = (by, refl)
@@ -115,7 +116,7 @@ pub wait_step : (killed : Bool) (t : TargetPlace (Place ℕ)) (made : List Comp)
 wait_step killed t made p q answer result wait is on =
     let asked : Reply → Type 0 = Waits killed (target p.me (p.args ++ made) t) p q in
     carried (λ _. R.Matched) (λ r. asked r × (is_parked r ≡ false)) (IsStepped (S.Wait killed t) (p.args ++ made) p (q.args ++ made) q) (q ≡ p) ((q ≡ p) × (made ≡ made)) answer result
-    (awake asked (q ≡ p) answer (wait.heard on)) is
+    (awake asked (q ≡ p) answer (wait.replied on)) is
     (λ r called. stepped (S.Wait killed t) made p q r refl called) (λ e. (e, refl))
 
 -- two starts of the same run, component and arguments
@@ -146,11 +147,11 @@ halted_at alive name made p q r same ends is = record {
 pub create_halted : (alive : Bool) (name : Option (List ℕ)) (made made-new : List Comp) (p q : PassState) (h : Halt) (result : Result (Unit {0}) NoMemory) → is_ok result ≡ not (is_refused {A = Comp} (Err h))
     → has_ended p ≡ false → IsCall R.Made (O.Create alive name) p q (Err h) → made-new ≡ made
     → Carried (IsStepped (S.Create alive name) (p.args ++ made) p (q.args ++ made-new) q) ((q ≡ p) × (made-new ≡ made)) result
-create_halted alive name made made-new p q H.NoMemory (Err e) is on call same = (call.heard on, same)
+create_halted alive name made made-new p q H.NoMemory (Err e) is on call same = (call.replied on, same)
 create_halted alive name made made-new p q H.NoMemory (Ok u) is on call same = absurd (cc)
 create_halted alive name made made-new p q H.Ended (Ok u) is on call same =
-    rw same (R.Ended, halted_at alive name made p q R.Ended refl (ended_ends p.me p.run (O.Create alive name)) (call.heard on))
+    rw same (R.Ended, halted_at alive name made p q R.Ended refl (ended_ends p.me p.run (O.Create alive name)) (call.replied on))
 create_halted alive name made made-new p q H.Ended (Err e) is on call same = absurd (cc)
 create_halted alive name made made-new p q (H.Fault f) (Ok u) is on call same =
-    rw same (R.Fault f, halted_at alive name made p q (R.Fault f) refl (fault_ends p.me p.run (O.Create alive name) f) (call.heard on))
+    rw same (R.Fault f, halted_at alive name made p q (R.Fault f) refl (fault_ends p.me p.run (O.Create alive name) f) (call.replied on))
 create_halted alive name made made-new p q (H.Fault f) (Err e) is on call same = absurd (cc)

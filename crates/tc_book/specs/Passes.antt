@@ -1,5 +1,5 @@
 -- What contracts see of a pass and of what it leaves, and what its calls add to its log.
-use Rattle.std.specs.Prelude.{◌≡◌, ◌++◌, ◌∷◌, [], ◌⊎◌, Bool, true, false, Option, List, Result, Ok, Err}
+use Rattle.std.specs.Prelude.{◌≡◌, ◌++◌, ◌∷◌, [], ◌⊎◌, Bool, true, false, Option, Some, None, MatchOption, List, Result, Ok, Err}
 use Rattle.std.specs.List.{list_any}
 use Rattle.tc_verdict.specs.declared.run.Run.{Run}
 use Rattle.tc_entry.specs.declared.comp.Comp.{Comp}
@@ -42,28 +42,24 @@ entry_of run op reply = record { caller = run; op = op; reply = reply }
 abbrev pub added : PassState → Op → Reply → PassState
 added p op reply = record p { log = p.log ++ entry_of p.run op reply ∷ [] }
 
--- the answer of a call by the reply that its entry got: the value said, or Ended, or the dynamic error; or that memory
--- ran out and nothing changed
-abbrev pub By : {A : Type 0} → (A → Reply) → (Reply → Type 0) → Type 0 → Result A Halt → Type 0
-By said P same (Ok a) = P (said a)
-By said P same (Err H.Ended) = P R.Ended
-By said P same (Err (H.Fault f)) = P (R.Fault f)
-By said P same (Err H.NoMemory) = same
+-- the reply that a call got, by its answer; none if memory ran out
+abbrev pub reply_of : {A : Type 0} → (A → Reply) → Result A Halt → Option Reply
+reply_of said (Ok a) = Some (said a)
+reply_of said (Err H.Ended) = Some R.Ended
+reply_of said (Err (H.Fault f)) = Some (R.Fault f)
+reply_of said (Err H.NoMemory) = None
 
--- an ended pass answers Ended from itself; otherwise the answer is by the reply that was got
-pub record IsAnswered {A : Type 0} (said : A → Reply) (P : Reply → Type 0) (before after : PassState) (result : Result A Halt) : Type 0 where
+-- a call adds its entry with the reply, or nothing if there is none; an ended pass answers Ended, and stays as it is
+pub record IsCall {A : Type 0} (said : A → Reply) (op : Op) (before after : PassState) (result : Result A Halt) : Type 0 where
   pub ended : has_ended before ≡ true → (after ≡ before) × (result ≡ Err H.Ended)
-  pub heard : has_ended before ≡ false → By said P (after ≡ before) result
+  pub replied : has_ended before ≡ false → MatchOption (reply_of said result) (after ≡ before) (λ r. after ≡ added before op r)
 
--- a call adds its entry
-abbrev pub IsCall : {A : Type 0} → (A → Reply) → Op → PassState → PassState → Result A Halt → Type 0
-IsCall said op before after result = IsAnswered said (λ r. after ≡ added before op r) before after result
-
--- a wait adds its Wait, and if that is parked one Wake, with the reply that was got
+-- a wait adds its Wait with the reply, or, if that is parked, the Wait and one Wake with the reply
 abbrev pub Waits : Bool → Target → PassState → PassState → Reply → Type 0
 Waits killed target p q r =
     (q ≡ added p (O.Wait killed target) r) ⊎ (q ≡ added (added p (O.Wait killed target) R.Parked) (O.Wake killed target) r)
 
--- a wait is answered if its target holds
-abbrev pub IsWait : Bool → Target → PassState → PassState → Result (Unit {0}) Halt → Type 0
-IsWait killed target before after result = IsAnswered (λ _. R.Matched) (Waits killed target before after) before after result
+-- a wait is answered if its target holds, and is otherwise as a call
+pub record IsWait (killed : Bool) (target : Target) (before after : PassState) (result : Result (Unit {0}) Halt) : Type 0 where
+  pub ended : has_ended before ≡ true → (after ≡ before) × (result ≡ Err H.Ended)
+  pub replied : has_ended before ≡ false → MatchOption (reply_of (λ _. R.Matched) result) (after ≡ before) (Waits killed target before after)

@@ -4,7 +4,7 @@ ghost use Rattle.tc_entry.specs.declared.op.Op.TheVariants as ops;
 ghost use Rattle.tc_entry.specs.declared.reply.Reply.{Reply};
 ghost use Rattle.tc_entry.specs.declared.reply.Reply.TheVariants as replies;
 ghost use Rattle.tc_book.specs.Hands.{IsHandOf};
-ghost use Rattle.tc_book.specs.Passes.{has_ended, added, By, IsCall, IsWait};
+ghost use Rattle.tc_book.specs.Passes.{has_ended, added, reply_of, IsCall, IsWait};
 ghost use Rattle.tc_book.specs.Replies.{suits};
 ghost use Rattle.tc_book.specs.Inside.Waiting.{waiting_places};
 ghost use Rattle.tc_book.specs.Inside.{is_halt};
@@ -42,7 +42,7 @@ impl Model for Pass {
 
 /// The answer by a reply.
 fn heard(reply: Reply) -> Result<Reply, Halt>
-    ensures by { By (λ r. r) (λ r. r ≡ reply) ⊥ result }
+    ensures by { reply_of (λ r. r) result ≡ Some reply }
     ensures plain { IfOk result (λ r. is_halt r ≡ false) }
 {
     match reply {
