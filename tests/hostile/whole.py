@@ -53,7 +53,7 @@ WITHOUT_ALLOCATOR = (
     "Name::same", "Name::of_bytes", "Name::read", "after", "take_line_end", "is_plain", "read_number", "take_number", "take_run", "take_verdict",
     "take_name", "Op::copy", "Op::same", "ShortOp::op", "take_long_move", "take_short_move", "take_move", "read_move", "take_reply",
     "read_reply", "Reply::copy", "Reply::same", "Reply::is_ok", "Reply::is_ended", "Reply::is_fault", "Entry::copy", "Entry::same",
-    "ends_case", "ends_pass", "created", "started_on", "OutFault::text", "CaseError::text", "CloseFault::text",
+    "ends_case", "ends_pass", "created", "started_on", "is_halting", "keeps_phases", "OutFault::text", "CaseError::text", "CloseFault::text",
     "verdict_status", "MetRuns::none", "MetRuns::add_refused", "MetRuns::contains", "take_behaviours", "take_end_line",
     "take_entry_line", "take_short_line", "counts", "is_met", "Everyone::allow", "has_gone_on",
 )

@@ -7,7 +7,6 @@ ghost use Rattle.tc_entry.specs.declared.op.Op.{Op as AnyOp};
 ghost use Rattle.tc_entry.specs.declared.reply.Reply.{Reply as AnyReply};
 ghost use Rattle.tc_text.specs.Spelling.{move_text};
 ghost use Rattle.tc_history.specs.Block.{outcome_text};
-ghost use Rattle.tc_table.specs.Laws as laws;
 ghost use Rattle.tc_table.specs.Local as verdicts;
 ghost use Rattle.tc_table.specs.Waiting as waits;
 ghost use Rattle.tc_evidence.specs.declared.line.Line.{Line as AnyLine};
@@ -26,7 +25,7 @@ use crate::sleepers::{Sleeper, add, awaited_by};
 use std::alloc::Global;
 use tc_entry::{Name, NoMemory, Op, Reply, Run, Verdict};
 use tc_evidence::{Line, MetRuns, append_line, append_said};
-use tc_table::{Awaited, CaseState};
+use tc_table::{Awaited, CaseState, keeps_phases};
 use tc_text::{append_text, write_move, write_reply};
 
 /// A test case that is open: what is kept of it besides its evidence.
@@ -102,16 +101,6 @@ fn parks(awaited: Option<Awaited>, reply: Reply) -> Option<Awaited>
     } else {
         None
     }
-}
-
-// Whether an operation starts, halts and kills nothing.
-fn keeps_phases(op: &Op) -> bool
-    ensures { result ≡ laws.keeps_phases op.now }
-{
-    !matches!(
-        op,
-        Op::Start { .. } | Op::Stop(_) | Op::Kill(_) | Op::StopCase | Op::Finish
-    )
 }
 
 // Whether after an entry with this reply no run can continue that could not before it.

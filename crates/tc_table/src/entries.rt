@@ -1,6 +1,7 @@
 //! What one entry says of the case, of a component and of a run.
 ghost use Rattle.std.specs.Prelude.{◌≡◌};
 ghost use Rattle.tc_table.specs.History as history;
+ghost use Rattle.tc_table.specs.Laws as laws;
 ghost use Rattle.tc_table.specs.Phases as phases;
 ghost use Rattle.tc_table.specs.Waiting as waits;
 ghost use Rattle.tc_table.specs.Inside.Step as step;
@@ -37,6 +38,20 @@ pub(crate) fn is_kill_of(op: &Op, comp: u32) -> bool
         Op::Kill(group) => group.is_of(comp),
         _ => false,
     }
+}
+
+/// Whether the operation can halt a component's run by its reply Ok: stop, kill, testcase.stop, or the end of a behaviour.
+pub fn is_halting(op: &Op) -> bool
+    ensures { result ≡ laws.halting_op op.now }
+{
+    matches!(op, Op::Stop(_) | Op::Kill(_) | Op::StopCase | Op::Finish)
+}
+
+/// Whether the operation starts, halts and kills nothing.
+pub fn keeps_phases(op: &Op) -> bool
+    ensures { result ≡ laws.keeps_phases op.now }
+{
+    !is_halting(op) && !matches!(op, Op::Start { .. })
 }
 
 /// Whether this is the component.

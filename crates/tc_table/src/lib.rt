@@ -19,7 +19,7 @@ pub use awaited::Awaited;
 pub use check::{CheckFault, replay, replay_check};
 pub use deciding::{component_of, deciding_entry, name_of};
 pub use ending::ends_pass;
-pub use entries::{created, ends_case, is_comp, started_on};
+pub use entries::{created, ends_case, is_comp, is_halting, keeps_phases, started_on};
 pub use locals::locals_of;
 pub use state::CaseState;
 pub use table::{Table, copied_entries};

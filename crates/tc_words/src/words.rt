@@ -15,7 +15,7 @@ use std::marker::Model;
 use std::sync::Arc;
 use tc_board::{Board, Keeper, Record};
 use tc_entry::{Op, Reply};
-use tc_table::Table;
+use tc_table::{Table, is_halting};
 use tc_verdict::{NoMemory, Run, UserVerdict};
 
 /// The keeper of a board, an owner of the board, and what was done with the word of each run. Contracts see the last.
@@ -67,8 +67,7 @@ fn closing(word: Record) -> UserVerdict
 fn may_halt(op: &Op, reply: Reply) -> bool
     ensures { result ≡ laws.may_halt op.now reply }
 {
-    matches!(op, Op::Stop(_) | Op::Kill(_) | Op::StopCase | Op::Finish)
-        || matches!(reply, Reply::Fault(_))
+    is_halting(op) || reply.is_fault()
 }
 
 #[tactic(auto, using(crate::proofs::Opened::word_rules))]

@@ -12,17 +12,8 @@ ghost use Rattle.tc_case.specs.Merge.{is_verdict_call};
 use crate::book::Book;
 use crate::until::Until;
 use tc_entry::{Op, Reply, Target};
+use tc_table::keeps_phases;
 use tc_verdict::{NoMemory, Run};
-
-/// Whether an operation starts, halts and kills nothing.
-fn keeps_phases(op: &Op) -> bool
-    ensures { result ≡ laws.keeps_phases op.now }
-{
-    !matches!(
-        op,
-        Op::Start { .. } | Op::Stop(_) | Op::Kill(_) | Op::StopCase | Op::Finish
-    )
-}
 
 /// Whether the caller continues after this reply.
 fn lets_go_on(reply: Reply) -> bool
