@@ -94,19 +94,19 @@ AreEvidence text blocks = IsTextOf IsHeader text blocks
 abbrev pub AreWhole : (Header → Type 0) → List (List ℕ) → Type 0
 AreWhole may lines = (blocks : List Block) × AreBlocks may 1 blocks × (lines ≡ all_lines blocks)
 
--- the lines can go on to those of such blocks
+-- the lines can be continued to those of such blocks
 abbrev pub CanContinue : (Header → Type 0) → List (List ℕ) → Type 0
 CanContinue may lines = (more : List (List ℕ)) × AreWhole may (lines ++ more)
 
--- after lines that can go on, the rest has this fault: it is empty, while a block is open or there is none; or its first line
--- can't come there, where a block would begin, or while one is open
+-- After lines that can be continued, the rest has this fault: it is empty, while a block is open or there is none. Or its
+-- first line can't come there: no block is open, or one is.
 abbrev pub IsFaultAfter : (Header → Type 0) → List (List ℕ) → List (List ℕ) → TextKind → Type 0
 IsFaultAfter may lines [] T.Early = AreWhole may lines → lines ≡ []
 IsFaultAfter may lines (next ∷ rest) T.FirstLine = AreWhole may lines × (CanContinue may (lines ++ next ∷ []) → ⊥)
 IsFaultAfter may lines (next ∷ rest) T.Entry = (AreWhole may lines → ⊥) × (CanContinue may (lines ++ next ∷ []) → ⊥)
 IsFaultAfter may lines rest kind = ⊥
 
--- the lines of the text before this one can go on, and after them comes a fault of this kind
+-- the lines of the text before this one can be continued, and after them comes a fault of this kind
 pub record IsFaultAt (may : Header → Type 0) (text : List ℕ) (line : ℕ) (kind : TextKind) : Type 0 where
   pub before : List (List ℕ)
   pub rest : List (List ℕ)

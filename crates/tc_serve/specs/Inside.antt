@@ -289,7 +289,7 @@ pub record IsEnd (bytes : List ℕ) (v : Serving) (before out before' told : Lis
 
 -- ---- devices
 
--- what comes of a turn: the service goes on, or it ends so
+-- what comes of a turn: the service continues, or it ends so
 abbrev pub IsTurn : Type 0 → (Result Served ServeFault → Type 0) → Result (Option Served) ServeFault → Type 0
 IsTurn Goes Ends (Ok None) = Goes
 IsTurn Goes Ends (Ok (Some r)) = Ends (Ok r)
