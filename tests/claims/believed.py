@@ -16,7 +16,7 @@ TOP = os.path.dirname(os.path.dirname(os.path.dirname(os.path.abspath(__file__))
 HEADLINE = (("tc_exec", "run_case"), ("tc_exec", "run_case_with"), ("tc_campaign", "run_campaign"), ("tc_campaign", "run_campaign_with"))
 # What a type keeps of the histories that it represents. Clauses only pass it on: a new state represents no entries, each call adds its
 # entry, and each answer is about every list that is represented. So they say the same whatever it is, and nobody has to believe it.
-PASSED_ON = {("tc_table.specs.Standing", "StandsFor")}
+PASSED_ON = {("tc_rules.specs.Standing", "StandsFor")}
 USE = re.compile(r"^\s*(?:unfoldable )?(?:pub )?(?:ghost )?use (?:Rattle\.)?([\w.]+?)(?:\.\{([^}]*)\}|\.(\S+) as (\w+)| as (\w+));?\s*$")
 HEAD = re.compile(r"^(?:(?:abbrev|unfoldable|pub|record|data) )*")
 WORD = re.compile(r"[^\s(){}\[\],;:]+")
@@ -72,7 +72,7 @@ class Imports:
 
 
 def module_of(path: str) -> str:
-    """`crates/tc_table/specs/Inside/Steps.antt` as `tc_table.specs.Inside.Steps`."""
+    """`crates/tc_rules/specs/Inside/Steps.antt` as `tc_rules.specs.Inside.Steps`."""
     return path[len("crates/"):-len(".antt")].replace("/", ".")
 
 
@@ -239,6 +239,27 @@ def unused() -> Iterator[str]:
     for place in sorted({(module_of(it.file), it.name) for it in all_of.values() if it.lines} - cited):
         if ".Inside" not in place[0]:
             yield f"{place[0]}.{place[1]}: {all_of[place].lines} lines"
+
+
+def named_twice() -> Iterator[str]:
+    """Names that two definitions outside of Inside have, in any two files of specs/."""
+    places: Dict[str, Set[str]] = {}
+    for it in defined().values():
+        if it.lines and ".Inside" not in module_of(it.file):
+            places.setdefault(it.name, set()).add(it.file)
+    for name, files in sorted(places.items()):
+        if len(files) > 1:
+            yield f"{name}: {', '.join(sorted(files))}"
+
+
+def cited_inside() -> Iterator[str]:
+    """Proofs of a crate that another cites, and that are no lemma made for it."""
+    for crate in sorted(os.listdir(os.path.join(TOP, "crates"))):
+        for ending in (".antt", ".rt"):
+            for path in files_below(f"crates/{crate}", ending):
+                for other, module in re.findall(r"(?m)^\s*(?:ghost )?use Rattle\.(tc_\w+)\.proofs\.([\w.]+)", text_of(path)):
+                    if other != crate and not module.startswith("Lemmas."):
+                        yield f"{path}: {other}.proofs.{module.strip('.')}"
 
 
 def main() -> int:

@@ -370,6 +370,8 @@ def main() -> int:
         "the tables with limits have few rows, and short cells": all_long_tables,
         "the lines that must be believed are as many as the table says": believed_lines,
         "public clauses rest on each definition of specs/ outside of Inside": believed.unused,
+        "each definition outside of Inside has a name of its own": believed.named_twice,
+        "what a crate cites of the proofs of another are its lemmas": believed.cited_inside,
         "each line of crates.txt lists what its crate names, and no more": graph.edges,
         "the drawing of the crates is that of crates.txt": graph.undrawn,
         "what the documents quote of examples/ stands there": lambda: quotations(documents),

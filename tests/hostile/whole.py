@@ -44,7 +44,7 @@ WITHOUT_ALLOCATOR = (
     "SlowReader::new", "InputFault::text", "WriteFault::text", "Shard::new", "Shard::place", "Shard::shards", "Shard::has",
     "WordFault::text", "Step::operation", "Place::map", "GroupPlace::map", "TargetPlace::map",
     "Places::new", "Places::push", "Places::as_slice", "Script::is_script", "ScriptKind::text", "read_reference", "is_comment",
-    "is_word", "Keyword::text", "read_keyword", "tc_line::read_name", "Lines::new", "Lines::next", "Lines::next_part",
+    "is_word", "Keyword::text", "read_keyword", "tc_reader::read_name", "Lines::new", "Lines::next", "Lines::next_part",
     "awaited_line",
     "deciding_entry", "component_of", "name_of", "Refusal::text", "Pattern::read", "Pattern::bytes", "Pattern::matches", "overwrite",
     "worse_of", "worst", "name", "tc_verdict::read_name", "to_user", "from_user", "rank", "of_rank", "NoMemory::text", "Run::copy",

@@ -39,13 +39,13 @@ LIES = (
     ), shown="a_name_that_is_nearly_one_check_without_a_script"),
     Lie("csv_is_ignored", (
         ("""\
-    ensures refused { IfErr result (LeavesPrefix (W.contents writer.old) (W.contents writer.new) (text_of form.now names.now results.now)) }
+    ensures refused { IfErr result (LeavesPrefix (W.contents writer.old) (W.contents writer.new) (results_in_form form.now names.now results.now)) }
 {
     match form {
         Form::Text => write_text(alloc, results, writer),
         Form::Csv => write_csv(alloc, results, writer),
 """, """\
-    ensures refused { IfErr result (LeavesPrefix (W.contents writer.old) (W.contents writer.new) (text_of form.now names.now results.now)) }
+    ensures refused { IfErr result (LeavesPrefix (W.contents writer.old) (W.contents writer.new) (results_in_form form.now names.now results.now)) }
 {
     match form {
         Form::Text => write_text(alloc, results, writer),
@@ -272,7 +272,7 @@ LIES = (
     ), "tc_campaign_tests"),
     Lie("another_odd_byte_is_told", (
         ("""append_hex(out, *byte)""", """append_hex(out, byte.wrapping_add(1))"""),
-    ), "tc_script_tests"),
+    ), "tc_reader_tests"),
     Lie("calls_after_it_in_the_summary", (
         ("""log.get(..cause.before).unwrap_or(log)""", """log.get(cause.before..).unwrap_or(log)"""),
     )),
@@ -289,16 +289,16 @@ LIES = (
     )),
     Lie("the_column_of_a_word_is_counted_from_0", (
         ("""        Part::Number(start as u64 + 1),""", """        Part::Number(start as u64),"""),
-    ), "tc_script_tests"),
+    ), "tc_reader_tests"),
     Lie("a_word_passes_by_the_row_of_another_slot", (
         ("""if row.0.0 == slot.0 && passes(""", """if row.0.0 <= slot.0 && passes("""),
-    ), "tc_script_tests"),
+    ), "tc_reader_tests"),
     Lie("a_line_of_sixty_bytes_is_cut", (
         ("""if bytes.len() <= SHOWN { "`" }""", """if bytes.len() < SHOWN { "`" }"""),
     ), shown="explain_a_line_of_sixty_bytes"),
     Lie("an_error_ends_no_line", (
         ("""const LINE_ENDS: [Slot; 2] = [ERROR, LINE_END];""", """const LINE_ENDS: [Slot; 2] = [LINE_END, LINE_END];"""),
-    ), "tc_script_tests"),
+    ), "tc_reader_tests"),
     Lie("behaviours_of_another_test_case_are_offered", (
         ("""self.behaviours.clear();""", """self.anywhere.clear();"""),
     ), shown="explain_a_behaviour_of_another_test_case"),
@@ -313,23 +313,23 @@ LIES = (
     ), shown="explain_ttcn_3_a_verdict_and_a_call"),
     Lie("a_tab_is_told_as_a_zero_byte", (
         ("""[9, ..] => Some("a tab; a line has spaces only"),""", """[9, ..] => Some("a zero byte, as UTF-16 has them"),"""),
-    ), "tc_script_tests"),
+    ), "tc_reader_tests"),
     Lie("a_history_is_told_begun_as_a_test_case", (
         ("""Sort::Histories => "a history began in line",""", """Sort::Histories => "a test case began in line","""),
-    ), "tc_script_tests"),
+    ), "tc_reader_tests"),
     Lie("an_arrow_is_told_before_a_word_too", (
         ("""slot.0 == END.0 || (last && is_among(&CALL_ENDS, slot)),""", """slot.0 == END.0 || last || is_among(&CALL_ENDS, slot),"""),
-    ), "tc_script_tests"),
+    ), "tc_reader_tests"),
     Lie("histories_are_told_to_be_replayed", (
         ("""the text looks like histories, which ttrun check and ttrun report read""", """the text looks like histories, which ttrun replay reads"""),
-    ), "tc_script_tests"),
+    ), "tc_reader_tests"),
     Lie("a_run_is_understood_by_a_name", (
         ("""    (STARTED, Test::Behaviour, "", ARGUMENTS),""", """    (STARTED, Test::Name, "", ARGUMENTS),"""),
-    ), "tc_script_tests"),
+    ), "tc_reader_tests"),
     Lie("the_rule_of_arguments_is_told_of_the_main_behaviour", (
         ("""the first behaviour of a test case is started by nobody, who could give it arguments""",
          """a start gives as many arguments as the behaviour has parameters"""),
-    ), "tc_script_tests"),
+    ), "tc_reader_tests"),
     Lie("a_step_names_the_place_before", (
         ("""append_number(out, u64::from(index) + 1)""", """append_number(out, u64::from(index))"""),
     ), "tc_explore_tests"),

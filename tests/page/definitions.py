@@ -1,4 +1,4 @@
-"""The definitions of crates/tc_table/specs in Python, each as it is there: the tests hold the model of the page to them.
+"""The definitions of crates/tc_rules/specs in Python, each as it is there: the tests hold the model of the page to them.
 
 They say something of every history that can be read, also of one that no table makes.
 """

@@ -27,7 +27,7 @@ import evidence
 import said
 
 # How many bytes `check` reads at a time, at most: what the sources say, so that the rows cut lines where `check` does.
-with open(os.path.join(examples.TOP, "crates", "tc_evidence", "src", "source.rt"), encoding="utf-8") as source:
+with open(os.path.join(examples.TOP, "crates", "tc_blocks", "src", "source.rt"), encoding="utf-8") as source:
     BYTES_OF_A_PART = int(re.findall(r"^const PART: usize = (\d+);$", source.read(), re.MULTILINE)[0])
 
 CASE = ("evidence 1 t 3;behaviour 0 main;0 create named heater -> made 1;behaviour 1 probe;0 # first <b>;0 start 1 1 -> ok;"

@@ -1,7 +1,7 @@
 //! The test cases.
 ghost use Rattle.std.specs.Prelude.{All, IfOk};
-ghost use Rattle.tc_campaign.specs.Outline.{HasNames};
-ghost use Rattle.tc_entry.specs.Name.{IsName};
+ghost use Rattle.tc_campaign.specs.Prelude.{HasNames};
+ghost use Rattle.tc_entry.specs.Prelude.{IsName};
 
 use crate::behaviour::{Behaviour, Part};
 use crate::window::{CLOSED, OPEN, Stand, Window};

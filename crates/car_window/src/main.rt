@@ -10,7 +10,7 @@ mod window;
 use crate::cases::cases;
 use std::process::ExitCode;
 use std::{env, io};
-use tc_program::answer_cases::answer_cases;
+use tc_program::answer_cases;
 
 /// The arguments, of which the first is the program's name.
 fn words(rt: &HostRuntime) -> io::Result<Vec<String>> {

@@ -5,7 +5,7 @@ ghost use Rattle.tc_entry.specs.declared.limits.TheConstants.{BEHAVIOURS};
 use std::alloc::Global;
 use tc_book::Closed;
 use tc_entry::{Args, BEHAVIOURS, Comp, Entry, Op, Reply, Run, UserVerdict, Verdict};
-use tc_table::replay_check;
+use tc_rules::replay_check;
 use tc_verdict::overwrite;
 
 /// How many entries a case of that many behaviours has at least; one of a few may end soon after its starts.

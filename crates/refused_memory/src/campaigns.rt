@@ -1,6 +1,6 @@
 //! Test cases of one behaviour, which need no thread, and campaigns of them.
 ghost use Rattle.std.specs.Prelude.{All, IfSome, ⊤};
-ghost use Rattle.tc_campaign.specs.Outline.{HasNames};
+ghost use Rattle.tc_campaign.specs.Prelude.{HasNames};
 
 use crate::cases::call_on;
 use crate::tells::{tell_closed, tell_finished, tell_number};

@@ -1,5 +1,5 @@
 //! The open of a case, the calls on its passes, and its close.
-ghost use Rattle.tc_entry.specs.Limits.{IsBehaviours};
+ghost use Rattle.tc_rules.specs.Prelude.{IsBehaviours};
 
 use crate::stock::Stock;
 use crate::tables::{MOST, call_lines};

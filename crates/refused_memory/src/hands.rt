@@ -1,7 +1,7 @@
 //! The wakes of a book, and the hands of a board: none of it takes memory. There is room for the text of what they
 //! answer, so what an append to it returns is not looked at.
 ghost use Rattle.std.specs.Prelude.{◌≡◌};
-ghost use Rattle.tc_board.specs.Board.{new_hands, new_keeper};
+ghost use Rattle.tc_board.specs.Prelude.{new_hands, new_keeper};
 
 use crate::trial::Trial;
 use std::alloc::Global;

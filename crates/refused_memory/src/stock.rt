@@ -7,7 +7,7 @@ use std::sync::Wait;
 use std::thread::Threads;
 use tc_book::Closed;
 use tc_report::Results;
-use tc_table::{CaseState, Table};
+use tc_rules::{CaseState, Table};
 
 /// What the calls are made on.
 #[derive(Drop)]

@@ -6,7 +6,7 @@ use crate::told::{Called, Told, call_again, call_all, made};
 use crate::trial::Trial;
 use std::alloc::Global;
 use tc_entry::{BEHAVIOURS, Comp, Entry, NoMemory, Op, Reply, Run, Sequence};
-use tc_table::{CaseState, CheckFault, Table, copied_entries, replay, replay_check};
+use tc_rules::{CaseState, CheckFault, Table, copied_entries, replay, replay_check};
 use tc_text::{read_move, write_reply};
 
 /// Moves of all kinds, enough that each list of a table grows more than once.
@@ -225,7 +225,7 @@ pub(crate) fn check(trial: &mut Trial, stock: &Stock) {
 /// States of one, some and the most behaviours, a copy of one, and the replays of both histories.
 pub(crate) fn make_state(trial: &mut Trial, stock: &Stock) {
     let (history, rest) = histories(stock);
-    trial.begin("CaseState::new CaseState::copied tc_table::replay");
+    trial.begin("CaseState::new CaseState::copied tc_rules::replay");
     made(CaseState::new(trial.alloc, 1), NoMemory, trial);
     made(CaseState::new(trial.alloc, 7), NoMemory, trial);
     made(CaseState::new(trial.alloc, MOST), NoMemory, trial);

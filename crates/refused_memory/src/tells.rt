@@ -1,8 +1,8 @@
 //! The texts of the values that calls answer. There is room for them, so what an append returns is not looked at.
 use crate::told::Told;
+use tc_blocks::{History, write_block};
 use tc_book::{Closed, Left, Pass, RunLog};
 use tc_entry::{Comp, Entry, Name, Run, Verdict};
-use tc_history::{Block, write_block};
 use tc_report::{CaseEnd, Finished, Summary, append_verdict};
 use tc_text::{MoveList, append_number, write_move, write_op};
 
@@ -90,7 +90,7 @@ impl Told for MoveList {
     }
 }
 
-impl Told for Vec<Block> {
+impl Told for Vec<History> {
     fn tell(&self, out: &mut Vec<u8>) {
         for it in self {
             let _ = append_number(out, u64::from(it.format));

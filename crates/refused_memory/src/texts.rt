@@ -3,10 +3,9 @@ use crate::stock::Stock;
 use crate::tables::MOVES;
 use crate::told::{Called, call_again, made};
 use crate::trial::Trial;
+use tc_blocks::{read_history, write_block};
 use tc_entry::{Entry, Fault, Name, NoMemory, Op, Reply, Run, Verdict};
-use tc_evidence::read_history;
 use tc_exec::CaseError;
-use tc_history::write_block;
 use tc_report::{append_aborted, append_verdict};
 use tc_stream::{InputFault, read_input};
 use tc_text::{

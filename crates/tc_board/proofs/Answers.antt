@@ -3,12 +3,11 @@ use Rattle.std.proofs.Common.{◌≡◌, ◌≢◌, ◌⊎◌, ℕ, Bool, true, 
 use Rattle.std.proofs.lemmas.List.{take-append-le, take_at, append-nil}
 use Rattle.tc_verdict.specs.declared.user_verdict.UserVerdict.{UserVerdict}
 use Rattle.tc_verdict.specs.declared.user_verdict.UserVerdict.TheVariants as U
-use Rattle.tc_verdict.specs.Verdict.{level_of, worse, worst}
-use Rattle.tc_verdict.specs.UserVerdict.{given, rank_of}
+use Rattle.tc_verdict.specs.Prelude.{level_of, worse, worst, given, rank_of}
 use Rattle.tc_verdict.proofs.Lemmas.Order.{worst-more}
 use Rattle.tc_board.specs.declared.answer.Answer.{Answer}
 use Rattle.tc_board.specs.declared.answer.Answer.TheVariants.{Met, Taken, Found, Shut}
-use Rattle.tc_board.specs.Answers.{taken, worst_of, FindsWorst, NeverShut, StaysShut}
+use Rattle.tc_board.specs.Answers.{taken, worst_answer, FindsWorst, NeverShut, StaysShut}
 use Rattle.tc_board.proofs.Lookup.{got_end}
 use Rattle.tc_board.proofs.Numbers.{level-given}
 
@@ -24,13 +23,13 @@ map-end [] v = refl
 map-end (w ∷ vs) v = ap (λ l. given w ∷ l) (map-end vs v)
 
 -- a setting that is taken worsens the worst
-pub worst_of-taken : (u : UserVerdict) (answers : List Answer) (v : UserVerdict) → worst_of u (answers ++ Taken v ∷ []) ≡ worse (worst_of u answers) (given v)
+pub worst_of-taken : (u : UserVerdict) (answers : List Answer) (v : UserVerdict) → worst_answer u (answers ++ Taken v ∷ []) ≡ worse (worst_answer u answers) (given v)
 worst_of-taken u answers v =
     ap (λ vs. worst (given u ∷ map given vs)) (taken-end answers (Taken v))
     ∙ (ap (λ l. worst (given u ∷ l)) (map-end (taken answers) v) ∙ worst-more (given u ∷ map given (taken answers)) (given v))
 
 -- any other answer leaves it
-pub worst_of-other : (u : UserVerdict) (answers : List Answer) (x : Answer) → taken (x ∷ []) ≡ [] → worst_of u (answers ++ x ∷ []) ≡ worst_of u answers
+pub worst_of-other : (u : UserVerdict) (answers : List Answer) (x : Answer) → taken (x ∷ []) ≡ [] → worst_answer u (answers ++ x ∷ []) ≡ worst_answer u answers
 worst_of-other u answers x none_taken = ap (λ vs. worst (given u ∷ map given vs)) (taken-end answers x ∙ (ap (λ vs. taken answers ++ vs) none_taken ∙ append-nil (taken answers)))
 
 -- the worst of settings is a setting
@@ -42,17 +41,17 @@ worst_given (v ∷ vs) = let w = worst_given vs in by_test (nat_lt (level_of (wo
     by_test true w = (v, refl)
     by_test false w = w
 
-worst_of-given : (u : UserVerdict) (answers : List Answer) → (w : UserVerdict) × (given w ≡ worst_of u answers)
+worst_of-given : (u : UserVerdict) (answers : List Answer) → (w : UserVerdict) × (given w ≡ worst_answer u answers)
 worst_of-given u answers = worst_given (u ∷ taken answers)
 
 -- the number in an open word is the rank of the worst
-pub rank_in : (u : UserVerdict) (answers : List Answer) (found : ℕ) → found ≡ level_of (worst_of u answers) → (w : UserVerdict) × (given w ≡ worst_of u answers) × (found ≡ rank_of w)
+pub rank_in : (u : UserVerdict) (answers : List Answer) (found : ℕ) → found ≡ level_of (worst_answer u answers) → (w : UserVerdict) × (given w ≡ worst_answer u answers) × (found ≡ rank_of w)
 rank_in u answers found is = let w = worst_of-given u answers in (w.0, w.1, is ∙ (ap level_of (sym w.1) ∙ level-given w.0))
 
-pub finds-end : (u : UserVerdict) (answers : List Answer) (x : Answer) → FindsWorst u answers → ((v : UserVerdict) → x ≡ Found v → given v ≡ worst_of u answers) → FindsWorst u (answers ++ x ∷ [])
+pub finds-end : (u : UserVerdict) (answers : List Answer) (x : Answer) → FindsWorst u answers → ((v : UserVerdict) → x ≡ Found v → given v ≡ worst_answer u answers) → FindsWorst u (answers ++ x ∷ [])
 finds-end u answers x finds last i v e = ⊎_elim
-    (λ t. let less = t.0 in finds i v t.1 ∙ ap (worst_of u) (sym (take-append-le i answers (x ∷ []) (omega arith))))
-    (λ t. last v t.1 ∙ ap (worst_of u) (sym (take_at answers (x ∷ []) i (sym t.0))))
+    (λ t. let less = t.0 in finds i v t.1 ∙ ap (worst_answer u) (sym (take-append-le i answers (x ∷ []) (omega arith))))
+    (λ t. last v t.1 ∙ ap (worst_answer u) (sym (take_at answers (x ∷ []) i (sym t.0))))
     (got_end answers x (Found v) i e)
 
 pub never-end : (answers : List Answer) (x : Answer) → NeverShut answers → x ≢ Shut → NeverShut (answers ++ x ∷ [])

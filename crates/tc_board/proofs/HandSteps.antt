@@ -3,8 +3,7 @@ use Rattle.std.proofs.Common.{◌≡◌, ◌≢◌, ℕ, ◌<◌, ◌==◌, if�
 use mathlib.Core.Option.{none, some}
 use lib.ListN.{get_elem?}
 use Rattle.tc_verdict.specs.declared.user_verdict.UserVerdict.{UserVerdict}
-use Rattle.tc_verdict.specs.Verdict.{level_of}
-use Rattle.tc_verdict.specs.UserVerdict.{given, rank_of}
+use Rattle.tc_verdict.specs.Prelude.{level_of, given, rank_of}
 use Rattle.atomic_table.specs.Table.{step, keeps, stepped, Allows}
 use Rattle.atomic_table.proofs.Lists.{at_set, set_here}
 use Rattle.tc_board.specs.declared.answer.Answer.{Answer}
@@ -12,7 +11,7 @@ use Rattle.tc_board.specs.declared.answer.Answer.TheVariants.{Met, Taken, Found,
 use Rattle.tc_board.specs.declared.record.Record.{Record}
 use Rattle.tc_board.specs.declared.record.Record.TheVariants.{Unbegun, Open, Closed}
 use Rattle.tc_board.specs.declared.rule.View.{View}
-use Rattle.tc_board.specs.Answers.{worst_of}
+use Rattle.tc_board.specs.Answers.{worst_answer}
 use Rattle.tc_board.specs.Rule.{Fits}
 use Rattle.tc_board.specs.Inside.Seats.{list, hand_view}
 use Rattle.tc_board.specs.Inside.Table.{Row, row, Knows, Holds}
@@ -51,7 +50,7 @@ set_fits answers v found met (Open u) f =
     let w = rank_in u answers found f.0 in
     let less : found < 4 = subst (λ n. n < 4) (sym w.2) (rank_less w.0) in
     subst (λ x. Fits (Open u) (answers ++ x ∷ []) (max found (rank_of v))) (sym (set_open v found less)) (
-      ap (λ n. max n (rank_of v)) f.0 ∙ (max-worse (worst_of u answers) v ∙ ap level_of (sym (worst_of-taken u answers v))),
+      ap (λ n. max n (rank_of v)) f.0 ∙ (max-worse (worst_answer u answers) v ∙ ap level_of (sym (worst_of-taken u answers v))),
       (never-end answers (Taken v) f.1.0 (λ e. cc), finds-end u answers (Taken v) f.1.1 (λ w e. absurd (cc))),
     )
 set_fits answers v found met (Closed u w) f =

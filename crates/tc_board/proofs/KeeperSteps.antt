@@ -7,8 +7,7 @@ use native.Mathlib.Decide.{ℕ_discrete}
 use lib.ListN.{get_elem?}
 use Rattle.tc_verdict.specs.declared.user_verdict.UserVerdict.{UserVerdict}
 use Rattle.tc_verdict.specs.declared.user_verdict.UserVerdict.TheVariants as U
-use Rattle.tc_verdict.specs.Verdict.{level_of}
-use Rattle.tc_verdict.specs.UserVerdict.{given, rank_of}
+use Rattle.tc_verdict.specs.Prelude.{level_of, given, rank_of}
 use Rattle.atomic_table.specs.Table.{step, keeps, stepped, Allows, Joins}
 use Rattle.atomic_table.proofs.Lists.{at_longer, at_set, set_here, set_else, set_again, at_map, at_last}
 use Rattle.tc_board.specs.declared.answer.Answer.{Answer}
@@ -16,8 +15,8 @@ use Rattle.tc_board.specs.declared.answer.AnswerList.{AnswerList}
 use Rattle.tc_board.specs.declared.record.Record.{Record}
 use Rattle.tc_board.specs.declared.record.Record.TheVariants.{Unbegun, Open, Closed}
 use Rattle.tc_board.specs.declared.rule.View.{View}
-use Rattle.tc_board.specs.Answers.{worst_of}
-use Rattle.tc_board.specs.Rule.{Agrees, Fits}
+use Rattle.tc_board.specs.Answers.{worst_answer}
+use Rattle.tc_board.specs.Rule.{AnswersAgree, Fits}
 use Rattle.tc_board.specs.Keeper.{carried_in, carried_by}
 use Rattle.tc_board.specs.Inside.Seats.{list, hand_view, keeper_view, spent_view, taken_back}
 use Rattle.tc_board.specs.Inside.Table.{Row, row, record_of, IsAt, Knows, Holds}
@@ -88,7 +87,7 @@ opens slots id k records lists u here s h _ at _ = (
   ap (λ w. (with_record (keeper_view records lists) k (Open w), [])) (sym (verdict_of-rank u)),
 )
   where
-    rank_alone : (u : UserVerdict) → rank_of u ≡ level_of (worst_of u [])
+    rank_alone : (u : UserVerdict) → rank_of u ≡ level_of (worst_answer u [])
     rank_alone U.None = refl
     rank_alone U.Pass = refl
     rank_alone U.Inconc = refl
@@ -98,7 +97,7 @@ opens slots id k records lists u here s h _ at _ = (
     open_empty answers none_yet = subst (λ l. Fits (Open u) l (rank_of u)) (sym none_yet) (rank_alone u, ((λ i e. cc), (λ i v e. absurd (cc))))
 
 -- the verdict that a close finds counts what was taken
-found_counts : (u : UserVerdict) (answers : List Answer) (found : ℕ) → Fits (Open u) answers found → (given (verdict_of found) ≡ worst_of u answers) × (found < 4)
+found_counts : (u : UserVerdict) (answers : List Answer) (found : ℕ) → Fits (Open u) answers found → (given (verdict_of found) ≡ worst_answer u answers) × (found < 4)
 found_counts u answers found f =
     let w = rank_in u answers found f.0 in
     (ap given (ap verdict_of w.2 ∙ verdict_of-rank w.0) ∙ w.1, subst (λ n. n < 4) (sym w.2) (rank_less w.0))
@@ -133,10 +132,10 @@ closes slots id k records lists u here s h _ at _ =
         let found = at_map_back record_of h.rows k (Open u) (ap (λ l. get_elem? l k) (sym known.1) ∙ here) in
         (found.0.answers, subst (λ r. Fits r found.0.answers (get_or s.words k 0)) found.2 (h.each_word k found.0 found.1))
 
-    counted : {n : ℕ} (l : AnswerList) → l.run ≡ k → carried_by records k ≡ u → (r : Record) × (get_elem? records l.run ≡ some r) × Fits r l.answers n → given (verdict_of n) ≡ worst_of (carried_by records k) l.answers
+    counted : {n : ℕ} (l : AnswerList) → l.run ≡ k → carried_by records k ≡ u → (r : Record) × (get_elem? records l.run ≡ some r) × Fits r l.answers n → given (verdict_of n) ≡ worst_answer (carried_by records k) l.answers
     counted {n} l is carried f =
         let same : f.0 ≡ Open u = some-injective _ _ (sym f.1 ∙ (ap (get_elem? records) is ∙ here)) in
-        subst (λ w. given (verdict_of n) ≡ worst_of w l.answers) (sym carried) (found_counts u l.answers n (subst (λ r. Fits r l.answers n) same f.2)).0
+        subst (λ w. given (verdict_of n) ≡ worst_answer w l.answers) (sym carried) (found_counts u l.answers n (subst (λ r. Fits r l.answers n) same f.2)).0
 
 looks : (slots id k : ℕ) (records : List Record) (lists : List AnswerList) → Allows Holds slots id (keeper_view records lists, []) k (λ n. n) (was_seen (step slots k 0 0 none) (keeper_view records lists, []))
 looks slots id k records lists s h _ at _ = (keeper_view records lists, keeps, tt, unchanged s id k (keeper_view records lists) h at, (refl, held_fits s id k records lists h at))
@@ -199,12 +198,12 @@ takes_back_at id other k v w records lists answers is is' = subst (λ (z : View 
 
 -- what the look after a join says about the hand
 pub seen_agrees : (slots k found : ℕ) (me me' : Seated) (records : List Record) (lists : List AnswerList) (answers : List Answer) → me ≡ (keeper_view records (lists ++ list k answers ∷ []), [])
-    → was_seen (step slots k 0 0 none) me found me' → (r : Record) × (slice_get records k ≡ Some r) × Agrees r answers
+    → was_seen (step slots k 0 0 none) me found me' → (r : Record) × (slice_get records k ≡ Some r) × AnswersAgree r answers
 seen_agrees slots k found me me' records lists answers is told =
     let t = (subst (λ (m : Seated). was_seen (step slots k 0 0 none) m found me') is told).1 (length lists) (list k answers) (at_last lists (list k answers) (length lists) refl) refl in
     (t.0, elem_got records k t.0 t.1, t.2.1)
 
 -- what a close says about the hands that the keeper has
 pub counts_gathered : (slots k found : ℕ) (me : Seated) (result : UserVerdict) → result ≡ verdict_of found → Counts (step slots k 8 0 none) me found
-    → (l : AnswerList) → Contains me.0.lists l → l.run ≡ k → given result ≡ worst_of (carried_by me.0.records k) l.answers
+    → (l : AnswerList) → Contains me.0.lists l → l.run ≡ k → given result ≡ worst_answer (carried_by me.0.records k) l.answers
 counts_gathered slots k found me result is counts l there run = let at = contained_at me.0.lists l there in ap given is ∙ counts at.0 l at.1 run

@@ -12,7 +12,7 @@ use Rattle.tc_board.specs.declared.answer.AnswerList.{AnswerList}
 use Rattle.tc_board.specs.declared.record.Record.{Record}
 use Rattle.tc_board.specs.declared.rule.View.{View}
 use Rattle.tc_board.specs.Answers.{NeverShut, FindsWorst}
-use Rattle.tc_board.specs.Rule.{word_of, Agrees, Fits}
+use Rattle.tc_board.specs.Rule.{word_of, AnswersAgree, Fits}
 use Rattle.tc_board.specs.Hand.{HandView}
 use Rattle.tc_board.specs.Board.{first_answers, first_record, first_records, new_hand, new_hands}
 use Rattle.tc_board.specs.Inside.Seats.{list, answers_of, hand_view, keeper_view, first_lists, opening_view, split_off, left_over}
@@ -44,7 +44,7 @@ unfolding first_rows
 records_of_rows k zero = refl
 records_of_rows k (suc n) = ap (λ l. first_record k ∷ l) (records_of_rows (suc k) n)
 
-first_agrees : (k : ℕ) → Agrees (first_record k) (first_answers k)
+first_agrees : (k : ℕ) → AnswersAgree (first_record k) (first_answers k)
 first_agrees zero = (never_shut, finds)
   where
     never_shut : NeverShut (Met ∷ [])

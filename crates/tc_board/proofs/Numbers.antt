@@ -5,8 +5,7 @@ use Rattle.std.proofs.lemmas.Bool.Decides.{nat_tests}
 use Rattle.tc_verdict.specs.declared.verdict.Verdict.{Verdict}
 use Rattle.tc_verdict.specs.declared.user_verdict.UserVerdict.{UserVerdict}
 use Rattle.tc_verdict.specs.declared.user_verdict.UserVerdict.TheVariants.{None, Pass, Inconc, Fail}
-use Rattle.tc_verdict.specs.Verdict.{level_of, worse}
-use Rattle.tc_verdict.specs.UserVerdict.{given, rank_of}
+use Rattle.tc_verdict.specs.Prelude.{level_of, worse, given, rank_of}
 use Rattle.tc_verdict.proofs.Lemmas.Order.{level-worse}
 use Rattle.tc_board.specs.declared.answer.Answer.TheVariants.{Taken, Found, Shut}
 use Rattle.tc_board.specs.Hand.{answer_to_get}

@@ -2,8 +2,7 @@
 use Rattle.std.specs.Prelude.{◌≡◌, ◌≢◌, ◌⊎◌, ℕ, ◌<◌, List, [], ◌∷◌, map, take, slice_get, Some}
 use Rattle.tc_verdict.specs.declared.verdict.Verdict.{Verdict}
 use Rattle.tc_verdict.specs.declared.user_verdict.UserVerdict.{UserVerdict}
-use Rattle.tc_verdict.specs.Verdict.{worst}
-use Rattle.tc_verdict.specs.UserVerdict.{given}
+use Rattle.tc_verdict.specs.Prelude.{worst, given}
 use Rattle.tc_board.specs.declared.answer.Answer.{Answer}
 use Rattle.tc_board.specs.declared.answer.Answer.TheVariants.{Met, Taken, Found, Shut}
 
@@ -16,12 +15,12 @@ taken (Found v ∷ answers) = taken answers
 taken (Shut ∷ answers) = taken answers
 
 -- the worst of the carried verdict and of the settings that were taken
-abbrev pub worst_of : UserVerdict → List Answer → Verdict
-worst_of carried answers = worst (given carried ∷ map given (taken answers))
+abbrev pub worst_answer : UserVerdict → List Answer → Verdict
+worst_answer carried answers = worst (given carried ∷ map given (taken answers))
 
 -- each verdict that was found is the worst of the carried one and of the settings taken before
 abbrev pub FindsWorst : UserVerdict → List Answer → Type 0
-FindsWorst carried answers = (i : ℕ) (v : UserVerdict) → slice_get answers i ≡ Some (Found v) → given v ≡ worst_of carried (take i answers)
+FindsWorst carried answers = (i : ℕ) (v : UserVerdict) → slice_get answers i ≡ Some (Found v) → given v ≡ worst_answer carried (take i answers)
 
 -- no call found the word closed
 abbrev pub NeverShut : List Answer → Type 0

@@ -4,11 +4,11 @@ use Rattle.std.specs.Prelude as prelude
 use Rattle.atomic_table.specs.Seated.{TableId}
 use Rattle.tc_verdict.specs.declared.user_verdict.UserVerdict.{UserVerdict}
 use Rattle.tc_verdict.specs.declared.user_verdict.UserVerdict.TheVariants.{None}
-use Rattle.tc_verdict.specs.UserVerdict.{given}
+use Rattle.tc_verdict.specs.Prelude.{given}
 use Rattle.tc_board.specs.declared.answer.AnswerList.{AnswerList}
 use Rattle.tc_board.specs.declared.record.Record.{Record}
 use Rattle.tc_board.specs.declared.record.Record.TheVariants.{Unbegun, Open, Closed}
-use Rattle.tc_board.specs.Answers.{worst_of}
+use Rattle.tc_board.specs.Answers.{worst_answer}
 use Rattle.tc_board.specs.Hand.{HandView}
 
 -- its board, what it did with each word, and the answers of the hands that it took back
@@ -36,7 +36,7 @@ carried_by records run = carried_in (slice_get records run)
 -- each list of answers of the run that was taken back
 abbrev pub CountsTaken : KeeperView → ℕ → UserVerdict → Type 0
 CountsTaken k run counted =
-    (list : AnswerList) → Contains k.gathered list → list.run ≡ run → given counted ≡ worst_of (carried_by k.records run) list.answers
+    (list : AnswerList) → Contains k.gathered list → list.run ≡ run → given counted ≡ worst_answer (carried_by k.records run) list.answers
 
 -- the keeper with another record of one word
 abbrev pub recorded : KeeperView → ℕ → Record → KeeperView

@@ -6,3 +6,5 @@ pub mod Keeper
 pub mod Board
 pub mod Inside
 pub mod Laws
+pub mod Prelude
+pub use Rattle.tc_verdict.specs.Prelude as OfVerdict

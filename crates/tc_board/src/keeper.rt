@@ -30,7 +30,7 @@ impl Model for Keeper {
 }
 
 impl Keeper {
-    ghost use Rattle.tc_board.specs.Rule.{Agrees};
+    ghost use Rattle.tc_board.specs.Rule.{AnswersAgree};
     ghost use Rattle.tc_board.specs.Keeper.{CountsTaken, IsOpen, carried_by, recorded, gathered};
 
     /// Opens the word of a run, with the verdict that its component carries.
@@ -70,7 +70,7 @@ impl Keeper {
         requires board { self.old.board ≡ board.now }
         requires hand { hand.board ≡ board.now }
         ensures list { self.new ≡ gathered self.old hand }
-        ensures agrees { (r : Record) × (slice_get self.old.records hand.run ≡ Some r) × Agrees r hand.answers }
+        ensures agrees { (r : Record) × (slice_get self.old.records hand.run ≡ Some r) × AnswersAgree r hand.answers }
     {
         let Hand { run, seat } = hand;
         let word = run.0 as usize;

@@ -6,14 +6,12 @@ use Rattle.std.proofs.Math.Seq.{take-suc, get_or-append_seam}
 use Rattle.std.proofs.lemmas.Bool.{ne_eqb, cases_eq}
 use Rattle.std.proofs.lemmas.List.{get_or-set_same, get_or-set_other, get_or_append_left, append_cancel_left, append-nil, length-append}
 use Rattle.std.proofs.lemmas.List.Elements.{filter-append}
-use Rattle.tc_entry.specs.declared.entry.Entry.{Entry}
-use Rattle.tc_case.specs.declared.run_log.RunLog.{RunLog}
-use Rattle.tc_case.specs.Merge.{log_of}
+use Rattle.tc_rules.specs.Prelude.{Entry, log_of, part, is_by}
+use Rattle.tc_rules.specs.declared.run_log.RunLog.{RunLog}
 use Rattle.tc_merge.proofs.Lemmas.Table.{log_or, log_or-none, log_or-last}
-use Rattle.tc_case.specs.Parts.{part, is_by}
 use Rattle.tc_book.specs.Inside.{KnowsParts}
 use Rattle.tc_book.proofs.Lemmas.PartOf.{part_end}
-use Rattle.tc_table.proofs.Lemmas.Differing.{parted}
+use Rattle.tc_rules.proofs.Lemmas.Differing.{parted}
 
 -- once these logs too are put in their places, each run below n has its log
 abbrev pub HasAfter : List (List Entry) → List RunLog → ℕ → (ℕ → List Entry) → Type 0

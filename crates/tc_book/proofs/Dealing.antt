@@ -2,8 +2,7 @@
 use Rattle.std.proofs.Common.{ℕ, zero, suc, ◌≡◌, ◌+◌, ◌-◌, ◌<◌, List, [], length, get_or, refl, ap, ◌∙◌, arith}
 use Rattle.std.specs.List.{remove}
 use Rattle.atomic_table.specs.Seated.{TableId}
-use Rattle.tc_board.specs.Hand.{HandView}
-use Rattle.tc_board.specs.Board.{new_hand, new_hands}
+use Rattle.tc_board.specs.Prelude.{HandView, new_hand, new_hands}
 
 pub length_hands : (board : TableId) (k n : ℕ) → length (new_hands board k n) ≡ n
 length_hands board k zero = refl

@@ -2,17 +2,12 @@
 use Rattle.std.proofs.Common.{ℕ, ◌≡◌, ◌≢◌, true, false, List, [], ◌∷◌, ◌++◌, length, All, refl, ap, sym, ◌∙◌, append_assoc}
 use Rattle.std.proofs.lemmas.List.{append-nil}
 use Rattle.std.proofs.lemmas.List.Elements.{All-nil, All-cons, All-append}
-use Rattle.tc_verdict.specs.declared.user_verdict.UserVerdict.{UserVerdict}
+use Rattle.tc_rules.specs.Prelude.{UserVerdict, given, Entry, Op, Reply, is_verdict_call}
 use Rattle.tc_verdict.specs.declared.user_verdict.UserVerdict.TheVariants as U
-use Rattle.tc_verdict.specs.UserVerdict.{given}
-use Rattle.tc_entry.specs.declared.entry.Entry.{Entry}
-use Rattle.tc_entry.specs.declared.op.Op.{Op}
 use Rattle.tc_entry.specs.declared.op.Op.TheVariants as O
-use Rattle.tc_entry.specs.declared.reply.Reply.{Reply}
 use Rattle.tc_entry.specs.declared.reply.Reply.TheVariants as R
-use Rattle.tc_case.specs.Merge.{is_verdict_call}
 use Rattle.tc_board.specs.declared.answer.Answer.TheVariants.{Met, Found}
-use Rattle.tc_board.specs.Hand.{HandView}
+use Rattle.tc_board.specs.Prelude.{HandView}
 use Rattle.tc_book.specs.Hands.{found_by, answer_in, answers_in, IsOneAnswer, IsHandOf}
 use Rattle.tc_book.specs.Inside.{Says}
 use Rattle.tc_book.specs.Replies.{suits}

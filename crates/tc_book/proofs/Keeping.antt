@@ -2,15 +2,9 @@
 use Rattle.std.proofs.Common.{ℕ, ◌≡◌, ◌≤◌, ◌∙◌, sym, Option, None, List, [], ◌∷◌, ◌++◌, drop, length, reverse, replicate}
 use Rattle.std.proofs.lemmas.List.{reverse-append, length-replicate}
 use Rattle.tc_entry.specs.declared.limits.TheConstants.{BEHAVIOURS}
-use Rattle.tc_verdict.specs.declared.run.Run.{Run}
-use Rattle.tc_verdict.specs.declared.user_verdict.UserVerdict.{UserVerdict}
-use Rattle.tc_entry.specs.declared.comp.Comp.{Comp}
-use Rattle.tc_entry.specs.declared.entry.Entry.{Entry}
-use Rattle.tc_entry.specs.declared.op.Op.{Op}
-use Rattle.tc_entry.specs.declared.reply.Reply.{Reply}
+use Rattle.tc_rules.specs.Prelude.{Run, UserVerdict, Comp, Entry, Op, Reply, Case, past_of}
 use Rattle.tc_board.specs.declared.record.Record.{Record}
-use Rattle.tc_table.specs.Case.{Case, past_of}
-use Rattle.tc_words.specs.Words.{WordsAgree, carried_to, carried_to_newest}
+use Rattle.tc_book.specs.Words.{WordsAgree, carried_to, carried_to_newest}
 use Rattle.tc_book.specs.declared.places.Places.{Places}
 use Rattle.tc_book.specs.Inside.{IsKept, start_at}
 use Rattle.tc_book.specs.OpenCase.{opening_place}

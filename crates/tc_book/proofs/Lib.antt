@@ -13,3 +13,7 @@ pub mod Dealing
 pub mod Wholeness
 pub mod Skipping
 pub mod StartedBefore
+pub mod Opened
+pub mod Settling
+pub mod Lagging
+pub mod Newest

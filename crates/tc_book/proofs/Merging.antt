@@ -3,18 +3,13 @@ use Rattle.std.proofs.Common.{ℕ, zero, suc, ◌≡◌, ◌≢◌, ◌<◌, ◌
 use Rattle.std.specs.List.{All}
 use Rattle.std.proofs.lemmas.Bool.{ne_eqb, cases_eq, cases_lt}
 use Rattle.std.proofs.lemmas.List.{append-nil, reverse-reverse}
-use Rattle.tc_entry.specs.declared.comp.Comp.{Comp}
-use Rattle.tc_entry.specs.declared.entry.Entry.{Entry}
-use Rattle.tc_verdict.specs.declared.run.Run.{Run}
-use Rattle.tc_table.specs.History.{comp_of}
-use Rattle.tc_case.specs.declared.run_log.RunLog.{RunLog}
-use Rattle.tc_case.specs.Merge.{is_other, is_verdict_call, verdict_calls_after, calls_of, started, in_place, late, end_of, merge, log_of as log_by, logged}
+use Rattle.tc_rules.specs.Prelude.{Comp, Entry, Run, comp_of, is_other, is_verdict_call, verdict_calls_after, calls_of, started, in_place, late, runs_end, merge, log_of as log_by, logged, part, log_if, logs_below}
+use Rattle.tc_rules.specs.declared.run_log.RunLog.{RunLog}
 use Rattle.tc_merge.specs.Inside.{head_at_start}
 use Rattle.tc_merge.proofs.Lemmas.Kept.{others-merge}
 use Rattle.tc_merge.proofs.Lemmas.Table.{log_or, log_or-none, log_or-last, log_of-beyond}
 use Rattle.tc_book.specs.Closing.{IsWhole, run_log}
 use Rattle.tc_book.specs.OpenCase.{AreOthers}
-use Rattle.tc_case.specs.Parts.{part, log_if, logs_below}
 use Rattle.tc_book.specs.Passes.{LeftState}
 use Rattle.tc_book.specs.Inside.{ArePlaced, IsJoined, KnowsStarts}
 use Rattle.tc_book.proofs.Reporting.{no_others, whole_logged}
@@ -49,12 +44,12 @@ late_until f m (suc n) below none =
       | inr other ↦ rw (none n (omega (arith, below, other)), append-nil) (late_until f m n (omega (arith, below, other)) none)
     ]
 
-late_ends : (logs logs' : List RunLog) → ((b : ℕ) → log_by logs b ≡ log_by logs' b) → late (log_by logs) (end_of logs) ≡ late (log_by logs') (end_of logs')
+late_ends : (logs logs' : List RunLog) → ((b : ℕ) → log_by logs b ≡ log_by logs' b) → late (log_by logs) (runs_end logs) ≡ late (log_by logs') (runs_end logs')
 late_ends logs logs' same =
-    late_same (log_by logs) (log_by logs') same (end_of logs)
-    ∙ elim (cases_lt (end_of logs) (end_of logs')) [
-      | inl less ↦ sym (late_until (log_by logs') (end_of logs) (end_of logs') (omega (arith, less)) (λ b beyond. sym (same b) ∙ log_of-beyond logs b beyond))
-      | inr more ↦ late_until (log_by logs') (end_of logs') (end_of logs) more (λ b beyond. log_of-beyond logs' b beyond)
+    late_same (log_by logs) (log_by logs') same (runs_end logs)
+    ∙ elim (cases_lt (runs_end logs) (runs_end logs')) [
+      | inl less ↦ sym (late_until (log_by logs') (runs_end logs) (runs_end logs') (omega (arith, less)) (λ b beyond. sym (same b) ∙ log_of-beyond logs b beyond))
+      | inr more ↦ late_until (log_by logs') (runs_end logs') (runs_end logs) more (λ b beyond. log_of-beyond logs' b beyond)
     ]
 
 merge_same : (k : List Entry) (logs logs' : List RunLog) → ((b : ℕ) → log_by logs b ≡ log_by logs' b) → merge k logs ≡ merge k logs'

@@ -3,25 +3,17 @@ use Rattle.std.proofs.Common.{ℕ, zero, suc, ◌≡◌, ◌+◌, ◌<◌, ◌�
 use Rattle.std.specs.List.{All}
 use Rattle.std.proofs.lemmas.Bool.Decides.{nat_tests}
 use Rattle.std.proofs.lemmas.List.Sums.{sum_by-cons, sum_by-append}
-use Rattle.tc_verdict.specs.Verdict.{worst}
-use Rattle.tc_entry.specs.declared.comp.Comp.{Comp}
-use Rattle.tc_entry.specs.declared.entry.Entry.{Entry}
-use Rattle.tc_table.specs.History.{comps, comp_of, is_over}
-use Rattle.tc_table.specs.Local.{local, overall}
-use Rattle.tc_table.specs.Legal.{IsLegal, IsAllOver}
-use Rattle.tc_table.proofs.Lemmas.Over.{all_over}
-use Rattle.tc_case.specs.declared.closed.Closed.{Closed}
-use Rattle.tc_case.specs.declared.run_log.RunLog.{RunLog}
-use Rattle.tc_case.specs.Merge.{is_other, merge, logged}
+use Rattle.tc_rules.specs.Prelude.{worst, Comp, Entry, comps, comp_of, is_over, local, overall, IsLegal, IsAllOver, is_other, merge, logged, part, log_if, logs_below, IsOneHistory}
+use Rattle.tc_rules.proofs.Lemmas.Over.{all_over}
+use Rattle.tc_rules.specs.declared.closed.Closed.{Closed}
+use Rattle.tc_rules.specs.declared.run_log.RunLog.{RunLog}
 use Rattle.tc_book.specs.Passes.{LeftState}
-use Rattle.tc_book.specs.Closing.{is_of_run, IsFitting, IsWhole}
-use Rattle.tc_case.specs.Parts.{part, log_if, logs_below}
+use Rattle.tc_book.specs.Closing.{is_left_of, IsFitting, IsWhole}
 use Rattle.tc_book.specs.Inside.{start_at, comp_by, log_on, logs_from, KnowsStarts, KnowsParts}
 use Rattle.tc_book.proofs.Lemmas.PartOf.{comp_known}
-use Rattle.tc_case.specs.Report.{IsOneHistory}
 use Rattle.std.proofs.lemmas.List.{length-map, get_or_append_left}
 use Rattle.std.proofs.Math.Seq.{get_or-append_seam}
-use Rattle.tc_table.proofs.Lemmas.Numbered.{numbered}
+use Rattle.tc_rules.proofs.Lemmas.Numbered.{numbered}
 use Rattle.tc_book.proofs.Sums.{sum_below, only, sum_below-same, sum_below-add, sum_below-zero, sum_below-only, sum_below-at_most}
 
 -- one list of runs, summed by run
@@ -42,16 +34,16 @@ sum_by_run f n (l ∷ lefts) h =
     omega (arith, sum_by-cons (λ (m : LeftState). f m.run.0) l lefts, here, rest, both, sum_below-add (only l.run.0 f) (at_run f lefts) n)
 
 -- a run that is there c times, for c of 0 and 1
-at_run_if : (f : ℕ → ℕ) (k : ℕ) (lefts : List LeftState) → ((count_by (is_of_run k) lefts ≡ 0) → at_run f lefts k ≡ 0) × ((count_by (is_of_run k) lefts ≡ 1) → at_run f lefts k ≡ f k)
+at_run_if : (f : ℕ → ℕ) (k : ℕ) (lefts : List LeftState) → ((count_by (is_left_of k) lefts ≡ 0) → at_run f lefts k ≡ 0) × ((count_by (is_left_of k) lefts ≡ 1) → at_run f lefts k ≡ f k)
 unfolding at_run
 at_run_if f k [] = ((λ h. refl), (λ h. absurd (omega arith)))
 at_run_if f k (l ∷ lefts) =
-    by_test (l.run.0 == k) (at_run_if f k lefts) (sum_by-cons (λ (m : LeftState). cond (is_of_run k m) 1 0) l lefts) (sum_by-cons (λ (m : LeftState). only m.run.0 f k) l lefts)
+    by_test (l.run.0 == k) (at_run_if f k lefts) (sum_by-cons (λ (m : LeftState). cond (is_left_of k m) 1 0) l lefts) (sum_by-cons (λ (m : LeftState). only m.run.0 f k) l lefts)
   where
-    by_test : (t : Bool) → ((count_by (is_of_run k) lefts ≡ 0) → at_run f lefts k ≡ 0) × ((count_by (is_of_run k) lefts ≡ 1) → at_run f lefts k ≡ f k) →
-        count_by (is_of_run k) (l ∷ lefts) ≡ cond t 1 0 + count_by (is_of_run k) lefts →
+    by_test : (t : Bool) → ((count_by (is_left_of k) lefts ≡ 0) → at_run f lefts k ≡ 0) × ((count_by (is_left_of k) lefts ≡ 1) → at_run f lefts k ≡ f k) →
+        count_by (is_left_of k) (l ∷ lefts) ≡ cond t 1 0 + count_by (is_left_of k) lefts →
         at_run f (l ∷ lefts) k ≡ cond t (f k) 0 + at_run f lefts k →
-        ((count_by (is_of_run k) (l ∷ lefts) ≡ 0) → at_run f (l ∷ lefts) k ≡ 0) × ((count_by (is_of_run k) (l ∷ lefts) ≡ 1) → at_run f (l ∷ lefts) k ≡ f k)
+        ((count_by (is_left_of k) (l ∷ lefts) ≡ 0) → at_run f (l ∷ lefts) k ≡ 0) × ((count_by (is_left_of k) (l ∷ lefts) ≡ 1) → at_run f (l ∷ lefts) k ≡ f k)
     by_test true before count sum = ((λ h. absurd (omega arith)), (λ h. let z = before.0 (omega arith) in omega arith))
     by_test false before count sum = ((λ h. let z = before.0 (omega arith) in omega arith), (λ h. let z = before.1 (omega arith) in omega arith))
 

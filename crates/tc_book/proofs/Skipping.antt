@@ -2,15 +2,9 @@
 use Rattle.std.proofs.Common.{ℕ, ◌≡◌, not, if◌then◌else◌, Bool, true, false, Option, None, List, [], ◌∷◌, ◌++◌, reverse, filter, refl, ap, sym, ◌∙◌, cond}
 use Rattle.std.proofs.lemmas.List.{reverse-append, append-nil}
 use Rattle.std.proofs.lemmas.List.Elements.{filter-append}
-use Rattle.tc_entry.specs.declared.comp.Comp.{Comp}
-use Rattle.tc_entry.specs.declared.entry.Entry.{Entry}
-use Rattle.tc_entry.specs.declared.op.Op.{Op}
+use Rattle.tc_rules.specs.Prelude.{Comp, Entry, Op, Reply, is_ok, first_some, is_other, is_verdict_call}
 use Rattle.tc_entry.specs.declared.op.Op.TheVariants as O
-use Rattle.tc_entry.specs.declared.reply.Reply.{Reply}
-use Rattle.tc_entry.specs.Reply.{is_ok}
-use Rattle.tc_table.specs.History.{first_some}
-use Rattle.tc_case.specs.Merge.{is_other, is_verdict_call}
-use Rattle.tc_book.specs.Starts.{start_of, start_in}
+use Rattle.tc_book.specs.Starts.{start_of, started_with}
 use Rattle.tc_book.specs.Inside.{KnowsStarts}
 use Rattle.tc_book.proofs.Lemmas.Starting.{no_more}
 
@@ -18,7 +12,7 @@ if_none : (ok : Bool) → (if ok then (let o : Option (Comp × List Comp) = None
 if_none true = refl
 if_none false = refl
 
-no_start : (op : Op) (reply : Reply) (b : ℕ) → is_verdict_call op ≡ true → start_in op reply b ≡ None
+no_start : (op : Op) (reply : Reply) (b : ℕ) → is_verdict_call op ≡ true → started_with op reply b ≡ None
 no_start (O.SetVerdict v) reply b h = if_none (is_ok reply)
 no_start O.GetVerdict reply b h = if_none (is_ok reply)
 no_start _ reply b h = absurd cc
@@ -29,7 +23,7 @@ start_of_others (e ∷ past) b = by_test (is_verdict_call e.op) refl (start_of_o
   where
     by_test : (t : Bool) → is_verdict_call e.op ≡ t → start_of (filter is_other past) b ≡ start_of past b → start_of (cond (not t) (e ∷ filter is_other past) (filter is_other past)) b ≡ start_of (e ∷ past) b
     by_test true k before = before ∙ (no_more (start_of past b) ∙ ap (first_some (start_of past b)) (sym (no_start e.op e.reply b k)))
-    by_test false k before = ap (λ o. first_some o (start_in e.op e.reply b)) before
+    by_test false k before = ap (λ o. first_some o (started_with e.op e.reply b)) before
 
 pub filter-reverse : (es : List Entry) → filter is_other (reverse es) ≡ reverse (filter is_other es)
 filter-reverse [] = refl

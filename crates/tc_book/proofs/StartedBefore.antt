@@ -2,14 +2,11 @@
 use Rattle.std.proofs.Common.{ℕ, ◌≡◌, ◌∙◌, ◌<◌, ◌+◌, ◌&&◌, Bool, true, false, Option, Some, None, is_none, is_some, List, [], ◌∷◌, ◌++◌, length, reverse, get_or, take, drop, refl, sym, ap, subst, add-one}
 use Rattle.std.proofs.Math.Seq.{take-suc, take-length}
 use Rattle.std.proofs.lemmas.List.{reverse-append}
-use Rattle.tc_entry.specs.declared.comp.Comp.{Comp}
-use Rattle.tc_entry.specs.declared.entry.Entry.{Entry}
-use Rattle.tc_table.specs.History.{comp_of, first_some}
-use Rattle.tc_table.specs.Legal.{IsLegal}
+use Rattle.tc_rules.specs.Prelude.{Comp, Entry, comp_of, first_some, IsLegal}
 use Rattle.tc_book.specs.Closing.{all_started}
-use Rattle.tc_book.specs.Starts.{start_in}
+use Rattle.tc_book.specs.Starts.{started_with}
 use Rattle.tc_book.specs.Inside.{StartsBelow, KnowsStarts, start_at, comp_by}
-use Rattle.tc_table.proofs.Lemmas.Differing.{later_legal, parted}
+use Rattle.tc_rules.proofs.Lemmas.Differing.{later_legal, parted}
 use Rattle.tc_book.proofs.Lemmas.PartOf.{comp_known}
 use Rattle.tc_book.proofs.Lemmas.Starting.{starts_below}
 
@@ -36,13 +33,13 @@ next_below n m h i e inside here same legal =
     starts_below n m (reverse (take i h)) e.caller e.op e.reply right.0 same
 
 pub behind_next : (n : ℕ) (starts starts-new : List (Option (Comp × List Comp))) (h : List Entry) (i : ℕ) (e : Entry) → i < length h → e ≡ get_or h i e → length starts-new ≡ length starts
-    → ((b : ℕ) → start_at starts-new b ≡ first_some (start_at starts b) (start_in e.op e.reply b)) → is_none (comp_by e.caller.0 (start_at starts e.caller.0)) ≡ false
+    → ((b : ℕ) → start_at starts-new b ≡ first_some (start_at starts b) (started_with e.op e.reply b)) → is_none (comp_by e.caller.0 (start_at starts e.caller.0)) ≡ false
     → IsBehind n starts (reverse (take i h)) → IsBehind n starts-new (reverse (take (i + 1) h))
 behind_next n starts starts-new h i e inside here same noted on is =
     let known : is_some (comp_of (reverse (take i h)) e.caller.0) ≡ true = some_of (comp_of (reverse (take i h)) e.caller.0) (ap is_none (sym (comp_known starts (reverse (take i h)) e.caller.0 is.known)) ∙ on) in
     let next : IsBehind n starts-new (e ∷ reverse (take i h)) = record {
       as_many = same ∙ is.as_many;
-      known = λ b. noted b ∙ ap (λ o. first_some o (start_in e.op e.reply b)) (is.known b);
+      known = λ b. noted b ∙ ap (λ o. first_some o (started_with e.op e.reply b)) (is.known b);
       started = ap (λ t. t && all_started (reverse (take i h))) known ∙ is.started;
     } in
     subst (IsBehind n starts-new) (sym (past_next h i e inside here)) next

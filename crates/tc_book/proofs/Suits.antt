@@ -1,16 +1,9 @@
 -- The component table's reply suits an operation that is no verdict call.
 use Rattle.std.proofs.Common.{ℕ, ◌≡◌, ◌==◌, ◌&&◌, if◌then◌else◌, Bool, true, false, Option, Some, None, List, not, ap, refl}
-use Rattle.tc_entry.specs.declared.entry.Entry.{Entry}
-use Rattle.tc_entry.specs.declared.op.Op.{Op}
+use Rattle.tc_rules.specs.Prelude.{Entry, Op, Reply, Fault, holds, is_stuck, fault, answer, answer_unless, plain_answer, is_active, is_verdict_call}
 use Rattle.tc_entry.specs.declared.op.Op.TheVariants as O
-use Rattle.tc_entry.specs.declared.reply.Reply.{Reply}
 use Rattle.tc_entry.specs.declared.reply.Reply.TheVariants as R
-use Rattle.tc_entry.specs.declared.reply.Fault.{Fault}
 use Rattle.tc_entry.specs.declared.reply.Fault.TheVariants as F
-use Rattle.tc_table.specs.Waiting.{holds, is_stuck}
-use Rattle.tc_table.specs.Faults.{fault}
-use Rattle.tc_table.specs.Answers.{answer, answer_unless, plain_answer, is_active}
-use Rattle.tc_case.specs.Merge.{is_verdict_call}
 use Rattle.tc_book.specs.Replies.{suits}
 
 wait_suits : (k : Bool) (t : _) (held : Bool) → suits (O.Wait k t) (if held then R.Matched else R.Parked) ≡ true

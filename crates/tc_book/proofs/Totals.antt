@@ -3,7 +3,7 @@ use Rattle.std.proofs.Common.{◌≡◌, ℕ, ◌+◌, ◌*◌, ◌<◌, ◌≤�
 use Rattle.std.proofs.lemmas.List.Sums.{sum_by-set, sum_by-cons}
 use Rattle.std.proofs.lemmas.List.{get_or_past}
 use Rattle.std.proofs.lemmas.List.Folds.{sum_by-replicate}
-use Rattle.tc_verdict.specs.declared.run.Run.{Run}
+use Rattle.tc_rules.specs.Prelude.{Run}
 use Rattle.tc_book.specs.declared.places.Places.{Places}
 use Rattle.tc_book.specs.Inside.{one_if, size_of, total}
 use Rattle.tc_book.specs.OpenCase.{places_at, no_place, opening_place}

@@ -1,18 +1,11 @@
 -- A quiet entry wakes nobody.
 use Rattle.std.proofs.Common.{ℕ, ◌≡◌, ◌&&◌, not, if◌then◌else◌, Bool, true, false, Option, Some, None, [], ◌∷◌, reverse, refl, ap, subst, sym, ◌∙◌}
 use Rattle.std.proofs.lemmas.List.{reverse-append}
-use Rattle.tc_verdict.specs.declared.run.Run.{Run}
-use Rattle.tc_entry.specs.declared.entry.Entry.{Entry}
-use Rattle.tc_entry.specs.declared.op.Op.{Op}
+use Rattle.tc_rules.specs.Prelude.{Run, Entry, Op, Reply, is_ok, first_some, IsLegal, keeps_phases, lets_go_on}
 use Rattle.tc_entry.specs.declared.op.Op.TheVariants as O
-use Rattle.tc_entry.specs.declared.reply.Reply.{Reply}
-use Rattle.tc_entry.specs.Reply.{is_ok}
-use Rattle.tc_table.specs.History.{first_some}
-use Rattle.tc_table.specs.Legal.{IsLegal}
-use Rattle.tc_table.specs.Laws.{keeps_phases, lets_go_on}
-use Rattle.tc_table.proofs.Lemmas.Quiet.{quiet_wakes_nobody}
-use Rattle.tc_book.specs.OpenCase.{OpenCase, past_of, reply_to, with_entry}
-use Rattle.tc_book.specs.Starts.{start_in, start_of, starts_with}
+use Rattle.tc_rules.proofs.Lemmas.Quiet.{quiet_wakes_nobody}
+use Rattle.tc_book.specs.OpenCase.{OpenCase, open_past, reply_to, with_entry}
+use Rattle.tc_book.specs.Starts.{started_with, start_of, starts_with}
 use Rattle.tc_book.specs.Waking.{NobodyWakes}
 
 both : (a b : Bool) → a ≡ true → b ≡ true → (a && b) ≡ true
@@ -31,16 +24,16 @@ none_started : (op : Op) (b : ℕ) → keeps_phases op ≡ true → starts_with 
 none_started (O.Start c run args) b h = absurd cc
 none_started _ b h = refl
 
-silent_quiet : (before after : OpenCase) (run : Run) (op : Op) (r : Reply) → IsLegal before.behaviours (past_of before) → after.behaviours ≡ before.behaviours → r ≡ reply_to before run op → after.history ≡ with_entry before run op r →
+silent_quiet : (before after : OpenCase) (run : Run) (op : Op) (r : Reply) → IsLegal before.behaviours (open_past before) → after.behaviours ≡ before.behaviours → r ≡ reply_to before run op → after.history ≡ with_entry before run op r →
     keeps_phases op ≡ true → lets_go_on r ≡ true → NobodyWakes before after
 silent_quiet before after run op r legal same reply added keeps goes =
     let e : Entry = record { caller = run; op = op; reply = r } in
-    let past : past_of after ≡ e ∷ past_of before = ap reverse added ∙ reverse-append before.history (e ∷ []) in
-    let w = quiet_wakes_nobody before.behaviours (past_of before) e (reply, legal) (both (keeps_phases op) (lets_go_on r) keeps goes) in
-    let none : (b : ℕ) → start_in op r b ≡ None = λ b. rw (none_started op b keeps) (if_same (is_ok r) None) in
+    let past : open_past after ≡ e ∷ open_past before = ap reverse added ∙ reverse-append before.history (e ∷ []) in
+    let w = quiet_wakes_nobody before.behaviours (open_past before) e (reply, legal) (both (keeps_phases op) (lets_go_on r) keeps goes) in
+    let none : (b : ℕ) → started_with op r b ≡ None = λ b. rw (none_started op b keeps) (if_same (is_ok r) None) in
     record {
       parked = λ b k t h. rw (same, past) (w.parked b.0 k t h);
-      starts = λ b. rw past (rw (none b) (first_alone (start_of (past_of before) b)));
+      starts = λ b. rw past (rw (none b) (first_alone (start_of (open_past before) b)));
       over = rw past w.over;
     }
 
@@ -50,8 +43,8 @@ told true false h = absurd cc
 told false goes h = absurd cc
 
 -- the same, as a call has it: v is what the book shows before
-pub silent : (v before after : OpenCase) (run : Run) (op : Op) (r : Reply) (tells : Bool) → v ≡ before → IsLegal v.behaviours (past_of v) → after.behaviours ≡ before.behaviours → r ≡ reply_to before run op → after.history ≡ with_entry before run op r →
+pub silent : (v before after : OpenCase) (run : Run) (op : Op) (r : Reply) (tells : Bool) → v ≡ before → IsLegal v.behaviours (open_past v) → after.behaviours ≡ before.behaviours → r ≡ reply_to before run op → after.history ≡ with_entry before run op r →
     tells ≡ not (keeps_phases op && lets_go_on r) → tells ≡ false → NobodyWakes before after
 silent v before after run op r tells view legal same reply added is h =
     let k = told (keeps_phases op) (lets_go_on r) (sym is ∙ h) in
-    silent_quiet before after run op r (subst (λ (b : OpenCase). IsLegal b.behaviours (past_of b)) view legal) same reply added k.0 k.1
+    silent_quiet before after run op r (subst (λ (b : OpenCase). IsLegal b.behaviours (open_past b)) view legal) same reply added k.0 k.1

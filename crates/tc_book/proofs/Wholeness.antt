@@ -4,17 +4,13 @@ use Rattle.std.specs.List.{All}
 use Rattle.std.proofs.lemmas.Bool.Decides.{nat_tests}
 use Rattle.std.proofs.lemmas.List.Elements.{All-map}
 use Rattle.std.proofs.lemmas.List.Sums.{sum_by-cons}
-use Rattle.tc_entry.specs.declared.comp.Comp.{Comp}
-use Rattle.tc_entry.specs.declared.entry.Entry.{Entry}
-use Rattle.tc_table.specs.History.{is_over}
-use Rattle.tc_case.specs.declared.run_log.RunLog.{RunLog}
+use Rattle.tc_rules.specs.Prelude.{Comp, Entry, is_over, log_of, logged, part}
+use Rattle.tc_rules.specs.declared.run_log.RunLog.{RunLog}
 use Rattle.tc_book.specs.OpenCase.{OpenCase}
 use Rattle.tc_book.specs.Passes.{LeftState}
-use Rattle.tc_case.specs.Merge.{log_of, logged}
 use Rattle.tc_merge.proofs.Lemmas.Kept.{others-merge}
-use Rattle.tc_book.specs.Closing.{all_started, is_of_run, IsFitting, IsWhole, IsMerged, run_log, merged}
+use Rattle.tc_book.specs.Closing.{all_started, is_left_of, IsFitting, IsWhole, IsMerged, run_log, merged}
 use Rattle.tc_book.proofs.Skipping.{starts_same}
-use Rattle.tc_case.specs.Parts.{part}
 use Rattle.tc_book.specs.Inside.{AreLogs, ArePlaced, IsJoined, KnowsStarts, KnowsParts}
 use Rattle.tc_book.proofs.Lemmas.PartOf.{comp_known}
 
@@ -27,40 +23,40 @@ pub within_logs : (n : ℕ) (starts : List (Option (Comp × List Comp))) (lefts 
 within_logs n starts lefts logs placed are = rw are (All-map (λ (l : RunLog). l.run.0 < n) run_log lefts placed.one_each.within)
 
 -- a run that is there is counted
-counted : (lefts : List LeftState) (k : ℕ) (d : LeftState) → k < length lefts → 1 ≤ count_by (is_of_run (get_or lefts k d).run.0) lefts
+counted : (lefts : List LeftState) (k : ℕ) (d : LeftState) → k < length lefts → 1 ≤ count_by (is_left_of (get_or lefts k d).run.0) lefts
 counted [] k d below = absurd (omega arith)
 counted (l ∷ lefts) zero d below =
     let test : (l.run.0 == l.run.0) ≡ true = eq-eqb l.run.0 l.run.0 refl in
     let one : ℕ = 1 in
-    let this : cond (is_of_run l.run.0 l) one 0 ≡ one = rw test refl in
-    omega (arith, this, sum_by-cons (λ (m : LeftState). cond (is_of_run l.run.0 m) 1 0) l lefts)
+    let this : cond (is_left_of l.run.0 l) one 0 ≡ one = rw test refl in
+    omega (arith, this, sum_by-cons (λ (m : LeftState). cond (is_left_of l.run.0 m) 1 0) l lefts)
 counted (l ∷ lefts) (suc k) d below =
     let b : ℕ = (get_or lefts k d).run.0 in
-    omega (arith, counted lefts k d (omega arith), sum_by-cons (λ (m : LeftState). cond (is_of_run b m) 1 0) l lefts)
+    omega (arith, counted lefts k d (omega arith), sum_by-cons (λ (m : LeftState). cond (is_left_of b m) 1 0) l lefts)
 
 -- of what came back of one of each run, the log by a run's number is that of the run
-own_log : (lefts : List LeftState) (k : ℕ) (d : LeftState) → k < length lefts → count_by (is_of_run (get_or lefts k d).run.0) lefts ≡ 1 →
+own_log : (lefts : List LeftState) (k : ℕ) (d : LeftState) → k < length lefts → count_by (is_left_of (get_or lefts k d).run.0) lefts ≡ 1 →
     log_of (map run_log lefts) (get_or lefts k d).run.0 ≡ (get_or lefts k d).log
 own_log [] k d below one = absurd (omega arith)
 own_log (l ∷ lefts) zero d below one = let test : (l.run.0 == l.run.0) ≡ true = eq-eqb l.run.0 l.run.0 refl in rw test refl
 own_log (l ∷ lefts) (suc k) d below one =
-    by_test (l.run.0 == (get_or lefts k d).run.0) (counted lefts k d (omega arith)) (own_log lefts k d (omega arith)) (sum_by-cons (λ (m : LeftState). cond (is_of_run (get_or lefts k d).run.0 m) 1 0) l lefts)
+    by_test (l.run.0 == (get_or lefts k d).run.0) (counted lefts k d (omega arith)) (own_log lefts k d (omega arith)) (sum_by-cons (λ (m : LeftState). cond (is_left_of (get_or lefts k d).run.0 m) 1 0) l lefts)
   where
-    by_test : (t : Bool) → 1 ≤ count_by (is_of_run (get_or lefts k d).run.0) lefts →
-        (count_by (is_of_run (get_or lefts k d).run.0) lefts ≡ 1 → log_of (map run_log lefts) (get_or lefts k d).run.0 ≡ (get_or lefts k d).log) →
-        count_by (is_of_run (get_or lefts k d).run.0) (l ∷ lefts) ≡ cond t 1 0 + count_by (is_of_run (get_or lefts k d).run.0) lefts →
+    by_test : (t : Bool) → 1 ≤ count_by (is_left_of (get_or lefts k d).run.0) lefts →
+        (count_by (is_left_of (get_or lefts k d).run.0) lefts ≡ 1 → log_of (map run_log lefts) (get_or lefts k d).run.0 ≡ (get_or lefts k d).log) →
+        count_by (is_left_of (get_or lefts k d).run.0) (l ∷ lefts) ≡ cond t 1 0 + count_by (is_left_of (get_or lefts k d).run.0) lefts →
         (if t then l.log else log_of (map run_log lefts) (get_or lefts k d).run.0) ≡ (get_or lefts k d).log
     by_test true there before count = absurd (omega (arith, one, there, count))
     by_test false there before count = before (omega (arith, one, count))
 
 -- if what came back fits a history, the log by a run's number is the run's part of it
-pub log_of_fits : (h : List Entry) (lefts : List LeftState) (b : ℕ) → 1 ≤ count_by (is_of_run b) lefts → All (IsFitting h) lefts → log_of (map run_log lefts) b ≡ part h b
+pub log_of_fits : (h : List Entry) (lefts : List LeftState) (b : ℕ) → 1 ≤ count_by (is_left_of b) lefts → All (IsFitting h) lefts → log_of (map run_log lefts) b ≡ part h b
 log_of_fits h [] b some fits = absurd (omega arith)
 log_of_fits h (l ∷ lefts) b some fits =
-    by_test (l.run.0 == b) refl (λ more. log_of_fits h lefts b more (λ k d below. fits (suc k) d (omega arith))) (sum_by-cons (λ (m : LeftState). cond (is_of_run b m) 1 0) l lefts)
+    by_test (l.run.0 == b) refl (λ more. log_of_fits h lefts b more (λ k d below. fits (suc k) d (omega arith))) (sum_by-cons (λ (m : LeftState). cond (is_left_of b m) 1 0) l lefts)
   where
-    by_test : (t : Bool) → (l.run.0 == b) ≡ t → (1 ≤ count_by (is_of_run b) lefts → log_of (map run_log lefts) b ≡ part h b) →
-        count_by (is_of_run b) (l ∷ lefts) ≡ cond t 1 0 + count_by (is_of_run b) lefts →
+    by_test : (t : Bool) → (l.run.0 == b) ≡ t → (1 ≤ count_by (is_left_of b) lefts → log_of (map run_log lefts) b ≡ part h b) →
+        count_by (is_left_of b) (l ∷ lefts) ≡ cond t 1 0 + count_by (is_left_of b) lefts →
         (if t then l.log else log_of (map run_log lefts) b) ≡ part h b
     by_test true same before count = let q : l.run.0 ≡ b = grind (arith, nat_tests) in (fits 0 l (omega arith)).part ∙ ap (part h) q
     by_test false other before count = before (omega (arith, some, count))

@@ -2,27 +2,23 @@
 use Rattle.std.specs.Prelude.{ℕ, ◌≡◌, ◌<◌, ◌==◌, ◌&&◌, ◌∷◌, [], Bool, true, None, is_some, List, length, map, reverse, All, count_by, sum_by}
 use Rattle.tc_board.specs.declared.record.Record.{Record}
 use Rattle.tc_board.specs.declared.record.Record.TheVariants.{Unbegun}
-use Rattle.tc_entry.specs.declared.entry.Entry.{Entry}
-use Rattle.tc_table.specs.History.{comp_of, is_over}
-use Rattle.tc_table.specs.Legal.{IsLegal}
-use Rattle.tc_case.specs.declared.run_log.RunLog.{RunLog}
-use Rattle.tc_case.specs.Merge.{merge}
-use Rattle.tc_words.specs.Words.{record_at}
-use Rattle.tc_words.specs.Counting.{Counts}
+use Rattle.tc_rules.specs.Prelude.{Entry, comp_of, is_over, IsLegal, merge, part}
+use Rattle.tc_rules.specs.declared.run_log.RunLog.{RunLog}
+use Rattle.tc_book.specs.Words.{record_at}
+use Rattle.tc_book.specs.Counting.{Counts}
 use Rattle.tc_book.specs.OpenCase.{OpenCase}
 use Rattle.tc_book.specs.Passes.{LeftState}
 use Rattle.tc_book.specs.Starts.{start_of}
-use Rattle.tc_case.specs.Parts.{part}
 
 -- this was left of run b
-abbrev pub is_of_run : ℕ → LeftState → Bool
-is_of_run b l = l.run.0 == b
+abbrev pub is_left_of : ℕ → LeftState → Bool
+is_left_of b l = l.run.0 == b
 
 -- there is one of each of the n runs, and no other
 pub record IsOneEach (n : ℕ) (lefts : List LeftState) : Type 0 where
   pub count : length lefts ≡ n
   pub within : All (λ l. l.run.0 < n) lefts
-  pub each : (b : ℕ) → b < n → count_by (is_of_run b) lefts ≡ 1
+  pub each : (b : ℕ) → b < n → count_by (is_left_of b) lefts ≡ 1
 
 -- what a run left fits the history
 pub record IsFitting (history : List Entry) (l : LeftState) : Type 0 where

@@ -1,7 +1,6 @@
 -- The texts of faults.
 use Rattle.std.specs.Prelude.{ℕ, ◌++◌, List, codes}
-use Rattle.tc_verdict.specs.Words.{memory_text}
-use Rattle.tc_entry.specs.Reply.{fault_name}
+use Rattle.tc_rules.specs.Prelude.{memory_text, fault_name}
 use Rattle.tc_book.specs.declared.halt.Halt.{Halt}
 use Rattle.tc_book.specs.declared.halt.Halt.TheVariants as H
 

@@ -1,32 +1,24 @@
 -- What only the way a book is kept needs: no public clause names a word of this file.
 pub mod Waiting
+pub mod Words
 use Rattle.std.specs.Prelude.{ℕ, zero, suc, ◌++◌, ◌∷◌, ◌≡◌, ◌+◌, ◌≤◌, ◌<◌, ◌==◌, Bool, if◌then◌else◌, option_map, Option, Some, None, List, [], length, map, filter, reverse, sum_by, slice_index_or, All, true, false, ◌||◌, not, is_some}
 use Rattle.std.specs.Borrow.{Bor}
 use Rattle.std.specs.Option.{option_map_or}
 use Rattle.tc_entry.specs.declared.limits.TheConstants.{BEHAVIOURS}
-use Rattle.tc_entry.specs.declared.comp.Comp.{Comp}
-use Rattle.tc_entry.specs.declared.entry.Entry.{Entry}
-use Rattle.tc_entry.specs.declared.op.Op.{Op}
+use Rattle.tc_rules.specs.Prelude.{Comp, Entry, Op, Reply, IsLegal, part, logs_below, is_by, is_other, log_of, merge, Run, is_over, is_parked}
 use Rattle.tc_entry.specs.declared.op.Op.TheVariants as O
-use Rattle.tc_entry.specs.declared.reply.Reply.{Reply}
 use Rattle.tc_entry.specs.declared.reply.Reply.TheVariants as R
-use Rattle.tc_case.specs.declared.run_log.RunLog.{RunLog}
+use Rattle.tc_rules.specs.declared.run_log.RunLog.{RunLog}
 use Rattle.tc_book.specs.declared.places.Places.{Places}
-use Rattle.tc_table.specs.Legal.{IsLegal}
-use Rattle.tc_case.specs.Parts.{part, logs_below, is_by}
 use Rattle.tc_book.specs.Closing.{IsOneEach, IsWhole, run_log}
-use Rattle.tc_case.specs.Merge.{is_other, log_of, merge}
-use Rattle.tc_book.specs.OpenCase.{AreOthers, has_leave, has_wake, OpenCase, past_of, reply_to}
-use Rattle.tc_words.specs.Words.{WordsAgree}
-use Rattle.tc_board.specs.Hand.{HandView, answered}
+use Rattle.tc_book.specs.OpenCase.{AreOthers, has_leave, has_wake, OpenCase, open_past, reply_to}
+use Rattle.tc_book.specs.Words.{WordsAgree}
+use Rattle.tc_board.specs.Prelude.{HandView, answered}
 use Rattle.tc_board.specs.declared.record.Record.{Record}
 use Rattle.tc_book.specs.Passes.{LeftState, ended_by, entry_of}
 use Rattle.tc_book.specs.Starts.{start_of}
 use Rattle.tc_board.specs.declared.answer.Answer.{Answer}
 use Rattle.tc_book.specs.Hands.{answer_in}
-use Rattle.tc_verdict.specs.declared.run.Run.{Run}
-use Rattle.tc_table.specs.History.{is_over}
-use Rattle.tc_book.specs.Replies.{is_parked}
 use Rattle.tc_book.specs.declared.until.Until.{Until}
 use Rattle.tc_book.specs.declared.until.Until.TheVariants as U
 use Rattle.tc_book.specs.declared.until.Lack.{Lack}
@@ -151,7 +143,7 @@ is_halt _ = false
 
 -- a run that waits for this continues: its run was started, or the case is over; or its Wake would not be parked again
 abbrev pub goes_on : OpenCase → Run → Until → Bool
-goes_on b run U.Start = is_some (start_of (past_of b) run.0) || is_over (past_of b)
+goes_on b run U.Start = is_some (start_of (open_past b) run.0) || is_over (open_past b)
 goes_on b run (U.Wake killed target) = not (is_parked (reply_to b run (O.Wake killed target)))
 
 -- a run that waits continues; of one that does not wait there is nothing to say
@@ -164,7 +156,7 @@ wakes b run None = false
 abbrev pub lacks : OpenCase → Run → Lack → Bool
 lacks b run L.PlaceForWake = not (has_wake b run)
 lacks b run L.PlaceForLeaving = not (has_leave b run)
-lacks b run L.Word = is_some (start_of (past_of b) run.0)
+lacks b run L.Word = is_some (start_of (open_past b) run.0)
 
 -- a run that waits for the start of run b is answered so after these entries: by its start, or by none if the case is
 -- over without one

@@ -8,3 +8,8 @@ pub mod Hands
 pub mod Closing
 pub mod Fault
 pub mod Inside
+pub mod Words
+pub mod Counting
+pub mod Prelude
+pub use Rattle.tc_rules.specs.Prelude as OfRules
+pub use Rattle.tc_board.specs.Prelude as OfBoard

@@ -1,14 +1,8 @@
 -- What contracts see of a book, and the places that it keeps.
 use Rattle.std.specs.Prelude.{ℕ, ◌≡◌, ◌++◌, ◌∷◌, [], if◌then◌else◌, Bool, true, false, List, reverse, set, slice_index_or}
-use Rattle.tc_verdict.specs.declared.run.Run.{Run}
-use Rattle.tc_entry.specs.declared.entry.Entry.{Entry}
-use Rattle.tc_entry.specs.declared.op.Op.{Op}
-use Rattle.tc_entry.specs.declared.reply.Reply.{Reply}
-use Rattle.tc_case.specs.Merge.{is_verdict_call}
+use Rattle.tc_rules.specs.Prelude.{Run, Entry, Op, Reply, is_verdict_call, answer, is_parked}
 use Rattle.tc_board.specs.declared.record.Record.{Record}
 use Rattle.tc_book.specs.declared.places.Places.{Places}
-use Rattle.tc_book.specs.Replies.{is_parked}
-use Rattle.tc_table.specs.Answers.{answer}
 
 -- a case that is open: how many behaviours it has, its entries without those of verdict calls, the oldest first, the
 -- places kept for each run, and what was done with each run's word
@@ -24,12 +18,12 @@ AreOthers [] = Unit {0}
 AreOthers (e ∷ past) = (is_verdict_call e.op ≡ false) × AreOthers past
 
 -- the entries of the case, the newest first
-abbrev pub past_of : OpenCase → List Entry
-past_of b = reverse b.history
+abbrev pub open_past : OpenCase → List Entry
+open_past b = reverse b.history
 
 -- the component table's reply to a call made now
 abbrev pub reply_to : OpenCase → Run → Op → Reply
-reply_to b run op = answer b.behaviours (past_of b) run.0 op
+reply_to b run op = answer b.behaviours (open_past b) run.0 op
 
 -- the history with one more entry
 abbrev pub with_entry : OpenCase → Run → Op → Reply → List Entry

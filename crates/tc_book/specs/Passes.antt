@@ -1,15 +1,9 @@
 -- What contracts see of a pass and of what it leaves, and what its calls add to its log.
 use Rattle.std.specs.Prelude.{◌≡◌, ◌++◌, ◌∷◌, [], ◌⊎◌, Bool, true, false, Option, Some, None, MatchOption, List, Result, Ok, Err}
 use Rattle.std.specs.List.{list_any}
-use Rattle.tc_verdict.specs.declared.run.Run.{Run}
-use Rattle.tc_entry.specs.declared.comp.Comp.{Comp}
-use Rattle.tc_entry.specs.declared.entry.Entry.{Entry}
-use Rattle.tc_entry.specs.declared.op.Op.{Op}
+use Rattle.tc_rules.specs.Prelude.{Run, Comp, Entry, Op, Target, Reply, ends_pass}
 use Rattle.tc_entry.specs.declared.op.Op.TheVariants as O
-use Rattle.tc_entry.specs.declared.op.Target.{Target}
-use Rattle.tc_entry.specs.declared.reply.Reply.{Reply}
 use Rattle.tc_entry.specs.declared.reply.Reply.TheVariants as R
-use Rattle.tc_table.specs.History.{ends_pass}
 use Rattle.tc_book.specs.declared.halt.Halt.{Halt}
 use Rattle.tc_book.specs.declared.halt.Halt.TheVariants as H
 
@@ -39,8 +33,8 @@ abbrev pub entry_of : Run → Op → Reply → Entry
 entry_of run op reply = record { caller = run; op = op; reply = reply }
 
 -- the pass with one more entry of its own in its log
-abbrev pub added : PassState → Op → Reply → PassState
-added p op reply = record p { log = p.log ++ entry_of p.run op reply ∷ [] }
+abbrev pub with_own_entry : PassState → Op → Reply → PassState
+with_own_entry p op reply = record p { log = p.log ++ entry_of p.run op reply ∷ [] }
 
 -- the reply that a call got, by its answer; none if memory ran out
 abbrev pub reply_of : {A : Type 0} → (A → Reply) → Result A Halt → Option Reply
@@ -52,12 +46,12 @@ reply_of said (Err H.NoMemory) = None
 -- a call adds its entry with the reply, or nothing if there is none; an ended pass answers Ended, and stays as it is
 pub record IsCall {A : Type 0} (said : A → Reply) (op : Op) (before after : PassState) (result : Result A Halt) : Type 0 where
   pub ended : has_ended before ≡ true → (after ≡ before) × (result ≡ Err H.Ended)
-  pub replied : has_ended before ≡ false → MatchOption (reply_of said result) (after ≡ before) (λ r. after ≡ added before op r)
+  pub replied : has_ended before ≡ false → MatchOption (reply_of said result) (after ≡ before) (λ r. after ≡ with_own_entry before op r)
 
 -- a wait adds its Wait with the reply, or, if that is parked, the Wait and one Wake with the reply
 abbrev pub Waits : Bool → Target → PassState → PassState → Reply → Type 0
 Waits killed target p q r =
-    (q ≡ added p (O.Wait killed target) r) ⊎ (q ≡ added (added p (O.Wait killed target) R.Parked) (O.Wake killed target) r)
+    (q ≡ with_own_entry p (O.Wait killed target) r) ⊎ (q ≡ with_own_entry (with_own_entry p (O.Wait killed target) R.Parked) (O.Wake killed target) r)
 
 -- a wait is answered if its target holds, and is otherwise as a call
 pub record IsWait (killed : Bool) (target : Target) (before after : PassState) (result : Result (Unit {0}) Halt) : Type 0 where

@@ -1,17 +1,9 @@
 -- Which replies an operation can get.
 use Rattle.std.specs.Prelude.{Bool, true, false, not}
 use Rattle.tc_verdict.specs.declared.verdict.Verdict.TheVariants as V
-use Rattle.tc_entry.specs.declared.op.Op.{Op}
+use Rattle.tc_rules.specs.Prelude.{Op, Reply, is_ok, is_verdict_call}
 use Rattle.tc_entry.specs.declared.op.Op.TheVariants as O
-use Rattle.tc_entry.specs.declared.reply.Reply.{Reply}
 use Rattle.tc_entry.specs.declared.reply.Reply.TheVariants as R
-use Rattle.tc_entry.specs.Reply.{is_ok}
-use Rattle.tc_case.specs.Merge.{is_verdict_call}
-
--- the target of a wait does not hold yet
-abbrev pub is_parked : Reply → Bool
-is_parked R.Parked = true
-is_parked _ = false
 
 -- the new component is named
 abbrev pub is_made : Reply → Bool
@@ -24,10 +16,10 @@ is_answer (R.Answer b) = true
 is_answer _ = false
 
 -- the reply is a local verdict that a word can have: error is never in one
-abbrev pub is_local : Reply → Bool
-is_local (R.Local V.Error) = false
-is_local (R.Local v) = true
-is_local _ = false
+abbrev pub is_local_verdict : Reply → Bool
+is_local_verdict (R.Local V.Error) = false
+is_local_verdict (R.Local v) = true
+is_local_verdict _ = false
 
 -- the target of a wait holds, or not yet
 abbrev pub is_of_wait : Reply → Bool
@@ -44,7 +36,7 @@ suits_plainly (O.Done t) r = is_answer r
 suits_plainly (O.Killed t) r = is_answer r
 suits_plainly (O.Wait k t) r = is_of_wait r
 suits_plainly (O.Wake k t) r = is_of_wait r
-suits_plainly O.GetVerdict r = is_local r
+suits_plainly O.GetVerdict r = is_local_verdict r
 suits_plainly _ r = is_ok r
 
 -- the operation can get this reply; a verdict call gets no error

@@ -4,20 +4,20 @@ ghost use Rattle.tc_book.specs.Inside.{start_at};
 ghost use Rattle.tc_entry.specs.declared.limits.TheConstants.{BEHAVIOURS};
 ghost use Rattle.tc_entry.specs.declared.op.Op.TheVariants as ops;
 ghost use Rattle.tc_entry.specs.declared.reply.Reply.TheVariants as replies;
-ghost use Rattle.tc_table.specs.History as history;
-ghost use Rattle.tc_table.specs.Legal.{IsLegal};
-ghost use Rattle.tc_book.specs.OpenCase.{AreOthers, has_leave, has_wake, opening_place, past_of, places_after, reply_to, with_entry, without_leave, without_wake};
+ghost use Rattle.tc_rules.specs.History as history;
+ghost use Rattle.tc_rules.specs.Prelude.{IsLegal, is_verdict_call};
+ghost use Rattle.tc_book.specs.OpenCase.{AreOthers, has_leave, has_wake, opening_place, open_past, places_after, reply_to, with_entry, without_leave, without_wake};
 ghost use Rattle.tc_book.specs.Replies.{suits};
 ghost use Rattle.tc_book.specs.Starts as starts;
 ghost use Rattle.tc_book.specs.Waking.{WouldPark};
-ghost use Rattle.tc_words.specs.Words.{WordsAgree, record_at};
-ghost use Rattle.tc_case.specs.Merge.{is_verdict_call};
-ghost use Rattle.tc_board.specs.Board.{new_keeper};
+ghost use Rattle.tc_book.specs.Words.{WordsAgree, record_at};
+ghost use Rattle.tc_board.specs.Prelude.{new_keeper};
 ghost use Rattle.std.specs.Arc.{arc_value};
 
 mod closing;
 mod waking;
 
+use crate::Words;
 use crate::places::{Places, places_of, put};
 use crate::starts::{no_starts, note_start, start_of};
 use std::alloc::Global;
@@ -25,9 +25,8 @@ use std::marker::Model;
 use std::sync::Arc;
 use tc_board::{Board, Keeper, Record};
 use tc_entry::{Args, Comp, Op, Reply, Target};
-use tc_table::Table;
+use tc_rules::Table;
 use tc_verdict::{NoMemory, Run, UserVerdict};
-use tc_words::Words;
 
 /// What the lock of a case holds: the component table with its history, what each run was started with, the places kept
 /// for each run in the history, and the record of each run's word. The history has no entries of verdict calls.
@@ -229,8 +228,8 @@ impl Book {
 
     /// The component and the arguments with which a run was started.
     pub fn start_of(&self, run: Run) -> Option<(Comp, Args)>
-        ensures start { result ≡ starts.start_of (past_of self.now) run.0 }
-        ensures legal { IsLegal self.now.behaviours (past_of self.now) }
+        ensures start { result ≡ starts.start_of (open_past self.now) run.0 }
+        ensures legal { IsLegal self.now.behaviours (open_past self.now) }
     {
         start_of(&self.starts, run)
     }
@@ -238,16 +237,16 @@ impl Book {
     /// What was done with the word of a run.
     pub fn word_of(&self, run: Run) -> Record
         ensures word { result ≡ record_at self.now.words run.0 }
-        ensures agreeing { WordsAgree self.now.behaviours (past_of self.now) self.now.words }
-        ensures others { AreOthers (past_of self.now) }
+        ensures agreeing { WordsAgree self.now.behaviours (open_past self.now) self.now.words }
+        ensures others { AreOthers (open_past self.now) }
     {
         self.words.record_of(run)
     }
 
     /// Does nothing. Every book is so.
     pub(crate) fn is_legal(&self)
-        ensures legal { IsLegal self.now.behaviours (past_of self.now) }
-        ensures others { AreOthers (past_of self.now) }
+        ensures legal { IsLegal self.now.behaviours (open_past self.now) }
+        ensures others { AreOthers (open_past self.now) }
     {
         // A field is read, so that the proof has what every book keeps.
         let _ = &self.count;
@@ -262,7 +261,7 @@ impl Book {
 
     /// Whether the case is over.
     pub(crate) fn is_over(&self) -> bool
-        ensures { result ≡ history.is_over (past_of self.now) }
+        ensures { result ≡ history.is_over (open_past self.now) }
     {
         self.table.is_over()
     }

@@ -1,6 +1,6 @@
 //! Whether the entries of a history are of runs that were started before them.
 ghost use Rattle.std.specs.Prelude.{◌≡◌, ◌↔◌, true, IfOk, IsTrue, reverse};
-ghost use Rattle.tc_table.specs.Legal.{IsLegal};
+ghost use Rattle.tc_rules.specs.Prelude.{IsLegal};
 ghost use Rattle.tc_book.specs.Closing.{all_started};
 ghost use Rattle.tc_book.specs.Inside.{KnowsParts};
 

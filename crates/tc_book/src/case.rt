@@ -3,12 +3,11 @@ ghost use Rattle.std.specs.Prelude.{◌≡◌, ◌<◌, ◌≤◌, ◌+◌, ◌-
 ghost use Rattle.std.specs.Vec.{vec_len, vec_capacity};
 ghost use Rattle.std.specs.Arc.{arc_value};
 ghost use Rattle.tc_entry.specs.declared.limits.TheConstants.{BEHAVIOURS};
-ghost use Rattle.tc_board.specs.Board.{new_hand, new_hands, new_keeper};
-ghost use Rattle.tc_verdict.specs.declared.run.Run.{Run};
-ghost use Rattle.tc_case.specs.declared.closed.CloseFault.TheVariants as faults;
+ghost use Rattle.tc_board.specs.Prelude.{new_hand, new_hands, new_keeper};
+ghost use Rattle.tc_rules.specs.Prelude.{Run, IsOneHistory};
+ghost use Rattle.tc_rules.specs.declared.closed.CloseFault.TheVariants as faults;
 ghost use Rattle.tc_book.specs.Closing.{IsOneEach, IsWhole};
 ghost use Rattle.tc_book.specs.Inside.Waiting.{waiting_places};
-ghost use Rattle.tc_case.specs.Report.{IsOneHistory};
 
 use crate::book::Book;
 use crate::left::Left;
@@ -20,8 +19,8 @@ use crate::ticket::Ticket;
 use std::alloc::{AllocError, Global};
 use std::sync::{Arc, Wait};
 use tc_board::{Board, Hand, Keeper};
-use tc_case::{CloseFault, Closed};
 use tc_entry::{Args, Comp, Entry};
+use tc_rules::{CloseFault, Closed};
 use tc_verdict::{NoMemory, Run};
 
 /// A log without entries, with a place for one.

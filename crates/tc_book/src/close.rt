@@ -1,18 +1,18 @@
 //! Whether what came back of a case is whole.
 ghost use Rattle.std.specs.Prelude.{◌≡◌, ◌↔◌, ℕ, ◌<◌, [], None, All, IsTrue, count_by};
 ghost use Rattle.tc_book.specs.Inside.{IsPlaced, ArePlaced};
-ghost use Rattle.tc_book.specs.Closing.{is_of_run, IsOneEach, Agrees, IsAgreed};
-ghost use Rattle.tc_case.specs.Merge.{logged};
+ghost use Rattle.tc_book.specs.Closing.{is_left_of, IsOneEach, Agrees, IsAgreed};
+ghost use Rattle.tc_rules.specs.Prelude.{logged};
 
 use crate::left::Left;
 use crate::starts::{comp_of, start_of};
+use crate::{Words, counts};
 use tc_board::Record;
-use tc_case::RunLog;
 use tc_entry::{Args, Comp, Entry};
-use tc_words::{Words, counts};
+use tc_rules::RunLog;
 
 fn count_of(lefts: &[Left], run: u16) -> usize
-    ensures { result ≡ count_by (is_of_run run) lefts.now }
+    ensures { result ≡ count_by (is_left_of run) lefts.now }
 {
     lefts.iter().filter(|left| left.run().0 == run).count()
 }
@@ -24,7 +24,7 @@ fn are_within(lefts: &[Left], behaviours: u16) -> bool
 }
 
 fn has_one_each(lefts: &[Left], behaviours: u16) -> bool
-    ensures { IsTrue result ↔ ((b : ℕ) → b < behaviours → count_by (is_of_run b) lefts.now ≡ 1) }
+    ensures { IsTrue result ↔ ((b : ℕ) → b < behaviours → count_by (is_left_of b) lefts.now ≡ 1) }
 {
     for run in 0..behaviours {
         if count_of(lefts, run) != 1 {

@@ -4,8 +4,8 @@ ghost use Rattle.tc_book.specs.Closing.{run_log};
 
 use crate::logged_book::GivenUp;
 use std::marker::Model;
-use tc_case::RunLog;
 use tc_entry::{Args, Comp, Entry, Sequence};
+use tc_rules::RunLog;
 use tc_verdict::Run;
 
 /// What a run leaves: its log, and what it was started with.

@@ -2,18 +2,16 @@
 ghost use Rattle.std.specs.Prelude.{◌≡◌, ◌≢◌, ◌≤◌, ◌+◌, true, false, IfOk, OnOk, OnErr, IfErr, IfSome, IfNone, OnSome, IsTrue, IsFalse, Some, None, Err, All, is_none, not, replicate, set, slice_index_or};
 ghost use Rattle.tc_entry.specs.declared.op.Op.TheVariants as ops;
 ghost use Rattle.tc_entry.specs.declared.reply.Reply.TheVariants as replies;
-ghost use Rattle.tc_table.specs.History as history;
-ghost use Rattle.tc_case.specs.declared.closed.CloseFault.TheVariants as why;
+ghost use Rattle.tc_rules.specs.History as history;
+ghost use Rattle.tc_rules.specs.declared.closed.CloseFault.TheVariants as why;
 ghost use Rattle.tc_book.specs.Closing.{IsAgreed, IsMerged, IsOneEach, merged};
 ghost use Rattle.tc_book.specs.Inside.{IsAwaitedIn, goes_on, is_closed, with_own, wakes};
-ghost use Rattle.tc_table.specs.Legal.{IsLegal};
-ghost use Rattle.tc_book.specs.OpenCase.{AreOthers, has_leave, has_wake, past_of, places_after, reply_to, with_entry, without_leave, without_wake};
+ghost use Rattle.tc_rules.specs.Prelude.{IsLegal, IsOneHistory, is_verdict_call};
+ghost use Rattle.tc_book.specs.OpenCase.{AreOthers, has_leave, has_wake, open_past, places_after, reply_to, with_entry, without_leave, without_wake};
 ghost use Rattle.tc_book.specs.Replies.{suits};
-ghost use Rattle.tc_case.specs.Report.{IsOneHistory};
 ghost use Rattle.tc_book.specs.Starts as starts;
 ghost use Rattle.tc_book.specs.Waking.{NobodyWakes, WouldPark};
-ghost use Rattle.tc_case.specs.Merge.{is_verdict_call};
-ghost use Rattle.tc_board.specs.Hand.{answered};
+ghost use Rattle.tc_board.specs.Prelude.{answered};
 ghost use Rattle.tc_board.specs.declared.answer.Answer.TheVariants.{Met};
 
 pub(crate) mod log;
@@ -25,8 +23,8 @@ use crate::run_hand::RunHand;
 use crate::until::Until;
 use crate::wake_up::WakeUp;
 use std::alloc::Global;
-use tc_case::{CloseFault, Closed};
 use tc_entry::{Args, Comp, Op, Reply, Target};
+use tc_rules::{CloseFault, Closed};
 use tc_verdict::{NoMemory, Run};
 
 /// That a run was never started in a case that is over. Only the book that says so makes one.
@@ -222,8 +220,8 @@ impl LoggedBook {
 
     /// Does nothing. Every book is so.
     pub(crate) fn is_legal(&self)
-        ensures legal { IsLegal self.now.book.behaviours (past_of self.now.book) }
-        ensures others { AreOthers (past_of self.now.book) }
+        ensures legal { IsLegal self.now.book.behaviours (open_past self.now.book) }
+        ensures others { AreOthers (open_past self.now.book) }
     {
         self.book.is_legal();
     }
@@ -236,13 +234,13 @@ impl LoggedBook {
         hand: &mut RunHand,
     ) -> Option<Result<(Comp, Args), Unstarted>>
         ensures book { self.new.book ≡ self.old.book }
-        ensures waits { IfNone result (starts.start_of (past_of self.old.book) run.0 ≡ None → history.is_over (past_of self.old.book) ≡ false) }
+        ensures waits { IfNone result (starts.start_of (open_past self.old.book) run.0 ≡ None → history.is_over (open_past self.old.book) ≡ false) }
         ensures unmet { IfNone result (hand.new ≡ hand.old) }
         ensures waits_still { IfNone result (self.new.waiting.items ≡ self.old.waiting.items) }
         ensures waits_no_more { OnSome result (self.new.waiting.items ≡ set self.old.waiting.items run.0 None) }
         ensures met { IfSome result (λ s. OnOk s (hand.new ≡ answered hand.old Met)) }
-        ensures started { IfSome result (λ s. IfOk s (λ c. IsAwaitedIn self.old.book.behaviours (past_of self.old.book) run.0 (Some c))) }
-        ensures unstarted { IfSome result (λ s. OnErr s (IsAwaitedIn self.old.book.behaviours (past_of self.old.book) run.0 None)) }
+        ensures started { IfSome result (λ s. IfOk s (λ c. IsAwaitedIn self.old.book.behaviours (open_past self.old.book) run.0 (Some c))) }
+        ensures unstarted { IfSome result (λ s. OnErr s (IsAwaitedIn self.old.book.behaviours (open_past self.old.book) run.0 None)) }
         ensures run { IfSome result (λ s. IfErr s (λ u. u.run ≡ run)) }
     {
         let start = self.book.start_of(run);

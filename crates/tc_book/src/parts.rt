@@ -1,11 +1,11 @@
 //! The logs of a case by the numbers of their runs, and whether each is its run's part of a history.
 ghost use Rattle.std.specs.Prelude.{◌≡◌, ◌<◌, ◌↔◌, ℕ, [], All, IfOk, IsTrue, IsFalse, length, slice_index_or};
-ghost use Rattle.tc_case.specs.Merge.{log_of};
+ghost use Rattle.tc_rules.specs.Prelude.{log_of};
 ghost use Rattle.tc_book.specs.Inside.{IsNotNext, IsTaken, KnowsParts};
 
 use std::alloc::Global;
-use tc_case::RunLog;
 use tc_entry::{Entry, Sequence};
+use tc_rules::RunLog;
 use tc_verdict::NoMemory;
 
 // That many empty parts.

@@ -1,14 +1,13 @@
 //! The pass of a started run: what its behaviour calls the case by.
 ghost use Rattle.std.specs.Prelude.{◌≡◌, ◌<◌, ◌≤◌, [], true, false, IfOk, Some, None};
 ghost use Rattle.tc_entry.specs.declared.op.Op.TheVariants as ops;
-ghost use Rattle.tc_entry.specs.declared.reply.Reply.{Reply};
+ghost use Rattle.tc_rules.specs.Prelude.{Reply, is_verdict_call};
 ghost use Rattle.tc_entry.specs.declared.reply.Reply.TheVariants as replies;
 ghost use Rattle.tc_book.specs.Hands.{IsHandOf};
-ghost use Rattle.tc_book.specs.Passes.{has_ended, added, reply_of, IsCall, IsWait};
+ghost use Rattle.tc_book.specs.Passes.{has_ended, with_own_entry, reply_of, IsCall, IsWait};
 ghost use Rattle.tc_book.specs.Replies.{suits};
 ghost use Rattle.tc_book.specs.Inside.Waiting.{waiting_places};
 ghost use Rattle.tc_book.specs.Inside.{is_halt};
-ghost use Rattle.tc_case.specs.Merge.{is_verdict_call};
 
 use crate::halt::Halt;
 use crate::left::Left;
@@ -304,7 +303,7 @@ impl Pass {
         ensures run { result.run ≡ self.run }
         ensures started { result.started ≡ Some (self.me, self.args) }
         ensures ended { has_ended self ≡ true → result.log ≡ self.log }
-        ensures finished { has_ended self ≡ false → (r : Reply) × (result.log ≡ (added self ops.Finish r).log) × (suits ops.Finish r ≡ true) }
+        ensures finished { has_ended self ≡ false → (r : Reply) × (result.log ≡ (with_own_entry self ops.Finish r).log) × (suits ops.Finish r ≡ true) }
     {
         let Pass {
             shared,

@@ -1,19 +1,13 @@
 //! The report of a case whose runs came back whole.
 ghost use Rattle.std.specs.Prelude.{◌≡◌, ◌≤◌, ◌++◌, true, IfOk, OnOk, filter, length, reverse};
 ghost use Rattle.tc_entry.specs.declared.limits.TheConstants.{BEHAVIOURS};
-ghost use Rattle.tc_table.specs.History.{is_over};
-ghost use Rattle.tc_table.specs.Standing.{StandsFor};
-ghost use Rattle.tc_table.specs.Legal.{IsLegal};
-ghost use Rattle.tc_case.specs.Merge.{is_other, merge, logged};
+ghost use Rattle.tc_rules.specs.Prelude.{is_over, StandsFor, IsLegal, is_other, merge, logged, logs_below, IsOneHistory};
 ghost use Rattle.tc_book.specs.Inside.{KnowsStarts, KnowsParts, log_on, logs_from};
-ghost use Rattle.tc_case.specs.Parts.{logs_below};
-ghost use Rattle.tc_case.specs.Report.{IsOneHistory};
 
 use crate::starts::comp_of;
 use std::alloc::Global;
-use tc_case::{Closed, RunLog};
 use tc_entry::{Args, Comp, Entry, Sequence};
-use tc_table::{CaseState, locals_of};
+use tc_rules::{CaseState, Closed, RunLog, locals_of};
 use tc_verdict::{NoMemory, Run};
 
 /// Adds the log of a run, if it was started.

@@ -1,7 +1,7 @@
 //! The hand of a run, with an owner of its board.
 ghost use Rattle.std.specs.Prelude.{◌≡◌, ◌≢◌, [], true, MatchBool};
 ghost use Rattle.std.specs.Arc.{arc_value};
-ghost use Rattle.tc_board.specs.Hand.{answered};
+ghost use Rattle.tc_board.specs.Prelude.{answered};
 ghost use Rattle.tc_board.specs.declared.answer.Answer.TheVariants.{Met};
 ghost use Rattle.tc_entry.specs.declared.op.Op.TheVariants as ops;
 ghost use Rattle.tc_book.specs.Inside.{Says};
@@ -23,7 +23,7 @@ pub(crate) struct RunHand {
 impl Model for RunHand {
     ghost use Rattle.std.specs.Prelude.{◌≡◌};
     ghost use Rattle.std.specs.Arc.{arc_value};
-    ghost use Rattle.tc_board.specs.Hand.{HandView};
+    ghost use Rattle.tc_board.specs.Prelude.{HandView};
 
     ghost Value = { HandView };
 

@@ -3,16 +3,14 @@ ghost use Rattle.std.specs.Prelude.{◌≡◌, ◌≢◌, ◌≤◌, ◌<◌, �
 ghost use Rattle.tc_entry.specs.declared.op.Op.TheVariants as ops;
 ghost use Rattle.tc_entry.specs.declared.reply.Reply.TheVariants as replies;
 ghost use Rattle.tc_book.specs.Replies.{suits};
-ghost use Rattle.tc_case.specs.declared.closed.CloseFault.TheVariants as faults;
+ghost use Rattle.tc_rules.specs.declared.closed.CloseFault.TheVariants as faults;
 ghost use Rattle.tc_book.specs.Closing.{IsAgreed, IsMerged, IsOneEach, IsWhole, merged};
-ghost use Rattle.tc_case.specs.Report.{IsOneHistory};
+ghost use Rattle.tc_rules.specs.Prelude.{IsOneHistory, IsLegal, is_verdict_call};
 ghost use Rattle.tc_book.specs.Inside.{goes_on, is_closed, with_own};
 ghost use Rattle.tc_book.specs.Inside.Waiting.{waiting_places};
 ghost use Rattle.std.specs.Sync.Mutex.{mutex_guard_value};
-ghost use Rattle.tc_table.specs.Legal.{IsLegal};
-ghost use Rattle.tc_book.specs.OpenCase.{AreOthers, has_leave, past_of};
-ghost use Rattle.tc_case.specs.Merge.{is_verdict_call};
-ghost use Rattle.tc_board.specs.Hand.{answered};
+ghost use Rattle.tc_book.specs.OpenCase.{AreOthers, has_leave, open_past};
+ghost use Rattle.tc_board.specs.Prelude.{answered};
 ghost use Rattle.tc_board.specs.declared.answer.Answer.TheVariants.{Met};
 
 use crate::book::Book;
@@ -25,8 +23,8 @@ use crate::until::{Lack, Until};
 use std::alloc::{AllocError, Global};
 use std::marker::Model;
 use std::sync::{Arc, Mutex, MutexGuard, Wait};
-use tc_case::{CloseFault, Closed};
 use tc_entry::{Args, Comp, Op, Reply, Target};
+use tc_rules::{CloseFault, Closed};
 use tc_verdict::{NoMemory, Run};
 
 #[derive(Drop)]
@@ -219,8 +217,8 @@ impl Shared {
 
     /// A look at the book, which is locked until the look is let go.
     pub fn look<R: Wait>(&self, rt: &R) -> Look<'_>
-        ensures legal { IsLegal result.behaviours (past_of result) }
-        ensures others { AreOthers (past_of result) }
+        ensures legal { IsLegal result.behaviours (open_past result) }
+        ensures others { AreOthers (open_past result) }
     {
         let book = self.held.book.lock(rt);
         book.is_legal();

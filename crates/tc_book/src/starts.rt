@@ -1,8 +1,8 @@
 //! What each run was started with.
 ghost use Rattle.std.specs.Prelude.{◌≡◌, ℕ, IfOk, None, length};
-ghost use Rattle.tc_table.specs.History.{first_some};
+ghost use Rattle.tc_rules.specs.Prelude.{first_some};
 ghost use Rattle.tc_book.specs.Inside.{start_at};
-ghost use Rattle.tc_book.specs.Starts.{start_in};
+ghost use Rattle.tc_book.specs.Starts.{started_with};
 ghost use Rattle.tc_book.specs.Inside.{comp_by, StartsBelow};
 
 use std::alloc::Global;
@@ -50,7 +50,7 @@ pub(crate) fn comp_of(starts: &[Option<(Comp, Args)>], run: Run) -> Option<Comp>
 pub(crate) fn note_start(starts: &mut Vec<Option<(Comp, Args)>>, op: &Op, reply: Reply)
     requires { StartsBelow op.now reply (length starts.old.items) }
     ensures len { length starts.new.items ≡ length starts.old.items }
-    ensures noted { (b : ℕ) → start_at starts.new.items b ≡ first_some (start_at starts.old.items b) (start_in op.now reply b) }
+    ensures noted { (b : ℕ) → start_at starts.new.items b ≡ first_some (start_at starts.old.items b) (started_with op.now reply b) }
 {
     if let (Op::Start { comp, run, args }, Reply::Ok) = (op, reply) {
         let i = usize::from(run.0);

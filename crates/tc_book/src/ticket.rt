@@ -25,7 +25,7 @@ pub struct Ticket {
 impl Model for Ticket {
     ghost use Rattle.std.specs.Prelude.{◌≡◌, ◌<◌, []};
     ghost use Rattle.std.specs.Vec.{vec_len, vec_capacity};
-    ghost use Rattle.tc_verdict.specs.declared.run.Run.{Run};
+    ghost use Rattle.tc_rules.specs.Prelude.{Run};
     ghost use Rattle.tc_book.specs.Inside.{IsNewHand};
     ghost use Rattle.tc_book.specs.Inside.Waiting.{waiting_places};
 

@@ -2,15 +2,15 @@
 use Rattle.std.proofs.Common.{ℕ, ◌≡◌, ◌∙◌, ◌++◌, ◌∷◌, [], Bool, Option, Some, None, List, map, length, refl, subst, sym, ap}
 use Rattle.std.specs.Prelude.{IfSome, slice_get}
 use Rattle.std.proofs.lemmas.List.Elements.{All-nil}
-use Rattle.tc_verdict.specs.declared.verdict.Verdict.{Verdict}
-use Rattle.tc_book.specs.Passes.{PassState}
-use Rattle.tc_case.specs.declared.refusal.CaseError.TheVariants as C
-use Rattle.tc_exec.specs.Case.{IsHandedBack}
+use Rattle.tc_rules.specs.Prelude.{Verdict}
+use Rattle.tc_book.specs.Prelude.{PassState}
+use Rattle.tc_rules.specs.declared.refusal.CaseError.TheVariants as C
+use Rattle.tc_exec.specs.Prelude.{IsHandedBack}
 use Rattle.tc_exec.specs.declared.job.Back.{Back}
 use Rattle.tc_report.specs.declared.results.CampaignEnd.{CampaignEnd}
 use Rattle.tc_report.specs.declared.results.CampaignEnd.TheVariants as E
 use Rattle.tc_report.specs.declared.results.Finished.{Finished}
-use Rattle.tc_report.specs.Observers.{AreTaken}
+use Rattle.tc_report.specs.Prelude.{AreTaken}
 use Rattle.tc_report.proofs.Lemmas.Observing.{taken_more}
 use Rattle.tc_campaign.specs.declared.case.Case.{Case}
 use Rattle.tc_campaign.specs.declared.step.Step.TheVariants as S

@@ -3,14 +3,14 @@ use Rattle.std.proofs.Common.{ℕ, Bool, Some, None, ◌≡◌, ◌∙◌, ◌-�
 use Rattle.std.specs.Prelude.{IfNone, IfSome, IsNone, IsSomeAnd, slice_get}
 use Rattle.std.specs.List.{AllZip}
 use Rattle.std.proofs.lemmas.List.Elements.{All-map, All-nil, All-cons, All-head, All-tail, All-take}
-use Rattle.tc_verdict.specs.declared.verdict.Verdict.{Verdict}
-use Rattle.tc_book.specs.Passes.{PassState}
-use Rattle.tc_case.specs.declared.refusal.CaseError.{CaseError}
+use Rattle.tc_rules.specs.Prelude.{Verdict}
+use Rattle.tc_book.specs.Prelude.{PassState}
+use Rattle.tc_rules.specs.declared.refusal.CaseError.{CaseError}
 use Rattle.tc_exec.specs.declared.job.Back.{Back}
 use Rattle.tc_report.specs.declared.results.CampaignEnd.{CampaignEnd}
 use Rattle.tc_report.specs.declared.results.Finished.{Finished}
 use Rattle.tc_campaign.specs.declared.case.Case.{Case}
-use Rattle.tc_report.specs.Stopping.{IsMet}
+use Rattle.tc_report.specs.Prelude.{IsMet}
 use Rattle.tc_campaign.specs.Outline.{Outline, HasNames, outline_of}
 use Rattle.tc_campaign.specs.Campaign.{AreFinished, IsCalled, IsCutShort, IsEnding, IsObserved, IsOfCase, IsRefusal}
 use Rattle.tc_campaign.specs.Inside.{HasBehaviours, IsBetter, IsReported, IsNamed, IsOf, IsSoFar, IsRun, IsWhy, WasRun}

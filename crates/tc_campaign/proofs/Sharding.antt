@@ -2,7 +2,7 @@
 use Rattle.std.proofs.Common.{ℕ, ◌≡◌, ◌∙◌, ◌%◌, true, refl, sym, ap}
 use Rattle.std.proofs.lemmas.Bool.{eq-eqb, eqb-true}
 use Rattle.std.proofs.Math.Nat.{mod-lt}
-use Rattle.tc_entry.specs.Shard.{ShardView, has_place}
+use Rattle.tc_rules.specs.Prelude.{ShardView, has_place}
 use Rattle.tc_campaign.specs.Choosing.{ShardsAreAll}
 
 -- the place of a shard that has a test case

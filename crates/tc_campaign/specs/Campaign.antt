@@ -1,22 +1,20 @@
 -- Right results of a campaign.
 use Rattle.std.specs.Prelude.{ℕ, ◌≡◌, ◌<◌, ◌≤◌, ◌+◌, ◌-◌, ◌⊎◌, ◌++◌, ◌∷◌, Bool, Option, List, [], All, IfSome, IsNone, IsSomeAnd, length, map, take, slice_get, false}
 use Rattle.std.specs.List.{AllZip}
-use Rattle.tc_entry.specs.Limits.{IsBehaviours}
+use Rattle.tc_rules.specs.Prelude.{IsBehaviours, Verdict}
 use Rattle.tc_entry.specs.declared.limits.TheConstants.{BEHAVIOURS}
-use Rattle.tc_verdict.specs.declared.verdict.Verdict.{Verdict}
-use Rattle.tc_book.specs.Passes.{PassState}
-use Rattle.tc_case.specs.declared.refusal.CaseError.{CaseError}
-use Rattle.tc_case.specs.declared.refusal.CaseError.TheVariants as C
-use Rattle.tc_case.specs.declared.refusal.CaseError.TheVariants.{NoMemory}
+use Rattle.tc_book.specs.Prelude.{PassState}
+use Rattle.tc_rules.specs.declared.refusal.CaseError.{CaseError}
+use Rattle.tc_rules.specs.declared.refusal.CaseError.TheVariants as C
+use Rattle.tc_rules.specs.declared.refusal.CaseError.TheVariants.{NoMemory}
 use Rattle.tc_exec.specs.declared.job.Back.{Back}
-use Rattle.tc_exec.specs.Case.{IsCaseReport, AreCalled, IsHandedBack, IsMadeOf}
+use Rattle.tc_exec.specs.Prelude.{IsCaseReport, AreCalled, IsHandedBack, IsMadeOf}
 use Rattle.tc_report.specs.declared.results.CampaignEnd.{CampaignEnd}
 use Rattle.tc_report.specs.declared.results.CampaignEnd.TheVariants as E
 use Rattle.tc_report.specs.declared.results.Finished.{Finished}
 use Rattle.tc_campaign.specs.declared.case.Case.{Case}
-use Rattle.tc_report.specs.Observers.{AreTaken}
+use Rattle.tc_report.specs.Prelude.{AreTaken, IsMet}
 use Rattle.tc_campaign.specs.Outline.{Outline, outline_of}
-use Rattle.tc_report.specs.Stopping.{IsMet}
 
 -- a finished case has the name and the behaviour names of this case
 pub record IsOfCase (c : Outline) (f : Finished) : Type 0 where

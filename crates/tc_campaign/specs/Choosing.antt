@@ -2,22 +2,21 @@
 use Rattle.std.specs.Prelude.{ℕ, ◌≡◌, ◌+◌, ◌<◌, ◌==◌, ◌||◌, Bool, true, List, [], ◌∷◌, Option, Some, None, filter, if◌then◌else◌, length}
 use Rattle.std.specs.List.{list_all, list_any}
 use Rattle.tc_campaign.specs.declared.case.Case.{Case}
-use Rattle.tc_entry.specs.Pattern.{matches}
-use Rattle.tc_entry.specs.Shard.{IsShard, ShardView, has_place}
+use Rattle.tc_rules.specs.Prelude.{matches, IsShard, ShardView, has_place}
 
 -- one of the patterns that are asked for matches the name; if there is none, each name is asked for
 abbrev pub is_asked : List (List ℕ) → List ℕ → Bool
 is_asked only name = (length only == 0) || list_any (λ pattern. matches pattern name) only
 
 -- those of the shard, if the first is at this place
-abbrev pub placed : {C : Type 0} → ShardView → ℕ → List C → List C
-placed s place [] = []
-placed s place (c ∷ cs) = if has_place s place then c ∷ placed s (place + 1) cs else placed s (place + 1) cs
+abbrev pub placed_in_shard : {C : Type 0} → ShardView → ℕ → List C → List C
+placed_in_shard s place [] = []
+placed_in_shard s place (c ∷ cs) = if has_place s place then c ∷ placed_in_shard s (place + 1) cs else placed_in_shard s (place + 1) cs
 
 -- those of the shard; without a shard all of them
 abbrev pub in_shard : {C : Type 0} → Option ShardView → List C → List C
 in_shard None cs = cs
-in_shard (Some s) cs = placed s 0 cs
+in_shard (Some s) cs = placed_in_shard s 0 cs
 
 module _ {C : Type 0} (name_of : C → List ℕ) where
   -- the shard of those whose names are asked for, in their order

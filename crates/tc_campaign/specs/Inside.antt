@@ -1,26 +1,24 @@
 -- What the functions inside of a campaign say, which no public clause names.
 use Rattle.std.specs.Prelude.{ℕ, ◌≡◌, ◌≤◌, ◌+◌, ◌++◌, ◌∷◌, [], ⊤, Option, Some, None, Bool, true, false, Result, Ok, Err, List, All, IfSome, filter, length, map, take, slice_get}
-use Rattle.tc_entry.specs.Limits.{IsBehaviours}
+use Rattle.tc_rules.specs.Prelude.{IsBehaviours, Verdict}
 use Rattle.tc_entry.specs.declared.limits.TheConstants.{BEHAVIOURS}
-use Rattle.tc_case.specs.declared.closed.Closed.{Closed}
+use Rattle.tc_rules.specs.declared.closed.Closed.{Closed}
 use Rattle.std.specs.List.{AllZip}
-use Rattle.tc_verdict.specs.declared.verdict.Verdict.{Verdict}
-use Rattle.tc_case.specs.declared.refusal.CaseError.{CaseError}
-use Rattle.tc_case.specs.declared.refusal.CaseError.TheVariants as C
-use Rattle.tc_exec.specs.Case.{IsCaseReport, IsHandedBack}
+use Rattle.tc_rules.specs.declared.refusal.CaseError.{CaseError}
+use Rattle.tc_rules.specs.declared.refusal.CaseError.TheVariants as C
+use Rattle.tc_exec.specs.Prelude.{IsCaseReport, IsHandedBack}
 use Rattle.tc_exec.specs.declared.job.Back.{Back}
-use Rattle.tc_book.specs.Passes.{PassState}
+use Rattle.tc_book.specs.Prelude.{PassState}
 use Rattle.tc_report.specs.declared.results.CampaignEnd.{CampaignEnd}
 use Rattle.tc_report.specs.declared.results.CampaignEnd.TheVariants as E
 use Rattle.tc_report.specs.declared.results.Finished.{Finished}
-use Rattle.tc_report.specs.Observers.{AreTaken}
+use Rattle.tc_report.specs.Prelude.{AreTaken, IsMet}
 use Rattle.tc_campaign.specs.declared.case.Case.{Case}
 use Rattle.tc_campaign.specs.declared.step.Step.{Step}
 use Rattle.tc_campaign.specs.declared.step.Step.TheVariants as S
 use Rattle.tc_campaign.specs.Choosing.{is_asked}
 use Rattle.tc_campaign.specs.Outline.{Outline, outline_of}
 use Rattle.tc_report.specs.Inside.{IsEndedAt}
-use Rattle.tc_report.specs.Stopping.{IsMet}
 use Rattle.tc_campaign.specs.Campaign.{IsCalled, IsOfCase, IsRefusal, IsTornAt}
 
 -- the stopping rule is not met

@@ -1,7 +1,7 @@
 //! The run of a campaign.
 ghost use Rattle.std.specs.Prelude.{◌≡◌, ◌≤◌, [], All, IfOk, IfErr, IfSome, IfNone, Option, length, map, slice_get, ℕ};
 ghost use Rattle.std.specs.Vec.{vec_capacity, vec_len};
-ghost use Rattle.tc_verdict.specs.declared.verdict.Verdict.{Verdict as AnyVerdict};
+ghost use Rattle.tc_rules.specs.Prelude.{Verdict as AnyVerdict};
 ghost use Rattle.tc_campaign.specs.Outline.{HasNames, outline_of};
 ghost use Rattle.tc_campaign.specs.Campaign.{IsCalled, IsCutShort, IsObserved, IsRunTo, IsTornAt};
 ghost use Rattle.tc_campaign.specs.Inside.{HasThreads, IsOf, IsRefused, IsStep, IsUnrun, WasRun, ended_by};

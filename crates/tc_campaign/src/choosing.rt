@@ -1,8 +1,8 @@
 //! Which test cases of a campaign are chosen.
 ghost use Rattle.std.specs.Prelude.{◌≡◌, ◌++◌, IfOk, OnOk};
 ghost use Rattle.std.specs.List.{list_any};
-ghost use Rattle.tc_entry.specs.Pattern.{matches};
-ghost use Rattle.tc_campaign.specs.Choosing.{case_name, chosen, have_names, is_asked as spec_asked, placed};
+ghost use Rattle.tc_rules.specs.Prelude.{matches};
+ghost use Rattle.tc_campaign.specs.Choosing.{case_name, chosen, have_names, is_asked as spec_asked, placed_in_shard};
 ghost use Rattle.tc_campaign.specs.Inside.{named as spec_named};
 
 use crate::case::Case;
@@ -38,7 +38,7 @@ fn take_sharded<B: Drop>(
     shard: Shard,
     taken: &mut Vec<Case<B>>,
 ) -> Result<(), NoMemory>
-    ensures { OnOk result (taken.new.items ≡ taken.old.items ++ placed shard 0 cases.items) }
+    ensures { OnOk result (taken.new.items ≡ taken.old.items ++ placed_in_shard shard 0 cases.items) }
 {
     let mut place: usize = 0;
     for case in cases {
@@ -55,7 +55,7 @@ fn sharded<B: Drop>(
     cases: Vec<Case<B>>,
     shard: Shard,
 ) -> Result<Vec<Case<B>>, NoMemory>
-    ensures { IfOk result (λ r. r.items ≡ placed shard 0 cases.items) }
+    ensures { IfOk result (λ r. r.items ≡ placed_in_shard shard 0 cases.items) }
 {
     let mut taken = Vec::new(alloc);
     take_sharded(cases, shard, &mut taken)?;

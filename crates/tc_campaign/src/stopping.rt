@@ -1,6 +1,6 @@
 //! What the stopping rule makes of a test case.
 ghost use Rattle.std.specs.Prelude.{◌≡◌, IfSome, IfNone};
-ghost use Rattle.tc_report.specs.Stopping.{IsMet};
+ghost use Rattle.tc_report.specs.Prelude.{IsMet};
 ghost use Rattle.tc_report.specs.declared.results.CampaignEnd.TheVariants.{StoppedAfter};
 
 use tc_entry::Verdict;

@@ -1,5 +1,5 @@
 //! Campaigns that end early, and test cases one after the other.
-ghost use Rattle.tc_campaign.specs.Outline.{HasNames};
+ghost use Rattle.tc_campaign.specs.Prelude.{HasNames};
 
 use crate::cases::{Counts, Does, between, case_of, counted};
 use crate::checks::{holds, is};

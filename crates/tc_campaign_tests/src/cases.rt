@@ -1,6 +1,6 @@
 //! Test cases of a campaign, whose behaviours do what their kind says.
 ghost use Rattle.std.specs.Prelude.{All, IfOk, ⊤};
-ghost use Rattle.tc_campaign.specs.Outline.{HasNames};
+ghost use Rattle.tc_campaign.specs.Prelude.{HasNames};
 
 use crate::results::name;
 use std::alloc::{AllocError, Global};

@@ -1,4 +1,4 @@
-//! The tests of reports (`tc_report`), of campaigns and of scripted behaviours (`tc_campaign`, `tc_behaviour`), in a
+//! The tests of reports (`tc_report`), of campaigns and of scripted behaviours (`tc_campaign`, `tc_script`), in a
 //! crate of their own: a check of them proves no library again. What the built program shows is in `tests/program`.
 #![tactic(auto)]
 

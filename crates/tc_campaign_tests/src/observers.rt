@@ -1,6 +1,6 @@
 //! Observers: what each is given, when, and what its refusal does.
 ghost use Rattle.std.specs.Prelude.{⊤, All};
-ghost use Rattle.tc_campaign.specs.Outline.{HasNames};
+ghost use Rattle.tc_campaign.specs.Prelude.{HasNames};
 
 use crate::cases::{Counts, Does, between, case_of, counted};
 use crate::checks::{holds, is};

@@ -1,6 +1,6 @@
 //! A test case that is refused, of each kind, and how the campaign ends then.
 ghost use Rattle.std.specs.Prelude.{IfOk, All};
-ghost use Rattle.tc_campaign.specs.Outline.{HasNames};
+ghost use Rattle.tc_campaign.specs.Prelude.{HasNames};
 
 use crate::cases::{Does, between, case_of};
 use crate::checks::is;

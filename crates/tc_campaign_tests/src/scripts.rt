@@ -2,10 +2,10 @@
 use crate::checks::{holds, is};
 use std::alloc::Global;
 use std::test::Fail;
-use tc_behaviour::Behaviour;
 use tc_book::open_case;
 use tc_exec::Ending;
-use tc_script::{CaseScript, Script, read_campaign};
+use tc_reader::{CaseScript, Script, read_campaign};
+use tc_script::Behaviour;
 
 /// The second behaviour has a parameter.
 const SCRIPT: &[u8] = b"testcase t

@@ -2,7 +2,7 @@
 use Rattle.std.proofs.Common.{ℕ, ◌≡◌, ◌∙◌, ◌+◌, ◌<◌, ◌++◌, ◌∷◌, refl, All, ap, get_or, length, map, subst, sym, take, Option, Some, None, List, []}
 use Rattle.std.proofs.lemmas.List.{get_or-map, length-map, map-append, take_more}
 use Rattle.std.proofs.lemmas.List.Elements.{All-push}
-use Rattle.tc_entry.specs.Pattern.{IsPattern}
+use Rattle.tc_entry.specs.Prelude.{IsPattern}
 use Rattle.std.specs.Prelude.{find, option_map, option_and_then, unwrap_or}
 use Rattle.std.specs.Borrow.{Bor}
 use Rattle.std.specs.Str.{bytes_eq}
@@ -13,7 +13,7 @@ use Rattle.clap.specs.declared.parser.matches.Found.{Found}
 use Rattle.clap.specs.declared.parser.matches.MatchedArg.{MatchedArg}
 use Rattle.clap.proofs.WalkLemmas.{find_row, first_value-rows, raw_values-rows}
 use Rattle.std.specs.Prelude.{◌||◌, Bool, false, is_none, true}
-use Rattle.tc_command.specs.Asked.{lacks_junit, lacks_option, lacks_script, report_form_of, words_of}
+use Rattle.tc_command.specs.Asked.{lacks_junit, lacks_option, lacks_script, report_form_of, option_values}
 use Rattle.tc_command.specs.Inside.{lacks_form, lacks_script_of}
 use Rattle.tc_command.specs.declared.command.Subcommand.{Subcommand}
 use Rattle.tc_command.specs.declared.command.Subcommand.TheVariants as S
@@ -29,11 +29,11 @@ source_of f id = go (find (λ (e : Entry). bytes_eq e.0.now id) f.entries.items)
     go (Some e) = refl
 
 -- the values of an option, by its row
-pub words_are : (f : Found) (id : Text) (ws : List (Bor Text)) → option_map raw_values (matched_of f id) ≡ Some (texts ws) → texts ws ≡ words_of id (rows_of f)
+pub words_are : (f : Found) (id : Text) (ws : List (Bor Text)) → option_map raw_values (matched_of f id) ≡ Some (texts ws) → texts ws ≡ option_values id (rows_of f)
 words_are f id ws is = ap (λ o. unwrap_or o []) (sym is ∙ raw_values-rows f id)
 
 -- without a row there is none
-pub no_words : (f : Found) (id : Text) → option_map raw_values (matched_of f id) ≡ None → [] ≡ words_of id (rows_of f)
+pub no_words : (f : Found) (id : Text) → option_map raw_values (matched_of f id) ≡ None → [] ≡ option_values id (rows_of f)
 no_words f id is = ap (λ o. unwrap_or o []) (sym is ∙ raw_values-rows f id)
 
 -- the first value of an option, by its row

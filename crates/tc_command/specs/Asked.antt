@@ -8,8 +8,7 @@ use Rattle.clap.specs.Kinds.{Kinds, or_else}
 use Rattle.clap.specs.declared.error.kind.ErrorKind.TheVariants.{ArgumentConflict, MissingRequiredArgument}
 use Rattle.clap.specs.declared.parser.matches.ValueSource.{ValueSource}
 use Rattle.clap.specs.declared.parser.matches.ValueSource.TheVariants.{CommandLine}
-use Rattle.tc_entry.specs.Name.{IsName}
-use Rattle.tc_entry.specs.Pattern.{IsPattern}
+use Rattle.tc_entry.specs.Prelude.{IsName, IsPattern}
 use Rattle.tc_command.specs.declared.command.Subcommand.{Subcommand}
 use Rattle.tc_command.specs.declared.command.Subcommand.TheVariants as S
 use Rattle.tc_command.specs.declared.read.Refused.{Refused}
@@ -25,7 +24,7 @@ use Rattle.tc_command.specs.declared.task.Task.{Task}
 use Rattle.tc_command.specs.declared.task.Task.TheVariants as T
 use Rattle.tc_command.specs.declared.word.WordFault.{WordFault}
 use Rattle.tc_command.specs.declared.word.WordFault.TheVariants as W
-use Rattle.tc_command.specs.Command.{cases, ttrun}
+use Rattle.tc_command.specs.Command.{cases_app, ttrun}
 use Rattle.tc_command.specs.Words.{IsGood, IsRuleOf, IsShardOf, IsStatesOf}
 
 -- the value comes from the arguments, and is no default
@@ -38,8 +37,8 @@ abbrev pub is_given : List Row → Text → Bool
 is_given rows option = is_from_words (option_and_then (λ r. r.source) (find (λ r. bytes_eq r.id option) rows))
 
 -- the values of all uses of the option
-abbrev pub words_of : Text → List Row → List Text
-words_of option rows = unwrap_or (all_of option rows) []
+abbrev pub option_values : Text → List Row → List Text
+option_values option rows = unwrap_or (all_of option rows) []
 
 -- the subcommand of this name; any other word that the command line takes is `run`
 abbrev pub subcommand_named : Text → Subcommand
@@ -51,9 +50,9 @@ subcommand_named name =
     else (if bytes_eq name (codes "serve") then S.Serve else S.Run))))
 
 -- the subcommand and its options; no subcommand is `run` without options
-abbrev pub line_of : Option (Text × List Row) → Subcommand × List Row
-line_of None = (S.Run, [])
-line_of (Some p) = (subcommand_named p.0, p.1)
+abbrev pub command_line_of : Option (Text × List Row) → Subcommand × List Row
+command_line_of None = (S.Run, [])
+command_line_of (Some p) = (subcommand_named p.0, p.1)
 
 -- options of this subcommand of which each two exclude each other
 abbrev pub apart : Subcommand → List (Text × Text)
@@ -112,7 +111,7 @@ is_explained at_terminal rows = is_given rows (codes "explain") || (at_terminal 
 
 -- the options choose these test cases
 pub record Chooses (rows : List Row) (c : Choice) : Type 0 where
-  pub only : c.only.items ≡ words_of (codes "only") rows
+  pub only : c.only.items ≡ option_values (codes "only") rows
   pub shard : IsShardOf (first_of (codes "shard") rows) c.shard
   pub failed : c.failed ≡ is_given rows (codes "failed")
 
@@ -151,13 +150,13 @@ Asks at line task = ⊥
 
 -- the values of --shard and --only name something
 abbrev pub HasGoodChoice : List Row → Type 0
-HasGoodChoice rows = IsGood IsShardOf (first_of (codes "shard") rows) × All IsPattern (words_of (codes "only") rows)
+HasGoodChoice rows = IsGood IsShardOf (first_of (codes "shard") rows) × All IsPattern (option_values (codes "only") rows)
 
 -- a value of these options names nothing, and it is the first: that of --shard, then those of --only, then that of
 -- --suite, and then that of --stop-on or --states
 abbrev pub HasBadWord : List Row → WordFault → Type 0
 HasBadWord rows W.Shard = IsGood IsShardOf (first_of (codes "shard") rows) → ⊥
-HasBadWord rows W.Only = IsGood IsShardOf (first_of (codes "shard") rows) × (All IsPattern (words_of (codes "only") rows) → ⊥)
+HasBadWord rows W.Only = IsGood IsShardOf (first_of (codes "shard") rows) × (All IsPattern (option_values (codes "only") rows) → ⊥)
 HasBadWord rows W.Suite = HasGoodChoice rows × (IfSome (first_of (codes "suite") rows) IsName → ⊥)
 HasBadWord rows W.StopOn = HasGoodChoice rows × IfSome (first_of (codes "suite") rows) IsName × (IsGood IsRuleOf (first_of (codes "stop-on") rows) → ⊥)
 HasBadWord rows W.States = HasGoodChoice rows × (IsGood IsStatesOf (first_of (codes "states") rows) → ⊥)
@@ -172,8 +171,8 @@ IsReadAs at_terminal found line (Err (R.Word fault)) = (or_else found (option_fa
 
 -- what the arguments of the program are read as
 abbrev pub IsReading : Bool → List Text → Result Task Refused → Type 0
-IsReading at_terminal words = IsReadAs at_terminal (fault_of ttrun words) (line_of (subcommand_of ttrun words))
+IsReading at_terminal words = IsReadAs at_terminal (fault_of ttrun words) (command_line_of (subcommand_of ttrun words))
 
 -- what those of a program with test cases of its own are read as: as those of `run`
 abbrev pub IsCasesReading : List Text → Result Task Refused → Type 0
-IsCasesReading words = IsReadAs false (fault_of cases words) (S.Run, matches_of cases words)
+IsCasesReading words = IsReadAs false (fault_of cases_app words) (S.Run, matches_of cases_app words)

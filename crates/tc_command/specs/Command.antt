@@ -65,5 +65,5 @@ ttrun =
     (run ∷ new_app (codes "serve") ∷ explore ∷ check ∷ report ∷ replay ∷ [])
 
 -- the command of a program with test cases of its own prints its version too, and has the options of their run
-abbrev pub cases : App
-cases = fold with_rule (with_version (new_app (codes "program"))) run_options
+abbrev pub cases_app : App
+cases_app = fold with_rule (with_version (new_app (codes "program"))) run_options

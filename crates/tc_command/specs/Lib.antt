@@ -3,3 +3,6 @@ pub mod Command
 pub mod Words
 pub mod Asked
 pub mod Inside
+pub mod Prelude
+pub use Rattle.tc_verdict.specs.Prelude as OfVerdict
+pub use Rattle.tc_entry.specs.Prelude as OfEntry

@@ -2,9 +2,9 @@
 use Rattle.std.specs.Prelude.{ℕ, ◌≡◌, ◌≤◌, ◌<◌, ◌+◌, ◌^◌, List, ◌∷◌, ◌++◌, IsSomeAnd, MatchOption, Option, None, codes}
 use Rattle.std.specs.Fmt.{decimal}
 use Rattle.clap.specs.Words.{Text}
-use Rattle.tc_entry.specs.Shard.{IsShard, ShardView}
+use Rattle.tc_entry.specs.Prelude.{IsShard, ShardView}
 use Rattle.tc_verdict.specs.declared.verdict.Verdict.{Verdict}
-use Rattle.tc_verdict.specs.Verdict.{name_of}
+use Rattle.tc_verdict.specs.Prelude.{name_of}
 use Rattle.tc_command.specs.declared.word.WordFault.{WordFault}
 use Rattle.tc_command.specs.declared.word.WordFault.TheVariants as F
 
@@ -33,9 +33,9 @@ abbrev pub IsGood : {T : Type 0} → (Option Text → T → Type 0) → Option T
 IsGood {T} Names word = (x : T) × Names word x
 
 -- what is said of a value that names nothing
-abbrev pub text_of : WordFault → List ℕ
-text_of F.StopOn = codes "--stop-on takes none, pass, inconc, fail or error"
-text_of F.States = codes "--states takes a number from 1 to 1000000"
-text_of F.Shard = codes "--shard takes K/N, with K from 1 to N"
-text_of F.Only = codes "--only takes the name of one of the test cases"
-text_of F.Suite = codes "--suite takes 1 to 32 letters, digits or _, a letter first"
+abbrev pub word_fault_text : WordFault → List ℕ
+word_fault_text F.StopOn = codes "--stop-on takes none, pass, inconc, fail or error"
+word_fault_text F.States = codes "--states takes a number from 1 to 1000000"
+word_fault_text F.Shard = codes "--shard takes K/N, with K from 1 to N"
+word_fault_text F.Only = codes "--only takes the name of one of the test cases"
+word_fault_text F.Suite = codes "--suite takes 1 to 32 letters, digits or _, a letter first"

@@ -1,7 +1,7 @@
 //! The arguments of a program with test cases of its own.
 ghost use Rattle.std.specs.Prelude.{◌≡◌, IfOk, map, string_bytes, true};
 ghost use Rattle.clap.specs.Words.{FailsBy, app_of, fault_of, found_of, is_simple, is_simple_and_free, matches_of, rows_of};
-ghost use Rattle.tc_command.specs.Command.{cases};
+ghost use Rattle.tc_command.specs.Command.{cases_app};
 ghost use Rattle.tc_command.specs.Asked.{IsCasesReading};
 
 use crate::command::{RUN_OPTIONS, Subcommand, VERSION, with_options};
@@ -33,7 +33,7 @@ fn program_name(words: &[String]) -> &str {
 
 // The command of the program of this name, with the version of this library.
 fn cases_command<'a>(alloc: Global, name: &str) -> Result<Command<'a>, AllocError>
-    ensures { IfOk result (λ c. app_of c ≡ cases) }
+    ensures { IfOk result (λ c. app_of c ≡ cases_app) }
 {
     let before_the_version = format!(in alloc; "{name}, with ttrun")?;
     let program = Command::new(alloc, "program")
@@ -60,7 +60,7 @@ fn read_by<'a>(
     command: &mut Command<'a>,
     words: &'a [String],
 ) -> Result<Task, Refused>
-    ensures { app_of command.old ≡ cases → IsCasesReading (map string_bytes words.entry.now) result }
+    ensures { app_of command.old ≡ cases_app → IsCasesReading (map string_bytes words.entry.now) result }
 {
     let matches = parsed(command, words)?;
     match subcommand_task(alloc, Subcommand::Run, &matches, false) {

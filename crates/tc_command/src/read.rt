@@ -2,11 +2,10 @@
 ghost use Rattle.std.specs.Prelude.{◌≡◌, ◌&&◌, ◌∷◌, All, IfOk, IfErr, IfSome, List, OnOk, Some, codes, false, map, option_copied, string_bytes, true};
 ghost use Rattle.std.specs.List.{list_any};
 ghost use Rattle.clap.specs.Words.{FailsBy, Row, app_of, fault_of, first_of, found_of, is_simple, is_simple_and_free, rows_of, subcommand_of, subcommand_rows_of};
-ghost use Rattle.tc_entry.specs.Name.{IsName};
-ghost use Rattle.tc_entry.specs.Pattern.{IsPattern};
+ghost use Rattle.tc_entry.specs.Prelude.{IsName, IsPattern};
 ghost use Rattle.tc_command.specs.Command.{ttrun};
-ghost use Rattle.tc_command.specs.Asked.{Asks, AsksRun, Chooses, IsReading, apart as spec_apart, form_of, is_explained, is_given, line_of};
-ghost use Rattle.tc_command.specs.Asked.{lacks_option, report_form_of, subcommand_named as spec_named, words_of};
+ghost use Rattle.tc_command.specs.Asked.{Asks, AsksRun, Chooses, IsReading, apart as spec_apart, form_of, is_explained, is_given, command_line_of};
+ghost use Rattle.tc_command.specs.Asked.{lacks_option, report_form_of, subcommand_named as spec_named, option_values};
 ghost use Rattle.tc_command.specs.Words.{IsGood, IsShardOf};
 ghost use Rattle.tc_command.specs.Inside.{IsBadWord, IsClash, IsLack, IsRefusedBy, IsTaken, IsWordRefused, gives_both, lacks_form as spec_lacks_form, lacks_script_of as spec_lacks};
 ghost use Rattle.tc_command.specs.declared.command.Subcommand.TheVariants.{Check, Explore, Report, Run};
@@ -174,9 +173,9 @@ fn report_form(options: &ArgMatches<'_>, suite: Option<Name>) -> Option<ReportFo
 // The patterns that `--only` is given.
 #[tactic(auto, using(crate::proofs::Options::words_are, crate::proofs::Options::no_words))]
 fn patterns(alloc: Global, options: &ArgMatches<'_>) -> Result<Vec<Pattern>, Refusal>
-    ensures taken { IfOk result (λ v. v.items ≡ words_of (codes "only") (rows_of (found_of options.now))) }
-    ensures good { OnOk result (All IsPattern (words_of (codes "only") (rows_of (found_of options.now)))) }
-    ensures refused { IfErr result (IsBadWord (All IsPattern (words_of (codes "only") (rows_of (found_of options.now))) → ⊥) fault.Only) }
+    ensures taken { IfOk result (λ v. v.items ≡ option_values (codes "only") (rows_of (found_of options.now))) }
+    ensures good { OnOk result (All IsPattern (option_values (codes "only") (rows_of (found_of options.now)))) }
+    ensures refused { IfErr result (IsBadWord (All IsPattern (option_values (codes "only") (rows_of (found_of options.now))) → ⊥) fault.Only) }
 {
     match options.get_strs("only") {
         Some(words) => {
@@ -191,7 +190,7 @@ fn patterns(alloc: Global, options: &ArgMatches<'_>) -> Result<Vec<Pattern>, Ref
 fn choice(alloc: Global, options: &ArgMatches<'_>) -> Result<Choice, Refusal>
     ensures taken { IfOk result (Chooses (rows_of (found_of options.now))) }
     ensures shard { OnOk result (IsGood IsShardOf (first_of (codes "shard") (rows_of (found_of options.now)))) }
-    ensures only { OnOk result (All IsPattern (words_of (codes "only") (rows_of (found_of options.now)))) }
+    ensures only { OnOk result (All IsPattern (option_values (codes "only") (rows_of (found_of options.now)))) }
     ensures refused { IfErr result (IsWordRefused (rows_of (found_of options.now))) }
 {
     let shard = word::shard(word_of(options, "shard"))?;
@@ -399,8 +398,8 @@ fn subcommand_named(name: &str) -> Subcommand
 
 // What the line asks for.
 fn task(alloc: Global, matches: &ArgMatches<'_>, at_terminal: bool) -> Result<Task, Refusal>
-    ensures taken { IfOk result (IsTaken at_terminal (line_of (subcommand_rows_of matches.now))) }
-    ensures refused { IfErr result (IsRefusedBy (line_of (subcommand_rows_of matches.now))) }
+    ensures taken { IfOk result (IsTaken at_terminal (command_line_of (subcommand_rows_of matches.now))) }
+    ensures refused { IfErr result (IsRefusedBy (command_line_of (subcommand_rows_of matches.now))) }
 {
     match matches.subcommand() {
         None => Ok(Task::Run(RunOptions {

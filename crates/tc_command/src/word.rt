@@ -1,10 +1,8 @@
 //! The values of options, and what they name.
 ghost use Rattle.std.specs.Prelude.{◌≡◌, ◌≤◌, All, IfOk, IfErr, IfSome, IfNone, OnOk, map, option_copied, ℕ};
 ghost use Rattle.std.specs.Fmt.{decimal};
-ghost use Rattle.tc_entry.specs.Name.{IsName};
-ghost use Rattle.tc_entry.specs.Pattern.{IsPattern};
-ghost use Rattle.tc_entry.specs.Shard.{ShardView};
-ghost use Rattle.tc_command.specs.Words.{IsGood, IsRuleOf, IsShardOf, IsShardWord, IsStatesOf, text_of};
+ghost use Rattle.tc_entry.specs.Prelude.{IsName, IsPattern, ShardView};
+ghost use Rattle.tc_command.specs.Words.{IsGood, IsRuleOf, IsShardOf, IsShardWord, IsStatesOf, word_fault_text};
 ghost use Rattle.tc_command.specs.Inside.{IsBadWord};
 ghost use Rattle.tc_command.specs.declared.word.WordFault.TheVariants as fault;
 
@@ -35,7 +33,7 @@ pub enum WordFault {
 impl WordFault {
     /// What is said of the value.
     pub fn text(self) -> &'static str
-        ensures { result.now ≡ text_of self }
+        ensures { result.now ≡ word_fault_text self }
     {
         match self {
             WordFault::StopOn => "--stop-on takes none, pass, inconc, fail or error",

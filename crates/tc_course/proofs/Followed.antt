@@ -2,13 +2,8 @@
 use Rattle.std.proofs.Common.{ℕ, ◌≡◌, ◌↔◌, ◌∙◌, ◌+◌, ◌<◌, ◌≤◌, nat_lt, Bool, true, false, Some, None, List, [], ◌∷◌, ◌++◌, length, take, drop, get_or, reverse, refl, sym, ap, subst, arith}
 use Rattle.std.proofs.lemmas.Bool.Decides.{nat_tests}
 use Rattle.std.proofs.lemmas.List.{reverse-append, take_all, take-append-drop}
-use Rattle.tc_verdict.specs.declared.verdict.Verdict.{Verdict}
-use Rattle.tc_entry.specs.declared.entry.Entry.{Entry}
-use Rattle.tc_entry.specs.declared.op.Op.{Op}
-use Rattle.tc_step.specs.Steps.{ScriptView}
-use Rattle.tc_table.specs.Answers.{answer}
-use Rattle.tc_table.specs.Case.{Case, past_of}
-use Rattle.tc_table.specs.Local.{overall}
+use Rattle.tc_rules.specs.Prelude.{Verdict, Entry, Op, answer, Case, past_of, overall}
+use Rattle.tc_step.specs.Prelude.{ScriptView}
 use Rattle.tc_course.specs.Course.{turn, IsComplete, IsCourse, IsTurn}
 use Rattle.tc_course.specs.Witnesses.{IsWitness}
 use Rattle.tc_course.specs.Cases.{CannotGo, IsNext, IsOn}

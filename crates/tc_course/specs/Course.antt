@@ -2,23 +2,17 @@
 -- component table's definitions `past` lists entries, the newest first, and runs are numbers.
 use Rattle.std.specs.Prelude.{ℕ, ◌≡◌, ◌==◌, ◌<◌, ◌+◌, ◌++◌, ◌&&◌, ◌||◌, if◌then◌else◌, Bool, true, false, Option, Some, None, is_some, List, [], ◌∷◌, length, slice_get}
 use Rattle.std.specs.Option.{option_map_or, option_to_list, unwrap_or}
-use Rattle.tc_entry.specs.declared.comp.Comp.{Comp}
-use Rattle.tc_entry.specs.declared.entry.Entry.{Entry}
-use Rattle.tc_entry.specs.declared.op.Op.{Op}
+use Rattle.tc_rules.specs.Prelude.{Comp, Entry, Op, Reply, created, started_on, ends_pass, answer, is_wake}
 use Rattle.tc_entry.specs.declared.op.Op.TheVariants as O
-use Rattle.tc_entry.specs.declared.reply.Reply.{Reply}
 use Rattle.tc_entry.specs.declared.reply.Reply.TheVariants as R
 use Rattle.tc_step.specs.declared.step.Step.{Step}
-use Rattle.tc_step.specs.Operation.{operation}
-use Rattle.tc_step.specs.Steps.{ScriptView}
-use Rattle.tc_table.specs.History.{created, started_on, ends_pass}
-use Rattle.tc_table.specs.Answers.{answer}
+use Rattle.tc_step.specs.Prelude.{operation, ScriptView}
 
 -- ---- what is known of one run
 
 -- the component that it is on, once it was started; the components bound in it; how many of its steps it has called.
 -- Whether its pass has ended, and the Wake to come, if its last call was parked.
-pub record Stand : Type 0 where
+pub record CourseState : Type 0 where
   pub comp : Option Comp
   pub bound : List Comp
   pub called : ℕ
@@ -26,13 +20,8 @@ pub record Stand : Type 0 where
   pub wake : Option Op
 
 -- at the opening run 0 is on the main component, and no other run is started
-abbrev pub opening : ℕ → Stand
-opening b = record { comp = if b == 0 then Some (record { 0 = 0 }) else None; bound = []; called = 0; left = false; wake = None }
-
--- the operation is a Wake
-abbrev pub is_wake : Op → Bool
-is_wake (O.Wake killed target) = true
-is_wake _ = false
+abbrev pub opening_state : ℕ → CourseState
+opening_state b = record { comp = if b == 0 then Some (record { 0 = 0 }) else None; bound = []; called = 0; left = false; wake = None }
 
 -- the Wake to come after a call with this reply: after a wait that was parked, and after a Wake that was parked again
 abbrev pub wake_after : Reply → Op → Option Op
@@ -46,7 +35,7 @@ arguments (O.Start c run args) b = if run.0 == b then args else []
 arguments _ b = []
 
 -- after an entry of its own
-abbrev pub after_own : Entry → Stand → Stand
+abbrev pub after_own : Entry → CourseState → CourseState
 after_own e s = record {
   comp = s.comp;
   bound = s.bound ++ option_to_list (created e.op e.reply);
@@ -56,16 +45,16 @@ after_own e s = record {
 }
 
 -- after an entry of another run: the first Start of run b that is replied Ok starts it
-abbrev pub after_other_by : Option Comp → Entry → ℕ → Stand → Stand
+abbrev pub after_other_by : Option Comp → Entry → ℕ → CourseState → CourseState
 after_other_by own e b s = if is_some own then s else option_map_or (λ c. record s { comp = Some c; bound = arguments e.op b }) (started_on e b) s
 
 -- after one more entry
-abbrev pub next : Entry → ℕ → Stand → Stand
+abbrev pub next : Entry → ℕ → CourseState → CourseState
 next e b s = if e.caller.0 == b then after_own e s else after_other_by s.comp e b s
 
 -- what is known of run b
-abbrev pub stand : List Entry → ℕ → Stand
-stand [] b = opening b
+abbrev pub stand : List Entry → ℕ → CourseState
+stand [] b = opening_state b
 stand (e ∷ past) b = next e b (stand past b)
 
 -- after this reply the caller has continued, or the case is over
@@ -76,14 +65,14 @@ goes_on _ = true
 
 -- how many calls run b has carried out: its steps, and its end, without calls that are answered ended, and waits that
 -- are not over
-abbrev pub carried : List Entry → ℕ → ℕ
-carried [] b = 0
-carried (e ∷ past) b = if (e.caller.0 == b) && goes_on e.reply then carried past b + 1 else carried past b
+abbrev pub carried_on : List Entry → ℕ → ℕ
+carried_on [] b = 0
+carried_on (e ∷ past) b = if (e.caller.0 == b) && goes_on e.reply then carried_on past b + 1 else carried_on past b
 
 -- ---- what a run calls next
 
 -- what a run on this component calls next: the Wake to come, or the call of the next of its steps, and after the last the end of its behaviour
-abbrev pub turn_on : Option Comp → List Step → Stand → Option Op
+abbrev pub turn_on : Option Comp → List Step → CourseState → Option Op
 turn_on (Some me) steps s = if s.left then None else Some (unwrap_or s.wake (option_map_or (operation me s.bound) (slice_get steps s.called) O.Finish))
 turn_on None steps s = None
 

@@ -3,3 +3,6 @@ pub mod Course
 pub mod Witnesses
 pub mod Cases
 pub mod Inside
+pub mod Prelude
+pub use Rattle.tc_rules.specs.Prelude as OfRules
+pub use Rattle.tc_step.specs.Prelude as OfStep

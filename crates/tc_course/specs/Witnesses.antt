@@ -1,11 +1,8 @@
 -- Complete courses and the overall verdicts with which they end.
 use Rattle.std.specs.Prelude.{◌≡◌, ◌==◌, Bool, true, List, reverse, All}
 use Rattle.std.specs.List.{list_any}
-use Rattle.tc_verdict.specs.declared.verdict.Verdict.{Verdict}
-use Rattle.tc_verdict.specs.Verdict.{level_of}
-use Rattle.tc_entry.specs.declared.entry.Entry.{Entry}
-use Rattle.tc_step.specs.Steps.{ScriptView}
-use Rattle.tc_table.specs.Local.{overall}
+use Rattle.tc_rules.specs.Prelude.{Verdict, level_of, Entry, overall}
+use Rattle.tc_step.specs.Prelude.{ScriptView}
 use Rattle.tc_course.specs.declared.witness.Witness.{Witness}
 use Rattle.tc_course.specs.Course.{IsCourse, IsComplete}
 

@@ -1,14 +1,14 @@
 //! A course: what is known of a case after some turns.
 ghost use Rattle.std.specs.Prelude.{◌≡◌, ◌≤◌, ◌<◌, ◌∷◌, ℕ, [], IfOk, IfSome, OnOk, Some, length, slice_index_or};
 ghost use Rattle.tc_entry.specs.declared.limits.TheConstants.{BEHAVIOURS};
-ghost use Rattle.tc_table.specs.Case.{past_of};
-ghost use Rattle.tc_table.specs.Answers as answers;
-ghost use Rattle.tc_table.specs.Local as verdicts;
-ghost use Rattle.tc_table.specs.History as history;
-ghost use Rattle.tc_table.specs.Phases as phases;
-ghost use Rattle.tc_table.specs.Faults as faults;
+ghost use Rattle.tc_rules.specs.Prelude.{past_of};
+ghost use Rattle.tc_rules.specs.Answers as answers;
+ghost use Rattle.tc_rules.specs.Local as verdicts;
+ghost use Rattle.tc_rules.specs.History as history;
+ghost use Rattle.tc_rules.specs.Phases as phases;
+ghost use Rattle.tc_rules.specs.Faults as faults;
 ghost use Rattle.tc_course.specs.Course as courses;
-ghost use Rattle.tc_course.specs.Cases.{taken};
+ghost use Rattle.tc_course.specs.Cases.{entry_made};
 ghost use Rattle.tc_course.specs.Inside.Kept.{CountsOn, TakesIn, TakesInFor};
 
 use crate::entries::has_gone_on;
@@ -16,8 +16,8 @@ use crate::standing::Standing;
 use std::alloc::Global;
 use std::marker::Model;
 use tc_entry::{Comp, Entry, Op, Phase, Reply};
+use tc_rules::Table;
 use tc_step::{Script, Step};
-use tc_table::Table;
 use tc_verdict::{NoMemory, Run, Verdict};
 
 /// The entries of a case so far, and what is known of each run by them. Contracts see the case as that of its table.
@@ -29,7 +29,7 @@ pub struct Course {
 }
 
 impl Model for Course {
-    ghost use Rattle.tc_table.specs.Case.{Case};
+    ghost use Rattle.tc_rules.specs.Prelude.{Case};
     ghost use Rattle.tc_course.specs.Inside.Kept.{IsKept, IsCounted};
 
     ghost Value = { Case };
@@ -42,7 +42,7 @@ impl Model for Course {
 // The standings of n runs at the opening.
 fn opening_standings(alloc: Global, n: u16) -> Result<Vec<Standing>, NoMemory>
     ensures as_many { IfOk result (λ v. length v.items ≡ n) }
-    ensures each { IfOk result (λ v. (b : ℕ) (d : courses.Stand) → b < n → slice_index_or v.items b d ≡ courses.stand [] b) }
+    ensures each { IfOk result (λ v. (b : ℕ) (d : courses.CourseState) → b < n → slice_index_or v.items b d ≡ courses.stand [] b) }
 {
     let mut standings = Vec::new(alloc);
     for b in 0..n {
@@ -176,7 +176,7 @@ impl Course {
     /// The course with one more call. If memory runs out it is lost.
     pub fn with(self, run: Run, op: Op) -> Result<Course, NoMemory>
         ensures behaviours { IfOk result (λ c. c.behaviours ≡ self.behaviours) }
-        ensures added { IfOk result (λ c. past_of c ≡ taken self.behaviours (past_of self) run op ∷ past_of self) }
+        ensures added { IfOk result (λ c. past_of c ≡ entry_made self.behaviours (past_of self) run op ∷ past_of self) }
     {
         let Course {
             table,
@@ -205,7 +205,7 @@ impl Course {
     /// How many calls a run has carried out.
     pub fn carried(&self, run: Run) -> usize
         requires { run.0 < self.now.behaviours }
-        ensures { result ≡ courses.carried (past_of self.now) run.0 }
+        ensures { result ≡ courses.carried_on (past_of self.now) run.0 }
     {
         self.carried[usize::from(run.0)]
     }

@@ -2,9 +2,10 @@
 ghost use Rattle.std.specs.Prelude.{◌≡◌};
 ghost use Rattle.tc_course.specs.Course as courses;
 ghost use Rattle.tc_course.specs.Inside.Standing.{ends as own_ends};
+ghost use Rattle.tc_entry.specs.Reply as replies;
 
 use tc_entry::{Comp, Entry, Op, Reply};
-use tc_table::ends_pass;
+use tc_rules::ends_pass;
 
 /// Whether an entry by a run on this component ends its pass.
 pub(crate) fn ends(own: Option<Comp>, entry: &Entry) -> bool
@@ -18,7 +19,7 @@ pub(crate) fn ends(own: Option<Comp>, entry: &Entry) -> bool
 
 /// Whether the operation is a Wake.
 pub(crate) fn is_wake(op: &Op) -> bool
-    ensures { result ≡ courses.is_wake op.now }
+    ensures { result ≡ replies.is_wake op.now }
 {
     matches!(op, Op::Wake { .. })
 }

@@ -1,8 +1,7 @@
 //! Whether a history is a complete course of scripts.
 ghost use Rattle.std.specs.Prelude.{◌≡◌, ◌↔◌, ◌≤◌, ◌∷◌, true, IfOk, IfNone, IfSome, length};
 ghost use Rattle.tc_entry.specs.declared.limits.TheConstants.{BEHAVIOURS};
-ghost use Rattle.tc_table.specs.Case.{past_of};
-ghost use Rattle.tc_table.specs.Local.{overall};
+ghost use Rattle.tc_rules.specs.Prelude.{past_of, overall};
 ghost use Rattle.tc_course.specs.Course.{IsComplete, IsTurn};
 ghost use Rattle.tc_course.specs.Witnesses.{IsWitness};
 ghost use Rattle.tc_course.specs.Cases.{IsOn};

@@ -1,7 +1,7 @@
 //! What a run calls next.
 ghost use Rattle.std.specs.Prelude.{◌≡◌, ◌<◌, IfNone, IfSome, length};
-ghost use Rattle.tc_table.specs.Answers as answers;
-ghost use Rattle.tc_table.specs.Case.{past_of};
+ghost use Rattle.tc_rules.specs.Answers as answers;
+ghost use Rattle.tc_rules.specs.Prelude.{past_of};
 ghost use Rattle.tc_course.specs.Cases.{CannotGo, IsNext, IsOn};
 ghost use Rattle.tc_course.specs.Course as courses;
 

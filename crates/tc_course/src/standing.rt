@@ -7,8 +7,8 @@ use crate::entries::{arguments, ends, is_wake, wake_after};
 use std::alloc::Global;
 use std::marker::Model;
 use tc_entry::{Comp, Entry, Op};
+use tc_rules::{created, started_on};
 use tc_step::Step;
-use tc_table::{created, started_on};
 use tc_verdict::NoMemory;
 
 /// What is known of a run by the entries so far.
@@ -22,9 +22,9 @@ pub struct Standing {
 }
 
 impl Model for Standing {
-    ghost use Rattle.tc_course.specs.Course.{Stand};
+    ghost use Rattle.tc_course.specs.Course.{CourseState};
 
-    ghost Value = { Stand };
+    ghost Value = { CourseState };
 
     ghost view = { λ s. record { comp = s.comp; bound = s.bound.items; called = s.called; left = s.left; wake = s.wake } };
 }
@@ -32,7 +32,7 @@ impl Model for Standing {
 impl Standing {
     /// At the opening of the case run 0 is on the main component.
     pub fn opening(alloc: Global, run: u16) -> Standing
-        ensures { result ≡ courses.opening run }
+        ensures { result ≡ courses.opening_state run }
     {
         Standing {
             comp: if run == 0 { Some(Comp(0)) } else { None },

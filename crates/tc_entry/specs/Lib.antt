@@ -6,3 +6,4 @@ pub mod Reply
 pub mod Shard
 pub mod Pattern
 pub mod Inside
+pub mod Prelude

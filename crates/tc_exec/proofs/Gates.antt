@@ -2,7 +2,7 @@
 use Rattle.std.proofs.Common.{ℕ, suc, ◌≡◌, ◌<◌, ◌+◌, ◌-◌, ◌∙◌, Bool, true, subst, List, ◌∷◌, ◌++◌, length, get_or, map, sym, ap, arith}
 use Rattle.std.proofs.Math.Seq.{get_or-append_seam}
 use Rattle.std.proofs.lemmas.List.{length-append, length-map}
-use Rattle.tc_verdict.specs.declared.run.Run.{Run}
+use Rattle.tc_rules.specs.Prelude.{Run}
 use Rattle.tc_exec.specs.Gates.{IsPassed, IsStopped}
 use Rattle.tc_exec.specs.Inside.{AreAbove}
 
@@ -34,7 +34,7 @@ module _ {G : Type 0} (asks : G → Run → G → Bool → Type 0) where
     fewer = fewer;
     between = between;
     passed = passed;
-    answer = answer;
+    allowed_last = answer;
     at_last = subst (λ r. asks between r after answer) own one;
   }
 

@@ -1,11 +1,9 @@
 -- What a pass has left, by the clauses of its leave.
 use Rattle.std.proofs.Common.{◌≡◌, ◌||◌, true, false, Some, refl}
 use Rattle.tc_entry.specs.declared.op.Op.TheVariants as O
-use Rattle.tc_entry.specs.declared.reply.Reply.{Reply}
+use Rattle.tc_rules.specs.Prelude.{Reply, is_ended, is_fault, is_ok}
 use Rattle.tc_entry.specs.declared.reply.Reply.TheVariants as R
-use Rattle.tc_entry.specs.Reply.{is_ended, is_fault, is_ok}
-use Rattle.tc_book.specs.Passes.{PassState, LeftState, has_ended, added}
-use Rattle.tc_book.specs.Replies.{suits}
+use Rattle.tc_book.specs.Prelude.{PassState, LeftState, has_ended, with_own_entry, suits}
 use Rattle.tc_exec.specs.Workers.{HasLeft}
 
 -- which replies a Finish can get
@@ -20,7 +18,7 @@ finish_replies R.Matched h = absurd cc
 finish_replies R.Parked h = absurd cc
 
 pub has_left : (p : PassState) (l : LeftState) → l.run ≡ p.run → l.started ≡ Some (p.me, p.args) → (has_ended p ≡ true → l.log ≡ p.log) →
-    (has_ended p ≡ false → (r : Reply) × (l.log ≡ (added p O.Finish r).log) × (suits O.Finish r ≡ true)) → HasLeft p l
+    (has_ended p ≡ false → (r : Reply) × (l.log ≡ (with_own_entry p O.Finish r).log) × (suits O.Finish r ≡ true)) → HasLeft p l
 has_left p l run started ended finished = record {
   run = run;
   started = started;

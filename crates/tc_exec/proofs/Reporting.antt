@@ -2,14 +2,10 @@
 use Rattle.std.proofs.Common.{ℕ, zero, suc, ◌≡◌, ◌<◌, ◌==◌, if◌then◌else◌, option_map, Bool, true, false, Option, Some, None, List, [], All, reverse, refl, sym, ◌∙◌, arith}
 use Rattle.std.proofs.lemmas.Bool.Decides.{nat_tests}
 use Rattle.std.proofs.lemmas.List.Elements.{All-append, All-cons, All-nil}
-use Rattle.tc_entry.specs.declared.comp.Comp.{Comp}
-use Rattle.tc_entry.specs.declared.entry.Entry.{Entry}
-use Rattle.tc_table.specs.History.{comp_of}
-use Rattle.tc_case.specs.declared.closed.Closed.{Closed}
+use Rattle.tc_rules.specs.Prelude.{Comp, Entry, comp_of, part, log_if, logs_below, IsOneHistory}
+use Rattle.tc_rules.specs.declared.closed.Closed.{Closed}
 use Rattle.tc_book.specs.Inside.{comp_by}
-use Rattle.tc_book.specs.Starts.{start_of}
-use Rattle.tc_case.specs.Parts.{part, log_if, logs_below}
-use Rattle.tc_case.specs.Report.{IsOneHistory}
+use Rattle.tc_book.specs.Prelude.{start_of}
 use Rattle.tc_book.proofs.Lemmas.PartOf.{comp_is}
 use Rattle.tc_exec.specs.Case.{WasStartedIn, IsCaseReport}
 

@@ -1,16 +1,11 @@
 -- What the report of a case says.
 use Rattle.std.specs.Prelude.{ℕ, ◌≡◌, ◌≢◌, ◌<◌, Some, None, List, length, reverse, All, slice_index_or}
-use Rattle.tc_entry.specs.declared.comp.Comp.{Comp}
-use Rattle.tc_entry.specs.declared.entry.Entry.{Entry}
-use Rattle.tc_case.specs.declared.closed.Closed.{Closed}
-use Rattle.tc_case.specs.declared.run_log.RunLog.{RunLog}
-use Rattle.tc_table.specs.History.{comp_of}
-use Rattle.tc_book.specs.Closing.{IsWhole}
-use Rattle.tc_book.specs.Passes.{PassState, LeftState}
-use Rattle.tc_case.specs.Report.{IsOneHistory}
+use Rattle.tc_rules.specs.Prelude.{Comp, Entry, comp_of, IsOneHistory}
+use Rattle.tc_rules.specs.declared.closed.Closed.{Closed}
+use Rattle.tc_rules.specs.declared.run_log.RunLog.{RunLog}
+use Rattle.tc_book.specs.Prelude.{IsWhole, PassState, LeftState, start_of}
 use Rattle.tc_exec.specs.declared.job.Back.{Back}
 use Rattle.tc_exec.specs.Workers.{WasCalledFor, IsLeftBy}
-use Rattle.tc_book.specs.Starts.{start_of}
 
 -- a Start of this log's run, on the log's component, was replied Ok in the history
 abbrev pub WasStartedIn : List Entry → RunLog → Type 0

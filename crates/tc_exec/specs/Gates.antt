@@ -1,7 +1,7 @@
 -- The questions that a gate was asked before the workers were made. A gate says by `asks` what one question does to it,
 -- and how it is answered.
 use Rattle.std.specs.Prelude.{ℕ, zero, suc, ◌≡◌, ◌+◌, ◌<◌, Bool, true}
-use Rattle.tc_verdict.specs.declared.run.Run.{Run}
+use Rattle.tc_rules.specs.Prelude.{Run}
 
 module _ {G : Type 0} (asks : G → Run → G → Bool → Type 0) where
   -- the gate was asked about each of the n runs from 1 on once, in their order, and allowed each
@@ -16,5 +16,5 @@ module _ {G : Type 0} (asks : G → Run → G → Bool → Type 0) where
     pub fewer : allowed < n
     pub between : G
     pub passed : IsPassed allowed before between
-    pub answer : Bool
-    pub at_last : asks between (record { 0 = allowed + 1 }) after answer
+    pub allowed_last : Bool
+    pub at_last : asks between (record { 0 = allowed + 1 }) after allowed_last

@@ -1,16 +1,15 @@
 -- What the functions inside of a case say, which no public clause names.
 use Rattle.std.specs.Prelude.{ℕ, ◌≡◌, ◌≢◌, ◌<◌, ◌+◌, ◌++◌, Bool, true, false, None, List, [], ◌∷◌, Result, Ok, Err, length, map, slice_index_or}
-use Rattle.tc_verdict.specs.declared.run.Run.{Run}
-use Rattle.tc_case.specs.declared.closed.Closed.{Closed}
-use Rattle.tc_case.specs.declared.closed.CloseFault.{CloseFault}
-use Rattle.tc_book.specs.Passes.{PassState, LeftState}
-use Rattle.tc_case.specs.declared.refusal.CaseError.{CaseError}
+use Rattle.tc_rules.specs.Prelude.{Run, of_close}
+use Rattle.tc_rules.specs.declared.closed.Closed.{Closed}
+use Rattle.tc_rules.specs.declared.closed.CloseFault.{CloseFault}
+use Rattle.tc_book.specs.Prelude.{PassState, LeftState}
+use Rattle.tc_rules.specs.declared.refusal.CaseError.{CaseError}
 use Rattle.tc_exec.specs.declared.job.Back.{Back}
 use Rattle.tc_exec.specs.declared.job.Ending.{Ending}
 use Rattle.tc_exec.specs.declared.job.Ending.TheVariants as E
 use Rattle.tc_exec.specs.declared.gathered.Gathered.{Gathered}
 use Rattle.tc_exec.specs.declared.worker.Worker.{Worker}
-use Rattle.tc_case.specs.Refusals.{of_close}
 use Rattle.tc_exec.specs.Workers.{IsLeftBy}
 
 -- what the close of a case is answered by: the report as it is, or the refusal

@@ -5,3 +5,6 @@ pub mod Workers
 pub mod Case
 pub mod Logs
 pub mod Inside
+pub mod Prelude
+pub use Rattle.tc_rules.specs.Prelude as OfRules
+pub use Rattle.tc_book.specs.Prelude as OfBook

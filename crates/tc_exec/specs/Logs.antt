@@ -1,10 +1,9 @@
 -- The logs of a report, by the behaviours that made them.
 use Rattle.std.specs.Prelude.{◌≡◌, ◌<◌, List, All, reverse, slice_index_or}
-use Rattle.tc_entry.specs.declared.entry.Entry.{Entry}
-use Rattle.tc_case.specs.declared.closed.Closed.{Closed}
-use Rattle.tc_book.specs.Passes.{PassState, LeftState}
-use Rattle.tc_book.specs.Starts.{start_of}
-use Rattle.tc_case.specs.declared.run_log.RunLog.{RunLog}
+use Rattle.tc_rules.specs.Prelude.{Entry}
+use Rattle.tc_rules.specs.declared.closed.Closed.{Closed}
+use Rattle.tc_book.specs.Prelude.{PassState, LeftState, start_of}
+use Rattle.tc_rules.specs.declared.run_log.RunLog.{RunLog}
 use Rattle.tc_exec.specs.declared.job.Back.{Back}
 use Rattle.tc_exec.specs.declared.job.Ending.TheVariants as E
 use Rattle.tc_exec.specs.Workers.{WasCalled, WasStarted}

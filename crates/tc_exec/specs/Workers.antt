@@ -1,24 +1,22 @@
 -- What a worker does with its box.
 use Rattle.std.specs.Prelude.{◌≡◌, ◌⊎◌, ◌||◌, [], true, false, Some, None}
-use Rattle.tc_verdict.specs.declared.run.Run.{Run}
+use Rattle.tc_rules.specs.Prelude.{Run, Reply, is_ended, is_fault, is_ok}
 use Rattle.tc_entry.specs.declared.op.Op.TheVariants as O
-use Rattle.tc_entry.specs.declared.reply.Reply.{Reply}
-use Rattle.tc_entry.specs.Reply.{is_ended, is_fault, is_ok}
-use Rattle.tc_book.specs.Passes.{PassState, LeftState, has_ended, added}
+use Rattle.tc_book.specs.Prelude.{PassState, LeftState, has_ended, with_own_entry}
 use Rattle.tc_exec.specs.declared.job.Back.{Back}
 use Rattle.tc_exec.specs.declared.job.Ending.TheVariants as E
 use Rattle.tc_exec.specs.declared.handed.Handed.{Handed}
 
 -- the pass that a case opens with: that of run 0, on the main component, without arguments and without a call
-abbrev pub opening : PassState
-opening = record { run = record { 0 = 0 }; me = record { 0 = 0 }; args = []; log = [] }
+abbrev pub opening_pass : PassState
+opening_pass = record { run = record { 0 = 0 }; me = record { 0 = 0 }; args = []; log = [] }
 
 -- this pass left so: with its log, and a Finish if it had not ended, with the reply Ok or Ended, or an error
 pub record HasLeft (p : PassState) (l : LeftState) : Type 0 where
   pub run : l.run ≡ p.run
   pub started : l.started ≡ Some (p.me, p.args)
   pub ended : has_ended p ≡ true → l.log ≡ p.log
-  pub finished : has_ended p ≡ false → (r : Reply) × (l.log ≡ (added p O.Finish r).log) × ((is_ok r || is_ended r || is_fault r) ≡ true)
+  pub finished : has_ended p ≡ false → (r : Reply) × (l.log ≡ (with_own_entry p O.Finish r).log) × ((is_ok r || is_ended r || is_fault r) ≡ true)
 
 -- a behaviour was called, with this outcome, and the pass that it handed back has left
 pub record WasCalled (outcome : Back → Type 0) (h : Handed) : Type 0 where
@@ -36,7 +34,7 @@ pub record WasStarted (run : Run) (call : PassState → Type 0) : Type 0 where
   pub pass : PassState
   pub own : pass.run ≡ run
   pub new : pass.log ≡ []
-  pub main : run.0 ≡ 0 → pass ≡ opening
+  pub main : run.0 ≡ 0 → pass ≡ opening_pass
   pub called : call pass
 
 -- what was handed back is that of a run that was never started, which is all that this case says. Or the behaviour was

@@ -1,5 +1,5 @@
 //! What a run calls.
-ghost use Rattle.tc_book.specs.Passes.{PassState};
+ghost use Rattle.tc_book.specs.Prelude.{PassState};
 ghost use Rattle.tc_exec.specs.declared.job.Back.{Back};
 
 use crate::job::Back;

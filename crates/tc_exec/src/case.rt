@@ -2,12 +2,12 @@
 ghost use Rattle.std.specs.Prelude.{◌≡◌, ◌≢◌, ◌↔◌, ◌<◌, ◌≤◌, ◌+◌, ◌-◌, ◌∷◌, ◌⊎◌, [], true, IfOk, OnOk, Err};
 ghost use Rattle.std.specs.Vec.{vec_len, vec_capacity};
 ghost use Rattle.tc_entry.specs.declared.limits.TheConstants.{BEHAVIOURS};
-ghost use Rattle.tc_book.specs.Closing.{IsWhole};
+ghost use Rattle.tc_book.specs.Prelude.{IsWhole};
 ghost use Rattle.tc_exec.specs.Inside.{AreAbove, Gathers, IsFirstStarted, handed_on, jobs_of, runs_of};
-ghost use Rattle.tc_exec.specs.Workers.{opening};
+ghost use Rattle.tc_exec.specs.Workers.{opening_pass};
 ghost use Rattle.tc_exec.specs.Gates.{IsPassed, IsStopped};
 ghost use Rattle.tc_exec.specs.Case.{IsCaseReport, AreCalled, IsHandedBack, IsMadeOf};
-ghost use Rattle.tc_case.specs.declared.refusal.CaseError.TheVariants.{NoBehaviours, TooManyBehaviours, NoMemory, NoThread, Torn};
+ghost use Rattle.tc_rules.specs.declared.refusal.CaseError.TheVariants.{NoBehaviours, TooManyBehaviours, NoMemory, NoThread, Torn};
 
 use crate::callable::Callable;
 use crate::gate::{Everyone, Gate};
@@ -19,8 +19,8 @@ use std::alloc::Global;
 use std::sync::Wait;
 use std::thread::Threads;
 use tc_book::{Pass, Shared, close_case, open_case};
-use tc_case::{CaseError, CloseFault, Closed};
 use tc_entry::BEHAVIOURS;
+use tc_rules::{CaseError, CloseFault, Closed};
 
 /// The number of behaviours, if that many jobs can be run on that many threads.
 fn behaviours_of(jobs: usize, threads: u16) -> Result<u16, CaseError>
@@ -76,12 +76,12 @@ fn gather<R: Threads + Wait, B: Callable>(
     workers: Vec<Worker<B>>,
     gathered: Gathered,
 ) -> Gathered
-    requires main { pass ≡ opening }
+    requires main { pass ≡ opening_pass }
     requires empty { gathered.lefts.items ≡ [] }
     requires room { vec_len workers < vec_capacity gathered.lefts }
     ensures all { vec_len result.lefts ≡ vec_len workers + 1 }
     ensures first { IsFirstStarted result.lefts.items }
-    ensures lefts { Gathers B.outcome (opening.run ∷ runs_of workers.items) (first ∷ jobs_of workers.items) result }
+    ensures lefts { Gathers B.outcome (opening_pass.run ∷ runs_of workers.items) (first ∷ jobs_of workers.items) result }
 {
     let mut gathered = gathered;
     gathered.take(act(rt, first, pass));
@@ -116,7 +116,7 @@ fn run_made<R: Threads + Wait, B: Callable>(
     workers: Vec<Worker<B>>,
     gathered: Gathered,
 ) -> Result<Closed, CaseError>
-    requires main { pass ≡ opening }
+    requires main { pass ≡ opening_pass }
     requires empty { gathered.lefts.items ≡ [] }
     requires room { vec_len workers < vec_capacity gathered.lefts }
     requires runs { AreAbove (runs_of workers.items) }

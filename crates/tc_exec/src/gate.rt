@@ -1,6 +1,6 @@
 //! The gate that is asked before a worker is made.
 ghost use Rattle.std.specs.Prelude.{◌≡◌, Bool, true};
-ghost use Rattle.tc_verdict.specs.declared.run.Run.{Run};
+ghost use Rattle.tc_rules.specs.Prelude.{Run};
 
 use tc_verdict::Run;
 

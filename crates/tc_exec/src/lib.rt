@@ -13,5 +13,5 @@ pub use callable::Callable;
 pub use case::{run_case, run_case_with};
 pub use gate::{Everyone, Gate};
 pub use job::{Back, Ending, Job};
-pub use tc_case::{CaseError, Closed as CaseReport};
+pub use tc_rules::{CaseError, Closed as CaseReport};
 pub use worker::WORKER_STACK;

@@ -12,7 +12,7 @@ use std::time::{Clock, Duration};
 use tc_board::Board;
 use tc_book::laws::Book;
 use tc_book::{Halt, Pass, Shared};
-use tc_table::{Comp, NoMemory, Op, Reply, Run, Target};
+use tc_rules::{Comp, NoMemory, Op, Reply, Run, Target};
 use tc_text::{read_move, read_reply};
 
 /// Each call, its reply, and whether somebody who waits can continue by it. A wake that keeps waiting has none.

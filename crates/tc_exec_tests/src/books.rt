@@ -7,7 +7,7 @@ use std::sync::Wait;
 use std::thread;
 use std::thread::{JoinHandle, Threads};
 use tc_book::*;
-use tc_table::{Comp, Entry, Op, Reply, Run, UserVerdict, Verdict, replay_check};
+use tc_rules::{Comp, Entry, Op, Reply, Run, UserVerdict, Verdict, replay_check};
 use tc_text::read_move;
 
 /// A closed case has that many entries and this overall verdict.

@@ -5,7 +5,7 @@ use std::alloc::Global;
 use std::process::Abort;
 use std::sync::Wait;
 use tc_book::{CloseFault, Closed, Halt, Left, Pass, Shared, Ticket, close_case, open_case};
-use tc_table::{Comp, Fault, Name, Op, Reply, Target, Verdict};
+use tc_rules::{Comp, Fault, Name, Op, Reply, Target, Verdict};
 use tc_text::{read_move, read_reply};
 
 /// Opens a case of 1 to 256 behaviours.

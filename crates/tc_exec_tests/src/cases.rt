@@ -8,7 +8,7 @@ use std::sync::{Arc, Wait};
 use std::thread::Threads;
 use tc_book::{Halt, Pass};
 use tc_exec::*;
-use tc_table::{Args, Comp, Entry, Group, Op, Reply, Run, Target, UserVerdict, Verdict};
+use tc_rules::{Args, Comp, Entry, Group, Op, Reply, Run, Target, UserVerdict, Verdict};
 
 /// Looks at a flag until it is set, a billion times at most, and says whether it was set.
 fn is_seen(flag: &AtomicU64) -> bool {

@@ -13,7 +13,7 @@ use std::time::{Clock, Duration};
 use std::{fs, thread};
 use tc_book::{Halt, Pass, open_case};
 use tc_exec::*;
-use tc_table::{Args, Comp, Entry, Group, Reply, Run, UserVerdict, Verdict, replay_check};
+use tc_rules::{Args, Comp, Entry, Group, Reply, Run, UserVerdict, Verdict, replay_check};
 
 /// Allows no worker of one run, and keeps the runs that it was asked for.
 #[derive(Drop)]

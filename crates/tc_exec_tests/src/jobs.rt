@@ -8,7 +8,7 @@ use std::sync::{Arc, Wait};
 use std::thread::Threads;
 use tc_book::{Halt, Pass};
 use tc_exec::*;
-use tc_table::{Args, Run, Target, UserVerdict};
+use tc_rules::{Args, Run, Target, UserVerdict};
 
 pub(crate) type Behaviour = Box<dyn FnOnce(Pass) -> Back + Send>;
 

@@ -5,7 +5,7 @@ use std::alloc::Global;
 use std::process::Abort;
 use std::sync::Wait;
 use tc_book::{Closed, Halt, Left, Pass, Shared, Ticket};
-use tc_table::{
+use tc_rules::{
     Args, Comp, Entry, Group, NoMemory, Op, Reply, Run, UserVerdict, Verdict, replay_check,
 };
 

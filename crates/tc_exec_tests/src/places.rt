@@ -3,7 +3,7 @@ use crate::calls::{calls, enter, leave, open, unstarted};
 use crate::checks::{got, is};
 use std::sync::Wait;
 use tc_book::Shared;
-use tc_table::Run;
+use tc_rules::Run;
 
 fn has_place<R: Wait>(rt: &R, shared: &Shared, run: u16) -> bool {
     shared.look(rt).has_place(Run(run))

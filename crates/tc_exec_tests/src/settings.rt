@@ -6,7 +6,7 @@ use std::process::Abort;
 use std::sync::Wait;
 use tc_book::{Halt, Pass};
 use tc_exec::{Back, CaseReport, Job};
-use tc_table::{Entry, Op, Reply, Target, UserVerdict, Verdict};
+use tc_rules::{Entry, Op, Reply, Target, UserVerdict, Verdict};
 
 const SETTINGS: u32 = 1_000;
 

@@ -9,7 +9,7 @@ use std::thread;
 use std::thread::{JoinHandle, Threads};
 use std::time::{Clock, CpuClock, Duration};
 use tc_book::{Halt, Left, Pass, Shared, Ticket};
-use tc_table::{Comp, Entry, Fault, Op, Reply, Run, Target};
+use tc_rules::{Comp, Entry, Fault, Op, Reply, Run, Target};
 use tc_text::read_reply;
 
 /// A flag that is not set yet.

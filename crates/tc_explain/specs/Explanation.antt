@@ -3,8 +3,8 @@ use Rattle.std.specs.Prelude.{ℕ, ◌+◌, List, [], ◌∷◌, ◌++◌}
 use Rattle.std.specs.Option.{option_map_or}
 use Rattle.std.specs.Fmt.{decimal}
 use Rattle.std.specs.List.{position}
-use Rattle.tc_line.specs.Text.{lines}
-use Rattle.tc_text.specs.Said.{Line}
+use Rattle.tc_reader.specs.Prelude.{lines}
+use Rattle.tc_text.specs.Prelude.{Line}
 use Rattle.tc_explain.specs.declared.scan.Opened.{Opened}
 use Rattle.tc_explain.specs.declared.scan.Opened.TheVariants as O
 use Rattle.tc_explain.specs.Places.{is_odd, quoted}

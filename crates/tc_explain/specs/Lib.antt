@@ -2,3 +2,6 @@
 pub mod Scan
 pub mod Places
 pub mod Explanation
+pub mod Prelude
+pub use Rattle.tc_text.specs.Prelude as OfText
+pub use Rattle.tc_reader.specs.Prelude as OfReader

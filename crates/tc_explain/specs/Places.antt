@@ -1,7 +1,7 @@
 -- What is shown of a line.
 use Rattle.std.specs.Prelude.{ℕ, not, Bool, List, ◌∷◌, take}
 use Rattle.std.specs.List.{before_first}
-use Rattle.tc_text.specs.Shown.{is_plain}
+use Rattle.tc_text.specs.Prelude.{is_plain}
 use Rattle.tc_explain.specs.declared.quote.TheConstants.{SHOWN}
 
 -- a byte that no line may have

@@ -1,9 +1,8 @@
 -- What is open before a line of a text.
 use Rattle.std.specs.Prelude.{ℕ, suc, nat_le, true, false, if◌then◌else◌, Option, Some, None, List, [], ◌∷◌, codes}
-use Rattle.tc_line.specs.declared.line.Keyword.{Keyword}
-use Rattle.tc_line.specs.declared.line.Keyword.TheVariants as K
-use Rattle.tc_line.specs.Text.{words}
-use Rattle.tc_line.specs.Words.{is_text, keyword}
+use Rattle.tc_reader.specs.declared.line.Keyword.{Keyword}
+use Rattle.tc_reader.specs.declared.line.Keyword.TheVariants as K
+use Rattle.tc_reader.specs.Prelude.{words, is_text, keyword}
 use Rattle.tc_explain.specs.declared.scan.Opened.{Opened}
 use Rattle.tc_explain.specs.declared.scan.Opened.TheVariants as O
 

@@ -1,13 +1,13 @@
 //! The lines of an explanation.
 ghost use Rattle.std.specs.Prelude.{◌<◌, ◌+◌, ◌^◌, [], ◌∷◌, OnOk};
 ghost use Rattle.std.specs.Fmt.{decimal};
-ghost use Rattle.tc_text.specs.Said.{TellsAmong, TellsLine};
+ghost use Rattle.tc_text.specs.Prelude.{TellsAmong, TellsLine};
 ghost use Rattle.tc_explain.specs.Places.{quoted};
 
 use crate::nearest::{near_text, near_word};
 use crate::quote::{quoted_begin, quoted_rest};
 use std::alloc::Global;
-use tc_line::Lines;
+use tc_reader::Lines;
 use tc_text::{Part, append_parts};
 use tc_verdict::NoMemory;
 

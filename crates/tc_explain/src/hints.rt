@@ -14,8 +14,9 @@ use crate::source::{add_source, begins_comment};
 use crate::stop::{is_whole, walk};
 use std::alloc::Global;
 use tc_entry::{ARGUMENTS, BEHAVIOURS};
-use tc_line::{Keyword, ScriptKind, is_word, read_keyword, read_name, read_words};
-use tc_script::{STEPS, TEST_CASES};
+use tc_reader::{
+    Keyword, STEPS, ScriptKind, TEST_CASES, is_word, read_keyword, read_name, read_words,
+};
 use tc_text::{TextKind, read_number};
 use tc_verdict::NoMemory;
 

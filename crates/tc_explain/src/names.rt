@@ -1,6 +1,6 @@
 //! The names of a script, as far as a line may refer to them or not use them again.
 use std::alloc::Global;
-use tc_line::{Keyword, Lines, is_word, read_keyword, read_words};
+use tc_reader::{Keyword, Lines, is_word, read_keyword, read_words};
 use tc_verdict::NoMemory;
 
 /// A name, the line that gives it, and how many parameters follow it there.

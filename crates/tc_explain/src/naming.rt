@@ -4,7 +4,7 @@ use crate::names::{Given, Names, given_as, no_names};
 use crate::nearest::near_word;
 use std::alloc::Global;
 use tc_entry::ARGUMENTS;
-use tc_line::{Keyword, ScriptKind, is_word, read_keyword, read_name};
+use tc_reader::{Keyword, ScriptKind, is_word, read_keyword, read_name};
 use tc_text::{append_number, append_text};
 use tc_verdict::NoMemory;
 

@@ -1,11 +1,11 @@
 //! A line of a text, and what is open before it.
 ghost use Rattle.std.specs.Prelude.{◌≡◌, IfOk, map, option_copied};
-ghost use Rattle.tc_line.specs.Text.{lines};
+ghost use Rattle.tc_reader.specs.Prelude.{lines};
 ghost use Rattle.tc_explain.specs.Scan.{after_keyword as keyword_after, behind, find};
 ghost use Rattle.tc_explain.specs.declared.scan.Opened.TheVariants as O;
 
 use std::alloc::Global;
-use tc_line::{Keyword, Lines, is_word, read_keyword, read_words};
+use tc_reader::{Keyword, Lines, is_word, read_keyword, read_words};
 use tc_verdict::NoMemory;
 
 /// What is open before a line, by the lines where it began.

@@ -2,7 +2,7 @@
 
 use crate::sort::Sort;
 use std::alloc::Global;
-use tc_line::{is_word, read_name, read_reference};
+use tc_reader::{is_word, read_name, read_reference};
 use tc_verdict::NoMemory;
 
 /// What may be at a place of a line, by a number of its own.

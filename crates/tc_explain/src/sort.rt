@@ -1,6 +1,6 @@
 //! What a text should be, and what it seems to be.
 use std::alloc::Global;
-use tc_line::{Keyword, Lines, ScriptKind, is_comment, is_word, read_words};
+use tc_reader::{Keyword, Lines, ScriptKind, is_comment, is_word, read_words};
 use tc_text::TextKind;
 use tc_verdict::NoMemory;
 

@@ -4,7 +4,7 @@ use crate::slot::KEYWORD;
 use crate::sort::Sort;
 use crate::stop::{is_whole, walk};
 use std::alloc::Global;
-use tc_line::{is_word, read_words};
+use tc_reader::{is_word, read_words};
 use tc_text::append_text;
 use tc_verdict::NoMemory;
 

@@ -3,7 +3,7 @@ ghost use Rattle.std.specs.Prelude.{◌<◌, ◌+◌, [], ◌∷◌, IfOk, OnOk,
 ghost use Rattle.std.specs.Fmt.{decimal};
 ghost use Rattle.std.specs.List.{position};
 ghost use Rattle.std.specs.Option.{option_map_or};
-ghost use Rattle.tc_text.specs.Said.{TellsAmong, TellsLine};
+ghost use Rattle.tc_text.specs.Prelude.{TellsAmong, TellsLine};
 ghost use Rattle.tc_explain.specs.Explanation.{explanation, line_note, open_note};
 ghost use Rattle.tc_explain.specs.Places.{is_odd};
 
@@ -21,7 +21,7 @@ use crate::slot::{ENTRY, KEYWORD, RUN, Slot, may_end, text};
 use crate::sort::{Refusal, Sort, seen_sort};
 use crate::stop::{Stop, walk};
 use std::alloc::Global;
-use tc_line::{ScriptKind, read_words};
+use tc_reader::{ScriptKind, read_words};
 use tc_text::TextKind;
 use tc_verdict::NoMemory;
 

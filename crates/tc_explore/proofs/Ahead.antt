@@ -1,42 +1,25 @@
 -- What holds of a history that is ahead of another by the ends of runs.
 use Rattle.std.proofs.Common.{ℕ, ◌≡◌, ◌==◌, ◌||◌, ◌&&◌, ◌⊎◌, inl, inr, not, if◌then◌else◌, nat_le, Bool, true, false, Option, Some, None, is_some, MatchOption, List, [], ◌∷◌, length, drop, refl, ap, sym, subst, ◌∙◌, ◌≤◌, arith}
 use Rattle.std.specs.List.{list_any, list_all}
-use Rattle.tc_verdict.specs.declared.run.Run.{Run}
+use Rattle.tc_rules.specs.Prelude.{Run, Comp, Entry, Op, Target, Phase, Reply, is_ended, is_fault, comp_of, ptcs, exists, is_in, created, add_new, halts, kills, phase, start_in, done, killed, is_running, is_killed, is_done, gives, overall, holds, fault, names, all_exist, asks_many, special_fault, start_fault, components, answer, plain_answer, is_active, is_active_on, is_run_of, IsLegal, level_of, Verdict}
 use Rattle.tc_entry.specs.declared.limits.TheConstants.{COMPONENTS}
-use Rattle.tc_entry.specs.declared.comp.Comp.{Comp}
-use Rattle.tc_entry.specs.declared.entry.Entry.{Entry}
-use Rattle.tc_entry.specs.declared.op.Op.{Op}
 use Rattle.tc_entry.specs.declared.op.Op.TheVariants as O
-use Rattle.tc_entry.specs.declared.op.Target.{Target}
 use Rattle.tc_entry.specs.declared.op.Target.TheVariants as T
-use Rattle.tc_entry.specs.declared.phase.Phase.{Phase}
 use Rattle.tc_entry.specs.declared.phase.Phase.TheVariants as P
 use Rattle.tc_entry.specs.declared.reply.Fault.TheVariants as F
-use Rattle.tc_entry.specs.declared.reply.Reply.{Reply}
 use Rattle.tc_entry.specs.declared.reply.Reply.TheVariants as R
-use Rattle.tc_entry.specs.Reply.{is_ended, is_fault}
-use Rattle.tc_step.specs.Steps.{ScriptView}
-use Rattle.tc_table.specs.declared.awaited.Awaited.{Awaited}
-use Rattle.tc_table.specs.History.{comp_of, ptcs, exists, is_in, created, add_new, halts, kills}
-use Rattle.tc_table.specs.Phases.{phase, start_in}
-use Rattle.tc_table.specs.Status.{done, killed, is_running, is_killed, is_done}
-use Rattle.tc_table.specs.Local.{gives, overall}
-use Rattle.tc_table.specs.Waiting.{holds}
-use Rattle.tc_table.specs.Faults.{fault, names, all_exist, asks_many, special_fault, start_fault, components}
-use Rattle.tc_table.specs.Answers.{answer, plain_answer, is_active, is_active_on, is_run_of}
-use Rattle.tc_table.specs.Legal.{IsLegal}
-use Rattle.tc_table.specs.Inside.Step.{next_phase}
-use Rattle.tc_table.proofs.Lemmas.Deciding.{self_equal, equal_if}
-use Rattle.tc_table.proofs.Lemmas.Keeping.{all_exist_same}
-use Rattle.tc_table.proofs.Lemmas.Over.{on_existing}
-use Rattle.tc_table.proofs.Lemmas.Going.{starts_still}
-use Rattle.tc_table.proofs.Lemmas.Sound.{plain_if}
-use Rattle.tc_course.specs.Course.{Stand, stand, goes_on, IsCourse}
+use Rattle.tc_step.specs.Prelude.{ScriptView}
+use Rattle.tc_rules.specs.declared.awaited.Awaited.{Awaited}
+use Rattle.tc_rules.specs.Inside.Step.{next_phase}
+use Rattle.tc_rules.proofs.Lemmas.Deciding.{self_equal, equal_if}
+use Rattle.tc_rules.proofs.Lemmas.Keeping.{all_exist_same}
+use Rattle.tc_rules.proofs.Lemmas.Over.{on_existing}
+use Rattle.tc_rules.proofs.Lemmas.Going.{starts_still}
+use Rattle.tc_rules.proofs.Lemmas.Sound.{plain_if}
+use Rattle.tc_course.specs.Prelude.{CourseState, stand, goes_on, IsCourse}
 use Rattle.tc_explore.specs.Inside.Simulation.{IsAlike, IsQuietAt, call_at, IsLastAt, WasParked, IsLeaving, IsEnding, IsAhead, IsBarredBefore}
 use Rattle.tc_explore.proofs.Alike.{is_plain_call, phase_next, overall_next, next_no_better}
 use Rattle.tc_course.proofs.Lemmas.Standings.{stand_comp, stand_other}
-use Rattle.tc_verdict.specs.Verdict.{level_of}
-use Rattle.tc_verdict.specs.declared.verdict.Verdict.{Verdict}
 
 -- ---- waits
 
@@ -230,7 +213,7 @@ module _ {aim : Verdict} {scripts : List ScriptView} {p q : List Entry} where
 abbrev pub KeepsQuiet : ℕ → List Entry → List Entry → Type 0
 KeepsQuiet n q r = (b : ℕ) (op : Op) → IsQuietAt n q b op → IsQuietAt n r b op
 
-pub leaving_later : {aim : Verdict} (scripts : List ScriptView) (q r : List Entry) (b : ℕ) (s : Stand) → KeepsQuiet (length scripts) q r → IsLeaving aim scripts q b s → IsLeaving aim scripts r b s
+pub leaving_later : {aim : Verdict} (scripts : List ScriptView) (q r : List Entry) (b : ℕ) (s : CourseState) → KeepsQuiet (length scripts) q r → IsLeaving aim scripts q b s → IsLeaving aim scripts r b s
 leaving_later {aim} scripts q r b s keeps l = record { parked = by_wake s.wake l.parked; calls = λ k m. by_bar k (l.calls k m) }
   where
     by_wake : (o : Option Op) → MatchOption o (Unit {0}) (λ wake. WasParked scripts q b s wake) → MatchOption o (Unit {0}) (λ wake. WasParked scripts r b s wake)

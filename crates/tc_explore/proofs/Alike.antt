@@ -2,40 +2,25 @@
 use Rattle.std.proofs.Common.{ℕ, ◌≡◌, ◌==◌, ◌&&◌, ◌||◌, not, if◌then◌else◌, nat_lt, Bool, true, false, Option, Some, None, is_some, List, [], ◌∷◌, ◌++◌, length, drop, map, refl, ap, sym, ◌∙◌, arith, ◌≤◌}
 use Rattle.std.proofs.lemmas.Bool.Decides.{nat_tests}
 use Rattle.std.specs.List.{list_any, list_all}
-use Rattle.tc_verdict.specs.declared.run.Run.{Run}
-use Rattle.tc_verdict.specs.declared.verdict.Verdict.{Verdict}
+use Rattle.tc_rules.specs.Prelude.{Run, Verdict, worse, worst, level_of, Comp, Entry, Op, Target, Phase, comps, comp_of, ptcs, exists, is_in, is_comp, is_alive_type, created, started_on, first_some, add_new, halts, kills, phase, phase_if_any, start_in, done, killed, is_running, is_killed, is_done, local, overall, gives, verdicts_of, holds, fault, names, special_fault, start_fault, components, answer, is_active, is_active_on, is_run_of, IsLegal}
 use Rattle.tc_verdict.specs.declared.verdict.Verdict.TheVariants as V
-use Rattle.tc_verdict.specs.Verdict.{worse, worst, level_of}
 use Rattle.tc_verdict.proofs.Lemmas.Order.{worse_later, worse_swap, worse_left, worse_right}
-use Rattle.tc_entry.specs.declared.comp.Comp.{Comp}
-use Rattle.tc_entry.specs.declared.entry.Entry.{Entry}
-use Rattle.tc_entry.specs.declared.op.Op.{Op}
 use Rattle.tc_entry.specs.declared.op.Op.TheVariants as O
 use Rattle.tc_entry.specs.declared.op.Group.TheVariants as G
-use Rattle.tc_entry.specs.declared.op.Target.{Target}
 use Rattle.tc_entry.specs.declared.op.Target.TheVariants as T
-use Rattle.tc_entry.specs.declared.phase.Phase.{Phase}
 use Rattle.tc_entry.specs.declared.phase.Phase.TheVariants as P
 use Rattle.tc_entry.specs.declared.reply.Reply.TheVariants as R
-use Rattle.tc_table.specs.declared.awaited.Awaited.{Awaited}
-use Rattle.tc_table.specs.declared.component_state.ComponentState.{ComponentState}
-use Rattle.tc_table.specs.History.{comps, comp_of, ptcs, exists, is_in, is_comp, is_alive_type, created, started_on, first_some, add_new, halts, kills}
-use Rattle.tc_table.specs.Phases.{phase, phase_if_any, start_in}
-use Rattle.tc_table.specs.Status.{done, killed, is_running, is_killed, is_done}
-use Rattle.tc_table.specs.Local.{local, overall, gives, verdicts_of}
-use Rattle.tc_table.specs.Waiting.{holds}
-use Rattle.tc_table.specs.Faults.{fault, names, special_fault, start_fault, components}
-use Rattle.tc_table.specs.Answers.{answer, is_active, is_active_on, is_run_of}
-use Rattle.tc_table.specs.Legal.{IsLegal}
-use Rattle.tc_table.specs.Inside.Kept.{state_of, blank}
-use Rattle.tc_table.specs.Inside.Step.{next_phase, next_state, next_local}
-use Rattle.tc_table.proofs.Lemmas.Steps.{state_step}
-use Rattle.tc_table.proofs.Lemmas.Fresh.{fresh_step}
-use Rattle.tc_table.proofs.Lemmas.Keeping.{all_exist_same, kill_halts}
-use Rattle.tc_table.proofs.Lemmas.Sound.{starts}
-use Rattle.tc_table.proofs.Lemmas.Over.{on_existing, stays}
-use Rattle.tc_table.proofs.Lemmas.LawsOfHistories.{killed_was_halted}
-use Rattle.tc_table.proofs.Lemmas.Deciding.{self_equal, equal_if, if_same}
+use Rattle.tc_rules.specs.declared.awaited.Awaited.{Awaited}
+use Rattle.tc_rules.specs.declared.component_state.ComponentState.{ComponentState}
+use Rattle.tc_rules.specs.Inside.Kept.{state_of, blank}
+use Rattle.tc_rules.specs.Inside.Step.{next_phase, next_state, next_local}
+use Rattle.tc_rules.proofs.Lemmas.Steps.{state_step}
+use Rattle.tc_rules.proofs.Lemmas.Fresh.{fresh_step}
+use Rattle.tc_rules.proofs.Lemmas.Keeping.{all_exist_same, kill_halts}
+use Rattle.tc_rules.proofs.Lemmas.Sound.{starts}
+use Rattle.tc_rules.proofs.Lemmas.Over.{on_existing, stays}
+use Rattle.tc_rules.proofs.Lemmas.LawsOfHistories.{killed_was_halted}
+use Rattle.tc_rules.proofs.Lemmas.Deciding.{self_equal, equal_if, if_same}
 use Rattle.tc_explore.specs.Inside.Simulation.{IsAlike, is_gone, is_late, is_met}
 
 -- ---- what is the same

@@ -2,38 +2,26 @@
 use Rattle.std.proofs.Common.{ℕ, ◌≡◌, ◌+◌, ◌<◌, ◌≤◌, Bool, true, false, Some, List, ◌∷◌, ◌++◌, length, reverse, nat_lt, refl, ap, sym, subst, ◌∙◌, arith, length-append}
 use Rattle.std.proofs.lemmas.List.{append_assoc}
 use Rattle.std.proofs.lemmas.Bool.Decides.{nat_tests}
-use Rattle.tc_verdict.specs.declared.run.Run.{Run}
-use Rattle.tc_entry.specs.declared.entry.Entry.{Entry}
-use Rattle.tc_entry.specs.declared.op.Op.{Op}
-use Rattle.tc_entry.specs.declared.reply.Reply.{Reply}
-use Rattle.tc_entry.specs.Reply.{is_fault}
-use Rattle.tc_step.specs.Steps.{ScriptView}
-use Rattle.tc_table.specs.Case.{Case, past_of}
-use Rattle.tc_table.specs.History.{is_over}
-use Rattle.tc_table.specs.Local.{overall}
-use Rattle.tc_table.specs.Answers.{answer}
+use Rattle.tc_rules.specs.Prelude.{Run, Entry, Op, Reply, is_fault, Case, past_of, is_over, overall, answer, Verdict, level_of}
+use Rattle.tc_step.specs.Prelude.{ScriptView}
 use Rattle.tc_course.specs.declared.witness.Witness.{Witness}
 use Rattle.tc_explore.specs.declared.search.Met.{Met}
-use Rattle.tc_course.specs.Witnesses.{is_found}
-use Rattle.tc_course.specs.Course.{goes_on, turn, IsTurn, IsCourse}
-use Rattle.tc_course.specs.Cases.{taken, IsOn, CannotGo}
+use Rattle.tc_course.specs.Prelude.{is_found, goes_on, turn, IsTurn, IsCourse, entry_made, IsOn, CannotGo}
 use Rattle.tc_explore.specs.Inside.Simulation.{is_spent, IsCovered, GoesOn, IsClosedFor, IsWithin}
 use Rattle.tc_explore.specs.Inside.Seen.{IsSeen, IsLonger, StandsOn, IsAfter, IsRunClosed, IsCalm, IsState, IsStillAt, AreStill, IsFull}
 use Rattle.tc_explore.proofs.Seeing.{closed_for_longer, covered_by}
-use Rattle.tc_verdict.specs.declared.verdict.Verdict.{Verdict}
-use Rattle.tc_verdict.specs.Verdict.{level_of}
 
 -- what a copy of a course has called, it has called
-pub with_copied : (t u v : Case) (run : Run) (op : Op) → u.behaviours ≡ t.behaviours → u.history ≡ t.history → past_of v ≡ taken u.behaviours (past_of u) run op ∷ past_of u →
-    past_of v ≡ taken t.behaviours (past_of t) run op ∷ past_of t
+pub with_copied : (t u v : Case) (run : Run) (op : Op) → u.behaviours ≡ t.behaviours → u.history ≡ t.history → past_of v ≡ entry_made u.behaviours (past_of u) run op ∷ past_of u →
+    past_of v ≡ entry_made t.behaviours (past_of t) run op ∷ past_of t
 with_copied t u v run op n h is =
     let past : past_of u ≡ past_of t = ap reverse h in
-    is ∙ (ap (λ m. taken m (past_of u) run op ∷ past_of u) n ∙ ap (λ x. taken t.behaviours x run op ∷ x) past)
+    is ∙ (ap (λ m. entry_made m (past_of u) run op ∷ past_of u) n ∙ ap (λ x. entry_made t.behaviours x run op ∷ x) past)
 
 pub on_copied : (scripts : List ScriptView) (t u v : Case) (run : Run) (op : Op) → IsOn scripts t → u.behaviours ≡ t.behaviours → u.history ≡ t.history → v.behaviours ≡ u.behaviours →
-    past_of v ≡ taken u.behaviours (past_of u) run op ∷ past_of u → IsTurn scripts (past_of t) (taken t.behaviours (past_of t) run op) → IsOn scripts v
+    past_of v ≡ entry_made u.behaviours (past_of u) run op ∷ past_of u → IsTurn scripts (past_of t) (entry_made t.behaviours (past_of t) run op) → IsOn scripts v
 on_copied scripts t u v run op on n h m is turn =
-    let c : IsCourse scripts (taken t.behaviours (past_of t) run op ∷ past_of t) = (turn, on.course) in
+    let c : IsCourse scripts (entry_made t.behaviours (past_of t) run op ∷ past_of t) = (turn, on.course) in
     record { behaviours = m ∙ (n ∙ on.behaviours); course = subst (IsCourse scripts) (sym (with_copied t u v run op n h is)) c }
 
 -- the case is over, and its verdict found
@@ -89,37 +77,37 @@ same_entry scripts q e d h k own =
 pub run_cannot : {aim : Verdict} (scripts : List ScriptView) (states : List Case) (found : List Witness) (q : List Entry) (b : ℕ) → CannotGo scripts q b → IsRunClosed aim scripts states found q b
 run_cannot scripts states found q b cannot = λ e own t on. absurd (cannot e own t)
 
-pub run_parked : {aim : Verdict} (scripts : List ScriptView) (states : List Case) (found : List Witness) (n : ℕ) (q : List Entry) (run : Run) (op : Op) → IsTurn scripts q (taken n q run op) → goes_on (answer n q run.0 op) ≡ false →
+pub run_parked : {aim : Verdict} (scripts : List ScriptView) (states : List Case) (found : List Witness) (n : ℕ) (q : List Entry) (run : Run) (op : Op) → IsTurn scripts q (entry_made n q run op) → goes_on (answer n q run.0 op) ≡ false →
     IsRunClosed aim scripts states found q run.0
 run_parked scripts states found n q run op t off = λ e own h on.
-    let same : e ≡ taken n q run op = same_entry scripts q e (taken n q run op) h t own in
+    let same : e ≡ entry_made n q run op = same_entry scripts q e (entry_made n q run op) h t own in
     let was : goes_on e.reply ≡ goes_on (answer n q run.0 op) = ap (λ (x : Entry). goes_on x.reply) same in
     absurd cc
 
 -- in a state a call that continues is an error, or changes something
-pub run_closed : {aim : Verdict} (scripts : List ScriptView) (states : List Case) (found : List Witness) (n : ℕ) (q : List Entry) (run : Run) (op : Op) → IsCalm scripts q → run.0 < length scripts → IsTurn scripts q (taken n q run op) →
-    goes_on (answer n q run.0 op) ≡ true → IsAfter aim scripts states found q (taken n q run op) → IsRunClosed aim scripts states found q run.0
+pub run_closed : {aim : Verdict} (scripts : List ScriptView) (states : List Case) (found : List Witness) (n : ℕ) (q : List Entry) (run : Run) (op : Op) → IsCalm scripts q → run.0 < length scripts → IsTurn scripts q (entry_made n q run op) →
+    goes_on (answer n q run.0 op) ≡ true → IsAfter aim scripts states found q (entry_made n q run op) → IsRunClosed aim scripts states found q run.0
 run_closed {aim} scripts states found n q run op calm near t goes after = λ e own h on.
-    let loud : is_fault (answer n q run.0 op) ≡ false → is_spent q op ≡ false = calm run.0 near (taken n q run op) refl t goes in
-    let same : taken n q run op ≡ e = sym (same_entry scripts q e (taken n q run op) h t own) in
+    let loud : is_fault (answer n q run.0 op) ≡ false → is_spent q op ≡ false = calm run.0 near (entry_made n q run op) refl t goes in
+    let same : entry_made n q run op ≡ e = sym (same_entry scripts q e (entry_made n q run op) h t own) in
     subst (λ x. IsClosedFor aim scripts (IsSeen states) found q x) same (record { loud = loud; over = after.over; more = after.more })
 
-pub goes_on_by : (scripts : List ScriptView) (n : ℕ) (q : List Entry) (run : Run) (op : Op) → IsTurn scripts q (taken n q run op) → goes_on (answer n q run.0 op) ≡ true → is_fault (answer n q run.0 op) ≡ false → GoesOn scripts q
-goes_on_by scripts n q run op t on plain = record { entry = taken n q run op; turn = t; on = on; no_fault = plain }
+pub goes_on_by : (scripts : List ScriptView) (n : ℕ) (q : List Entry) (run : Run) (op : Op) → IsTurn scripts q (entry_made n q run op) → goes_on (answer n q run.0 op) ≡ true → is_fault (answer n q run.0 op) ≡ false → GoesOn scripts q
+goes_on_by scripts n q run op t on plain = record { entry = entry_made n q run op; turn = t; on = on; no_fault = plain }
 
 -- the next call of a run that does not continue, and that of one that is an error
 pub still_cannot : (scripts : List ScriptView) (q : List Entry) (b : ℕ) → CannotGo scripts q b → IsStillAt scripts q b
 still_cannot scripts q b cannot = λ e own t on. absurd (cannot e own t)
 
-pub still_parked : (scripts : List ScriptView) (n : ℕ) (q : List Entry) (run : Run) (op : Op) → IsTurn scripts q (taken n q run op) → goes_on (answer n q run.0 op) ≡ false → IsStillAt scripts q run.0
+pub still_parked : (scripts : List ScriptView) (n : ℕ) (q : List Entry) (run : Run) (op : Op) → IsTurn scripts q (entry_made n q run op) → goes_on (answer n q run.0 op) ≡ false → IsStillAt scripts q run.0
 still_parked scripts n q run op t off = λ e own h on.
-    let same : e ≡ taken n q run op = same_entry scripts q e (taken n q run op) h t own in
+    let same : e ≡ entry_made n q run op = same_entry scripts q e (entry_made n q run op) h t own in
     let was : goes_on e.reply ≡ goes_on (answer n q run.0 op) = ap (λ (x : Entry). goes_on x.reply) same in
     absurd cc
 
-pub still_fault : (scripts : List ScriptView) (n : ℕ) (q : List Entry) (run : Run) (op : Op) → IsTurn scripts q (taken n q run op) → is_fault (answer n q run.0 op) ≡ true → IsStillAt scripts q run.0
+pub still_fault : (scripts : List ScriptView) (n : ℕ) (q : List Entry) (run : Run) (op : Op) → IsTurn scripts q (entry_made n q run op) → is_fault (answer n q run.0 op) ≡ true → IsStillAt scripts q run.0
 still_fault scripts n q run op t fault = λ e own h on.
-    let same : e ≡ taken n q run op = same_entry scripts q e (taken n q run op) h t own in
+    let same : e ≡ entry_made n q run op = same_entry scripts q e (entry_made n q run op) h t own in
     ap (λ (x : Entry). is_fault x.reply) same ∙ fault
 
 pub calm_state : {aim : Verdict} (scripts : List ScriptView) (t : Case) → IsState aim scripts t → IsCalm scripts (past_of t)

@@ -2,40 +2,23 @@
 -- found.
 use Rattle.std.proofs.Common.{ℕ, zero, suc, ◌≡◌, ◌<◌, ◌≤◌, ◌==◌, ◌&&◌, ◌||◌, ◌⊎◌, inl, inr, ⊎_elim, not, nat_lt, if◌then◌else◌, Bool, true, false, Option, Some, None, is_some, MatchOption, List, [], ◌∷◌, length, slice_get, refl, ap, sym, subst, ◌∙◌, arith}
 use Rattle.std.proofs.lemmas.Bool.Decides.{nat_tests}
-use Rattle.tc_verdict.specs.declared.verdict.Verdict.{Verdict}
+use Rattle.tc_rules.specs.Prelude.{Verdict, worse, level_of, Comp, Entry, Op, Target, Phase, Reply, Fault, is_ended, is_fault, is_wake, comp_of, comps, exists, is_in, created, started_on, ends_case, is_over, phase, overall, gives, holds, waiting, waits_in_vain, is_still, is_stuck, awaited, fault, all_exist, answer, plain_answer, wake_reply, is_active, is_active_on, is_run_of, IsLegal, UserVerdict, given}
 use Rattle.tc_verdict.specs.declared.verdict.Verdict.TheVariants as V
-use Rattle.tc_verdict.specs.Verdict.{worse, level_of}
-use Rattle.tc_entry.specs.declared.comp.Comp.{Comp}
-use Rattle.tc_entry.specs.declared.entry.Entry.{Entry}
-use Rattle.tc_entry.specs.declared.op.Op.{Op}
 use Rattle.tc_entry.specs.declared.op.Op.TheVariants as O
-use Rattle.tc_entry.specs.declared.op.Target.{Target}
 use Rattle.tc_entry.specs.declared.op.Target.TheVariants as T
-use Rattle.tc_entry.specs.declared.phase.Phase.{Phase}
 use Rattle.tc_entry.specs.declared.phase.Phase.TheVariants as P
-use Rattle.tc_entry.specs.declared.reply.Reply.{Reply}
 use Rattle.tc_entry.specs.declared.reply.Reply.TheVariants as R
-use Rattle.tc_entry.specs.declared.reply.Fault.{Fault}
 use Rattle.tc_entry.specs.declared.reply.Fault.TheVariants as F
-use Rattle.tc_entry.specs.Reply.{is_ended, is_fault}
-use Rattle.tc_step.specs.Steps.{ScriptView}
-use Rattle.tc_table.specs.declared.awaited.Awaited.{Awaited}
-use Rattle.tc_table.specs.History.{comp_of, comps, exists, is_in, created, started_on, ends_case, is_over}
-use Rattle.tc_table.specs.Phases.{phase}
-use Rattle.tc_table.specs.Local.{overall, gives}
-use Rattle.tc_table.specs.Waiting.{holds, waiting, waits_in_vain, is_still, is_stuck, awaited}
-use Rattle.tc_table.specs.Faults.{fault, all_exist}
-use Rattle.tc_table.specs.Answers.{answer, plain_answer, wake_reply, is_active, is_active_on, is_run_of}
-use Rattle.tc_table.specs.Legal.{IsLegal}
-use Rattle.tc_table.proofs.Lemmas.Deciding.{equal_if, and_right}
-use Rattle.tc_table.proofs.Lemmas.Over.{on_existing, all_over}
-use Rattle.tc_table.proofs.Lemmas.Stuck.{one_false}
-use Rattle.tc_table.proofs.Lemmas.Going.{started_by_entry}
+use Rattle.tc_step.specs.Prelude.{ScriptView}
+use Rattle.tc_rules.specs.declared.awaited.Awaited.{Awaited}
+use Rattle.tc_rules.proofs.Lemmas.Deciding.{equal_if, and_right}
+use Rattle.tc_rules.proofs.Lemmas.Over.{on_existing, all_over}
+use Rattle.tc_rules.proofs.Lemmas.Stuck.{one_false}
+use Rattle.tc_rules.proofs.Lemmas.Going.{started_by_entry}
 use Rattle.tc_course.specs.declared.witness.Witness.{Witness}
 use Rattle.std.specs.Option.{unwrap_or}
-use Rattle.tc_course.specs.Course.{Stand, stand, goes_on, after_own, after_other_by, is_wake, is_idle, turn, steps_of, IsTurn, IsCourse, IsComplete}
+use Rattle.tc_course.specs.Prelude.{CourseState, stand, goes_on, after_own, after_other_by, is_idle, turn, steps_of, IsTurn, IsCourse, IsComplete, is_found}
 use Rattle.tc_course.specs.Inside.Standing.{wake_if, call_of}
-use Rattle.tc_course.specs.Witnesses.{is_found}
 use Rattle.tc_explore.specs.Inside.Simulation.{IsAlike, is_quiet, is_late, is_met, is_spent, IsQuietAt, call_at, IsWakeOf, IsBefore, IsParkedAt, IsFollowed, IsLastAt, WasParked, IsLeaving, place_of, IsEnding, IsAhead, IsFor, IsCovered, GoesOn, IsClosed, IsWithin, is_barred, IsBarredBefore, AreOrdered}
 use Rattle.tc_course.proofs.Lemmas.Histories.{course_legal}
 use Rattle.tc_explore.proofs.Alike.{ChangesNothing, alike_sym, alike_unchanged, active_alike, holds_alike, is_plain_call, overall_next, overall_grows, next_within}
@@ -48,8 +31,6 @@ use Rattle.tc_explore.proofs.Simulation.{unchanged_ended, unchanged_quiet, uncha
 use Rattle.tc_explore.proofs.Places.{not_ending, quiet_sets_no_wake, quiet_no_wake, Spent, how_spent, loud_not_quiet, behind, parked, woken_behind, leaving_on, leaving_parked, leaving_woken, together, woken, followed_self, keeps_quiet, barred_sets, quiet_free}
 use Rattle.tc_explore.specs.Inside.Seen.{IsToldBy}
 use Rattle.tc_verdict.proofs.Lemmas.Order.{worse_right}
-use Rattle.tc_verdict.specs.declared.user_verdict.UserVerdict.{UserVerdict}
-use Rattle.tc_verdict.specs.UserVerdict.{given}
 
 -- what is found of a course, or represents it
 pub record IsTold (aim : Verdict) (scripts : List ScriptView) (Seen : List Entry → Type 0) (found : List Witness) (p : List Entry) : Type 0 where
@@ -557,7 +538,7 @@ met_awaited q op wake a of m h =
     awaited_op : Op → Option Awaited
     awaited_op op = awaited op
 
-place_if_parked : (s : Stand) (wake : Op) (place : ℕ) → s.wake ≡ Some wake → s.called ≡ suc place → place_of s ≤ place
+place_if_parked : (s : CourseState) (wake : Op) (place : ℕ) → s.wake ≡ Some wake → s.called ≡ suc place → place_of s ≤ place
 place_if_parked s wake place h more = rw h (omega (arith, more))
 
 module _ {aim : Verdict} {scripts : List ScriptView} {p q : List Entry} where

@@ -1,15 +1,12 @@
 -- If the states that a search has seen are closed, it has found the verdict of each complete course.
 use Rattle.std.proofs.Common.{◌≤◌, List, [], length, reverse, ap, ◌≡◌, subst, sym, arith}
-use Rattle.tc_step.specs.Steps.{ScriptView}
-use Rattle.tc_table.specs.Case.{Case, past_of}
+use Rattle.tc_step.specs.Prelude.{ScriptView}
+use Rattle.tc_rules.specs.Prelude.{Case, past_of, Verdict, level_of, overall}
 use Rattle.tc_course.specs.declared.witness.Witness.{Witness}
 use Rattle.tc_explore.specs.Inside.Simulation.{IsCovered}
 use Rattle.tc_explore.specs.Inside.Seen.{AreClosed, IsSeen, AllTold, IsToldBy}
 use Rattle.tc_explore.proofs.Sameness.{same_for}
 use Rattle.tc_explore.proofs.Closing.{SeenIsClosed, complete_is_told}
-use Rattle.tc_verdict.specs.declared.verdict.Verdict.{Verdict}
-use Rattle.tc_verdict.specs.Verdict.{level_of}
-use Rattle.tc_table.specs.Local.{overall}
 
 seen_closed : {aim : Verdict} (scripts : List ScriptView) (states : List Case) (found : List Witness) → AreClosed aim scripts states found → SeenIsClosed aim scripts (IsSeen states) found
 seen_closed scripts states found closed r p seen course for =

@@ -1,31 +1,19 @@
 -- What a stop or kill does that nobody can see: of a component whose run can only set a verdict worse than is looked for.
 use Rattle.std.proofs.Common.{ℕ, ◌≡◌, ◌<◌, ◌==◌, ◌⊎◌, inl, inr, Bool, true, false, Some, None, List, ◌∷◌, length, slice_get, refl, ap, sym, subst, ◌∙◌, arith}
-use Rattle.tc_verdict.specs.declared.run.Run.{Run}
-use Rattle.tc_verdict.specs.declared.verdict.Verdict.{Verdict}
+use Rattle.tc_rules.specs.Prelude.{Run, Verdict, UserVerdict, given, level_of, Comp, Entry, Op, is_ended, is_fault, comp_of, exists, kills, phase, plain_answer, is_active, is_active_on, is_run_of, IsLegal}
 use Rattle.tc_verdict.specs.declared.verdict.Verdict.TheVariants as V
-use Rattle.tc_verdict.specs.declared.user_verdict.UserVerdict.{UserVerdict}
 use Rattle.tc_verdict.specs.declared.user_verdict.UserVerdict.TheVariants as U
-use Rattle.tc_verdict.specs.UserVerdict.{given}
-use Rattle.tc_verdict.specs.Verdict.{level_of}
-use Rattle.tc_entry.specs.declared.comp.Comp.{Comp}
-use Rattle.tc_entry.specs.declared.entry.Entry.{Entry}
-use Rattle.tc_entry.specs.declared.op.Op.{Op}
 use Rattle.tc_entry.specs.declared.op.Op.TheVariants as O
 use Rattle.tc_entry.specs.declared.op.Group.TheVariants as G
 use Rattle.tc_entry.specs.declared.phase.Phase.TheVariants as P
 use Rattle.tc_entry.specs.declared.reply.Reply.TheVariants as R
-use Rattle.tc_entry.specs.Reply.{is_ended, is_fault}
-use Rattle.tc_step.specs.Steps.{ScriptView}
-use Rattle.tc_table.specs.History.{comp_of, exists, kills}
-use Rattle.tc_table.specs.Phases.{phase}
-use Rattle.tc_table.specs.Answers.{plain_answer, is_active, is_active_on, is_run_of}
-use Rattle.tc_table.specs.Legal.{IsLegal}
-use Rattle.tc_table.specs.Inside.Step.{next_phase}
-use Rattle.tc_table.proofs.Lemmas.Deciding.{equal_if, self_equal}
-use Rattle.tc_table.proofs.Lemmas.Over.{on_existing, stays}
-use Rattle.tc_table.proofs.Lemmas.Sound.{plain_if}
+use Rattle.tc_step.specs.Prelude.{ScriptView}
+use Rattle.tc_rules.specs.Inside.Step.{next_phase}
+use Rattle.tc_rules.proofs.Lemmas.Deciding.{equal_if, self_equal}
+use Rattle.tc_rules.proofs.Lemmas.Over.{on_existing, stays}
+use Rattle.tc_rules.proofs.Lemmas.Sound.{plain_if}
 use Rattle.std.specs.Option.{unwrap_or}
-use Rattle.tc_course.specs.Course.{stand, steps_of, turn, IsCourse}
+use Rattle.tc_course.specs.Prelude.{stand, steps_of, turn, IsCourse}
 use Rattle.tc_course.specs.Inside.Standing.{call_of}
 use Rattle.tc_explore.specs.Inside.Simulation.{is_barred, is_late, call_at, IsQuietAt, IsFollowed, IsEnding, IsFor, IsFelling}
 use Rattle.tc_course.proofs.Lemmas.Histories.{course_legal}

@@ -2,28 +2,17 @@
 -- something.
 use Rattle.std.proofs.Common.{ℕ, ◌≡◌, ◌<◌, ◌+◌, ◌==◌, ◌&&◌, ◌||◌, inl, inr, not, nat_lt, Bool, true, false, Option, Some, None, List, [], ◌∷◌, length, reverse, refl, ap, sym, subst, ◌∙◌, arith}
 use Rattle.std.proofs.lemmas.Bool.Decides.{nat_tests}
-use Rattle.tc_verdict.specs.declared.run.Run.{Run}
-use Rattle.tc_entry.specs.declared.comp.Comp.{Comp}
-use Rattle.tc_entry.specs.declared.entry.Entry.{Entry}
-use Rattle.tc_entry.specs.declared.op.Op.{Op}
+use Rattle.tc_rules.specs.Prelude.{Run, Comp, Entry, Op, Reply, is_ended, is_fault, Case, past_of, comp_of, started_on, first_some, is_comp, is_finish, is_stop_of, is_kill_of, is_stop_case, halts, ends_case, ends_pass, is_over, phase, answer, is_active, is_active_on, is_run_of, IsLegal, Verdict, overall, gives, local, level_of}
 use Rattle.tc_entry.specs.declared.op.Op.TheVariants as O
 use Rattle.tc_entry.specs.declared.op.Target.TheVariants as T
 use Rattle.tc_entry.specs.declared.phase.Phase.TheVariants as P
-use Rattle.tc_entry.specs.declared.reply.Reply.{Reply}
 use Rattle.tc_entry.specs.declared.reply.Reply.TheVariants as R
-use Rattle.tc_entry.specs.Reply.{is_ended, is_fault}
-use Rattle.tc_step.specs.Steps.{ScriptView}
-use Rattle.tc_table.specs.Case.{Case, past_of}
-use Rattle.tc_table.specs.History.{comp_of, started_on, first_some, is_comp, is_finish, is_stop_of, is_kill_of, is_stop_case, halts, ends_case, ends_pass, is_over}
-use Rattle.tc_table.specs.Phases.{phase}
-use Rattle.tc_table.specs.Answers.{answer, is_active, is_active_on, is_run_of}
-use Rattle.tc_table.specs.Legal.{IsLegal}
-use Rattle.tc_table.proofs.Lemmas.Deciding.{equal_if}
-use Rattle.tc_table.proofs.Lemmas.Sound.{plain_if}
-use Rattle.tc_table.proofs.Lemmas.Going.{halted_by_entry}
-use Rattle.tc_course.specs.Course.{Stand, stand, goes_on, after_other_by, IsTurn, IsCourse}
+use Rattle.tc_step.specs.Prelude.{ScriptView}
+use Rattle.tc_rules.proofs.Lemmas.Deciding.{equal_if}
+use Rattle.tc_rules.proofs.Lemmas.Sound.{plain_if}
+use Rattle.tc_rules.proofs.Lemmas.Going.{halted_by_entry}
+use Rattle.tc_course.specs.Prelude.{CourseState, stand, goes_on, after_other_by, IsTurn, IsCourse, entry_made, IsOn}
 use Rattle.tc_course.specs.Inside.Standing.{ends}
-use Rattle.tc_course.specs.Cases.{taken, IsOn}
 use Rattle.tc_explore.specs.Inside.Simulation.{IsSilent, IsWithin}
 use Rattle.tc_explore.specs.Inside.Seen.{IsSame, HasNoWake, IsOpen, IsCalmAt, IsCalm, IsCalmAfter, IsState}
 use Rattle.tc_course.proofs.Lemmas.Histories.{course_legal}
@@ -33,9 +22,6 @@ use Rattle.tc_explore.proofs.Leaving.{running_on}
 use Rattle.tc_explore.proofs.Late.{late_reply, late_halts, met_for, halt_overall}
 use Rattle.tc_explore.proofs.Places.{Spent, how_spent, kept_left, neither}
 use Rattle.tc_explore.proofs.Closing.{not_ended, answer_inactive, or_left, loud_sets_no_wake}
-use Rattle.tc_verdict.specs.declared.verdict.Verdict.{Verdict}
-use Rattle.tc_table.specs.Local.{overall, gives, local}
-use Rattle.tc_verdict.specs.Verdict.{level_of}
 use Rattle.tc_explore.proofs.Alike.{overall_next}
 use Rattle.tc_explore.proofs.Felling.{felling_halts}
 
@@ -49,10 +35,10 @@ no_wake_next : (past : List Entry) (e : Entry) → goes_on e.reply ≡ true → 
 no_wake_next past e on h b = by_test (e.caller.0 == b) refl
   where
     by_test : (t : Bool) → (e.caller.0 == b) ≡ t → (stand (e ∷ past) b).wake ≡ None
-    by_test true k = ap (λ (s : Stand). s.wake) (stand_own past e b (equal_if e.caller.0 b k)) ∙ loud_sets_no_wake e.op e.reply on
+    by_test true k = ap (λ (s : CourseState). s.wake) (stand_own past e b (equal_if e.caller.0 b k)) ∙ loud_sets_no_wake e.op e.reply on
     by_test false k =
         let other : stand (e ∷ past) b ≡ after_other_by (stand past b).comp e b (stand past b) = rw k refl in
-        ap (λ (s : Stand). s.wake) other ∙ (wake_after_other (stand past b).comp (started_on e b) e b (stand past b) refl ∙ h b)
+        ap (λ (s : CourseState). s.wake) other ∙ (wake_after_other (stand past b).comp (started_on e b) e b (stand past b) refl ∙ h b)
 
 -- a call of which nobody can see that it was made ends no case
 silent_no_case : {aim : Verdict} (scripts : List ScriptView) (q : List Entry) (e : Entry) → IsCourse scripts (e ∷ q) → is_fault e.reply ≡ false → is_ended e.reply ≡ false → IsSilent aim scripts q e.caller.0 e.op → ends_case e ≡ false
@@ -103,31 +89,31 @@ silent_within {aim} scripts q e cq plain goes (inr (inr (inr felling))) within =
 silent_within {aim} scripts q e cq plain goes (inr (inr (inl quiet))) within = quiet_within aim (length scripts) q e (course_legal scripts (e ∷ q) cq) quiet plain within
 
 module _ (scripts : List ScriptView) (t u : Case) (run : Run) (op : Op) where
-  pub open_silent : {aim : Verdict} → IsOpen scripts t → IsOn scripts u → IsTurn scripts (past_of t) (taken t.behaviours (past_of t) run op) → is_fault (answer t.behaviours (past_of t) run.0 op) ≡ false →
-      goes_on (answer t.behaviours (past_of t) run.0 op) ≡ true → IsSilent aim scripts (past_of t) run.0 op → past_of u ≡ taken t.behaviours (past_of t) run op ∷ past_of t → IsOpen scripts u
+  pub open_silent : {aim : Verdict} → IsOpen scripts t → IsOn scripts u → IsTurn scripts (past_of t) (entry_made t.behaviours (past_of t) run op) → is_fault (answer t.behaviours (past_of t) run.0 op) ≡ false →
+      goes_on (answer t.behaviours (past_of t) run.0 op) ≡ true → IsSilent aim scripts (past_of t) run.0 op → past_of u ≡ entry_made t.behaviours (past_of t) run op ∷ past_of t → IsOpen scripts u
   open_silent o on turn plain goes silent is =
-      let none : ends_case (taken t.behaviours (past_of t) run op) ≡ false =
-      silent_no_case scripts (past_of t) (taken t.behaviours (past_of t) run op) (turn, o.on.course) plain (on_not_ended (answer t.behaviours (past_of t) run.0 op) goes) silent in
+      let none : ends_case (entry_made t.behaviours (past_of t) run op) ≡ false =
+      silent_no_case scripts (past_of t) (entry_made t.behaviours (past_of t) run op) (turn, o.on.course) plain (on_not_ended (answer t.behaviours (past_of t) run.0 op) goes) silent in
       record {
         on = on;
         going = ap is_over is ∙ rw (none, o.going) refl;
-        no_wake = λ b. ap (λ x. (stand x b).wake) is ∙ no_wake_next (past_of t) (taken t.behaviours (past_of t) run op) goes o.no_wake b;
+        no_wake = λ b. ap (λ x. (stand x b).wake) is ∙ no_wake_next (past_of t) (entry_made t.behaviours (past_of t) run op) goes o.no_wake b;
       }
 
   -- the verdict is no worse then than is looked for
-  pub within_silent : {aim : Verdict} → IsOpen scripts t → IsTurn scripts (past_of t) (taken t.behaviours (past_of t) run op) → is_fault (answer t.behaviours (past_of t) run.0 op) ≡ false →
-      goes_on (answer t.behaviours (past_of t) run.0 op) ≡ true → IsSilent aim scripts (past_of t) run.0 op → past_of u ≡ taken t.behaviours (past_of t) run op ∷ past_of t → IsWithin aim (past_of t) → IsWithin aim (past_of u)
+  pub within_silent : {aim : Verdict} → IsOpen scripts t → IsTurn scripts (past_of t) (entry_made t.behaviours (past_of t) run op) → is_fault (answer t.behaviours (past_of t) run.0 op) ≡ false →
+      goes_on (answer t.behaviours (past_of t) run.0 op) ≡ true → IsSilent aim scripts (past_of t) run.0 op → past_of u ≡ entry_made t.behaviours (past_of t) run op ∷ past_of t → IsWithin aim (past_of t) → IsWithin aim (past_of u)
   within_silent {aim} o turn plain goes silent is within =
       subst (IsWithin aim) (sym is)
-      (silent_within scripts (past_of t) (taken t.behaviours (past_of t) run op) (turn, o.on.course) plain (on_not_ended (answer t.behaviours (past_of t) run.0 op) goes) silent within)
+      (silent_within scripts (past_of t) (entry_made t.behaviours (past_of t) run op) (turn, o.on.course) plain (on_not_ended (answer t.behaviours (past_of t) run.0 op) goes) silent within)
 
   -- a call that continues, after which the case is not over
-  pub open_next : IsOpen scripts t → IsOn scripts u → goes_on (answer t.behaviours (past_of t) run.0 op) ≡ true → past_of u ≡ taken t.behaviours (past_of t) run op ∷ past_of t → is_over (past_of u) ≡ false →
+  pub open_next : IsOpen scripts t → IsOn scripts u → goes_on (answer t.behaviours (past_of t) run.0 op) ≡ true → past_of u ≡ entry_made t.behaviours (past_of t) run op ∷ past_of t → is_over (past_of u) ≡ false →
       IsOpen scripts u
   open_next o on goes is going = record {
     on = on;
     going = going;
-    no_wake = λ b. ap (λ x. (stand x b).wake) is ∙ no_wake_next (past_of t) (taken t.behaviours (past_of t) run op) goes o.no_wake b;
+    no_wake = λ b. ap (λ x. (stand x b).wake) is ∙ no_wake_next (past_of t) (entry_made t.behaviours (past_of t) run op) goes o.no_wake b;
   }
 
 pub open_opening : (scripts : List ScriptView) (t : Case) → IsOn scripts t → past_of t ≡ [] → IsOpen scripts t
@@ -224,7 +210,7 @@ active_stays scripts (e ∷ past) b course act = by_comp (active_stays scripts p
     and_both true true h = absurd cc
     and_both false y h = absurd cc
 
-    never_left : (o w : Option Comp) (s : Stand) → started_on e b ≡ w → (after_other_by o e b s).left ≡ s.left
+    never_left : (o w : Option Comp) (s : CourseState) → started_on e b ≡ w → (after_other_by o e b s).left ≡ s.left
     never_left (Some c) w s k = refl
     never_left None (Some c) s k = rw k refl
     never_left None None s k = rw k refl
@@ -240,9 +226,9 @@ active_stays scripts (e ∷ past) b course act = by_comp (active_stays scripts p
             absurd cc
         by_caller false k =
             let other : stand (e ∷ past) b ≡ after_other_by (stand past b).comp e b (stand past b) = rw k refl in
-            ap (λ (s : Stand). s.left) other
+            ap (λ (s : CourseState). s.left) other
             ∙ (never_left (stand past b).comp (started_on e b) (stand past b) refl
-            ∙ ap (λ (s : Stand). s.left) (stand_unstarted scripts past b course.1 none))
+            ∙ ap (λ (s : CourseState). s.left) (stand_unstarted scripts past b course.1 none))
     by_comp ih (Some c) some = by_caller (e.caller.0 == b) refl
       where
         were : (is_active past b ≡ true) × (halts (comp_of past e.caller.0) e c.0 ≡ false)
@@ -261,8 +247,8 @@ active_stays scripts (e ∷ past) b course act = by_comp (active_stays scripts p
             let act_e : is_active past e.caller.0 ≡ true = ap (is_active past) own ∙ were.0 in
             let goes : is_ended e.reply ≡ false = ap is_ended course.0.reply ∙ not_ended (length scripts) past e.caller.0 e.op c act_e mine in
             let none : halts (Some c) e c.0 ≡ false = subst (λ o. halts o e c.0 ≡ false) mine were.1 in
-            ap (λ (s : Stand). s.left) (stand_own past e b own) ∙ (kept_left e (stand past b) (ends_none (stand past b).comp e c on goes none) ∙ before)
-        by_caller false k = ap (λ (s : Stand). s.left) (stand_other past e b c k on) ∙ before
+            ap (λ (s : CourseState). s.left) (stand_own past e b own) ∙ (kept_left e (stand past b) (ends_none (stand past b).comp e c on goes none) ∙ before)
+        by_caller false k = ap (λ (s : CourseState). s.left) (stand_other past e b c k on) ∙ before
 
 pub comp_main : (past : List Entry) → comp_of past 0 ≡ Some (record { 0 = 0 })
 comp_main [] = refl

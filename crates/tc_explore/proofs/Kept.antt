@@ -7,22 +7,19 @@ use Rattle.std.proofs.lemmas.Bool.Decides.{nat_tests}
 use Rattle.std.proofs.lemmas.Option.{get_or_from_slice_get}
 use Rattle.std.proofs.lemmas.List.{get_or-map, get_or-set_same, get_or-set_other, length-map, length-set}
 use Rattle.std.proofs.lemmas.List.Elements.{All-nil, All-same, All-push, All-map, All-weaker}
-use Rattle.tc_entry.specs.declared.entry.Entry.{Entry}
-use Rattle.tc_step.specs.Steps.{ScriptView}
-use Rattle.tc_table.specs.Case.{Case, past_of}
-use Rattle.tc_table.proofs.Lemmas.Deciding.{equal_if, self_equal}
+use Rattle.tc_rules.specs.Prelude.{Entry, Case, past_of, Verdict}
+use Rattle.tc_step.specs.Prelude.{ScriptView}
+use Rattle.tc_rules.proofs.Lemmas.Deciding.{equal_if, self_equal}
 use Rattle.tc_explore.specs.declared.findings.Findings.{Findings}
 use Rattle.tc_explore.specs.declared.search.Met.{Met}
 use Rattle.tc_course.specs.declared.witness.Witness.{Witness}
-use Rattle.tc_course.specs.Course.{carried, IsCourse}
+use Rattle.tc_course.specs.Prelude.{carried_on, IsCourse, IsOn}
 use Rattle.tc_explore.specs.Inside.Going.{Reaches}
-use Rattle.tc_explore.specs.Found.{AreReached, AreCourses, AreCovered, Covers, AreMet}
-use Rattle.tc_course.specs.Cases.{IsOn}
+use Rattle.tc_explore.specs.Found.{AreReached, AreCourses, AreCovered, Covers, AreAllMet}
 use Rattle.tc_explore.specs.Inside.Keys.{key_of}
 use Rattle.tc_explore.specs.Inside.Seen.{AreKept, AreKeyed, IsCountedTo, IsLonger, IsNoLess, IsState, IsWith}
 use Rattle.tc_explore.proofs.Keys.{AreApart, keys_apart}
 use Rattle.tc_explore.proofs.Reaching.{reaches, reached_set}
-use Rattle.tc_verdict.specs.declared.verdict.Verdict.{Verdict}
 
 -- ---- numbers of calls
 
@@ -57,7 +54,7 @@ reaches_max scripts b m n one other = by_test (nat_le m n) refl
     by_test false h = let is : m ≡ max m n = grind (arith, nat_tests) in subst (Reaches scripts b) is one
 
 -- one run more
-pub counted_more : (scripts : List ScriptView) (before reached : List ℕ) (t : Case) (n k : ℕ) → IsOn scripts t → n < length reached → k ≡ carried (past_of t) n →
+pub counted_more : (scripts : List ScriptView) (before reached : List ℕ) (t : Case) (n k : ℕ) → IsOn scripts t → n < length reached → k ≡ carried_on (past_of t) n →
     IsCountedTo scripts before reached (past_of t) n → IsCountedTo scripts before (set reached n (max (get_or reached n 0) k)) (past_of t) (n + 1)
 counted_more scripts before reached t n k on near is c = record {
   reached = reached_set scripts reached n (max (get_or reached n 0) k) c.reached near (reaches_max scripts n (get_or reached n 0) k (c.reached.each n near) (reaches scripts t n k on is));
@@ -85,10 +82,10 @@ counted_more scripts before reached t n k on near is c = record {
         omega (arith, was, at, here b same)
     by_more b inside false h = omega (arith, c.more.each b inside, there b h)
 
-    by_covers : (b : ℕ) → b < n + 1 → (s : Bool) → (b == n) ≡ s → carried (past_of t) b ≤ get_or (set reached n (max (get_or reached n 0) k)) b 0
+    by_covers : (b : ℕ) → b < n + 1 → (s : Bool) → (b == n) ≡ s → carried_on (past_of t) b ≤ get_or (set reached n (max (get_or reached n 0) k)) b 0
     by_covers b below true h =
         let same : b ≡ n = equal_if b n h in
-        let own : carried (past_of t) b ≡ k = ap (carried (past_of t)) same ∙ sym is in
+        let own : carried_on (past_of t) b ≡ k = ap (carried_on (past_of t)) same ∙ sym is in
         omega (arith, own, here b same)
     by_covers b below false h =
         let other : b < n = grind (arith, nat_tests) in
@@ -188,11 +185,11 @@ courses_of scripts key met keyed distinct each = record {
   once = once_of met.states.items (keys_apart (λ k. k.items) key met.keys.keys met.states.items keyed distinct);
 }
 
-pub met_none : (scripts : List ScriptView) (reached : List ℕ) → AreMet scripts reached 0
+pub met_none : (scripts : List ScriptView) (reached : List ℕ) → AreAllMet scripts reached 0
 met_none scripts reached = record { courses = []; are = no_courses scripts; counted = All-nil (Covers reached) }
 
 -- they are met still where more is counted
-pub met_more : (scripts : List ScriptView) (before after : List ℕ) (n : ℕ) → IsNoLess before after → AreMet scripts before n → AreMet scripts after n
+pub met_more : (scripts : List ScriptView) (before after : List ℕ) (n : ℕ) → IsNoLess before after → AreAllMet scripts before n → AreAllMet scripts after n
 met_more scripts before after n more met = record {
   courses = met.courses;
   are = met.are;
@@ -204,12 +201,12 @@ pub most_of : (m n k : ℕ) → k ≡ ord_max nat_cmp m n → k ≡ max m n
 most_of m n k is = search rules
 
 -- the greater of two such numbers is one of them
-pub met_max : (scripts : List ScriptView) (before after : List ℕ) (m n k : ℕ) → k ≡ max m n → IsNoLess before after → AreMet scripts before m → AreMet scripts after n → AreMet scripts after k
+pub met_max : (scripts : List ScriptView) (before after : List ℕ) (m n k : ℕ) → k ≡ max m n → IsNoLess before after → AreAllMet scripts before m → AreAllMet scripts after n → AreAllMet scripts after k
 met_max scripts before after m n k most more one other = by_test (nat_le m n) refl
   where
-    by_test : (t : Bool) → nat_le m n ≡ t → AreMet scripts after k
-    by_test true h = let is : n ≡ max m n = grind (arith, nat_tests) in subst (AreMet scripts after) (is ∙ sym most) other
-    by_test false h = let is : m ≡ max m n = grind (arith, nat_tests) in subst (AreMet scripts after) (is ∙ sym most) (met_more scripts before after m more one)
+    by_test : (t : Bool) → nat_le m n ≡ t → AreAllMet scripts after k
+    by_test true h = let is : n ≡ max m n = grind (arith, nat_tests) in subst (AreAllMet scripts after) (is ∙ sym most) other
+    by_test false h = let is : m ≡ max m n = grind (arith, nat_tests) in subst (AreAllMet scripts after) (is ∙ sym most) (met_more scripts before after m more one)
 
 -- it is at most what both are, and that where the second is
 pub most_within : (m n k limit : ℕ) → k ≡ max m n → m ≤ limit → n ≤ limit → k ≤ limit
@@ -226,7 +223,7 @@ most_full m n k limit most one other = by_test (nat_le m n) refl
     by_test true h = let is : n ≡ max m n = grind (arith, nat_tests) in most ∙ (sym is ∙ other)
     by_test false h = let less : n < m = grind (arith, nat_tests) in absurd (omega (arith, less, one, other))
 
-pub met_of : {aim : Verdict} (scripts : List ScriptView) (met : Met) (found : Findings) → AreKept aim scripts met found → IsDistinct (λ x y. pointwise nat_eq x.items y.items) met.keys.keys → AreMet scripts found.reached.items (length met.keys.keys)
+pub met_of : {aim : Verdict} (scripts : List ScriptView) (met : Met) (found : Findings) → AreKept aim scripts met found → IsDistinct (λ x y. pointwise nat_eq x.items y.items) met.keys.keys → AreAllMet scripts found.reached.items (length met.keys.keys)
 met_of {aim} scripts met found kept distinct = record {
   courses = map past_of met.states.items;
   are = courses_of scripts (key_of (length scripts)) met kept.keyed distinct

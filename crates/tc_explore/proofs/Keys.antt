@@ -5,29 +5,19 @@ use Rattle.std.proofs.lemmas.List.{length-map}
 use Rattle.std.proofs.lemmas.Option.{slice_get_within, get_or_from_slice_get}
 use Rattle.std.specs.Cmp.Lexicographic.{pointwise, same_text, other_text}
 use Rattle.std.specs.List.{AllByRecursion, IsDistinct, flat_map, list_any, range_with_len}
-use Rattle.tc_verdict.specs.Verdict.{level_of}
-use Rattle.tc_entry.specs.declared.comp.Comp.{Comp}
-use Rattle.tc_entry.specs.declared.entry.Entry.{Entry}
-use Rattle.tc_entry.specs.declared.op.Op.{Op}
-use Rattle.tc_step.specs.Steps.{ScriptView}
-use Rattle.tc_table.specs.Case.{Case, past_of}
-use Rattle.tc_table.specs.Faults.{components}
-use Rattle.tc_table.specs.History.{is_alive_type}
-use Rattle.tc_table.specs.Phases.{phase_if_any}
-use Rattle.tc_table.specs.Local.{overall}
-use Rattle.tc_table.specs.Answers.{is_active}
-use Rattle.tc_table.proofs.Lemmas.Deciding.{equal_if}
+use Rattle.tc_rules.specs.Prelude.{level_of, Comp, Entry, Op, Case, past_of, components, is_alive_type, phase_if_any, overall, is_active, Verdict}
+use Rattle.tc_step.specs.Prelude.{ScriptView}
+use Rattle.tc_rules.proofs.Lemmas.Deciding.{equal_if}
 use Rattle.tc_explore.specs.declared.search.Met.{Met}
 use Rattle.tc_explore.specs.Inside.Keys.{phase_code, comp_code, number_of, run_key, run_key_of, comp_key, key_of}
 use Rattle.tc_explore.specs.Inside.Seen.{AreKeyed, IsSame, IsSeen, IsState}
 use Rattle.tc_explore.proofs.Sameness.{alike_of, same_verdict, same_phase, same_comp}
-use Rattle.tc_course.specs.Course.{Stand, stand, IsCourse}
+use Rattle.tc_course.specs.Prelude.{CourseState, stand, IsCourse}
 use Rattle.tc_explore.specs.Inside.Simulation.{IsAlike}
 use Rattle.tc_explore.proofs.Keeping.{active_stays}
 use Rattle.tc_course.proofs.Lemmas.Histories.{course_legal}
 use Rattle.tc_course.proofs.Lemmas.Standings.{run_in_range}
 use Rattle.tc_explore.proofs.Simulation.{some_if}
-use Rattle.tc_verdict.specs.declared.verdict.Verdict.{Verdict}
 
 -- ---- lists that begin alike
 
@@ -59,7 +49,7 @@ parts_same f g ends i (suc n) u v h =
 
 -- ---- keys
 
-run_ends : (x y : Bool) (s t : Stand) (u v : List ℕ) → run_key x s ++ u ≡ run_key y t ++ v → (run_key x s ≡ run_key y t) × (u ≡ v)
+run_ends : (x y : Bool) (s t : CourseState) (u v : List ℕ) → run_key x s ++ u ≡ run_key y t ++ v → (run_key x s ≡ run_key y t) × (u ≡ v)
 run_ends true true s t u v h =
     let on : comp_code s.comp ≡ comp_code t.comp = cc in
     let calls : s.called ≡ t.called = cc in
@@ -129,22 +119,22 @@ kind_same false false h = refl
 kind_same true false h = absurd (omega (arith, h))
 kind_same false true h = absurd (omega (arith, h))
 
-run_comp : (x y : Bool) (s t : Stand) → run_key x s ≡ run_key y t → comp_code s.comp ≡ comp_code t.comp
+run_comp : (x y : Bool) (s t : CourseState) → run_key x s ≡ run_key y t → comp_code s.comp ≡ comp_code t.comp
 run_comp true true s t h = cc
 run_comp true false s t h = cc
 run_comp false true s t h = cc
 run_comp false false s t h = cc
 
-record CallsAs (y : Bool) (s t : Stand) : Type 0 where
+record CallsAs (y : Bool) (s t : CourseState) : Type 0 where
   pub goes : y ≡ true
   pub called : s.called ≡ t.called
   pub bound : s.bound ≡ t.bound
 
-run_calls : (y : Bool) (s t : Stand) → run_key true s ≡ run_key y t → CallsAs y s t
+run_calls : (y : Bool) (s t : CourseState) → run_key true s ≡ run_key y t → CallsAs y s t
 run_calls true s t h = let bound : map number_of s.bound ≡ map number_of t.bound = cc in record { goes = refl; called = cc; bound = numbers_same s.bound t.bound bound }
 run_calls false s t h = let no : ◌≡◌ {A = ℕ} 1 0 = cc in absurd (omega (arith, no))
 
-stand_of : Option Comp → List Comp → ℕ → Bool → Option Op → Stand
+stand_of : Option Comp → List Comp → ℕ → Bool → Option Op → CourseState
 stand_of comp bound called left wake = record { comp = comp; bound = bound; called = called; left = left; wake = wake }
 
 -- two courses of one key

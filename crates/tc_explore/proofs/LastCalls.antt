@@ -1,21 +1,12 @@
 -- The last calls of a case that is over: they are replied Ended, and after them no run has a call left.
 use Rattle.std.proofs.Common.{ℕ, ◌≡◌, ◌<◌, ◌≤◌, ◌+◌, ◌==◌, ◌||◌, inl, inr, nat_lt, Bool, true, false, Option, Some, None, List, [], ◌∷◌, length, refl, ap, sym, subst, ◌∙◌, arith}
 use Rattle.std.proofs.lemmas.Bool.Decides.{nat_tests}
-use Rattle.tc_verdict.specs.declared.run.Run.{Run}
-use Rattle.tc_entry.specs.declared.comp.Comp.{Comp}
-use Rattle.tc_entry.specs.declared.entry.Entry.{Entry}
-use Rattle.tc_entry.specs.declared.op.Op.{Op}
+use Rattle.tc_rules.specs.Prelude.{Run, Comp, Entry, Op, Case, past_of, comp_of, is_comp, started_on, ends_case, ends_pass, is_over, IsLegal, local, local_if_any, overall, gives, answer}
 use Rattle.tc_entry.specs.declared.reply.Reply.TheVariants as R
-use Rattle.tc_step.specs.Steps.{ScriptView}
-use Rattle.tc_table.specs.Case.{Case, past_of}
-use Rattle.tc_table.specs.History.{comp_of, is_comp, started_on, ends_case, ends_pass, is_over}
-use Rattle.tc_table.specs.Legal.{IsLegal}
-use Rattle.tc_table.specs.Local.{local, local_if_any, overall, gives}
-use Rattle.tc_table.specs.Answers.{answer}
-use Rattle.tc_table.proofs.Lemmas.Deciding.{equal_if, if_same}
-use Rattle.tc_table.proofs.Lemmas.Over.{all_over}
-use Rattle.tc_course.specs.Course.{Stand, stand, after_own, after_other_by, turn, turn_on, steps_of, is_idle, IsTurn, IsCourse, IsComplete}
-use Rattle.tc_course.specs.Cases.{taken, IsOn, CannotGo}
+use Rattle.tc_step.specs.Prelude.{ScriptView}
+use Rattle.tc_rules.proofs.Lemmas.Deciding.{equal_if, if_same}
+use Rattle.tc_rules.proofs.Lemmas.Over.{all_over}
+use Rattle.tc_course.specs.Prelude.{CourseState, stand, after_own, after_other_by, turn, turn_on, steps_of, is_idle, IsTurn, IsCourse, IsComplete, entry_made, IsOn, CannotGo}
 use Rattle.tc_explore.specs.Inside.Going.{IsStepped, HasSameLocals}
 use Rattle.tc_course.proofs.Lemmas.Histories.{course_legal}
 use Rattle.tc_explore.proofs.Alike.{alike_unchanged, exists_same, local_next, overall_next}
@@ -38,9 +29,9 @@ locals_ended n past e legal r c = rw (exists_same (alike_unchanged n past e lega
 pub stepped_none : (scripts : List ScriptView) (t : Case) (b : ℕ) → CannotGo scripts (past_of t) b → IsStepped scripts (past_of t) (past_of t) b
 stepped_none scripts t b cannot = inl (refl, cannot)
 
-pub stepped_one : (scripts : List ScriptView) (t u : Case) (run : Run) (op : Op) → IsTurn scripts (past_of t) (taken t.behaviours (past_of t) run op) → past_of u ≡ taken t.behaviours (past_of t) run op ∷ past_of t →
+pub stepped_one : (scripts : List ScriptView) (t u : Case) (run : Run) (op : Op) → IsTurn scripts (past_of t) (entry_made t.behaviours (past_of t) run op) → past_of u ≡ entry_made t.behaviours (past_of t) run op ∷ past_of t →
     IsStepped scripts (past_of t) (past_of u) run.0
-stepped_one scripts t u run op turn is = inr (taken t.behaviours (past_of t) run op, is, refl, turn)
+stepped_one scripts t u run op turn is = inr (entry_made t.behaviours (past_of t) run op, is, refl, turn)
 
 pub ruleset step_rules = (stepped_none, stepped_one)
 
@@ -52,7 +43,7 @@ turn_left scripts past b me on left = rw (on, left) refl
 
 pub turn_by : (scripts : List ScriptView) (p q : List Entry) (b : ℕ) → stand p b ≡ stand q b → turn scripts p b ≡ turn scripts q b
 unfolding turn
-turn_by scripts p q b same = ap (λ (s : Stand). turn_on s.comp (steps_of scripts b) s) same
+turn_by scripts p q b same = ap (λ (s : CourseState). turn_on s.comp (steps_of scripts b) s) same
 
 or_true : (t : Bool) → (t || true) ≡ true
 or_true true = refl
@@ -64,7 +55,7 @@ own_done scripts q e mine r =
     let t = has_turn scripts q e.caller.0 e.op mine.turn in
     let own = stand_own q e e.caller.0 refl in
     let left : (after_own e (stand q e.caller.0)).left ≡ true = rw (t.on, r) (or_true (stand q e.caller.0).left) in
-    turn_left scripts (e ∷ q) e.caller.0 t.me (ap (λ (s : Stand). s.comp) own ∙ t.on) (ap (λ (s : Stand). s.left) own ∙ left)
+    turn_left scripts (e ∷ q) e.caller.0 t.me (ap (λ (s : CourseState). s.comp) own ∙ t.on) (ap (λ (s : CourseState). s.left) own ∙ left)
 
 other_done : (scripts : List ScriptView) (q : List Entry) (e : Entry) (b : ℕ) → (e.caller.0 == b) ≡ false → e.reply ≡ R.Ended → turn scripts (e ∷ q) b ≡ turn scripts q b
 other_done scripts q e b other r = turn_by scripts (e ∷ q) q b (rw other (by_comp (stand q b).comp))

@@ -1,37 +1,22 @@
 -- What a stop or a kill of a component does that is killed already, and a wait for it.
 use Rattle.std.proofs.Common.{ℕ, ◌≡◌, ◌==◌, ◌&&◌, ◌||◌, ◌⊎◌, inl, inr, not, if◌then◌else◌, Bool, true, false, Option, Some, None, List, ◌∷◌, length, refl, ap, sym, subst, ◌∙◌, arith}
-use Rattle.tc_verdict.specs.declared.run.Run.{Run}
-use Rattle.tc_entry.specs.declared.comp.Comp.{Comp}
-use Rattle.tc_entry.specs.declared.entry.Entry.{Entry}
-use Rattle.tc_entry.specs.declared.op.Op.{Op}
+use Rattle.tc_rules.specs.Prelude.{Run, Comp, Entry, Op, Phase, is_ended, is_ok, is_wake, comps, comp_of, exists, is_alive_type, created, started_on, starts_on, first_some, add_new, halts, kills, ends_case, ends_pass, phase, phase_if_any, start_in, is_killed, done, killed, holds, overall, gives, special_fault, answer, plain_answer, is_active, is_active_on, is_run_of, IsLegal, level_of, Verdict}
 use Rattle.tc_entry.specs.declared.op.Op.TheVariants as O
 use Rattle.tc_entry.specs.declared.op.Group.TheVariants as G
 use Rattle.tc_entry.specs.declared.op.Target.TheVariants as T
-use Rattle.tc_entry.specs.declared.phase.Phase.{Phase}
 use Rattle.tc_entry.specs.declared.phase.Phase.TheVariants as P
 use Rattle.tc_entry.specs.declared.reply.Reply.TheVariants as R
-use Rattle.tc_entry.specs.Reply.{is_ended, is_ok}
-use Rattle.tc_step.specs.Steps.{ScriptView}
-use Rattle.tc_table.specs.declared.component_state.ComponentState.{ComponentState}
-use Rattle.tc_table.specs.History.{comps, comp_of, exists, is_alive_type, created, started_on, starts_on, first_some, add_new, halts, kills, ends_case, ends_pass}
-use Rattle.tc_table.specs.Phases.{phase, phase_if_any, start_in}
-use Rattle.tc_table.specs.Status.{is_killed, done, killed}
-use Rattle.tc_table.specs.Waiting.{holds}
-use Rattle.tc_table.specs.Local.{overall, gives}
-use Rattle.tc_table.specs.Faults.{special_fault}
-use Rattle.tc_table.specs.Answers.{answer, plain_answer, is_active, is_active_on, is_run_of}
-use Rattle.tc_table.specs.Legal.{IsLegal}
-use Rattle.tc_table.specs.Inside.Step.{next_phase, next_local}
-use Rattle.tc_table.proofs.Lemmas.Deciding.{self_equal, equal_if, ok_is}
-use Rattle.tc_table.proofs.Lemmas.Sound.{IsPlain, plain_if, no_special, startable}
-use Rattle.tc_table.proofs.Lemmas.Over.{stays}
-use Rattle.tc_course.specs.Course.{stand, is_wake, IsCourse}
+use Rattle.tc_step.specs.Prelude.{ScriptView}
+use Rattle.tc_rules.specs.declared.component_state.ComponentState.{ComponentState}
+use Rattle.tc_rules.specs.Inside.Step.{next_phase, next_local}
+use Rattle.tc_rules.proofs.Lemmas.Deciding.{self_equal, equal_if, ok_is}
+use Rattle.tc_rules.proofs.Lemmas.Sound.{IsPlain, plain_if, no_special, startable}
+use Rattle.tc_rules.proofs.Lemmas.Over.{stays}
+use Rattle.tc_course.specs.Prelude.{stand, IsCourse}
 use Rattle.tc_course.specs.Inside.Standing.{ends, wake_if}
 use Rattle.tc_explore.specs.Inside.Simulation.{IsAlike, is_gone, is_late, is_met, IsLeaving, IsEnding, IsAhead, is_barred}
 use Rattle.tc_explore.proofs.Alike.{phase_next, fresh, kind_kept, first_kept, kept_by, overall_next}
 use Rattle.tc_explore.proofs.Ahead.{leaving_other}
-use Rattle.tc_verdict.specs.Verdict.{level_of}
-use Rattle.tc_verdict.specs.declared.verdict.Verdict.{Verdict}
 
 -- ---- the component of the call
 

@@ -2,29 +2,21 @@
 use Rattle.std.proofs.Common.{ℕ, suc, ◌≡◌, ◌≤◌, ◌<◌, ◌==◌, ◌||◌, ◌⊎◌, inl, inr, nat_lt, not, if◌then◌else◌, Bool, true, false, Option, Some, None, is_some, MatchOption, List, ◌∷◌, length, slice_get, get_or, refl, ap, sym, subst, ◌∙◌, arith, ⊎_elim}
 use Rattle.std.proofs.lemmas.Bool.Decides.{nat_tests}
 use Rattle.std.proofs.lemmas.Option.{slice_get_within, slice_get-get_or}
-use Rattle.tc_entry.specs.declared.comp.Comp.{Comp}
-use Rattle.tc_entry.specs.declared.entry.Entry.{Entry}
-use Rattle.tc_entry.specs.declared.op.Op.{Op}
+use Rattle.tc_rules.specs.Prelude.{Comp, Entry, Op, Phase, comps, comp_of, exists, is_alive_type, created, started_on, halts, kills, ends_case, phase, phase_if_any, start_in, overall, is_active, is_active_on, is_run_of, IsLegal, level_of, Verdict, Target}
 use Rattle.tc_entry.specs.declared.op.Op.TheVariants as O
 use Rattle.tc_entry.specs.declared.op.Target.TheVariants as T
-use Rattle.tc_entry.specs.declared.phase.Phase.{Phase}
 use Rattle.tc_entry.specs.declared.phase.Phase.TheVariants as P
 use Rattle.tc_entry.specs.declared.reply.Reply.TheVariants as R
 use Rattle.tc_step.specs.declared.step.Step.{Step}
 use Rattle.tc_step.specs.declared.step.Step.TheVariants as S
 use Rattle.tc_step.specs.declared.step.Status.TheVariants as Q
-use Rattle.tc_step.specs.Steps.{ScriptView}
-use Rattle.tc_table.specs.declared.component_state.ComponentState.{ComponentState}
-use Rattle.tc_table.specs.History.{comps, comp_of, exists, is_alive_type, created, started_on, halts, kills, ends_case}
-use Rattle.tc_table.specs.Phases.{phase, phase_if_any, start_in}
-use Rattle.tc_table.specs.Local.{overall}
-use Rattle.tc_table.specs.Answers.{is_active, is_active_on, is_run_of}
-use Rattle.tc_table.specs.Legal.{IsLegal}
-use Rattle.tc_table.proofs.Lemmas.Deciding.{self_equal, equal_if, and_left}
-use Rattle.tc_table.proofs.Lemmas.Over.{on_existing}
-use Rattle.tc_table.proofs.Lemmas.LawsOfHistories.{runs_if_active}
-use Rattle.tc_table.proofs.Lemmas.Going.{halted_by_entry, started_by_entry}
-use Rattle.tc_course.specs.Course.{Stand, stand, steps_of, IsCourse}
+use Rattle.tc_step.specs.Prelude.{ScriptView}
+use Rattle.tc_rules.specs.declared.component_state.ComponentState.{ComponentState}
+use Rattle.tc_rules.proofs.Lemmas.Deciding.{self_equal, equal_if, and_left}
+use Rattle.tc_rules.proofs.Lemmas.Over.{on_existing}
+use Rattle.tc_rules.proofs.Lemmas.LawsOfHistories.{runs_if_active}
+use Rattle.tc_rules.proofs.Lemmas.Going.{halted_by_entry, started_by_entry}
+use Rattle.tc_course.specs.Prelude.{CourseState, stand, steps_of, IsCourse}
 use Rattle.tc_course.specs.Inside.Standing.{call_of}
 use Rattle.tc_explore.specs.Inside.Simulation.{is_gone, is_spent, IsQuietAt, IsWakeOf, call_at, IsBefore, IsParkedAt, IsFollowed, IsLastAt, WasParked, IsLeaving, IsEnding, place_of, place_by, IsOrdered, IsFor, is_barred, IsBarredBefore, AreOrdered}
 use Rattle.tc_course.proofs.Lemmas.Histories.{course_legal}
@@ -35,9 +27,6 @@ use Rattle.tc_explore.proofs.Simulation.{some_if, followed_later}
 use Rattle.tc_explore.proofs.Places.{keeps_quiet}
 use Rattle.tc_explore.proofs.Late.{gone_is}
 use Rattle.tc_explore.proofs.Ordered.{gone_after, order_stays}
-use Rattle.tc_verdict.specs.Verdict.{level_of}
-use Rattle.tc_verdict.specs.declared.verdict.Verdict.{Verdict}
-use Rattle.tc_entry.specs.declared.op.Target.{Target}
 
 -- the entry ends its caller, which is not the main run, on this component, which is not alive-type
 pub record Ends (past : List Entry) (e : Entry) (c : Comp) : Type 0 where
@@ -160,13 +149,13 @@ none_behind steps j k l h = by_get (slice_get steps k) refl
         let there : slice_get steps j ≡ Some (get_or steps j x) = slice_get-get_or steps j x within in
         absurd cc
 
-finish_behind : (scripts : List ScriptView) (b : ℕ) (t : Stand) (o : Option Comp) (j k : ℕ) → j ≤ k → call_at scripts b t o j ≡ O.Finish → call_at scripts b t o k ≡ O.Finish
+finish_behind : (scripts : List ScriptView) (b : ℕ) (t : CourseState) (o : Option Comp) (j k : ℕ) → j ≤ k → call_at scripts b t o j ≡ O.Finish → call_at scripts b t o k ≡ O.Finish
 finish_behind scripts b t None j k l h = refl
 finish_behind scripts b t (Some me) j k l h =
     let last : slice_get (steps_of scripts b) j ≡ None = finish_last me t.bound (slice_get (steps_of scripts b) j) h in
     ap (call_of me t.bound) (none_behind (steps_of scripts b) j k l last)
 
-calls_as : (scripts : List ScriptView) (q : List Entry) (b : ℕ) (s t : Stand) → IsFollowed scripts q b s t → (k : ℕ) → call_at scripts b s s.comp k ≡ call_at scripts b t t.comp k
+calls_as : (scripts : List ScriptView) (q : List Entry) (b : ℕ) (s t : CourseState) → IsFollowed scripts q b s t → (k : ℕ) → call_at scripts b s s.comp k ≡ call_at scripts b t t.comp k
 calls_as scripts q b s t f k = ap (λ o. call_at scripts b s o k) f.comp ∙ same_call t.comp
   where
     same_call : (o : Option Comp) → call_at scripts b s o k ≡ call_at scripts b t o k
@@ -174,7 +163,7 @@ calls_as scripts q b s t f k = ap (λ o. call_at scripts b s o k) f.comp ∙ sam
     same_call (Some me) = ap (λ bound. call_of me bound (slice_get (steps_of scripts b) k)) f.bound
 
 -- a run is leaving that follows one whose next call is no Wait, if the calls from there on are its end, or one is barred
-follows_leaving : {aim : Verdict} (scripts : List ScriptView) (q : List Entry) (b : ℕ) (s t : Stand) → IsFollowed scripts q b s t →
+follows_leaving : {aim : Verdict} (scripts : List ScriptView) (q : List Entry) (b : ℕ) (s t : CourseState) → IsFollowed scripts q b s t →
     ((killed : Bool) (to : Target) → call_at scripts b t t.comp t.called ≡ O.Wait killed to → ⊥) →
     ((k : ℕ) → t.called ≤ k → s.called ≤ k → IsLastAt (length scripts) q b (call_at scripts b s s.comp k) ⊎ IsBarredBefore aim scripts b s k) → IsLeaving aim scripts q b s
 follows_leaving {aim} scripts q b s t f no_wait last = by_wake s.wake refl f.place
@@ -207,13 +196,13 @@ follows_leaving {aim} scripts q b s t f no_wait last = by_wake s.wake refl f.pla
     }
 
 -- a run that follows one whose end comes next is leaving
-followed_leaves : {aim : Verdict} (scripts : List ScriptView) (q : List Entry) (b : ℕ) (s t : Stand) → IsFollowed scripts q b s t → call_at scripts b t t.comp t.called ≡ O.Finish → IsLeaving aim scripts q b s
+followed_leaves : {aim : Verdict} (scripts : List ScriptView) (q : List Entry) (b : ℕ) (s t : CourseState) → IsFollowed scripts q b s t → call_at scripts b t t.comp t.called ≡ O.Finish → IsLeaving aim scripts q b s
 followed_leaves scripts q b s t f ends =
     follows_leaving scripts q b s t f (λ killed to waits. let no : O.Finish ≡ O.Wait killed to = sym ends ∙ waits in absurd cc)
     (λ k near l. inl (subst (λ op. IsLastAt (length scripts) q b op) (sym (calls_as scripts q b s t f k)) (inr (finish_behind scripts b t t.comp t.called k near ends))))
 
 -- it has called no more steps
-no_further : (scripts : List ScriptView) (q : List Entry) (b : ℕ) (s t : Stand) → IsFollowed scripts q b s t → ((killed : Bool) (to : Target) → call_at scripts b t t.comp t.called ≡ O.Wait killed to → ⊥) → s.called ≤ t.called
+no_further : (scripts : List ScriptView) (q : List Entry) (b : ℕ) (s t : CourseState) → IsFollowed scripts q b s t → ((killed : Bool) (to : Target) → call_at scripts b t t.comp t.called ≡ O.Wait killed to → ⊥) → s.called ≤ t.called
 no_further scripts q b s t f no_wait = by_wake s.wake f.place
   where
     by_less : (wake : Op) (h : IsParkedAt scripts q b s t wake) → (less : Bool) → nat_lt h.place t.called ≡ less → s.called ≤ t.called
@@ -228,7 +217,7 @@ no_further scripts q b s t f no_wait = by_wake s.wake f.place
     by_wake (Some wake) h = by_less wake h (nat_lt h.place t.called) refl
 
 -- so is one that follows one that is barred
-pub barred_leaves : {aim : Verdict} (scripts : List ScriptView) (q : List Entry) (b : ℕ) (s t : Stand) → IsFollowed scripts q b s t → is_barred aim (call_at scripts b t t.comp t.called) ≡ true →
+pub barred_leaves : {aim : Verdict} (scripts : List ScriptView) (q : List Entry) (b : ℕ) (s t : CourseState) → IsFollowed scripts q b s t → is_barred aim (call_at scripts b t t.comp t.called) ≡ true →
     IsLeaving aim scripts q b s
 barred_leaves {aim} scripts q b s t f bars =
     let no_wait : (killed : Bool) (to : Target) → call_at scripts b t t.comp t.called ≡ O.Wait killed to → ⊥ =
@@ -238,7 +227,7 @@ barred_leaves {aim} scripts q b s t f bars =
     (λ k near l. inr (record { place = t.called; later = fewer; before = near; bars = ap (is_barred aim) (calls_as scripts q b s t f t.called) ∙ bars }))
 
 -- from now on it has only quiet calls, and its end
-followed_last : (scripts : List ScriptView) (q : List Entry) (b : ℕ) (s t : Stand) → IsFollowed scripts q b s t → call_at scripts b t t.comp t.called ≡ O.Finish → (k : ℕ) → place_of s ≤ k →
+followed_last : (scripts : List ScriptView) (q : List Entry) (b : ℕ) (s t : CourseState) → IsFollowed scripts q b s t → call_at scripts b t t.comp t.called ≡ O.Finish → (k : ℕ) → place_of s ≤ k →
     IsLastAt (length scripts) q b (call_at scripts b s s.comp k)
 followed_last scripts q b s t f ends k less = by_wake s.wake less f.place
   where

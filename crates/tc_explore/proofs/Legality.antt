@@ -1,8 +1,8 @@
 -- A witness is a legal history.
 use Rattle.std.proofs.Common.{List}
-use Rattle.tc_step.specs.Steps.{ScriptView}
+use Rattle.tc_step.specs.Prelude.{ScriptView}
 use Rattle.tc_course.specs.declared.witness.Witness.{Witness}
-use Rattle.tc_course.specs.Witnesses.{AreWitnesses}
+use Rattle.tc_course.specs.Prelude.{AreWitnesses}
 use Rattle.tc_course.proofs.Lemmas.Histories.{course_legal}
 use Rattle.tc_explore.specs.Found.{AreLegal}
 

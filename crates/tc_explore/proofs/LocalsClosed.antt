@@ -8,23 +8,15 @@ use Rattle.std.proofs.lemmas.List.Elements.{All-nil, All-same, All-weaker}
 use Rattle.std.proofs.lemmas.List.{length-map}
 use Rattle.std.proofs.lemmas.Option.{slice_get_within, slice_get-get_or}
 use Rattle.std.specs.Option.{unwrap_or}
-use Rattle.tc_verdict.specs.declared.run.Run.{Run}
-use Rattle.tc_verdict.specs.Verdict.{level_of}
-use Rattle.tc_entry.specs.declared.comp.Comp.{Comp}
-use Rattle.tc_entry.specs.declared.entry.Entry.{Entry}
-use Rattle.tc_entry.specs.declared.op.Op.{Op}
+use Rattle.tc_rules.specs.Prelude.{Run, level_of, Comp, Entry, Op, Case, past_of, ends_case, is_over, is_active}
 use Rattle.tc_entry.specs.declared.reply.Reply.TheVariants as R
-use Rattle.tc_step.specs.Steps.{ScriptView}
-use Rattle.tc_table.specs.Case.{Case, past_of}
-use Rattle.tc_table.specs.History.{ends_case, is_over}
-use Rattle.tc_table.specs.Answers.{is_active}
-use Rattle.tc_table.proofs.Lemmas.Over.{all_over}
+use Rattle.tc_step.specs.Prelude.{ScriptView}
+use Rattle.tc_rules.proofs.Lemmas.Over.{all_over}
 use Rattle.tc_explore.specs.declared.search.Met.{Met}
-use Rattle.tc_course.specs.Course.{stand, steps_of, turn, IsTurn, IsCourse, IsComplete}
+use Rattle.tc_course.specs.Prelude.{stand, steps_of, turn, IsTurn, IsCourse, IsComplete, entry_made, IsOn, CannotGo}
 use Rattle.tc_course.specs.Inside.Standing.{call_of}
 use Rattle.tc_explore.specs.Locals.{is_local, AllLocalsFound}
 use Rattle.tc_explore.specs.Found.{HasCourses}
-use Rattle.tc_course.specs.Cases.{taken, IsOn, CannotGo}
 use Rattle.tc_explore.specs.Inside.Seen.{IsLonger, IsWith}
 use Rattle.tc_explore.specs.Inside.Twins.{IsTwin, IsGoing, AreGoing, HasTwinKeys, IsMore, HasLocals, IsTwinSeen, IsLocalsAfter, IsLocalsRun, AreLocalsRuns, IsLocalsAt, AreLocalsClosed, twin_key}
 use Rattle.tc_explore.proofs.Alike.{active_alike}
@@ -194,9 +186,9 @@ locals_off scripts states found q b off = λ e own t act. absurd cc
 pub locals_cannot : (scripts : List ScriptView) (states : List Case) (found : List Bool) (q : List Entry) (b : ℕ) → CannotGo scripts q b → IsLocalsRun scripts states found q b
 locals_cannot scripts states found q b cannot = λ e own t act. absurd (cannot e own t)
 
-pub locals_run : (scripts : List ScriptView) (states : List Case) (found : List Bool) (n : ℕ) (q : List Entry) (run : Run) (op : Op) → IsTurn scripts q (taken n q run op) → IsLocalsAfter states found (taken n q run op ∷ q) →
+pub locals_run : (scripts : List ScriptView) (states : List Case) (found : List Bool) (n : ℕ) (q : List Entry) (run : Run) (op : Op) → IsTurn scripts q (entry_made n q run op) → IsLocalsAfter states found (entry_made n q run op ∷ q) →
     IsLocalsRun scripts states found q run.0
-locals_run scripts states found n q run op t after = λ e own h act. subst (λ x. IsLocalsAfter states found (x ∷ q)) (sym (same_entry scripts q e (taken n q run op) h t own)) after
+locals_run scripts states found n q run op t after = λ e own h act. subst (λ x. IsLocalsAfter states found (x ∷ q)) (sym (same_entry scripts q e (entry_made n q run op) h t own)) after
 
 -- ---- states
 

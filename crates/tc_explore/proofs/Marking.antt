@@ -2,19 +2,12 @@
 use Rattle.std.proofs.Common.{ℕ, zero, suc, ◌≡◌, ◌==◌, ◌+◌, ◌*◌, ◌<◌, ◌≤◌, ◌++◌, nat_lt, if◌then◌else◌, Bool, true, false, Some, None, List, [], ◌∷◌, length, set, get_or, refl, ap, sym, subst, ◌∙◌, arith}
 use Rattle.std.proofs.lemmas.Bool.Decides.{nat_tests}
 use Rattle.std.proofs.lemmas.List.{get_or-set_same, get_or-set_other}
-use Rattle.tc_verdict.specs.declared.verdict.Verdict.{Verdict}
+use Rattle.tc_rules.specs.Prelude.{Verdict, level_of, Entry, Case, past_of, components, exists, local_if_any}
 use Rattle.tc_verdict.specs.declared.verdict.Verdict.TheVariants as V
-use Rattle.tc_verdict.specs.Verdict.{level_of}
-use Rattle.tc_entry.specs.declared.entry.Entry.{Entry}
-use Rattle.tc_step.specs.Steps.{ScriptView}
-use Rattle.tc_table.specs.Case.{Case, past_of}
-use Rattle.tc_table.specs.Faults.{components}
-use Rattle.tc_table.specs.History.{exists}
-use Rattle.tc_table.specs.Local.{local_if_any}
-use Rattle.tc_table.proofs.Lemmas.Deciding.{equal_if, self_equal}
-use Rattle.tc_course.specs.Course.{IsComplete}
+use Rattle.tc_step.specs.Prelude.{ScriptView}
+use Rattle.tc_rules.proofs.Lemmas.Deciding.{equal_if, self_equal}
+use Rattle.tc_course.specs.Prelude.{IsComplete, IsOn}
 use Rattle.tc_explore.specs.Locals.{AreLocals, GivesLocal, is_local}
-use Rattle.tc_course.specs.Cases.{IsOn}
 use Rattle.tc_explore.specs.Inside.Going.{HasSameLocals}
 use Rattle.tc_explore.specs.Inside.Twins.{HasLocal, HasLocals, IsMarked, IsMore, IsPadded}
 use Rattle.tc_course.proofs.Lemmas.Histories.{course_legal}

@@ -1,12 +1,11 @@
 -- Searches for verdicts, each up to a better one: what they have found together.
 use Rattle.std.proofs.Common.{ℕ, suc, ◌≡◌, ◌<◌, ◌≤◌, ◌&&◌, nat_lt, nat_le, if◌then◌else◌, Bool, true, false, Option, Some, None, List, refl, ap, sym, subst, ◌∙◌, arith}
 use Rattle.std.proofs.lemmas.Bool.Decides.{nat_tests}
-use Rattle.tc_verdict.specs.declared.verdict.Verdict.{Verdict}
+use Rattle.tc_rules.specs.Prelude.{Verdict, level_of}
 use Rattle.tc_verdict.specs.declared.verdict.Verdict.TheVariants as V
-use Rattle.tc_verdict.specs.Verdict.{level_of}
-use Rattle.tc_step.specs.Steps.{ScriptView}
+use Rattle.tc_step.specs.Prelude.{ScriptView}
 use Rattle.tc_course.specs.declared.witness.Witness.{Witness}
-use Rattle.tc_course.specs.Witnesses.{is_found, AllFound}
+use Rattle.tc_course.specs.Prelude.{is_found, AllFound}
 use Rattle.tc_explore.specs.Inside.Seen.{IsLonger, IsToldBy, AllTold, is_found_within, next_aim, AreFoundAbove}
 use Rattle.tc_explore.proofs.Sameness.{same_verdict}
 use Rattle.tc_explore.proofs.Seeing.{found_longer}

@@ -8,12 +8,11 @@ use Rattle.std.proofs.lemmas.List.Elements.{All-push}
 use Rattle.std.proofs.lemmas.List.Sorted.{All-permutation, list_any-IsPermutation}
 use Rattle.std.proofs.lemmas.Map.Keys.{IsDistinct-from_apart, apart_from_distinct, IsDistinct-IsPermutation}
 use Rattle.std.proofs.Math.Seq.{get_or-append_seam}
-use Rattle.tc_verdict.specs.declared.verdict.Verdict.{Verdict}
-use Rattle.tc_verdict.specs.Verdict.{level_of}
-use Rattle.tc_step.specs.Steps.{ScriptView}
-use Rattle.tc_table.proofs.Lemmas.Deciding.{equal_if, self_equal}
+use Rattle.tc_rules.specs.Prelude.{Verdict, level_of}
+use Rattle.tc_step.specs.Prelude.{ScriptView}
+use Rattle.tc_rules.proofs.Lemmas.Deciding.{equal_if, self_equal}
 use Rattle.tc_course.specs.declared.witness.Witness.{Witness}
-use Rattle.tc_course.specs.Witnesses.{IsWitness, AllFound, is_found}
+use Rattle.tc_course.specs.Prelude.{IsWitness, AllFound, is_found}
 use Rattle.tc_explore.specs.Found.{AreCovered, AreFromBest, Covers}
 use Rattle.tc_explore.specs.Inside.Going.{AreNoted, IsOnce}
 use Rattle.tc_explore.proofs.Sameness.{same_verdict}

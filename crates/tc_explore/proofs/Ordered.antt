@@ -1,20 +1,14 @@
 -- For what runs wait from now on: each component that they wait for comes before their own by rank, so that they do not wait
 -- for one another.
 use Rattle.std.proofs.Common.{ℕ, ◌≡◌, ◌+◌, ◌≤◌, ◌==◌, ◌⊎◌, inl, inr, if◌then◌else◌, Bool, true, false, Option, Some, None, is_some, List, ◌∷◌, length, slice_get, refl, ap, sym, subst, ◌∙◌, arith}
-use Rattle.tc_entry.specs.declared.comp.Comp.{Comp}
-use Rattle.tc_entry.specs.declared.entry.Entry.{Entry}
-use Rattle.tc_entry.specs.declared.op.Op.{Op}
+use Rattle.tc_rules.specs.Prelude.{Comp, Entry, Op, comp_of, created, started_on, first_some, phase, phase_if_any, is_active, is_active_on, is_run_of, IsLegal, Verdict, is_wake}
 use Rattle.tc_entry.specs.declared.phase.Phase.TheVariants as P
 use Rattle.tc_step.specs.declared.step.Step.{Step}
-use Rattle.tc_step.specs.Steps.{ScriptView}
-use Rattle.tc_table.specs.History.{comp_of, created, started_on, first_some}
-use Rattle.tc_table.specs.Phases.{phase, phase_if_any}
-use Rattle.tc_table.specs.Answers.{is_active, is_active_on, is_run_of}
-use Rattle.tc_table.specs.Legal.{IsLegal}
-use Rattle.tc_table.proofs.Lemmas.Deciding.{equal_if, and_left}
-use Rattle.tc_table.proofs.Lemmas.Going.{halted_by_entry, started_by_entry}
+use Rattle.tc_step.specs.Prelude.{ScriptView}
+use Rattle.tc_rules.proofs.Lemmas.Deciding.{equal_if, and_left}
+use Rattle.tc_rules.proofs.Lemmas.Going.{halted_by_entry, started_by_entry}
 use Rattle.std.specs.Option.{unwrap_or}
-use Rattle.tc_course.specs.Course.{Stand, stand, after_own, is_wake, steps_of, IsTurn, IsCourse}
+use Rattle.tc_course.specs.Prelude.{CourseState, stand, after_own, steps_of, IsTurn, IsCourse}
 use Rattle.tc_course.specs.Inside.Standing.{wake_if, call_of}
 use Rattle.tc_explore.specs.Inside.Simulation.{IsAlike, is_gone, call_at, place_by, IsAhead, IsOrdered, AreOrdered}
 use Rattle.tc_course.proofs.Lemmas.Histories.{course_legal}
@@ -22,7 +16,6 @@ use Rattle.tc_explore.proofs.Alike.{any_phase_same, first_kept}
 use Rattle.tc_course.proofs.Lemmas.Standings.{HasTurn, has_turn, never_wake, stand_own, stand_other, stand_comp}
 use Rattle.tc_explore.proofs.Late.{gone_is, gone_if, gone_next}
 use Rattle.tc_explore.proofs.Places.{kept_bound}
-use Rattle.tc_verdict.specs.declared.verdict.Verdict.{Verdict}
 
 -- ---- one run
 
@@ -36,7 +29,7 @@ from_next true (Some x) None n h = omega arith
 from_next true (Some x) (Some v) n h = omega arith
 
 -- after a call of its own it waits for no more
-pub ordered_own : (scripts : List ScriptView) (rank : ℕ → ℕ) (q : List Entry) (c b : ℕ) (s : Stand) (e : Entry) → created e.op e.reply ≡ None → (is_wake e.op ≡ true → is_some s.wake ≡ true) →
+pub ordered_own : (scripts : List ScriptView) (rank : ℕ → ℕ) (q : List Entry) (c b : ℕ) (s : CourseState) (e : Entry) → created e.op e.reply ≡ None → (is_wake e.op ≡ true → is_some s.wake ≡ true) →
     IsOrdered scripts rank q c b s → IsOrdered scripts rank q c b (after_own e s)
 ordered_own scripts rank q c b s e made wakes h = λ k killed t l call.
     let first = from_next (is_wake e.op) s.wake (wake_if e.op e.reply) s.called wakes in
@@ -79,7 +72,7 @@ wakes_parked scripts past e turn wakes = by_wake (stand past e.caller.0).wake re
         let off : is_wake e.op ≡ false = ap is_wake (sym call) ∙ never_wake t.me (stand past e.caller.0).bound step in
         absurd cc
 
-pub ordered_later : (scripts : List ScriptView) (rank : ℕ → ℕ) (q r : List Entry) (c b : ℕ) (s : Stand) → ((t : ℕ) → is_gone (phase_if_any q t) ≡ true → is_gone (phase_if_any r t) ≡ true) →
+pub ordered_later : (scripts : List ScriptView) (rank : ℕ → ℕ) (q r : List Entry) (c b : ℕ) (s : CourseState) → ((t : ℕ) → is_gone (phase_if_any q t) ≡ true → is_gone (phase_if_any r t) ≡ true) →
     IsOrdered scripts rank q c b s → IsOrdered scripts rank r c b s
 ordered_later scripts rank q r c b s gone h = λ k killed t l call. let o = h k killed t l call in (o.0, gone t.0 o.1)
 

@@ -2,37 +2,19 @@
 use Rattle.std.proofs.Common.{ℕ, ◌≡◌, ◌<◌, ◌≤◌, ◌+◌, ◌==◌, ◌⊎◌, inl, inr, nat_lt, if◌then◌else◌, Bool, true, false, Option, Some, None, List, [], ◌∷◌, length, slice_get, slice_index_or, refl, ap, sym, subst, ◌∙◌, arith}
 use Rattle.std.specs.List.{list_all}
 use Rattle.std.proofs.lemmas.Bool.Decides.{nat_tests}
-use Rattle.tc_verdict.specs.declared.run.Run.{Run}
+use Rattle.tc_rules.specs.Prelude.{Run, Comp, Entry, Op, Target, Phase, Reply, Fault, is_ended, is_fault, is_wake, Case, past_of, comps, comp_of, started_on, is_alive_type, is_over, phase, last_run, was_killed, was_halted, overall, holds, waiting, waits_in_vain, is_still, is_stuck, fault, answer, plain_answer, is_active, is_run_of, IsLegal, Verdict}
 use Rattle.tc_verdict.specs.declared.verdict.Verdict.TheVariants as V
-use Rattle.tc_entry.specs.declared.comp.Comp.{Comp}
-use Rattle.tc_entry.specs.declared.entry.Entry.{Entry}
-use Rattle.tc_entry.specs.declared.op.Op.{Op}
 use Rattle.tc_entry.specs.declared.op.Op.TheVariants as O
-use Rattle.tc_entry.specs.declared.op.Target.{Target}
-use Rattle.tc_entry.specs.declared.phase.Phase.{Phase}
 use Rattle.tc_entry.specs.declared.phase.Phase.TheVariants as P
-use Rattle.tc_entry.specs.declared.reply.Reply.{Reply}
 use Rattle.tc_entry.specs.declared.reply.Reply.TheVariants as R
-use Rattle.tc_entry.specs.declared.reply.Fault.{Fault}
 use Rattle.tc_entry.specs.declared.reply.Fault.TheVariants as F
-use Rattle.tc_entry.specs.Reply.{is_ended, is_fault}
-use Rattle.tc_step.specs.Steps.{ScriptView}
-use Rattle.tc_table.specs.Case.{Case, past_of}
-use Rattle.tc_table.specs.History.{comps, comp_of, started_on, is_alive_type, is_over}
-use Rattle.tc_table.specs.Phases.{phase, last_run, was_killed, was_halted}
-use Rattle.tc_table.specs.Local.{overall}
-use Rattle.tc_table.specs.Waiting.{holds, waiting, waits_in_vain, is_still, is_stuck}
-use Rattle.tc_table.specs.Faults.{fault}
-use Rattle.tc_table.specs.Answers.{answer, plain_answer, is_active, is_run_of}
-use Rattle.tc_table.specs.Legal.{IsLegal}
-use Rattle.tc_table.proofs.Lemmas.Deciding.{self_equal, equal_if}
-use Rattle.tc_table.proofs.Lemmas.Going.{last_on_it}
-use Rattle.tc_table.proofs.Lemmas.Steps.{phase_by}
+use Rattle.tc_step.specs.Prelude.{ScriptView}
+use Rattle.tc_rules.proofs.Lemmas.Deciding.{self_equal, equal_if}
+use Rattle.tc_rules.proofs.Lemmas.Going.{last_on_it}
+use Rattle.tc_rules.proofs.Lemmas.Steps.{phase_by}
 use Rattle.tc_course.specs.declared.witness.Witness.{Witness}
-use Rattle.tc_course.specs.Course.{Stand, stand, goes_on, carried, after_other_by, is_wake, turn, steps_of, IsTurn, IsCourse}
+use Rattle.tc_course.specs.Prelude.{CourseState, stand, goes_on, carried_on, after_other_by, turn, steps_of, IsTurn, IsCourse, is_found, IsOn}
 use Rattle.tc_course.specs.Inside.Standing.{one_more_if, call_of}
-use Rattle.tc_course.specs.Witnesses.{is_found}
-use Rattle.tc_course.specs.Cases.{IsOn}
 use Rattle.tc_explore.specs.Inside.Going.{IsStepped, IsSteppedIfActive}
 use Rattle.tc_explore.specs.Found.{Covers}
 use Rattle.tc_explore.specs.Inside.Simulation.{IsAlike, is_quiet, GoesOn}
@@ -46,7 +28,6 @@ use Rattle.tc_course.proofs.Lemmas.Standings.{has_turn, turn_of, never_wake, sta
 use Rattle.tc_explore.proofs.Closing.{not_ended, answer_plain, answer_fault, quiet_reply, parks_wait, fault_of_wait, error_is_worst}
 use Rattle.tc_explore.proofs.Keeping.{active_stays, main_goes, comp_main}
 use Rattle.tc_explore.proofs.LastCalls.{turn_by}
-use Rattle.tc_verdict.specs.declared.verdict.Verdict.{Verdict}
 
 -- ---- who is held
 
@@ -131,7 +112,7 @@ pub record AreParked (scripts : List ScriptView) (t u : Case) (k : ℕ) : Type 0
   pub alike : IsAlike (past_of u) (past_of t)
   pub parked : (b : ℕ) → b < k → is_active (past_of t) b ≡ true → IsParkedIn scripts (past_of t) (past_of u) b
   pub later : (b : ℕ) → k ≤ b → stand (past_of u) b ≡ stand (past_of t) b
-  pub main : carried (past_of u) 0 ≡ carried (past_of t) 0
+  pub main : carried_on (past_of u) 0 ≡ carried_on (past_of t) 0
 
 pub parked_none : (scripts : List ScriptView) (t : Case) → AreParked scripts t t 0
 parked_none scripts t = record {
@@ -185,8 +166,8 @@ module _ (scripts : List ScriptView) (q r : List Entry) (e : Entry) (b : ℕ) (o
   reply_is : e.reply ≡ R.Parked
   reply_is = mine.reply ∙ (ap (λ x. answer (length scripts) r x e.op) own ∙ (ap (answer (length scripts) r b) op_is ∙ parks))
 
-  uncounted : carried (e ∷ r) 0 ≡ carried r 0
-  uncounted = not_carried (e.caller.0 == 0) e (carried r 0) (rw reply_is refl)
+  uncounted : carried_on (e ∷ r) 0 ≡ carried_on r 0
+  uncounted = not_carried (e.caller.0 == 0) e (carried_on r 0) (rw reply_is refl)
 
   unchanged : ChangesNothing r e
   unchanged =
@@ -205,10 +186,10 @@ module _ (scripts : List ScriptView) (q r : List Entry) (e : Entry) (b : ℕ) (o
   now_parked = record {
     killed = w.killed;
     target = w.target;
-    wake = ap (λ (s : Stand). s.wake) (stand_own r e b own) ∙ rw (op_is, reply_is) refl;
+    wake = ap (λ (s : CourseState). s.wake) (stand_own r e b own) ∙ rw (op_is, reply_is) refl;
     stays =
-        ap (λ (s : Stand). s.left) (stand_own r e b own)
-        ∙ rw (ap (λ (s : Stand). s.left) same ∙ active_stays scripts q b cq act, not_ending r e (stand r b).comp on.0 unchanged (stand_comp scripts r b cr ∙ on.1) here (rw reply_is refl)) refl;
+        ap (λ (s : CourseState). s.left) (stand_own r e b own)
+        ∙ rw (ap (λ (s : CourseState). s.left) same ∙ active_stays scripts q b cq act, not_ending r e (stand r b).comp on.0 unchanged (stand_comp scripts r b cr ∙ on.1) here (rw reply_is refl)) refl;
     waits = rw (own, self_equal b, op_is, reply_is) refl;
     no_fault = w.no_fault;
     unmet = w.unmet;
@@ -221,8 +202,8 @@ module _ (scripts : List ScriptView) (q r : List Entry) (e : Entry) (b : ℕ) (o
       record {
         killed = p.killed;
         target = p.target;
-        wake = ap (λ (s : Stand). s.wake) stands ∙ p.wake;
-        stays = ap (λ (s : Stand). s.left) stands ∙ p.stays;
+        wake = ap (λ (s : CourseState). s.wake) stands ∙ p.wake;
+        stays = ap (λ (s : CourseState). s.left) stands ∙ p.stays;
         waits = rw other p.waits;
         no_fault = p.no_fault;
         unmet = p.unmet;
@@ -252,7 +233,7 @@ parked_entry scripts t u v e k is own mine o on act h w = record {
   parked = λ b less act_b. subst (λ x. IsParkedIn scripts q x b) (sym is) (by_place b less act_b (nat_lt b k) refl);
   later = λ b far. subst (λ x. stand x b ≡ stand q b) (sym is)
       (stands_on scripts q r e k own mine o.on.course on.course act h.alike same w b (unequal e.caller.0 k b own (λ x. omega (arith, x, far))) ∙ h.later b (omega (arith, far)));
-  main = ap (λ x. carried x 0) is ∙ (uncounted scripts q r e k own mine o.on.course on.course act h.alike same w ∙ h.main);
+  main = ap (λ x. carried_on x 0) is ∙ (uncounted scripts q r e k own mine o.on.course on.course act h.alike same w ∙ h.main);
 }
   where
     q : List Entry
@@ -309,7 +290,7 @@ parked_next scripts t u v k some o held is_on h (inl s) =
       alike = subst (λ x. IsAlike x (past_of t)) (sym s.0) p.alike;
       parked = λ b less act. subst (λ x. IsParkedIn scripts (past_of t) x b) (sym s.0) (p.parked b less act);
       later = λ b far. subst (λ x. stand x b ≡ stand (past_of t) b) (sym s.0) (p.later b far);
-      main = ap (λ x. carried x 0) s.0 ∙ p.main;
+      main = ap (λ x. carried_on x 0) s.0 ∙ p.main;
     }
 parked_next scripts t u v k some o held is_on h (inr s) = parked_more scripts t u v k some o held is_on s.0 h s.1
 
@@ -362,7 +343,7 @@ fault_ends n q e f legal is = (rw is refl, overall_next n q e legal ∙ rw is (e
 pub record IsStuckEnd (t v : Case) : Type 0 where
   pub over : is_over (past_of v) ≡ true
   pub error : overall (past_of v) ≡ V.Error
-  pub main : carried (past_of v) 0 ≡ carried (past_of t) 0 + 1
+  pub main : carried_on (past_of v) 0 ≡ carried_on (past_of t) 0 + 1
 
 pub stuck_end : (scripts : List ScriptView) (t u v : Case) (n : ℕ) → 1 ≤ length scripts → length scripts ≤ n → IsOpen scripts t → IsOn scripts u → AreParked scripts t u n → IsStepped scripts (past_of u) (past_of v) 0 →
     IsStuckEnd t v
@@ -407,7 +388,7 @@ stuck_end scripts t u v n some whole o on h step = by_step step
         let op_is : e.op ≡ O.Wake p.killed p.target = cc in
         let reply_is : e.reply ≡ R.Fault F.Stuck = mine.reply ∙ (ap (λ x. answer (length scripts) r x e.op) own ∙ (ap (answer (length scripts) r 0) op_is ∙ error)) in
         let ends = fault_ends (length scripts) r e F.Stuck (course_legal scripts (e ∷ r) (mine, on.course)) reply_is in
-        record { over = ap is_over is ∙ ends.0; error = ap overall is ∙ ends.1; main = ap (λ x. carried x 0) is ∙ (rw (own, reply_is) refl ∙ ap (λ k. k + 1) h.main) }
+        record { over = ap is_over is ∙ ends.0; error = ap overall is ∙ ends.1; main = ap (λ x. carried_on x 0) is ∙ (rw (own, reply_is) refl ∙ ap (λ k. k + 1) h.main) }
 
     by_step : ((past_of v ≡ r) × ((e : Entry) → e.caller.0 ≡ 0 → IsTurn scripts r e → ⊥)) ⊎ ((e : Entry) × (past_of v ≡ e ∷ r) × (e.caller.0 ≡ 0) × IsTurn scripts r e) → IsStuckEnd t v
     by_step (inl s) =
@@ -443,9 +424,9 @@ never_held scripts q some course goes held =
     absurd cc
 
 -- more calls of the main run are counted than it carries out in a course that one more continues
-pub reached_main : (scripts : List ScriptView) (reached : List ℕ) (q r : List Entry) → 1 ≤ length scripts → length reached ≡ length scripts → carried r 0 ≡ carried q 0 + 1 → Covers reached r → carried q 0 < slice_index_or reached 0 0
+pub reached_main : (scripts : List ScriptView) (reached : List ℕ) (q r : List Entry) → 1 ≤ length scripts → length reached ≡ length scripts → carried_on r 0 ≡ carried_on q 0 + 1 → Covers reached r → carried_on q 0 < slice_index_or reached 0 0
 reached_main scripts reached q r some as_many one covers =
-    let most : carried r 0 ≤ slice_index_or reached 0 0 = covers 0 (omega (arith, some, as_many)) in
+    let most : carried_on r 0 ≤ slice_index_or reached 0 0 = covers 0 (omega (arith, some, as_many)) in
     omega (arith, most, one)
 
 pub ruleset parking_rules = (parked_none)

@@ -1,45 +1,32 @@
 -- The place of a run after its own turn.
 use Rattle.std.proofs.Common.{ℕ, suc, ◌≡◌, ◌+◌, ◌<◌, ◌≤◌, ◌==◌, ◌&&◌, ◌||◌, ◌⊎◌, inl, inr, not, nat_lt, if◌then◌else◌, Bool, true, false, Option, Some, None, MatchOption, List, [], ◌∷◌, ◌++◌, length, refl, ap, sym, subst, ◌∙◌, arith, append-nil}
 use Rattle.std.proofs.lemmas.Bool.Decides.{nat_tests}
-use Rattle.tc_verdict.specs.declared.verdict.Verdict.{Verdict}
-use Rattle.tc_verdict.specs.Verdict.{level_of}
+use Rattle.tc_rules.specs.Prelude.{Verdict, level_of, Comp, Entry, Op, Reply, Fault, is_ended, is_wake, ends_pass, comp_of, created, halts, exists, overall, fault, all_exist, names, asks_many, special_fault, IsLegal, UserVerdict, given}
 use Rattle.std.specs.List.{list_all}
-use Rattle.tc_entry.specs.declared.comp.Comp.{Comp}
-use Rattle.tc_entry.specs.declared.entry.Entry.{Entry}
-use Rattle.tc_entry.specs.declared.op.Op.{Op}
 use Rattle.tc_entry.specs.declared.op.Op.TheVariants as O
-use Rattle.tc_entry.specs.declared.reply.Reply.{Reply}
 use Rattle.tc_entry.specs.declared.reply.Reply.TheVariants as R
-use Rattle.tc_entry.specs.declared.reply.Fault.{Fault}
 use Rattle.tc_entry.specs.declared.reply.Fault.TheVariants as F
-use Rattle.tc_entry.specs.Reply.{is_ended}
-use Rattle.tc_step.specs.Steps.{ScriptView}
-use Rattle.tc_table.specs.History.{ends_pass, comp_of, created, halts, exists}
-use Rattle.tc_table.specs.Local.{overall}
-use Rattle.tc_table.specs.Faults.{fault, all_exist, names, asks_many, special_fault}
-use Rattle.tc_table.specs.Legal.{IsLegal}
-use Rattle.tc_table.proofs.Lemmas.Over.{stays}
+use Rattle.tc_step.specs.Prelude.{ScriptView}
+use Rattle.tc_rules.proofs.Lemmas.Over.{stays}
 use Rattle.std.specs.Option.{option_to_list}
-use Rattle.tc_course.specs.Course.{Stand, after_own, is_wake}
+use Rattle.tc_course.specs.Prelude.{CourseState, after_own}
 use Rattle.tc_course.specs.Inside.Standing.{ends, wake_for, wake_if}
 use Rattle.tc_explore.specs.Inside.Simulation.{is_quiet, is_late, is_met, is_spent, WasParked, IsQuietAt, call_at, IsWakeOf, IsBefore, IsParkedAt, IsFollowed, IsLastAt, IsLeaving, is_barred, IsBarredBefore}
 use Rattle.tc_explore.proofs.Alike.{ChangesNothing, overall_grows}
 use Rattle.tc_explore.proofs.Ahead.{KeepsQuiet}
 use Rattle.tc_explore.proofs.Late.{late_next, late_special, met_next, met_special}
-use Rattle.tc_verdict.specs.declared.user_verdict.UserVerdict.{UserVerdict}
-use Rattle.tc_verdict.specs.UserVerdict.{given}
 
 or_no : (a : Bool) → (a || false) ≡ a
 or_no true = refl
 or_no false = refl
 
-pub kept_bound : (e : Entry) (s : Stand) → created e.op e.reply ≡ None → (after_own e s).bound ≡ s.bound
+pub kept_bound : (e : Entry) (s : CourseState) → created e.op e.reply ≡ None → (after_own e s).bound ≡ s.bound
 kept_bound e s h = rw h (append-nil s.bound)
 
-pub kept_left : (e : Entry) (s : Stand) → ends s.comp e ≡ false → (after_own e s).left ≡ s.left
+pub kept_left : (e : Entry) (s : CourseState) → ends s.comp e ≡ false → (after_own e s).left ≡ s.left
 kept_left e s h = rw h (or_no s.left)
 
-one_more_called : (e : Entry) (s : Stand) → is_wake e.op ≡ false → (after_own e s).called ≡ s.called + 1
+one_more_called : (e : Entry) (s : CourseState) → is_wake e.op ≡ false → (after_own e s).called ≡ s.called + 1
 one_more_called e s h = rw h refl
 
 pub neither : (a b : Bool) → a ≡ false → b ≡ false → (a || b) ≡ false
@@ -65,11 +52,11 @@ pub quiet_no_wake : (w : Verdict) (op : Op) → is_quiet w op ≡ true → is_wa
 quiet_no_wake w (O.Wake k t) h = absurd cc
 quiet_no_wake w _ h = refl
 
-before_of : (scripts : List ScriptView) (q : List Entry) (b : ℕ) (s t : Stand) → s.wake ≡ None → IsFollowed scripts q b s t → IsBefore scripts q b s t
+before_of : (scripts : List ScriptView) (q : List Entry) (b : ℕ) (s t : CourseState) → s.wake ≡ None → IsFollowed scripts q b s t → IsBefore scripts q b s t
 before_of scripts q b s t h f = subst (λ o. MatchOption o (IsBefore scripts q b s t) (λ wake. IsParkedAt scripts q b s t wake)) h f.place
 
 -- a quiet call that the other has made already
-pub behind : (scripts : List ScriptView) (q : List Entry) (b : ℕ) (s t : Stand) (e : Entry) → IsFollowed scripts q b s t → s.wake ≡ None → s.called < t.called →
+pub behind : (scripts : List ScriptView) (q : List Entry) (b : ℕ) (s t : CourseState) (e : Entry) → IsFollowed scripts q b s t → s.wake ≡ None → s.called < t.called →
     created e.op e.reply ≡ None → ends s.comp e ≡ false → is_wake e.op ≡ false → wake_if e.op e.reply ≡ None → IsFollowed scripts q b (after_own e s) t
 behind scripts q b s t e f none less made stays_on plain no_wake =
     let before = before_of scripts q b s t none f in
@@ -84,7 +71,7 @@ behind scripts q b s t e f none less made stays_on plain no_wake =
     }
 
 -- a Wait that is parked
-pub parked : (scripts : List ScriptView) (q : List Entry) (b : ℕ) (s t : Stand) (e : Entry) (wake : Op) → IsFollowed scripts q b s t → s.wake ≡ None →
+pub parked : (scripts : List ScriptView) (q : List Entry) (b : ℕ) (s t : CourseState) (e : Entry) (wake : Op) → IsFollowed scripts q b s t → s.wake ≡ None →
     created e.op e.reply ≡ None → ends s.comp e ≡ false → is_wake e.op ≡ false → wake_if e.op e.reply ≡ Some wake → IsWakeOf (call_at scripts b t t.comp s.called) wake →
     IsFollowed scripts q b (after_own e s) t
 parked scripts q b s t e wake f none made stays_on plain to_come of =
@@ -106,7 +93,7 @@ parked scripts q b s t e wake f none made stays_on plain to_come of =
     }
 
 -- a Wake that is answered Matched, of a Wait that the other has made already
-pub woken_behind : (scripts : List ScriptView) (q : List Entry) (b : ℕ) (s t : Stand) (e : Entry) (wake : Op) → IsFollowed scripts q b s t → (at : IsParkedAt scripts q b s t wake) → at.place < t.called →
+pub woken_behind : (scripts : List ScriptView) (q : List Entry) (b : ℕ) (s t : CourseState) (e : Entry) (wake : Op) → IsFollowed scripts q b s t → (at : IsParkedAt scripts q b s t wake) → at.place < t.called →
     created e.op e.reply ≡ None → ends s.comp e ≡ false → is_wake e.op ≡ true → wake_if e.op e.reply ≡ None → IsFollowed scripts q b (after_own e s) t
 woken_behind scripts q b s t e wake f at less made stays_on wakes none =
     let called : (after_own e s).called ≡ s.called = rw wakes refl in
@@ -121,7 +108,7 @@ woken_behind scripts q b s t e wake f at less made stays_on wakes none =
     }
 
 -- a quiet call of the other
-pub ahead : (scripts : List ScriptView) (q : List Entry) (b : ℕ) (s t : Stand) (e : Entry) → IsFollowed scripts (e ∷ q) b s t → IsQuietAt (length scripts) (e ∷ q) b (call_at scripts b t t.comp t.called) →
+pub ahead : (scripts : List ScriptView) (q : List Entry) (b : ℕ) (s t : CourseState) (e : Entry) → IsFollowed scripts (e ∷ q) b s t → IsQuietAt (length scripts) (e ∷ q) b (call_at scripts b t t.comp t.called) →
     created e.op e.reply ≡ None → ends t.comp e ≡ false → is_wake e.op ≡ false → wake_if e.op e.reply ≡ None → IsFollowed scripts (e ∷ q) b s (after_own e t)
 ahead scripts q b s t e f quiet made stays_on plain no_wake = record {
   comp = f.comp;
@@ -163,7 +150,7 @@ ahead scripts q b s t e f quiet made stays_on plain no_wake = record {
     }
 
 -- what is barred stays so
-barred_later : {aim : Verdict} (scripts : List ScriptView) (q : List Entry) (b : ℕ) (s t : Stand) (k : ℕ) → ((o : Option Comp) (j : ℕ) → call_at scripts b t o j ≡ call_at scripts b s o j) → t.comp ≡ s.comp →
+barred_later : {aim : Verdict} (scripts : List ScriptView) (q : List Entry) (b : ℕ) (s t : CourseState) (k : ℕ) → ((o : Option Comp) (j : ℕ) → call_at scripts b t o j ≡ call_at scripts b s o j) → t.comp ≡ s.comp →
     ((j : ℕ) → s.called ≤ j → is_barred aim (call_at scripts b s s.comp j) ≡ true → t.called ≤ j) →
     IsLastAt (length scripts) q b (call_at scripts b s s.comp k) ⊎ IsBarredBefore aim scripts b s k → IsLastAt (length scripts) q b (call_at scripts b t t.comp k) ⊎ IsBarredBefore aim scripts b t k
 barred_later {aim} scripts q b s t k same on from (inl last) = inl (subst (λ op. IsLastAt (length scripts) q b op) (sym (ap (λ o. call_at scripts b t o k) on ∙ same s.comp k)) last)
@@ -175,7 +162,7 @@ barred_later {aim} scripts q b s t k same on from (inr bar) = inr (record {
 })
 
 -- what is left of a run after a call of it that makes no component and is no Wake
-module _ (aim : Verdict) (scripts : List ScriptView) (b : ℕ) (s : Stand) (e : Entry) (made : created e.op e.reply ≡ None) (plain : is_wake e.op ≡ false) where
+module _ (aim : Verdict) (scripts : List ScriptView) (b : ℕ) (s : CourseState) (e : Entry) (made : created e.op e.reply ≡ None) (plain : is_wake e.op ≡ false) where
   behind_call : (o : Option Comp) (k : ℕ) → call_at scripts b (after_own e s) o k ≡ call_at scripts b s o k
   behind_call None k = refl
   behind_call (Some me) k = rw (kept_bound e s made) refl
@@ -191,7 +178,7 @@ module _ (aim : Verdict) (scripts : List ScriptView) (b : ℕ) (s : Stand) (e : 
           absurd cc
 
 -- a quiet call of a run that is leaving
-pub leaving_on : {aim : Verdict} (scripts : List ScriptView) (q : List Entry) (b : ℕ) (s : Stand) (e : Entry) → IsLeaving aim scripts q b s →
+pub leaving_on : {aim : Verdict} (scripts : List ScriptView) (q : List Entry) (b : ℕ) (s : CourseState) (e : Entry) → IsLeaving aim scripts q b s →
     created e.op e.reply ≡ None → is_wake e.op ≡ false → wake_if e.op e.reply ≡ None → is_barred aim (call_at scripts b s s.comp s.called) ≡ false → IsLeaving aim scripts q b (after_own e s)
 leaving_on {aim} scripts q b s e l made plain no_wake free = record {
   parked = subst (λ o. MatchOption o (Unit {0}) (λ wake. WasParked scripts q b (after_own e s) wake)) (sym no_wake) tt;
@@ -200,7 +187,7 @@ leaving_on {aim} scripts q b s e l made plain no_wake free = record {
 }
 
 -- a Wait of it that is parked
-pub leaving_parked : {aim : Verdict} (scripts : List ScriptView) (q : List Entry) (b : ℕ) (s : Stand) (e : Entry) (wake : Op) → IsLeaving aim scripts q b s →
+pub leaving_parked : {aim : Verdict} (scripts : List ScriptView) (q : List Entry) (b : ℕ) (s : CourseState) (e : Entry) (wake : Op) → IsLeaving aim scripts q b s →
     created e.op e.reply ≡ None → is_wake e.op ≡ false → wake_if e.op e.reply ≡ Some wake → IsWakeOf (call_at scripts b s s.comp s.called) wake →
     IsQuietAt (length scripts) q b (call_at scripts b s s.comp s.called) → IsLeaving aim scripts q b (after_own e s)
 leaving_parked {aim} scripts q b s e wake l made plain to_come of quiet = record {
@@ -221,7 +208,7 @@ leaving_parked {aim} scripts q b s e wake l made plain to_come of quiet = record
     }
 
 -- a Wake of it that is answered Matched
-pub leaving_woken : {aim : Verdict} (scripts : List ScriptView) (q : List Entry) (b : ℕ) (s : Stand) (e : Entry) → IsLeaving aim scripts q b s →
+pub leaving_woken : {aim : Verdict} (scripts : List ScriptView) (q : List Entry) (b : ℕ) (s : CourseState) (e : Entry) → IsLeaving aim scripts q b s →
     created e.op e.reply ≡ None → is_wake e.op ≡ true → wake_if e.op e.reply ≡ None → IsLeaving aim scripts q b (after_own e s)
 leaving_woken {aim} scripts q b s e l made wakes none = record {
   parked = subst (λ o. MatchOption o (Unit {0}) (λ w. WasParked scripts q b (after_own e s) w)) (sym none) tt;
@@ -242,7 +229,7 @@ leaving_woken {aim} scripts q b s e l made wakes none = record {
     from_there j l bars = omega (arith, called, l)
 
 -- the same call of both, which is not parked
-pub together : (scripts : List ScriptView) (q r : List Entry) (b : ℕ) (s t : Stand) (e : Entry) → IsFollowed scripts q b s t → s.called ≡ t.called →
+pub together : (scripts : List ScriptView) (q r : List Entry) (b : ℕ) (s t : CourseState) (e : Entry) → IsFollowed scripts q b s t → s.called ≡ t.called →
     is_wake e.op ≡ false → wake_if e.op e.reply ≡ None → IsFollowed scripts r b (after_own e s) (after_own e t)
 together scripts q r b s t e f same plain no_wake =
     let cs = one_more_called e s plain in
@@ -257,7 +244,7 @@ together scripts q r b s t e f same plain no_wake =
     }
 
 -- a Wake of the one, and a Wait of the other, with the same reply
-pub woken : (scripts : List ScriptView) (q r : List Entry) (b : ℕ) (s t : Stand) (d e : Entry) → IsFollowed scripts q b s t → s.called ≡ suc t.called →
+pub woken : (scripts : List ScriptView) (q r : List Entry) (b : ℕ) (s t : CourseState) (d e : Entry) → IsFollowed scripts q b s t → s.called ≡ suc t.called →
     created d.op d.reply ≡ None → created e.op e.reply ≡ None → ends s.comp d ≡ false → ends t.comp e ≡ false →
     is_wake d.op ≡ true → is_wake e.op ≡ false → wake_if d.op d.reply ≡ None → wake_if e.op e.reply ≡ None → IsFollowed scripts r b (after_own d s) (after_own e t)
 woken scripts q r b s t d e f one_more made_d made_e stays_d stays_e wakes waits none_d none_e =
@@ -273,7 +260,7 @@ woken scripts q r b s t d e f one_more made_d made_e stays_d stays_e wakes waits
     }
 
 -- the same is known
-pub followed_self : (scripts : List ScriptView) (q : List Entry) (b : ℕ) (s : Stand) → s.wake ≡ None → IsFollowed scripts q b s s
+pub followed_self : (scripts : List ScriptView) (q : List Entry) (b : ℕ) (s : CourseState) → s.wake ≡ None → IsFollowed scripts q b s s
 followed_self scripts q b s none =
     let now : IsBefore scripts q b s s = record { fewer = omega arith; between = λ k l m. absurd (omega arith) } in
     record { comp = refl; bound = refl; left = refl; no_wake = none; place = subst (λ o. MatchOption o (IsBefore scripts q b s s) (λ w. IsParkedAt scripts q b s s w)) (sym none) now }

@@ -1,13 +1,12 @@
 -- How many calls the runs carry out in some course.
 use Rattle.std.proofs.Common.{ℕ, ◌≡◌, ◌==◌, ◌<◌, Bool, true, false, List, [], length, get_or, replicate, set, refl, ap, sym, ◌∙◌, arith}
 use Rattle.std.proofs.lemmas.List.{get_or-set_same, get_or-set_other, get_or-replicate, length-set, length-replicate}
-use Rattle.tc_step.specs.Steps.{ScriptView}
-use Rattle.tc_table.specs.Case.{Case, past_of}
-use Rattle.tc_table.proofs.Lemmas.Deciding.{equal_if, self_equal}
-use Rattle.tc_course.specs.Course.{carried}
+use Rattle.tc_step.specs.Prelude.{ScriptView}
+use Rattle.tc_rules.specs.Prelude.{Case, past_of}
+use Rattle.tc_rules.proofs.Lemmas.Deciding.{equal_if, self_equal}
+use Rattle.tc_course.specs.Prelude.{carried_on, IsOn}
 use Rattle.tc_explore.specs.Inside.Going.{Reaches}
 use Rattle.tc_explore.specs.Found.{AreReached}
-use Rattle.tc_course.specs.Cases.{IsOn}
 
 -- nothing was called at the opening
 pub reached_none : (scripts : List ScriptView) → AreReached scripts (replicate (length scripts) 0)
@@ -19,7 +18,7 @@ reached_none scripts = record {
 }
 
 -- a course reaches as far as it came
-pub reaches : (scripts : List ScriptView) (t : Case) (b k : ℕ) → IsOn scripts t → k ≡ carried (past_of t) b → Reaches scripts b k
+pub reaches : (scripts : List ScriptView) (t : Case) (b k : ℕ) → IsOn scripts t → k ≡ carried_on (past_of t) b → Reaches scripts b k
 reaches scripts t b k on is = (past_of t, on.course, sym is)
 
 -- one number is another

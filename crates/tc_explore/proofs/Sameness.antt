@@ -1,25 +1,15 @@
 -- What two courses of which the same is known represent.
 use Rattle.std.proofs.Common.{ℕ, suc, ◌≡◌, ◌+◌, ◌<◌, ◌≤◌, ◌&&◌, nat_lt, nat_le, if◌then◌else◌, Bool, true, false, Option, Some, None, List, [], ◌∷◌, ◌++◌, length, refl, ap, sym, subst, ◌∙◌, arith, ⊎_elim, inl, inr}
 use Rattle.std.proofs.lemmas.Bool.Decides.{nat_tests}
-use Rattle.tc_verdict.specs.declared.run.Run.{Run}
-use Rattle.tc_verdict.specs.declared.verdict.Verdict.{Verdict}
+use Rattle.tc_rules.specs.Prelude.{Run, Verdict, level_of, Comp, Entry, Phase, comps, comp_of, created, add_new, exists, is_in, is_alive_type, phase, phase_if_any, components, is_active, IsLegal}
 use Rattle.tc_verdict.specs.declared.verdict.Verdict.TheVariants as V
-use Rattle.tc_verdict.specs.Verdict.{level_of}
-use Rattle.tc_entry.specs.declared.comp.Comp.{Comp}
-use Rattle.tc_entry.specs.declared.entry.Entry.{Entry}
-use Rattle.tc_entry.specs.declared.phase.Phase.{Phase}
 use Rattle.tc_entry.specs.declared.phase.Phase.TheVariants as P
-use Rattle.tc_step.specs.Steps.{ScriptView}
-use Rattle.tc_table.specs.declared.component_state.ComponentState.{ComponentState}
-use Rattle.tc_table.specs.History.{comps, comp_of, created, add_new, exists, is_in, is_alive_type}
-use Rattle.tc_table.specs.Phases.{phase, phase_if_any}
-use Rattle.tc_table.specs.Faults.{components}
-use Rattle.tc_table.specs.Answers.{is_active}
-use Rattle.tc_table.specs.Legal.{IsLegal}
-use Rattle.tc_table.specs.Inside.Kept.{numbers_from}
-use Rattle.tc_table.proofs.Lemmas.Numbers.{length-numbers_from, numbers_from-more, is_in-numbers_from}
-use Rattle.tc_table.proofs.Lemmas.Sound.{next}
-use Rattle.tc_course.specs.Course.{stand, IsCourse}
+use Rattle.tc_step.specs.Prelude.{ScriptView}
+use Rattle.tc_rules.specs.declared.component_state.ComponentState.{ComponentState}
+use Rattle.tc_rules.specs.Inside.Kept.{numbers_from}
+use Rattle.tc_rules.proofs.Lemmas.Numbers.{length-numbers_from, numbers_from-more, is_in-numbers_from}
+use Rattle.tc_rules.proofs.Lemmas.Sound.{next}
+use Rattle.tc_course.specs.Prelude.{stand, IsCourse}
 use Rattle.tc_explore.specs.Inside.Simulation.{IsAlike, IsFor, IsFollowed}
 use Rattle.tc_explore.specs.Inside.Keys.{phase_code, comp_code}
 use Rattle.tc_explore.specs.Inside.Seen.{IsSame}

@@ -2,7 +2,7 @@
 use Rattle.std.proofs.Common.{ℕ, ◌≡◌, ◌∙◌, ◌+◌, ◌<◌, List, [], ◌∷◌, ◌++◌, length, take, get_or, ap, sym, subst}
 use Rattle.std.specs.List.{flat_map, range_with_len}
 use Rattle.std.proofs.lemmas.List.{take_more, flat_map_more}
-use Rattle.tc_text.specs.Said.{Line, TellsAmong}
+use Rattle.tc_text.specs.Prelude.{Line, TellsAmong}
 use Rattle.tc_text.proofs.Lemmas.Among.{among_then}
 use Rattle.tc_explore.proofs.Numbers.{range_next}
 

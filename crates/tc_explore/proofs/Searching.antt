@@ -1,25 +1,14 @@
 -- What one more quiet call of a search represents.
 use Rattle.std.proofs.Common.{ℕ, ◌≡◌, ◌==◌, inl, inr, true, false, None, Some, List, [], ◌∷◌, ◌++◌, length, refl, ap, sym, subst, ◌∙◌, append_assoc, if◌then◌else◌, Bool}
-use Rattle.tc_verdict.specs.declared.run.Run.{Run}
-use Rattle.tc_entry.specs.declared.comp.Comp.{Comp}
-use Rattle.tc_entry.specs.declared.entry.Entry.{Entry}
-use Rattle.tc_entry.specs.declared.op.Op.{Op}
+use Rattle.tc_rules.specs.Prelude.{Run, Comp, Entry, Op, Phase, phase, phase_if_any, is_ended, is_fault, Case, past_of, comp_of, is_alive_type, exists, overall, answer, Verdict}
 use Rattle.tc_entry.specs.declared.op.Op.TheVariants as O
 use Rattle.tc_entry.specs.declared.op.Target.TheVariants as T
 use Rattle.tc_entry.specs.declared.op.Group.TheVariants as G
-use Rattle.tc_entry.specs.declared.phase.Phase.{Phase}
 use Rattle.tc_entry.specs.declared.phase.Phase.TheVariants as P
-use Rattle.tc_table.specs.Phases.{phase, phase_if_any}
 use Rattle.tc_entry.specs.declared.reply.Reply.TheVariants as R
-use Rattle.tc_entry.specs.Reply.{is_ended, is_fault}
-use Rattle.tc_step.specs.Steps.{ScriptView}
-use Rattle.tc_table.specs.Case.{Case, past_of}
-use Rattle.tc_table.specs.History.{comp_of, is_alive_type, exists}
-use Rattle.tc_table.specs.Local.{overall}
-use Rattle.tc_table.specs.Answers.{answer}
-use Rattle.tc_table.proofs.Lemmas.Sound.{plain_if}
-use Rattle.tc_course.specs.Course.{stand, IsTurn, IsCourse, turn}
-use Rattle.tc_course.specs.Cases.{taken, IsOn}
+use Rattle.tc_step.specs.Prelude.{ScriptView}
+use Rattle.tc_rules.proofs.Lemmas.Sound.{plain_if}
+use Rattle.tc_course.specs.Prelude.{stand, IsTurn, IsCourse, turn, entry_made, IsOn}
 use Rattle.tc_explore.specs.Inside.Simulation.{IsAlike, is_quiet, is_late, is_met, is_spent, IsQuietAt, IsWakeOf, IsFollowed, IsFor, IsEnd, IsSilent, is_barred, IsBarredNow, IsFelled, IsFelling}
 use Rattle.tc_explore.specs.Inside.Seen.{StandsOn}
 use Rattle.tc_course.proofs.Lemmas.Histories.{course_legal}
@@ -29,7 +18,6 @@ use Rattle.tc_explore.proofs.Simulation.{unchanged_quiet, unchanged_wait, some_i
 use Rattle.tc_explore.proofs.Leaving.{Ends, running_on, lead_end}
 use Rattle.tc_explore.proofs.Late.{late_for, late_reply, late_halts, met_for, met_reply, alike_late, halt_not_ending, other_than_gone}
 use Rattle.tc_explore.proofs.Places.{not_ending, quiet_sets_no_wake, quiet_no_wake, spent_quiet, spent_late, spent_met, Spent, how_spent, ahead, keeps_quiet}
-use Rattle.tc_verdict.specs.declared.verdict.Verdict.{Verdict}
 use Rattle.tc_explore.proofs.Felling.{lead_felling, next_of}
 
 -- a call that is no error, and asks a question or sets a verdict that is no worse than this one
@@ -125,20 +113,20 @@ lead_finish scripts p q e cq plain goes h f =
     } in
     lead_end scripts p q e h.comp cq f ends is.active (next_of scripts q e.caller.0 e.op (f.runs e.caller.0 is.active).no_wake cq.0.turn ∙ h.finish)
 
-pub lead_call : {aim : Verdict} (scripts : List ScriptView) (t u : Case) (run : Run) (op : Op) → IsOn scripts t → IsTurn scripts (past_of t) (taken t.behaviours (past_of t) run op) →
+pub lead_call : {aim : Verdict} (scripts : List ScriptView) (t u : Case) (run : Run) (op : Op) → IsOn scripts t → IsTurn scripts (past_of t) (entry_made t.behaviours (past_of t) run op) →
     is_fault (answer t.behaviours (past_of t) run.0 op) ≡ false → is_ended (answer t.behaviours (past_of t) run.0 op) ≡ false → IsSilent aim scripts (past_of t) run.0 op →
-    past_of u ≡ taken t.behaviours (past_of t) run op ∷ past_of t → StandsOn aim scripts t u
+    past_of u ≡ entry_made t.behaviours (past_of t) run op ∷ past_of t → StandsOn aim scripts t u
 lead_call {aim} scripts t u run op on turn plain goes h is =
     record {
-      further = (taken t.behaviours (past_of t) run op ∷ [], is);
+      further = (entry_made t.behaviours (past_of t) run op ∷ [], is);
       stands = λ p cp f. subst (λ x. IsFor aim scripts x p) (sym is) (by_call p cp f h);
     }
   where
-    by_call : (p : List Entry) → IsCourse scripts p → IsFor aim scripts (past_of t) p → IsSilent aim scripts (past_of t) run.0 op → IsFor aim scripts (taken t.behaviours (past_of t) run op ∷ past_of t) p
-    by_call p cp f (inl spent) = lead_spent scripts p (past_of t) (taken t.behaviours (past_of t) run op) cp (turn, on.course) plain goes spent f
-    by_call p cp f (inr (inr (inr felling))) = lead_felling scripts p (past_of t) (taken t.behaviours (past_of t) run op) (turn, on.course) plain goes felling f
-    by_call p cp f (inr (inr (inl quiet))) = lead_quiet aim scripts p (past_of t) (taken t.behaviours (past_of t) run op) cp (turn, on.course) plain goes quiet f
-    by_call p cp f (inr (inl end)) = lead_finish scripts p (past_of t) (taken t.behaviours (past_of t) run op) (turn, on.course) plain goes end f
+    by_call : (p : List Entry) → IsCourse scripts p → IsFor aim scripts (past_of t) p → IsSilent aim scripts (past_of t) run.0 op → IsFor aim scripts (entry_made t.behaviours (past_of t) run op ∷ past_of t) p
+    by_call p cp f (inl spent) = lead_spent scripts p (past_of t) (entry_made t.behaviours (past_of t) run op) cp (turn, on.course) plain goes spent f
+    by_call p cp f (inr (inr (inr felling))) = lead_felling scripts p (past_of t) (entry_made t.behaviours (past_of t) run op) (turn, on.course) plain goes felling f
+    by_call p cp f (inr (inr (inl quiet))) = lead_quiet aim scripts p (past_of t) (entry_made t.behaviours (past_of t) run op) cp (turn, on.course) plain goes quiet f
+    by_call p cp f (inr (inl end)) = lead_finish scripts p (past_of t) (entry_made t.behaviours (past_of t) run op) (turn, on.course) plain goes end f
 
 pub silent_spent : (aim : Verdict) (scripts : List ScriptView) (q : List Entry) (b : ℕ) (op : Op) → is_spent q op ≡ true → IsSilent aim scripts q b op
 silent_spent aim scripts q b op h = inl h

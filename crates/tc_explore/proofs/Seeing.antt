@@ -5,13 +5,10 @@ use Rattle.std.proofs.lemmas.List.Elements.{All-push}
 use Rattle.std.proofs.lemmas.List.Folds.{list_any-append}
 use Rattle.std.proofs.lemmas.Option.{slice_get_within, slice_get-get_or, get_or_from_slice_get}
 use Rattle.std.proofs.Math.Seq.{get_or-append_seam}
-use Rattle.tc_verdict.specs.declared.verdict.Verdict.{Verdict}
-use Rattle.tc_verdict.specs.Verdict.{level_of}
-use Rattle.tc_entry.specs.declared.entry.Entry.{Entry}
-use Rattle.tc_step.specs.Steps.{ScriptView}
-use Rattle.tc_table.specs.Case.{Case, past_of}
+use Rattle.tc_rules.specs.Prelude.{Verdict, level_of, Entry, Case, past_of}
+use Rattle.tc_step.specs.Prelude.{ScriptView}
 use Rattle.tc_course.specs.declared.witness.Witness.{Witness}
-use Rattle.tc_course.specs.Witnesses.{is_found}
+use Rattle.tc_course.specs.Prelude.{is_found}
 use Rattle.tc_explore.specs.Inside.Simulation.{IsCovered, IsClosedFor}
 use Rattle.tc_explore.specs.Inside.Seen.{IsSame, IsSeen, IsLonger, StandsOn}
 

@@ -1,28 +1,16 @@
 -- A history that represents another still does after one more turn of either.
 use Rattle.std.proofs.Common.{ℕ, ◌≡◌, ◌==◌, ◌⊎◌, not, Bool, true, false, Option, Some, None, MatchOption, List, ◌∷◌, length, refl, ap, sym, subst, ◌∙◌, arith, ◌≤◌, ⊎_elim, inl, inr}
 use Rattle.std.proofs.lemmas.Bool.Decides.{nat_tests}
-use Rattle.tc_verdict.specs.declared.verdict.Verdict.{Verdict}
-use Rattle.tc_verdict.specs.Verdict.{worse, level_of}
-use Rattle.tc_verdict.specs.UserVerdict.{given}
-use Rattle.tc_entry.specs.declared.comp.Comp.{Comp}
-use Rattle.tc_entry.specs.declared.entry.Entry.{Entry}
-use Rattle.tc_entry.specs.declared.op.Op.{Op}
+use Rattle.tc_rules.specs.Prelude.{Verdict, worse, level_of, given, Comp, Entry, Op, Reply, is_fault, is_ok, comp_of, created, starts_run, started_on, phase, start_in, overall, gives, setting, is_active, plain_answer, halting_op, IsLegal}
 use Rattle.tc_entry.specs.declared.op.Op.TheVariants as O
-use Rattle.tc_entry.specs.declared.reply.Reply.{Reply}
 use Rattle.tc_entry.specs.declared.reply.Reply.TheVariants as R
-use Rattle.tc_entry.specs.Reply.{is_fault, is_ok}
 use Rattle.tc_entry.specs.declared.phase.Phase.TheVariants as P
-use Rattle.tc_step.specs.Steps.{ScriptView}
-use Rattle.tc_table.specs.History.{comp_of, created, starts_run, started_on}
-use Rattle.tc_table.specs.Phases.{phase, start_in}
-use Rattle.tc_table.specs.Local.{overall, gives, setting}
-use Rattle.tc_table.specs.Answers.{is_active, plain_answer}
-use Rattle.tc_table.specs.Laws.{halting_op}
-use Rattle.tc_table.specs.Inside.Step.{next_local}
-use Rattle.tc_table.proofs.Lemmas.Deciding.{equal_if, if_same, and_left}
-use Rattle.tc_table.proofs.Lemmas.Going.{others_halt_nothing, halted_by_entry}
-use Rattle.tc_table.proofs.Lemmas.Kept.{inactive}
-use Rattle.tc_course.specs.Course.{Stand, stand, IsCourse}
+use Rattle.tc_step.specs.Prelude.{ScriptView}
+use Rattle.tc_rules.specs.Inside.Step.{next_local}
+use Rattle.tc_rules.proofs.Lemmas.Deciding.{equal_if, if_same, and_left}
+use Rattle.tc_rules.proofs.Lemmas.Going.{others_halt_nothing, halted_by_entry}
+use Rattle.tc_rules.proofs.Lemmas.Kept.{inactive}
+use Rattle.tc_course.specs.Prelude.{CourseState, stand, IsCourse}
 use Rattle.tc_explore.specs.Inside.Simulation.{IsAlike, is_quiet, call_at, IsWakeOf, IsBefore, IsParkedAt, IsFollowed, IsLeaving, IsEnding, IsAhead, IsFor}
 use Rattle.tc_course.proofs.Lemmas.Histories.{course_legal}
 use Rattle.tc_explore.proofs.Alike.{ChangesNothing, alike_sym, alike_unchanged, active_alike, fault_alike, late_alike, met_alike, overall_next, overall_grows, worse_most}
@@ -31,7 +19,6 @@ use Rattle.tc_course.proofs.Lemmas.Standings.{stand_other, stand_comp}
 use Rattle.tc_explore.proofs.Ordered.{order_stays, order_alike, order_both}
 use Rattle.tc_verdict.proofs.Lemmas.Order.{worse_right}
 use Rattle.tc_explore.proofs.Places.{keeps_quiet}
-use Rattle.tc_table.specs.Legal.{IsLegal}
 
 -- ---- entries that change nothing
 
@@ -159,7 +146,7 @@ some_if past b act = by_comp (comp_of past b) refl
     by_comp (Some c) k = (c, k)
     by_comp None k = let off = inactive past b k in absurd cc
 
-pub followed_later : (scripts : List ScriptView) (q r : List Entry) (b : ℕ) (s t : Stand) → KeepsQuiet (length scripts) q r → IsFollowed scripts q b s t → IsFollowed scripts r b s t
+pub followed_later : (scripts : List ScriptView) (q r : List Entry) (b : ℕ) (s t : CourseState) → KeepsQuiet (length scripts) q r → IsFollowed scripts q b s t → IsFollowed scripts r b s t
 followed_later scripts q r b s t keeps f = record { comp = f.comp; bound = f.bound; left = f.left; no_wake = f.no_wake; place = by_wake s.wake f.place }
   where
     by_wake : (o : Option Op) → MatchOption o (IsBefore scripts q b s t) (λ wake. IsParkedAt scripts q b s t wake) → MatchOption o (IsBefore scripts r b s t) (λ wake. IsParkedAt scripts r b s t wake)

@@ -3,21 +3,15 @@ use Rattle.std.proofs.Common.{ℕ, ◌≡◌, ◌+◌, ◌<◌, ◌≤◌, ◌�
 use Rattle.std.proofs.lemmas.Bool.Decides.{nat_tests}
 use Rattle.std.proofs.lemmas.Option.{slice_get_within, slice_get-get_or}
 use Rattle.tc_verdict.specs.declared.verdict.Verdict.TheVariants as V
-use Rattle.tc_entry.specs.declared.entry.Entry.{Entry}
-use Rattle.tc_step.specs.Steps.{ScriptView}
-use Rattle.tc_table.specs.Case.{Case, past_of}
-use Rattle.tc_table.specs.History.{is_over}
-use Rattle.tc_table.specs.Answers.{is_active}
+use Rattle.tc_rules.specs.Prelude.{Entry, Case, past_of, is_over, is_active, Verdict, level_of}
+use Rattle.tc_step.specs.Prelude.{ScriptView}
 use Rattle.tc_course.specs.declared.witness.Witness.{Witness}
-use Rattle.tc_course.specs.Witnesses.{is_found}
-use Rattle.tc_course.specs.Course.{stand, IsCourse}
+use Rattle.tc_course.specs.Prelude.{is_found, stand, IsCourse}
 use Rattle.tc_explore.specs.Inside.Simulation.{IsCovered, GoesOn, IsClosed, IsWithin}
 use Rattle.tc_explore.specs.Inside.Seen.{IsClosedAt, AreClosed, IsSeen, IsLonger, StandsOn, IsRunClosed, IsState, AllTold}
 use Rattle.tc_explore.proofs.Seeing.{seen_longer, found_longer, closed_for_longer, covered_by, get_more}
 use Rattle.tc_explore.proofs.Completeness.{closed_is_complete}
 use Rattle.tc_explore.proofs.Keeping.{active_stays, main_goes}
-use Rattle.tc_verdict.specs.declared.verdict.Verdict.{Verdict}
-use Rattle.tc_verdict.specs.Verdict.{level_of}
 
 closed_by : {aim : Verdict} (scripts : List ScriptView) (states : List Case) (found : List Witness) (q : List Entry) → IsCourse scripts q → is_over q ≡ false → IsWithin aim q → is_active q 0 ≡ true → (stand q 0).left ≡ false →
     ((b : ℕ) → b < length scripts → IsRunClosed aim scripts states found q b) → (is_found found V.Error ≡ true) ⊎ (GoesOn scripts q ⊎ (level_of aim < level_of V.Error)) → IsClosed aim scripts (IsSeen states) found q

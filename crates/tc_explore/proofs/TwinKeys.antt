@@ -5,23 +5,15 @@ use Rattle.std.proofs.lemmas.Option.{slice_get_within, get_or_from_slice_get}
 use Rattle.std.specs.Cmp.Lexicographic.{pointwise}
 use Rattle.std.specs.List.{flat_map, list_any, range_with_len}
 use Rattle.std.specs.Prelude.{nat_eq}
-use Rattle.tc_verdict.specs.declared.verdict.Verdict.{Verdict}
-use Rattle.tc_entry.specs.declared.entry.Entry.{Entry}
-use Rattle.tc_entry.specs.declared.op.Op.{Op}
+use Rattle.tc_rules.specs.Prelude.{Verdict, Entry, Op, Reply, Case, past_of, components, exists, started_on, local, local_if_any, is_active, is_wake}
 use Rattle.tc_entry.specs.declared.op.Op.TheVariants as O
 use Rattle.tc_entry.specs.declared.op.Target.TheVariants as T
-use Rattle.tc_entry.specs.declared.reply.Reply.{Reply}
 use Rattle.tc_entry.specs.declared.reply.Reply.TheVariants as R
-use Rattle.tc_step.specs.Steps.{ScriptView}
-use Rattle.tc_table.specs.declared.component_state.ComponentState.{ComponentState}
-use Rattle.tc_table.specs.Case.{Case, past_of}
-use Rattle.tc_table.specs.Faults.{components}
-use Rattle.tc_table.specs.History.{exists, started_on}
-use Rattle.tc_table.specs.Local.{local, local_if_any}
-use Rattle.tc_table.specs.Answers.{is_active}
-use Rattle.tc_table.proofs.Lemmas.Deciding.{equal_if}
+use Rattle.tc_step.specs.Prelude.{ScriptView}
+use Rattle.tc_rules.specs.declared.component_state.ComponentState.{ComponentState}
+use Rattle.tc_rules.proofs.Lemmas.Deciding.{equal_if}
 use Rattle.tc_explore.specs.declared.search.Met.{Met}
-use Rattle.tc_course.specs.Course.{Stand, stand, after_other_by, is_wake, IsCourse}
+use Rattle.tc_course.specs.Prelude.{CourseState, stand, after_other_by, IsCourse}
 use Rattle.tc_course.specs.Inside.Standing.{wake_if}
 use Rattle.tc_explore.specs.Inside.Keys.{key_of}
 use Rattle.tc_explore.specs.Inside.Simulation.{IsAlike}
@@ -61,10 +53,10 @@ only_wakes [] b = refl
 only_wakes (e ∷ past) b = by_test (only_wakes past b) (e.caller.0 == b) refl
   where
     by_test : is_none_or_wake (stand past b).wake ≡ true → (t : Bool) → (e.caller.0 == b) ≡ t → is_none_or_wake (stand (e ∷ past) b).wake ≡ true
-    by_test before true k = ap (λ (s : Stand). is_none_or_wake s.wake) (stand_own past e b (equal_if e.caller.0 b k)) ∙ after_reply e.op e.reply
+    by_test before true k = ap (λ (s : CourseState). is_none_or_wake s.wake) (stand_own past e b (equal_if e.caller.0 b k)) ∙ after_reply e.op e.reply
     by_test before false k =
         let other : stand (e ∷ past) b ≡ after_other_by (stand past b).comp e b (stand past b) = rw k refl in
-        ap (λ (s : Stand). is_none_or_wake s.wake) other
+        ap (λ (s : CourseState). is_none_or_wake s.wake) other
         ∙ (ap is_none_or_wake (wake_after_other (stand past b).comp (started_on e b) e b (stand past b) refl) ∙ before)
 
 -- what these two numbers say

@@ -1,29 +1,15 @@
 -- Courses of which the same is known, local verdicts and waits included, are so after the next call of either.
 use Rattle.std.proofs.Common.{ℕ, ◌≡◌, ◌==◌, ◌≤◌, ◌⊎◌, inl, inr, not, if◌then◌else◌, Bool, true, false, Option, Some, None, List, [], ◌∷◌, length, refl, ap, sym, subst, ◌∙◌, arith}
 use Rattle.std.specs.List.{list_all}
-use Rattle.tc_verdict.specs.declared.run.Run.{Run}
-use Rattle.tc_verdict.specs.declared.verdict.Verdict.{Verdict}
-use Rattle.tc_entry.specs.declared.comp.Comp.{Comp}
-use Rattle.tc_entry.specs.declared.entry.Entry.{Entry}
-use Rattle.tc_entry.specs.declared.op.Op.{Op}
+use Rattle.tc_rules.specs.Prelude.{Run, Verdict, Comp, Entry, Op, Phase, Fault, Reply, comps, comp_of, created, started_on, first_some, add_new, ends_case, ends_pass, is_over, phase, local_if_any, overall, gives, awaited, parks, waiting, waits_in_vain, is_still, is_stuck, fault, answer, plain_answer, wake_reply, local_reply, is_active, is_run_of, IsLegal}
 use Rattle.tc_entry.specs.declared.op.Op.TheVariants as O
-use Rattle.tc_entry.specs.declared.phase.Phase.{Phase}
 use Rattle.tc_entry.specs.declared.phase.Phase.TheVariants as P
-use Rattle.tc_entry.specs.declared.reply.Fault.{Fault}
-use Rattle.tc_entry.specs.declared.reply.Reply.{Reply}
 use Rattle.tc_entry.specs.declared.reply.Reply.TheVariants as R
-use Rattle.tc_step.specs.Steps.{ScriptView}
-use Rattle.tc_table.specs.declared.awaited.Awaited.{Awaited}
-use Rattle.tc_table.specs.History.{comps, comp_of, created, started_on, first_some, add_new, ends_case, ends_pass, is_over}
-use Rattle.tc_table.specs.Phases.{phase}
-use Rattle.tc_table.specs.Local.{local_if_any, overall, gives}
-use Rattle.tc_table.specs.Waiting.{awaited, parks, waiting, waits_in_vain, is_still, is_stuck}
-use Rattle.tc_table.specs.Faults.{fault}
-use Rattle.tc_table.specs.Answers.{answer, plain_answer, wake_reply, local_reply, is_active, is_run_of}
-use Rattle.tc_table.specs.Legal.{IsLegal}
-use Rattle.tc_table.proofs.Lemmas.Deciding.{self_equal, equal_if, and_left}
-use Rattle.tc_table.proofs.Lemmas.Going.{halted_by_entry, last_on_it}
-use Rattle.tc_course.specs.Course.{Stand, stand, next, after_own, after_other_by, turn, IsTurn, IsCourse}
+use Rattle.tc_step.specs.Prelude.{ScriptView}
+use Rattle.tc_rules.specs.declared.awaited.Awaited.{Awaited}
+use Rattle.tc_rules.proofs.Lemmas.Deciding.{self_equal, equal_if, and_left}
+use Rattle.tc_rules.proofs.Lemmas.Going.{halted_by_entry, last_on_it}
+use Rattle.tc_course.specs.Prelude.{CourseState, stand, next, after_own, after_other_by, turn, IsTurn, IsCourse}
 use Rattle.tc_course.specs.Inside.Standing.{ends, wake_if}
 use Rattle.tc_explore.specs.Inside.Simulation.{IsAlike, is_quiet}
 use Rattle.tc_explore.specs.Inside.Twins.{IsTwin}
@@ -84,14 +70,14 @@ waiting_is [] b = refl
 waiting_is (e ∷ past) b = by_test (waiting_is past b) (e.caller.0 == b) refl
   where
     by_test : waiting past b ≡ awaited_by (stand past b).wake → (t : Bool) → (e.caller.0 == b) ≡ t → (if t then parks e.op e.reply else waiting past b) ≡ awaited_by (stand (e ∷ past) b).wake
-    by_test before true k = parks_by e.op e.reply ∙ ap (λ (s : Stand). awaited_by s.wake) (sym (stand_own past e b (equal_if e.caller.0 b k)))
+    by_test before true k = parks_by e.op e.reply ∙ ap (λ (s : CourseState). awaited_by s.wake) (sym (stand_own past e b (equal_if e.caller.0 b k)))
     by_test before false k =
         let other : stand (e ∷ past) b ≡ after_other_by (stand past b).comp e b (stand past b) = rw k refl in
-        before ∙ ap awaited_by (sym (ap (λ (s : Stand). s.wake) other ∙ wake_after_other (stand past b).comp (started_on e b) e b (stand past b) refl))
+        before ∙ ap awaited_by (sym (ap (λ (s : CourseState). s.wake) other ∙ wake_after_other (stand past b).comp (started_on e b) e b (stand past b) refl))
 
 module _ (scripts : List ScriptView) (q p : List Entry) (some : 1 ≤ length scripts) (cq : IsCourse scripts q) (t : IsTwin q p) where
   vain_twin : (b : ℕ) → is_active q b ≡ true → waits_in_vain q (waiting q b) ≡ waits_in_vain p (waiting p b)
-  vain_twin b act = by_wait (waiting q b) (waiting p b) (waiting_is q b ∙ (ap (λ (s : Stand). awaited_by s.wake) (t.stands b act) ∙ sym (waiting_is p b)))
+  vain_twin b act = by_wait (waiting q b) (waiting p b) (waiting_is q b ∙ (ap (λ (s : CourseState). awaited_by s.wake) (t.stands b act) ∙ sym (waiting_is p b)))
     where
       by_wait : (v w : Option Awaited) → v ≡ w → waits_in_vain q v ≡ waits_in_vain p w
       by_wait None w h = ap (waits_in_vain p) h
@@ -243,7 +229,7 @@ asked_ends caller (O.Done t) x y (Some own) h = refl
 asked_ends caller (O.Killed t) x y (Some own) h = refl
 asked_ends caller _ x y (Some own) h = absurd cc
 
-asked_own : (caller : Run) (op : Op) (x y : Bool) (s : Stand) → is_question op ≡ true → after_own (entry_of caller op (R.Answer x)) s ≡ after_own (entry_of caller op (R.Answer y)) s
+asked_own : (caller : Run) (op : Op) (x y : Bool) (s : CourseState) → is_question op ≡ true → after_own (entry_of caller op (R.Answer x)) s ≡ after_own (entry_of caller op (R.Answer y)) s
 asked_own caller (O.Running t) x y s h = rw (asked_ends caller (O.Running t) x y s.comp h) refl
 asked_own caller (O.Alive t) x y s h = rw (asked_ends caller (O.Alive t) x y s.comp h) refl
 asked_own caller (O.Done t) x y s h = rw (asked_ends caller (O.Done t) x y s.comp h) refl

@@ -7,17 +7,13 @@ use Rattle.tc_step.specs.declared.place.Place.TheVariants as P
 use Rattle.tc_step.specs.declared.step.Step.{Step}
 use Rattle.tc_step.specs.declared.step.Step.TheVariants as S
 use Rattle.tc_step.specs.declared.place.TargetPlace.TheVariants as T
-use Rattle.tc_step.specs.Steps.{ScriptView}
+use Rattle.tc_step.specs.Prelude.{ScriptView}
 use Rattle.tc_explore.specs.declared.explored.Explored.{Explored}
 use Rattle.tc_course.specs.declared.witness.Witness.{Witness}
-use Rattle.tc_text.specs.Said.{Line}
-use Rattle.tc_verdict.specs.Verdict.{name_of}
-use Rattle.tc_entry.specs.declared.entry.Entry.{Entry}
-use Rattle.tc_table.specs.Deciding.{name_of as comp_name}
-use Rattle.tc_table.specs.Faults.{components}
-use Rattle.tc_table.specs.Local.{local_if_any}
+use Rattle.tc_text.specs.Prelude.{Line}
+use Rattle.tc_rules.specs.Prelude.{name_of, Entry, component_name as comp_name, components, local_if_any}
 use Rattle.tc_explore.specs.Race.{races}
-use Rattle.tc_course.specs.Course.{steps_of}
+use Rattle.tc_course.specs.Prelude.{steps_of}
 use Rattle.tc_explore.specs.Told.{comp_words, if_complete}
 
 -- component c and its local verdict at the end of a history

@@ -1,12 +1,10 @@
 -- What is found of a test case: the overall verdicts of its complete courses.
 use Rattle.std.specs.Prelude.{ℕ, ◌≡◌, ◌<◌, ◌≤◌, List, length, reverse, slice_index_or, All}
 use Rattle.std.specs.List.{AllPairs}
-use Rattle.tc_verdict.specs.Verdict.{level_of}
-use Rattle.tc_entry.specs.declared.entry.Entry.{Entry}
-use Rattle.tc_step.specs.Steps.{ScriptView}
-use Rattle.tc_table.specs.Legal.{IsLegal}
+use Rattle.tc_rules.specs.Prelude.{level_of, Entry, IsLegal}
+use Rattle.tc_step.specs.Prelude.{ScriptView}
 use Rattle.tc_course.specs.declared.witness.Witness.{Witness}
-use Rattle.tc_course.specs.Course.{carried, IsCourse}
+use Rattle.tc_course.specs.Prelude.{carried_on, IsCourse}
 
 -- the verdict of each is better than those after it
 abbrev pub AreFromBest : List Witness → Type 0
@@ -15,11 +13,11 @@ AreFromBest found = AllPairs (λ v w. level_of v.verdict < level_of w.verdict) f
 -- there is one number for each run: in some course it carries out that many calls
 pub record AreReached (scripts : List ScriptView) (reached : List ℕ) : Type 0 where
   pub as_many : length reached ≡ length scripts
-  pub each : (b : ℕ) → b < length reached → (past : List Entry) × IsCourse scripts past × (carried past b ≡ slice_index_or reached b 0)
+  pub each : (b : ℕ) → b < length reached → (past : List Entry) × IsCourse scripts past × (carried_on past b ≡ slice_index_or reached b 0)
 
 -- for no run fewer calls are counted than it carries out in this course
 abbrev pub Covers : List ℕ → List Entry → Type 0
-Covers reached past = (b : ℕ) → b < length reached → carried past b ≤ slice_index_or reached b 0
+Covers reached past = (b : ℕ) → b < length reached → carried_on past b ≤ slice_index_or reached b 0
 
 -- nor than it carries out in one of these
 abbrev pub AreCovered : List ℕ → List Witness → Type 0
@@ -37,7 +35,7 @@ HasCourses scripts count = (courses : List (List Entry)) × AreCourses scripts c
 
 -- a search of that many states has met as many different courses, and counts for no run fewer calls than it carries out in
 -- one of them
-pub record AreMet (scripts : List ScriptView) (reached : List ℕ) (states : ℕ) : Type 0 where
+pub record AreAllMet (scripts : List ScriptView) (reached : List ℕ) (states : ℕ) : Type 0 where
   pub courses : List (List Entry)
   pub are : AreCourses scripts states courses
   pub counted : All (Covers reached) courses

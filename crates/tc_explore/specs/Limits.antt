@@ -1,6 +1,6 @@
 -- How many states a search looks at.
 use Rattle.std.specs.Prelude.{ℕ, ◌+◌, ◌*◌, ◌/◌, min, List, [], ◌∷◌, length}
-use Rattle.tc_step.specs.Steps.{ScriptView}
+use Rattle.tc_step.specs.Prelude.{ScriptView}
 
 -- what there is room for in a state: one more than the steps of the scripts together
 abbrev pub room_of : List ScriptView → ℕ

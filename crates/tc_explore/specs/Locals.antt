@@ -2,14 +2,11 @@
 use Rattle.std.specs.Prelude.{ℕ, ◌≡◌, ◌+◌, ◌*◌, ◌/◌, nat_lt, if◌then◌else◌, Bool, true, false, Some, None, List, [], ◌∷◌, ◌++◌, length, map, slice_index_or}
 use Rattle.std.specs.Fmt.{decimal}
 use Rattle.std.specs.List.{flat_map, range_with_len}
-use Rattle.tc_verdict.specs.declared.verdict.Verdict.{Verdict}
-use Rattle.tc_verdict.specs.Verdict.{level_of, name_of}
-use Rattle.tc_entry.specs.declared.entry.Entry.{Entry}
-use Rattle.tc_step.specs.Steps.{ScriptView}
-use Rattle.tc_table.specs.Local.{local_if_any}
-use Rattle.tc_text.specs.Said.{Line}
+use Rattle.tc_rules.specs.Prelude.{Verdict, level_of, name_of, Entry, local_if_any}
+use Rattle.tc_step.specs.Prelude.{ScriptView}
+use Rattle.tc_text.specs.Prelude.{Line}
 use Rattle.tc_explore.specs.declared.locals.Locals.{Locals}
-use Rattle.tc_course.specs.Course.{IsCourse, IsComplete}
+use Rattle.tc_course.specs.Prelude.{IsCourse, IsComplete}
 use Rattle.tc_explore.specs.Told.{comp_words, if_complete, verdicts_where}
 
 -- in a list that has five places for each component, one for each verdict, component c is found with this one

@@ -2,11 +2,10 @@
 use Rattle.std.specs.Prelude.{ℕ, List, [], ◌∷◌, bytes_eq}
 use Rattle.std.specs.Fmt.{decimal}
 use Rattle.std.specs.List.{common_prefix_len, flat_map}
-use Rattle.tc_entry.specs.declared.entry.Entry.{Entry}
-use Rattle.tc_history.specs.Block.{entry_text}
+use Rattle.tc_rules.specs.Prelude.{Entry, name_of}
+use Rattle.tc_blocks.specs.Prelude.{entry_text}
 use Rattle.tc_course.specs.declared.witness.Witness.{Witness}
-use Rattle.tc_text.specs.Said.{Line}
-use Rattle.tc_verdict.specs.Verdict.{name_of}
+use Rattle.tc_text.specs.Prelude.{Line}
 
 -- how many entries two histories have alike in front, by their texts
 abbrev pub alike_count : List Entry → List Entry → ℕ

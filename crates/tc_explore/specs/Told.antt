@@ -3,12 +3,11 @@ use Rattle.std.specs.Prelude.{ℕ, ◌==◌, if◌then◌else◌, nat_lt, Bool, 
 use Rattle.std.specs.List.{flat_map}
 use Rattle.std.specs.Fmt.{decimal}
 use Rattle.std.specs.Option.{option_to_list}
-use Rattle.tc_verdict.specs.declared.verdict.Verdict.{Verdict}
+use Rattle.tc_rules.specs.Prelude.{Verdict, name_of}
 use Rattle.tc_verdict.specs.declared.verdict.Verdict.TheVariants as V
-use Rattle.tc_verdict.specs.Verdict.{name_of}
-use Rattle.tc_history.specs.Block.{block_text}
-use Rattle.tc_text.specs.Said.{Line}
-use Rattle.tc_course.specs.Witnesses.{is_found}
+use Rattle.tc_blocks.specs.Prelude.{history_text}
+use Rattle.tc_text.specs.Prelude.{Line}
+use Rattle.tc_course.specs.Prelude.{is_found}
 use Rattle.tc_explore.specs.declared.explored.Ending.{Ending}
 use Rattle.tc_explore.specs.declared.explored.Ending.TheVariants as E
 use Rattle.tc_explore.specs.declared.explored.Explored.{Explored}
@@ -43,4 +42,4 @@ comp_words c name = if c == 0 then codes "mtc" ∷ [] else decimal c ∷ option_
 
 -- the histories of all witnesses, in a test case of this name and of n behaviours
 abbrev pub witnesses_text : List ℕ → ℕ → Explored → List ℕ
-witnesses_text name n e = flat_map (λ w. block_text 2 name n w.history w.verdict) e.found
+witnesses_text name n e = flat_map (λ w. history_text 2 name n w.history w.verdict) e.found

@@ -1,8 +1,8 @@
 //! The searches for the verdicts of a test case, each up to a better verdict than the last.
 ghost use Rattle.std.specs.Prelude.{◌≡◌, ◌≤◌, true, false, IfOk, length};
 ghost use Rattle.tc_entry.specs.declared.limits.TheConstants.{BEHAVIOURS};
-ghost use Rattle.tc_course.specs.Witnesses.{AllFound};
-ghost use Rattle.tc_explore.specs.Found.{AreFromBest, AreMet};
+ghost use Rattle.tc_course.specs.Prelude.{AllFound};
+ghost use Rattle.tc_explore.specs.Found.{AreFromBest, AreAllMet};
 ghost use Rattle.tc_explore.specs.Inside.Seen as seen;
 ghost use Rattle.tc_explore.specs.Inside.Seen.{IsNoted};
 
@@ -54,7 +54,7 @@ fn search_by_aims(
     requires few { length scripts.now ≤ BEHAVIOURS }
     requires found { IsNoted scripts.now found.old }
     ensures found { IfOk result (λ e. IsNoted scripts.now found.new) }
-    ensures met { IfOk result (λ e. AreMet scripts.now found.new.reached.items e.states) }
+    ensures met { IfOk result (λ e. AreAllMet scripts.now found.new.reached.items e.states) }
     ensures complete { IfOk result (λ e. e.is_whole ≡ true → AllFound scripts.now found.new.witnesses.items) }
     ensures within { IfOk result (λ e. e.states ≤ limit) }
     ensures full { IfOk result (λ e. e.is_whole ≡ false → e.states ≡ limit) }
@@ -95,7 +95,7 @@ pub(crate) fn search_verdicts(
     requires found { IsNoted scripts.now found.old }
     ensures found { IfOk result (λ e. IsNoted scripts.now found.new) }
     ensures ordered { IfOk result (λ e. AreFromBest found.new.witnesses.items) }
-    ensures met { IfOk result (λ e. AreMet scripts.now found.new.reached.items e.states) }
+    ensures met { IfOk result (λ e. AreAllMet scripts.now found.new.reached.items e.states) }
     ensures complete { IfOk result (λ e. e.is_whole ≡ true → AllFound scripts.now found.new.witnesses.items) }
     ensures within { IfOk result (λ e. e.states ≤ limit) }
     ensures full { IfOk result (λ e. e.is_whole ≡ false → e.states ≡ limit) }

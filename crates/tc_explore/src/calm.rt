@@ -3,11 +3,11 @@
 ghost use Rattle.std.specs.Prelude.{◌≡◌, ◌≤◌, ◌<◌, true, false, IfOk, IsTrue, length};
 ghost use Rattle.tc_entry.specs.declared.limits.TheConstants.{BEHAVIOURS};
 ghost use Rattle.tc_entry.specs.Reply as reply;
-ghost use Rattle.tc_table.specs.Case.{past_of};
-ghost use Rattle.tc_table.specs.Answers as answers;
+ghost use Rattle.tc_rules.specs.Prelude.{past_of};
+ghost use Rattle.tc_rules.specs.Answers as answers;
 ghost use Rattle.tc_course.specs.Course as courses;
 ghost use Rattle.tc_explore.specs.Inside.Simulation as moves;
-ghost use Rattle.tc_course.specs.Cases.{IsOn};
+ghost use Rattle.tc_course.specs.Prelude.{IsOn};
 ghost use Rattle.tc_explore.specs.Inside.Simulation.{IsWithin};
 ghost use Rattle.tc_explore.specs.Inside.Seen.{IsOpen, IsState, IsCalm, IsCalmAfter, IsLoudAt, StandsOn};
 

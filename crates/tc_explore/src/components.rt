@@ -3,23 +3,18 @@ ghost use Rattle.std.specs.Prelude.{◌≡◌, ◌≤◌, [], ◌∷◌, None, O
 ghost use Rattle.std.specs.Option.{option_map_or, option_to_list};
 ghost use Rattle.std.specs.List.{range_with_len};
 ghost use Rattle.tc_entry.specs.declared.limits.TheConstants.{BEHAVIOURS};
-ghost use Rattle.tc_table.specs.Deciding.{name_in, name_of as name_of_comp};
-ghost use Rattle.tc_table.specs.History.{created as created_by, is_comp as is_this};
-ghost use Rattle.tc_table.specs.Faults.{components};
-ghost use Rattle.tc_table.specs.Legal.{IsLegal};
-ghost use Rattle.tc_table.specs.Standing.{StandsFor};
+ghost use Rattle.tc_rules.specs.Prelude.{name_in, component_name as name_of_comp, created as created_by, is_comp as is_this, components, IsLegal, StandsFor, name_of as verdict_name};
 ghost use Rattle.tc_explore.specs.Inside.Adding.{AddsWords};
 ghost use Rattle.tc_explore.specs.Details.{local_words, locals as about_locals};
 ghost use Rattle.tc_explore.specs.Told.{comp_words};
-ghost use Rattle.tc_verdict.specs.Verdict.{name_of as verdict_name};
-ghost use Rattle.tc_text.specs.Said.{TellsAmong};
+ghost use Rattle.tc_text.specs.Prelude.{TellsAmong};
 
 use crate::parts::{push_number, push_text, push_word};
 use crate::state::state_after;
 use std::alloc::Global;
 use tc_course::Witness;
 use tc_entry::{Comp, Entry, Name, Op};
-use tc_table::{CaseState, created, is_comp};
+use tc_rules::{CaseState, created, is_comp};
 use tc_text::{Part, append_parts};
 use tc_verdict::{NoMemory, Verdict, name as name_of};
 

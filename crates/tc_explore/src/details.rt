@@ -4,8 +4,8 @@ ghost use Rattle.std.specs.List.{flat_map};
 ghost use Rattle.tc_entry.specs.declared.limits.TheConstants.{BEHAVIOURS};
 ghost use Rattle.tc_explore.specs.Details.{details, locals};
 ghost use Rattle.tc_explore.specs.Found.{AreLegal};
-ghost use Rattle.tc_table.specs.Legal.{IsLegal};
-ghost use Rattle.tc_text.specs.Said.{TellsAmong};
+ghost use Rattle.tc_rules.specs.Prelude.{IsLegal};
+ghost use Rattle.tc_text.specs.Prelude.{TellsAmong};
 
 use crate::components::append_locals_line;
 use crate::explored::{Ending, Explored};

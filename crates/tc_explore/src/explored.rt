@@ -1,8 +1,8 @@
 //! The search for the overall verdicts of a test case.
 ghost use Rattle.std.specs.Prelude.{◌≡◌, ◌≤◌, [], IfOk, IfSome, length};
 ghost use Rattle.tc_entry.specs.declared.limits.TheConstants.{BEHAVIOURS};
-ghost use Rattle.tc_course.specs.Witnesses.{AreWitnesses, AllFound};
-ghost use Rattle.tc_explore.specs.Found.{AreLegal, AreFromBest, AreCovered, AreMet, AreReached};
+ghost use Rattle.tc_course.specs.Prelude.{AreWitnesses, AllFound};
+ghost use Rattle.tc_explore.specs.Found.{AreLegal, AreFromBest, AreCovered, AreAllMet, AreReached};
 ghost use Rattle.tc_explore.specs.Limits as limits;
 ghost use Rattle.tc_explore.specs.Limits.{room_of, weight_of};
 ghost use Rattle.tc_explore.specs.declared.explored.Ending.TheVariants.{Complete, Undecided};
@@ -89,7 +89,7 @@ pub fn explore(alloc: Global, scripts: &[Script], limit: usize) -> Result<Explor
     ensures ordered { IfOk result (λ e. AreFromBest e.found) }
     ensures reached { IfOk result (λ e. AreReached scripts.now e.reached) }
     ensures covered { IfOk result (λ e. AreCovered e.reached e.found) }
-    ensures met { IfOk result (λ e. AreMet scripts.now e.reached e.states) }
+    ensures met { IfOk result (λ e. AreAllMet scripts.now e.reached e.states) }
     ensures complete { IfOk result (λ e. e.ending ≡ Complete → AllFound scripts.now e.found) }
     ensures within { IfOk result (λ e. e.states ≤ limit) }
     ensures most { IfOk result (λ e. e.states ≤ limits.most_states scripts.now limit) }

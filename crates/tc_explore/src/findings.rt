@@ -1,11 +1,10 @@
 //! What a search has found so far.
 ghost use Rattle.std.specs.Prelude.{◌≡◌, ◌≤◌, [], IfOk, length};
-ghost use Rattle.tc_table.specs.Case.{past_of};
+ghost use Rattle.tc_rules.specs.Prelude.{past_of, level_of};
 ghost use Rattle.tc_entry.specs.declared.limits.TheConstants.{BEHAVIOURS};
 ghost use Rattle.std.specs.List.Sorted.{IsNonDecreasingBy, IsPermutation};
-ghost use Rattle.tc_verdict.specs.Verdict.{level_of};
 ghost use Rattle.tc_explore.specs.Found.{AreReached, Covers};
-ghost use Rattle.tc_course.specs.Cases.{IsOn};
+ghost use Rattle.tc_course.specs.Prelude.{IsOn};
 ghost use Rattle.tc_explore.specs.Inside.Seen.{IsNoLess, IsNoted};
 
 use crate::told::level;

@@ -10,8 +10,8 @@ ghost use Rattle.tc_explore.specs.Locals as told;
 ghost use Rattle.tc_explore.specs.Locals.{AllLocalsFound, AreLocals};
 ghost use Rattle.tc_explore.specs.Told.{if_complete, verdicts_where};
 ghost use Rattle.tc_explore.specs.declared.explored.Ending.TheVariants.{Complete, Undecided};
-ghost use Rattle.tc_text.specs.Said.{TellsAmong};
-ghost use Rattle.tc_verdict.specs.Verdict.{name_of as verdict_name};
+ghost use Rattle.tc_text.specs.Prelude.{TellsAmong};
+ghost use Rattle.tc_rules.specs.Prelude.{name_of as verdict_name};
 
 use crate::components::push_comp;
 use crate::explored::{Ending, most_states};

@@ -1,11 +1,9 @@
 //! The local verdicts that a search has found.
 ghost use Rattle.std.specs.Prelude.{◌≡◌, ◌≤◌, ◌<◌, true, [], OnOk, length};
 ghost use Rattle.tc_entry.specs.declared.limits.TheConstants.{BEHAVIOURS};
-ghost use Rattle.tc_table.specs.Case.{past_of};
-ghost use Rattle.tc_table.specs.History.{is_over};
-ghost use Rattle.tc_course.specs.Course.{IsComplete};
+ghost use Rattle.tc_rules.specs.Prelude.{past_of, is_over};
+ghost use Rattle.tc_course.specs.Prelude.{IsComplete, IsOn};
 ghost use Rattle.tc_explore.specs.Locals.{AreLocals};
-ghost use Rattle.tc_course.specs.Cases.{IsOn};
 ghost use Rattle.tc_explore.specs.Inside.Twins.{HasLocal, HasLocals, IsMarked, IsMore, IsPadded};
 
 use crate::components::name_at;

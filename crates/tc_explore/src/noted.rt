@@ -2,14 +2,10 @@
 ghost use Rattle.std.specs.Prelude.{◌≡◌, ◌≤◌, ◌<◌, ◌+◌, true, IfOk, OnOk, length};
 ghost use Rattle.tc_entry.specs.declared.limits.TheConstants.{BEHAVIOURS};
 ghost use Rattle.tc_verdict.specs.declared.verdict.Verdict.TheVariants.{Error};
-ghost use Rattle.tc_table.specs.Case.{past_of};
-ghost use Rattle.tc_table.specs.History.{is_over};
-ghost use Rattle.tc_table.specs.Local.{overall};
-ghost use Rattle.tc_course.specs.Course.{carried, IsComplete};
+ghost use Rattle.tc_rules.specs.Prelude.{past_of, is_over, overall};
+ghost use Rattle.tc_course.specs.Prelude.{carried_on, IsComplete, IsWitness, IsOn};
 ghost use Rattle.tc_explore.specs.Found.{Covers};
-ghost use Rattle.tc_course.specs.Witnesses.{IsWitness};
 ghost use Rattle.tc_course.specs.Witnesses as witnesses;
-ghost use Rattle.tc_course.specs.Cases.{IsOn};
 ghost use Rattle.tc_explore.specs.Inside.Going.{IsSteppedIfActive};
 ghost use Rattle.tc_explore.specs.Inside.Seen.{IsLonger, IsNoLess, IsNoted, IsOpen, AreHeld};
 
@@ -19,8 +15,8 @@ use crate::turns::{step, step_all};
 use std::alloc::Global;
 use tc_course::{Course, Witness};
 use tc_entry::Sequence;
+use tc_rules::copied_entries;
 use tc_step::Script;
-use tc_table::copied_entries;
 use tc_verdict::{NoMemory, Run};
 
 // The witness that a course is in which no run has a call left.
@@ -90,7 +86,7 @@ pub(crate) fn with_stuck(course: Course, scripts: &[Script]) -> Result<Course, N
     ensures on { IfOk result (IsOn scripts.now) }
     ensures over { IfOk result (λ c. AreHeld scripts.now (past_of course) → is_over (past_of c) ≡ true) }
     ensures error { IfOk result (λ c. AreHeld scripts.now (past_of course) → overall (past_of c) ≡ Error) }
-    ensures main { IfOk result (λ c. AreHeld scripts.now (past_of course) → carried (past_of c) 0 ≡ carried (past_of course) 0 + 1) }
+    ensures main { IfOk result (λ c. AreHeld scripts.now (past_of course) → carried_on (past_of c) 0 ≡ carried_on (past_of course) 0 + 1) }
 {
     let mut course = course;
     for run in 0..scripts.len() as u16 {

@@ -1,7 +1,7 @@
 //! The parts of a line, one after another.
 ghost use Rattle.std.specs.Prelude.{◌≡◌, [], ◌∷◌, OnOk, flat_map};
 ghost use Rattle.std.specs.Fmt.{decimal};
-ghost use Rattle.tc_text.specs.Said.{word_of};
+ghost use Rattle.tc_text.specs.Prelude.{part_words};
 ghost use Rattle.tc_explore.specs.Inside.Adding.{AddsWords};
 
 use tc_text::Part;
@@ -10,7 +10,7 @@ use tc_verdict::NoMemory;
 /// Appends prose.
 #[tactic(auto, using(tc_text::proofs::Lemmas::Saying::words_push))]
 pub(crate) fn push_text<'a>(parts: &mut Vec<Part<'a>>, text: &'a [u8]) -> Result<(), NoMemory>
-    ensures { OnOk result (flat_map word_of parts.new.items ≡ flat_map word_of parts.old.items) }
+    ensures { OnOk result (flat_map part_words parts.new.items ≡ flat_map part_words parts.old.items) }
 {
     parts.push(Part::Text(text))?;
     Ok(())

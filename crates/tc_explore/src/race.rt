@@ -1,10 +1,10 @@
 //! Two witnesses side by side, from where they part.
 ghost use Rattle.std.specs.Prelude.{◌≡◌, ◌≤◌, ◌++◌, [], ◌∷◌, IfOk, OnOk, bytes_eq, length};
 ghost use Rattle.std.specs.Fmt.{decimal};
-ghost use Rattle.tc_history.specs.Block.{entry_text};
+ghost use Rattle.tc_blocks.specs.Prelude.{entry_text};
 ghost use Rattle.tc_explore.specs.Race.{alike_count as count_alike, race, races};
-ghost use Rattle.tc_text.specs.Said.{TellsAmong, TellsLine};
-ghost use Rattle.tc_verdict.specs.Verdict.{name_of as verdict_name};
+ghost use Rattle.tc_text.specs.Prelude.{TellsAmong, TellsLine};
+ghost use Rattle.tc_rules.specs.Prelude.{name_of as verdict_name};
 
 use std::alloc::Global;
 use tc_course::Witness;

@@ -2,14 +2,12 @@
 //! they were made, and goes no further where the verdict is worse. If it comes to its end nothing up to that is missed.
 ghost use Rattle.std.specs.Prelude.{◌≡◌, ◌≤◌, ◌<◌, ◌&&◌, ◌∷◌, true, false, IfOk, OnOk, All, length, slice_index_or};
 ghost use Rattle.tc_entry.specs.declared.limits.TheConstants.{BEHAVIOURS};
-ghost use Rattle.tc_table.specs.Case.{past_of};
-ghost use Rattle.tc_course.specs.Cases.{IsOn, IsNext, taken};
+ghost use Rattle.tc_rules.specs.Prelude.{past_of, answer};
+ghost use Rattle.tc_course.specs.Prelude.{IsOn, IsNext, entry_made, carried_on, goes_on};
 ghost use Rattle.tc_explore.specs.Inside.Simulation as moves;
 ghost use Rattle.tc_explore.specs.Inside.Simulation.{IsClosed};
 ghost use Rattle.tc_verdict.specs.declared.verdict.Verdict.TheVariants.{Error};
-ghost use Rattle.tc_explore.specs.Found.{AreMet};
-ghost use Rattle.tc_course.specs.Course.{carried, goes_on};
-ghost use Rattle.tc_table.specs.Answers.{answer};
+ghost use Rattle.tc_explore.specs.Found.{AreAllMet};
 ghost use Rattle.tc_explore.specs.Inside.Seen.{AreClosed, IsSeen, IsLonger, IsNoLess, IsNoted, IsOpen, IsState, AreKept, AreKeyed, IsWith, IsFull, AreHeld, IsStillAt, AreStill, AllTold, IsCallClosed, IsRunClosed, AreRunsClosed};
 
 use crate::calm::calmed;
@@ -96,7 +94,7 @@ pub(crate) fn with_call(
     requires on { IsOn scripts.now course.now }
     requires turn { IsNext scripts.now course.now run op }
     ensures on { IfOk result (λ c. IsOn scripts.now c) }
-    ensures added { IfOk result (λ c. past_of c ≡ taken course.now.behaviours (past_of course.now) run op ∷ past_of course.now) }
+    ensures added { IfOk result (λ c. past_of c ≡ entry_made course.now.behaviours (past_of course.now) run op ∷ past_of course.now) }
 {
     course.copied(alloc)?.with(run, op)
 }
@@ -258,7 +256,7 @@ fn expand_course(
     ensures closed { IfOk result (λ c. c ≡ true
         → IsClosed aim scripts.now (IsSeen met.new.states.items) found.new.witnesses.items (past_of course.now)) }
     ensures stuck { IfOk result (λ c. c ≡ true → aim ≡ Error → AreHeld scripts.now (past_of course.now)
-        → carried (past_of course.now) 0 < slice_index_or found.new.reached.items 0 0) }
+        → carried_on (past_of course.now) 0 < slice_index_or found.new.reached.items 0 0) }
     ensures full { IfOk result (λ is_closed. is_closed ≡ false → IsFull met.new) }
 {
     let tried = try_runs(aim, alloc, scripts, course, met, found)?;
@@ -331,7 +329,7 @@ pub(crate) fn search_all(
     ensures found { OnOk result (IsNoted scripts.now found.new) }
     ensures more_found { OnOk result (IsLonger found.old.witnesses.items found.new.witnesses.items) }
     ensures more { OnOk result (IsNoLess found.old.reached.items found.new.reached.items) }
-    ensures met { IfOk result (λ e. AreMet scripts.now found.new.reached.items e.states) }
+    ensures met { IfOk result (λ e. AreAllMet scripts.now found.new.reached.items e.states) }
     ensures complete { IfOk result (λ e. e.is_whole ≡ true → AllTold aim scripts.now found.new.witnesses.items) }
     ensures within { IfOk result (λ e. e.states ≤ limit) }
     ensures full { IfOk result (λ e. e.is_whole ≡ false → e.states ≡ limit) }

@@ -1,10 +1,10 @@
 //! The search for local verdicts. It follows the calls of all runs, one by one.
 ghost use Rattle.std.specs.Prelude.{◌≡◌, ◌≤◌, ◌<◌, ◌∷◌, true, false, IfOk, OnOk, All, length};
 ghost use Rattle.tc_entry.specs.declared.limits.TheConstants.{BEHAVIOURS};
-ghost use Rattle.tc_table.specs.Case.{past_of};
+ghost use Rattle.tc_rules.specs.Prelude.{past_of};
 ghost use Rattle.tc_explore.specs.Found.{HasCourses};
 ghost use Rattle.tc_explore.specs.Locals.{AllLocalsFound, AreLocals};
-ghost use Rattle.tc_course.specs.Cases.{taken, IsNext};
+ghost use Rattle.tc_course.specs.Prelude.{entry_made, IsNext};
 ghost use Rattle.tc_explore.specs.Inside.Seen.{IsFull, IsLonger, IsWith};
 ghost use Rattle.tc_explore.specs.Inside.Twins.{AreGoing, AreLocalsClosed, AreLocalsRuns, HasTwinKeys, IsGoing, IsLocalsAfter, IsLocalsRun, IsMore, IsTwinSeen};
 
@@ -69,7 +69,7 @@ fn after_call(
     ensures more_found { OnOk result (IsMore marks.old.found.items marks.new.found.items) }
     ensures limit { OnOk result (met.new.limit ≡ met.old.limit) }
     ensures closed { IfOk result (λ is_closed. is_closed ≡ true
-        → IsLocalsAfter met.new.states.items marks.new.found.items (taken course.now.behaviours (past_of course.now) run op ∷ past_of course.now)) }
+        → IsLocalsAfter met.new.states.items marks.new.found.items (entry_made course.now.behaviours (past_of course.now) run op ∷ past_of course.now)) }
     ensures full { IfOk result (λ is_closed. is_closed ≡ false → IsFull met.old) }
 {
     let next = with_call(alloc, scripts, course, run, op)?;

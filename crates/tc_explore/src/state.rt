@@ -1,14 +1,13 @@
 //! What is known after the entries of a witness.
 ghost use Rattle.std.specs.Prelude.{◌≡◌, ◌≤◌, IfOk, reverse};
 ghost use Rattle.tc_entry.specs.declared.limits.TheConstants.{BEHAVIOURS};
-ghost use Rattle.tc_table.specs.Legal.{IsLegal};
-ghost use Rattle.tc_table.specs.Standing.{StandsFor};
-ghost use Rattle.tc_course.specs.Course.{stand};
+ghost use Rattle.tc_rules.specs.Prelude.{IsLegal, StandsFor};
+ghost use Rattle.tc_course.specs.Prelude.{stand};
 
 use std::alloc::Global;
 use tc_course::Standing;
 use tc_entry::Entry;
-use tc_table::{CaseState, CheckFault, replay};
+use tc_rules::{CaseState, CheckFault, replay};
 use tc_verdict::NoMemory;
 
 /// The state of a case after these entries.

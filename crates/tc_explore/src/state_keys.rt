@@ -1,8 +1,8 @@
 //! The keys of states: all that what can still come depends on, as numbers.
 ghost use Rattle.std.specs.Prelude.{◌≡◌, ◌++◌, ◌∷◌, [], IfOk, OnOk, map};
 ghost use Rattle.std.specs.List.{flat_map, range_with_len};
-ghost use Rattle.tc_table.specs.Case.{past_of};
-ghost use Rattle.tc_table.specs.Faults as faults;
+ghost use Rattle.tc_rules.specs.Prelude.{past_of};
+ghost use Rattle.tc_rules.specs.Faults as faults;
 ghost use Rattle.tc_explore.specs.Inside.Keys.{comp_code, comp_key, key_of, number_of, phase_code, run_key, run_key_of};
 ghost use Rattle.tc_explore.specs.Inside.Twins.{local_code, local_key, target_key, twin_key, wake_key, wake_key_of};
 

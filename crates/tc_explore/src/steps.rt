@@ -1,6 +1,6 @@
 //! The words of a step: as a script spells it, except that components have their place, and behaviours their run.
 use tc_entry::Name;
-use tc_line::Keyword;
+use tc_reader::Keyword;
 use tc_step::{GroupPlace, Place, Step, TargetPlace};
 use tc_text::{append_number, append_text};
 use tc_verdict::{NoMemory, Run, from_user, name as name_of};

@@ -1,14 +1,14 @@
 //! What is printed about a test case that was explored.
 ghost use Rattle.std.specs.Prelude.{◌≡◌, ◌==◌, ◌≤◌, ◌++◌, [], OnOk, codes, if◌then◌else◌, length, nat_lt};
 ghost use Rattle.std.specs.List.{flat_map};
-ghost use Rattle.tc_verdict.specs.Verdict.{level_of, name_of as verdict_name};
-ghost use Rattle.tc_course.specs.Witnesses.{is_found as is_found_among};
+ghost use Rattle.tc_rules.specs.Prelude.{level_of, name_of as verdict_name};
+ghost use Rattle.tc_course.specs.Prelude.{is_found as is_found_among};
 ghost use Rattle.tc_explore.specs.Told as told;
 
 use crate::explored::{Ending, Explored};
+use tc_blocks::write_block;
 use tc_course::Witness;
 use tc_entry::Name;
-use tc_history::write_block;
 use tc_text::{append_number, append_text};
 use tc_verdict::{NoMemory, Verdict, name as name_of};
 

@@ -1,11 +1,9 @@
 //! The turns of runs.
 ghost use Rattle.std.specs.Prelude.{◌≡◌, ◌≤◌, ◌<◌, true, IfOk, length};
 ghost use Rattle.tc_entry.specs.declared.limits.TheConstants.{BEHAVIOURS};
-ghost use Rattle.tc_table.specs.Case.{past_of};
-ghost use Rattle.tc_table.specs.History.{is_over};
-ghost use Rattle.tc_table.specs.Local.{overall};
+ghost use Rattle.tc_rules.specs.Prelude.{past_of, is_over, overall};
 ghost use Rattle.tc_course.specs.Course as courses;
-ghost use Rattle.tc_course.specs.Cases.{IsOn};
+ghost use Rattle.tc_course.specs.Prelude.{IsOn};
 ghost use Rattle.tc_explore.specs.Inside.Going.{IsStepped, HasSameLocals};
 
 use tc_course::{Course, next_call};

@@ -1,7 +1,7 @@
 //! The steps that no course which was looked at carries out.
 ghost use Rattle.std.specs.Prelude.{◌≡◌, ◌<◌, ◌≤◌, ◌+◌, [], ◌∷◌, OnOk, Some, length, slice_index_or};
 ghost use Rattle.tc_entry.specs.declared.limits.TheConstants.{BEHAVIOURS};
-ghost use Rattle.tc_text.specs.Said.{TellsAmong, TellsLine};
+ghost use Rattle.tc_text.specs.Prelude.{TellsAmong, TellsLine};
 ghost use Rattle.std.specs.Fmt.{decimal};
 ghost use Rattle.tc_explore.specs.Details as details;
 ghost use Rattle.tc_explore.specs.Details.{unseen, unseen_among};

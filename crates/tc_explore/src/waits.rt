@@ -1,8 +1,8 @@
 //! The waits of a witness that ends since no run can continue, and for whom.
 ghost use Rattle.std.specs.Prelude.{◌≤◌, [], OnOk, reverse};
 ghost use Rattle.tc_entry.specs.declared.limits.TheConstants.{BEHAVIOURS};
-ghost use Rattle.tc_table.specs.Legal.{IsLegal};
-ghost use Rattle.tc_text.specs.Said.{TellsAmong};
+ghost use Rattle.tc_rules.specs.Prelude.{IsLegal};
+ghost use Rattle.tc_text.specs.Prelude.{TellsAmong};
 
 use crate::components::{name_at, push_comp};
 use crate::parts::{push_number, push_text, push_word};
@@ -10,7 +10,7 @@ use crate::state::{standing_after, state_after};
 use std::alloc::Global;
 use tc_course::{Standing, Witness};
 use tc_entry::{Comp, Entry, Fault, Op, Phase, Reply, Target};
-use tc_table::{Awaited, CaseState};
+use tc_rules::{Awaited, CaseState};
 use tc_text::{Part, append_parts};
 use tc_verdict::{NoMemory, Run};
 

@@ -15,8 +15,8 @@ use std::process::Abort;
 use std::test::Fail;
 use tc_entry::{Entry, Name, Op, Reply};
 use tc_explore::{Ending, Explored, Locals, Witness, explore, explore_locals};
+use tc_rules::{CheckFault, replay_check};
 use tc_step::{GroupPlace, Place, Places, Script, Status, Step, TargetPlace};
-use tc_table::{CheckFault, replay_check};
 use tc_verdict::{NoMemory, Run, UserVerdict, Verdict};
 
 const P: Place = Place::Bound(0);

@@ -4,9 +4,8 @@ use Rattle.std.specs.Borrow.{Bor}
 use Rattle.std.proofs.Math.Seq.{take-suc}
 use Rattle.std.proofs.lemmas.List.{reverse-append}
 use Rattle.std.proofs.lemmas.Bool.{ne_eqb, cases_eq, cases_lt}
-use Rattle.tc_entry.specs.declared.entry.Entry.{Entry}
+use Rattle.tc_rules.specs.Prelude.{Entry, calls_of, in_place, started, verdict_calls_after}
 use Rattle.tc_merge.specs.Inside.{Has, HasRests, IsMovedOn, head_at_start}
-use Rattle.tc_case.specs.Merge.{calls_of, in_place, started, verdict_calls_after}
 
 pub past_more : (h : List Entry) (i : ℕ) (e : Entry) → i < length h → e ≡ get_or h i e → reverse (take (i + 1) h) ≡ e ∷ reverse (take i h)
 past_more h i e within is =

@@ -1,8 +1,7 @@
 -- The verdict entries replied Ended, of one run more.
 use Rattle.std.proofs.Common.{◌≡◌, ℕ, ◌+◌, List, ◌++◌, filter, refl, add-one, append_assoc}
 use Rattle.std.proofs.lemmas.List.{append-nil}
-use Rattle.tc_entry.specs.declared.entry.Entry.{Entry}
-use Rattle.tc_case.specs.Merge.{late, is_late}
+use Rattle.tc_rules.specs.Prelude.{Entry, late, is_late}
 
 pub late_none : (log : ℕ → List Entry) (xs : List Entry) → xs ≡ xs ++ late log 0
 unfolding late

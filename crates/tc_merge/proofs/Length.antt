@@ -2,11 +2,9 @@
 use Rattle.std.proofs.Common.{ℕ, ◌≡◌, ◌≢◌, ◌+◌, ◌≤◌, ◌==◌, cond, if◌then◌else◌, Bool, true, false, List, [], ◌∷◌, length, count_by, refl, ap, sym, ◌∙◌, eq-eqb, arith, subst, inl, inr}
 use Rattle.std.proofs.lemmas.Bool.{ne_eqb, cases_eq}
 use Rattle.std.proofs.lemmas.List.Sums.{sum_by-cons}
-use Rattle.tc_entry.specs.declared.entry.Entry.{Entry}
-use Rattle.tc_case.specs.declared.run_log.RunLog.{RunLog}
-use Rattle.tc_case.specs.Merge.{log_of, logged, merge}
-use Rattle.tc_case.specs.Parts.{is_by, part}
-use Rattle.tc_merge.specs.OneCase.{is_of_run, AreOfOneCase, IsOneEach}
+use Rattle.tc_rules.specs.Prelude.{Entry, log_of, logged, merge, is_by, part}
+use Rattle.tc_rules.specs.declared.run_log.RunLog.{RunLog}
+use Rattle.tc_merge.specs.OneCase.{is_log_of, AreOfOneCase, HaveDistinctRuns}
 use Rattle.tc_merge.proofs.PartOfMerge.{entries_by, part_same, part_miss, part-merge}
 
 -- the entries that are not by run b
@@ -51,36 +49,36 @@ nobody : (h : List Entry) → ((b : ℕ) → entries_by h b ≡ []) → h ≡ []
 nobody [] none = refl
 nobody (e ∷ h) none = let q : e ∷ entries_by h e.caller.0 ≡ [] = sym (part_same h e e.caller.0 refl) ∙ none e.caller.0 in absurd cc
 
-counted : (b : ℕ) (l : RunLog) (ls : List RunLog) → count_by (is_of_run b) (l ∷ ls) ≡ cond (l.run.0 == b) 1 0 + count_by (is_of_run b) ls
-counted b l ls = sum_by-cons (λ (m : RunLog). cond (is_of_run b m) 1 0) l ls
+counted : (b : ℕ) (l : RunLog) (ls : List RunLog) → count_by (is_log_of b) (l ∷ ls) ≡ cond (l.run.0 == b) 1 0 + count_by (is_log_of b) ls
+counted b l ls = sum_by-cons (λ (m : RunLog). cond (is_log_of b m) 1 0) l ls
 
-unnamed : (b : ℕ) (ls : List RunLog) → count_by (is_of_run b) ls ≡ 0 → log_of ls b ≡ []
+unnamed : (b : ℕ) (ls : List RunLog) → count_by (is_log_of b) ls ≡ 0 → log_of ls b ≡ []
 unnamed b [] none = refl
 unnamed b (l ∷ ls) none = elim (cases_eq l.run.0 b) [
   | inl same ↦
       let test : (l.run.0 == b) ≡ true = eq-eqb l.run.0 b same in
-      let k : count_by (is_of_run b) (l ∷ ls) ≡ 1 + count_by (is_of_run b) ls = counted b l ls ∙ rw test refl in
+      let k : count_by (is_log_of b) (l ∷ ls) ≡ 1 + count_by (is_log_of b) ls = counted b l ls ∙ rw test refl in
       absurd (omega arith)
   | inr other ↦
       let test : (l.run.0 == b) ≡ false = ne_eqb l.run.0 b other in
       let zero_more : cond {A = ℕ} (l.run.0 == b) 1 0 ≡ 0 = rw test refl in
-      let k : count_by (is_of_run b) (l ∷ ls) ≡ count_by (is_of_run b) ls = omega (arith, counted b l ls, zero_more) in
+      let k : count_by (is_log_of b) (l ∷ ls) ≡ count_by (is_log_of b) ls = omega (arith, counted b l ls, zero_more) in
       rw test (unnamed b ls (sym k ∙ none))
 ]
 
-fewer : (b : ℕ) (l : RunLog) (ls : List RunLog) → count_by (is_of_run b) (l ∷ ls) ≤ 1 → count_by (is_of_run b) ls ≤ 1
+fewer : (b : ℕ) (l : RunLog) (ls : List RunLog) → count_by (is_log_of b) (l ∷ ls) ≤ 1 → count_by (is_log_of b) ls ≤ 1
 fewer b l ls few = by_test (l.run.0 == b) (counted b l ls)
   where
-    by_test : (t : Bool) → count_by (is_of_run b) (l ∷ ls) ≡ cond t 1 0 + count_by (is_of_run b) ls → count_by (is_of_run b) ls ≤ 1
+    by_test : (t : Bool) → count_by (is_log_of b) (l ∷ ls) ≡ cond t 1 0 + count_by (is_log_of b) ls → count_by (is_log_of b) ls ≤ 1
     by_test true k = omega arith
     by_test false k = omega arith
 
-as_long : (h : List Entry) (logs : List RunLog) → ((b : ℕ) → entries_by h b ≡ log_of logs b) → IsOneEach logs → length h ≡ logged logs
+as_long : (h : List Entry) (logs : List RunLog) → ((b : ℕ) → entries_by h b ≡ log_of logs b) → HaveDistinctRuns logs → length h ≡ logged logs
 as_long h [] parts one = ap length (nobody h parts)
 as_long h (l ∷ ls) parts one =
     let b : ℕ = l.run.0 in
     let test : (b == b) ≡ true = eq-eqb b b refl in
-    let k : count_by (is_of_run b) (l ∷ ls) ≡ 1 + count_by (is_of_run b) ls = counted b l ls ∙ rw test refl in
+    let k : count_by (is_log_of b) (l ∷ ls) ≡ 1 + count_by (is_log_of b) ls = counted b l ls ∙ rw test refl in
     let none : log_of ls b ≡ [] = unnamed b ls (omega (arith, one b)) in
     let own : entries_by h b ≡ l.entries = parts b ∙ rw test refl in
     let rest : (c : ℕ) → entries_by (without b h) c ≡ log_of ls c = λ c. elim (cases_eq b c) [
@@ -98,5 +96,5 @@ unfolding part
 as_part h b = refl
 
 -- the merge is as long as all logs together
-pub length-merge : (history : List Entry) (logs : List RunLog) → AreOfOneCase history logs → IsOneEach logs → length (merge history logs) ≡ logged logs
+pub length-merge : (history : List Entry) (logs : List RunLog) → AreOfOneCase history logs → HaveDistinctRuns logs → length (merge history logs) ≡ logged logs
 length-merge history logs case one = as_long (merge history logs) logs (λ b. as_part (merge history logs) b ∙ part-merge history logs case b) one

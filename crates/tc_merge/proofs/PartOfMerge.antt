@@ -4,16 +4,9 @@ use Rattle.std.specs.List.{All}
 use Rattle.std.proofs.lemmas.Bool.{ne_eqb, cases_eq, cases_lt}
 use Rattle.std.proofs.lemmas.List.{append-nil, reverse-append, reverse-reverse}
 use Rattle.std.proofs.lemmas.List.Elements.{filter-append}
-use Rattle.tc_verdict.specs.declared.run.Run.{Run}
-use Rattle.tc_entry.specs.declared.comp.Comp.{Comp}
-use Rattle.tc_entry.specs.declared.entry.Entry.{Entry}
-use Rattle.tc_entry.specs.declared.op.Op.{Op}
+use Rattle.tc_rules.specs.Prelude.{Run, Comp, Entry, Op, is_ended, is_ok, comp_of, first_some, starts_run, is_other, is_late, is_verdict_call, verdict_calls_after, calls_of, started, run_of, in_place, late, log_of, runs_end, merge, is_by, part}
 use Rattle.tc_entry.specs.declared.op.Op.TheVariants as O
-use Rattle.tc_entry.specs.Reply.{is_ended, is_ok}
-use Rattle.tc_table.specs.History.{comp_of, first_some, starts_run}
-use Rattle.tc_case.specs.declared.run_log.RunLog.{RunLog}
-use Rattle.tc_case.specs.Merge.{is_other, is_late, is_verdict_call, verdict_calls_after, calls_of, started, run_of, in_place, late, log_of, end_of, merge}
-use Rattle.tc_case.specs.Parts.{is_by, part}
+use Rattle.tc_rules.specs.declared.run_log.RunLog.{RunLog}
 use Rattle.tc_merge.specs.Inside.{head_at_start}
 use Rattle.tc_merge.specs.OneCase.{AreByStarted, AreStartedOnce, AreOfOneCase, stops_when_late}
 use Rattle.tc_merge.proofs.InPlace.{calls_same, calls_more}
@@ -353,7 +346,7 @@ unfolding merge
 part-merge history logs one b =
     let past : List Entry = reverse history in
     let log : ℕ → List Entry = log_of logs in
-    let n : ℕ = end_of logs in
+    let n : ℕ = runs_end logs in
     let own : (c : ℕ) → AllBy c (log c) = λ c. all_by c (log c) (one.own c) in
     let few : (c : ℕ) → n ≤ c → log c ≡ [] = λ c beyond. log_of-beyond logs c beyond in
     let h : others (log b) ≡ entries_by (reverse past ++ []) b =
@@ -367,6 +360,6 @@ part-merge history logs one b =
           ap (λ l. l ++ filter is_late (log b)) k ∙ keep_and_late (log b) (one.stop b)
     ])
 
-pub merge-is : (history : List Entry) (logs : List RunLog) → merge history logs ≡ in_place (log_of logs) (reverse history) ++ late (log_of logs) (end_of logs)
+pub merge-is : (history : List Entry) (logs : List RunLog) → merge history logs ≡ in_place (log_of logs) (reverse history) ++ late (log_of logs) (runs_end logs)
 unfolding merge
 merge-is history logs = refl

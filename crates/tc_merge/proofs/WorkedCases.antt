@@ -2,28 +2,13 @@
 use Rattle.std.proofs.Common.{ℕ, zero, suc, ◌<◌, ◌≡◌, ◌≢◌, ◌==◌, true, false, Option, Some, None, List, [], ◌∷◌, filter, get_or, length, reverse, refl, sym, ap, subst, arith, ◌∙◌}
 use Rattle.std.specs.List.{All, AllByRecursion}
 use Rattle.std.proofs.lemmas.Bool.{ne_eqb}
-use Rattle.tc_verdict.specs.declared.run.Run.{Run}
-use Rattle.tc_verdict.specs.declared.user_verdict.UserVerdict.{UserVerdict}
+use Rattle.tc_rules.specs.Prelude.{Run, UserVerdict, Comp, Entry, Op, Reply, comp_of, exists, phase, running, alive, done, killed, holds, is_stuck, all_exist, start_fault, components, fault, is_active, answer, IsLegal, local, overall, is_other, log_of, merge, late, part}
 use Rattle.tc_verdict.specs.declared.user_verdict.UserVerdict.TheVariants as U
 use Rattle.tc_verdict.specs.declared.verdict.Verdict.TheVariants as V
-use Rattle.tc_entry.specs.declared.comp.Comp.{Comp}
-use Rattle.tc_entry.specs.declared.entry.Entry.{Entry}
 use Rattle.tc_entry.specs.declared.op.Group.TheVariants as G
-use Rattle.tc_entry.specs.declared.op.Op.{Op}
 use Rattle.tc_entry.specs.declared.op.Op.TheVariants as O
-use Rattle.tc_entry.specs.declared.reply.Reply.{Reply}
 use Rattle.tc_entry.specs.declared.reply.Reply.TheVariants as R
-use Rattle.tc_table.specs.History.{comp_of, exists}
-use Rattle.tc_table.specs.Phases.{phase}
-use Rattle.tc_table.specs.Status.{running, alive, done, killed}
-use Rattle.tc_table.specs.Waiting.{holds, is_stuck}
-use Rattle.tc_table.specs.Faults.{all_exist, start_fault, components, fault}
-use Rattle.tc_table.specs.Answers.{is_active, answer}
-use Rattle.tc_table.specs.Legal.{IsLegal}
-use Rattle.tc_table.specs.Local.{local, overall}
-use Rattle.tc_case.specs.declared.run_log.RunLog.{RunLog}
-use Rattle.tc_case.specs.Merge.{is_other, log_of, merge, late}
-use Rattle.tc_case.specs.Parts.{part}
+use Rattle.tc_rules.specs.declared.run_log.RunLog.{RunLog}
 use Rattle.tc_merge.specs.OneCase.{AreOfOneCase, stops_when_late}
 
 abbrev entry : ℕ → Op → Reply → Entry

@@ -2,9 +2,7 @@
 use Rattle.std.specs.Prelude.{ℕ, suc, ◌≡◌, ◌<◌, ◌≤◌, ◌+◌, Option, List, [], length, reverse, slice_index_or}
 use Rattle.std.specs.Borrow.{Bor}
 use Rattle.std.specs.Option.{option_map_or}
-use Rattle.tc_verdict.specs.declared.run.Run.{Run}
-use Rattle.tc_entry.specs.declared.entry.Entry.{Entry}
-use Rattle.tc_case.specs.Merge.{in_place, verdict_calls_after}
+use Rattle.tc_rules.specs.Prelude.{Run, Entry, in_place, verdict_calls_after}
 
 -- what the table has of run b, and this if it has no such run
 abbrev pub entries_of : List (Bor (List Entry)) → ℕ → Bor (List Entry) → List Entry

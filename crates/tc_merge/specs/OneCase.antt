@@ -1,11 +1,7 @@
 -- When a history without verdict entries and logs come from one case.
 use Rattle.std.specs.Prelude.{ℕ, ◌≡◌, ◌≢◌, ◌≤◌, ◌==◌, if◌then◌else◌, Bool, true, false, Some, None, List, [], ◌∷◌, filter, reverse, All, count_by}
-use Rattle.tc_verdict.specs.declared.run.Run.{Run}
-use Rattle.tc_entry.specs.declared.entry.Entry.{Entry}
-use Rattle.tc_table.specs.History.{comp_of}
-use Rattle.tc_case.specs.declared.run_log.RunLog.{RunLog}
-use Rattle.tc_case.specs.Merge.{is_other, is_late, log_of, started}
-use Rattle.tc_case.specs.Parts.{part}
+use Rattle.tc_rules.specs.Prelude.{Run, Entry, comp_of, is_other, is_late, log_of, started, part}
+use Rattle.tc_rules.specs.declared.run_log.RunLog.{RunLog}
 
 -- each entry is by a run that was started before it: run 0 is from the opening
 abbrev pub AreByStarted : List Entry → Type 0
@@ -43,9 +39,9 @@ pub record AreOfOneCase (history : List Entry) (logs : List RunLog) : Type 0 whe
   pub stop : (b : ℕ) → stops_when_late (log_of logs b) ≡ true
 
 -- this is a log of run b
-abbrev pub is_of_run : ℕ → RunLog → Bool
-is_of_run b l = l.run.0 == b
+abbrev pub is_log_of : ℕ → RunLog → Bool
+is_log_of b l = l.run.0 == b
 
 -- no run has two logs
-abbrev pub IsOneEach : List RunLog → Type 0
-IsOneEach logs = (b : ℕ) → count_by (is_of_run b) logs ≤ 1
+abbrev pub HaveDistinctRuns : List RunLog → Type 0
+HaveDistinctRuns logs = (b : ℕ) → count_by (is_log_of b) logs ≤ 1

@@ -1,12 +1,12 @@
 //! The logs by the number of their run.
 ghost use Rattle.std.specs.Prelude.{◌≡◌, ◌≢◌, ◌≤◌, ◌<◌, ℕ, [], IfOk, IfSome, length, slice_index_or};
-ghost use Rattle.tc_case.specs.Merge as rules;
+ghost use Rattle.tc_rules.specs.Merge as rules;
 ghost use Rattle.tc_merge.specs.Inside.{Has, IsMovedOn, entries_of};
 
 use crate::heads::after_other;
 use std::alloc::Global;
-use tc_case::RunLog;
 use tc_entry::{Entry, Run};
+use tc_rules::RunLog;
 use tc_verdict::NoMemory;
 
 /// How many entries the logs have together, unless they are too many to count.
@@ -22,7 +22,7 @@ pub(crate) fn entry_count(logs: &[RunLog]) -> Option<usize>
 
 /// One more than the greatest number of a run that has a log.
 fn end_of(logs: &[RunLog]) -> usize
-    ensures { result ≡ rules.end_of logs.now }
+    ensures { result ≡ rules.runs_end logs.now }
 {
     let mut end = 0;
     let mut rest = logs;
@@ -35,7 +35,7 @@ fn end_of(logs: &[RunLog]) -> usize
 
 /// The log of each run, up to the last that has one.
 pub(crate) fn logs_by_run(alloc: Global, logs: &[RunLog]) -> Result<Vec<&[Entry]>, NoMemory>
-    ensures len { IfOk result (λ v. length v.items ≡ rules.end_of logs.now) }
+    ensures len { IfOk result (λ v. length v.items ≡ rules.runs_end logs.now) }
     ensures each { IfOk result (λ v. Has v.items (rules.log_of logs.now)) }
 {
     let none: &[Entry] = &[];

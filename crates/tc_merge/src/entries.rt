@@ -1,6 +1,6 @@
 //! What one entry is to the merge.
 ghost use Rattle.std.specs.Prelude.{◌≡◌};
-ghost use Rattle.tc_case.specs.Merge as rules;
+ghost use Rattle.tc_rules.specs.Merge as rules;
 
 use tc_entry::{Entry, Op, Run};
 

@@ -1,6 +1,6 @@
 //! The verdict entries at the head of a log, and those replied Ended.
 ghost use Rattle.std.specs.Prelude.{◌≡◌, ◌++◌, OnOk, filter};
-ghost use Rattle.tc_case.specs.Merge as rules;
+ghost use Rattle.tc_rules.specs.Merge as rules;
 ghost use Rattle.tc_merge.specs.Inside.{AreAfterOther};
 
 use crate::entries::{is_late, is_other};

@@ -7,4 +7,4 @@ mod heads;
 mod merging;
 
 pub use merging::merge;
-pub use tc_case::RunLog;
+pub use tc_rules::RunLog;

@@ -1,16 +1,16 @@
 //! The merge of a history with the logs of its runs.
 ghost use Rattle.std.specs.Prelude.{◌≡◌, ◌++◌, ℕ, IfOk, OnOk, filter, length};
-ghost use Rattle.tc_case.specs.Merge as rules;
+ghost use Rattle.tc_rules.specs.Merge as rules;
 ghost use Rattle.tc_merge.specs.Inside.{Has, head_at_start, placed};
-ghost use Rattle.tc_merge.specs.OneCase.{AreOfOneCase, IsOneEach};
-ghost use Rattle.tc_case.specs.Parts.{part};
+ghost use Rattle.tc_merge.specs.OneCase.{AreOfOneCase, HaveDistinctRuns};
+ghost use Rattle.tc_rules.specs.Prelude.{part};
 
 use crate::by_run::{at_run, entry_count, logs_by_run, move_on};
 use crate::entries::started;
 use crate::heads::{add_head, add_late};
 use std::alloc::Global;
-use tc_case::RunLog;
 use tc_entry::{Entry, Run};
+use tc_rules::RunLog;
 use tc_verdict::NoMemory;
 
 /// Adds the verdict entries at the head of the log of a run that the entry starts.
@@ -66,7 +66,7 @@ pub fn merge(
     ensures merged { IfOk result (λ v. v.items ≡ rules.merge table_history.now logs.now) }
     ensures kept { IfOk result (λ v. filter rules.is_other v.items ≡ filter rules.is_other table_history.now) }
     ensures parts { IfOk result (λ v. AreOfOneCase table_history.now logs.now → (b : ℕ) → part v.items b ≡ rules.log_of logs.now b) }
-    ensures as_long { IfOk result (λ v. AreOfOneCase table_history.now logs.now → IsOneEach logs.now → length v.items ≡ rules.logged logs.now) }
+    ensures as_long { IfOk result (λ v. AreOfOneCase table_history.now logs.now → HaveDistinctRuns logs.now → length v.items ≡ rules.logged logs.now) }
 {
     let Some(count) = entry_count(logs) else {
         return Err(NoMemory);

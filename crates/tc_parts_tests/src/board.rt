@@ -1,8 +1,7 @@
 //! Hands and a keeper, on one thread and on two.
 ghost use Rattle.std.specs.Prelude.{◌≡◌, ◌≢◌, [], Some, slice_get};
 ghost use Rattle.tc_board.specs.declared.record.Record.TheVariants.{Unbegun};
-ghost use Rattle.tc_board.specs.Board.{new_hand, new_keeper};
-ghost use Rattle.tc_board.specs.Keeper.{IsOpen};
+ghost use Rattle.tc_board.specs.Prelude.{new_hand, new_keeper, IsOpen};
 
 use crate::checks::{holds, is};
 use std::alloc::AllocGlobal;

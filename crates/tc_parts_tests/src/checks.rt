@@ -3,8 +3,7 @@
 use std::alloc::Global;
 use std::fmt::Debug;
 use std::process::Abort;
-use tc_evidence::read_history;
-use tc_history::Block;
+use tc_blocks::{History, read_history};
 
 /// Ends the test unless what was found is what is wanted.
 pub(crate) fn is<R: Abort, T: PartialEq + Debug + Copy>(rt: &R, what: &str, found: T, wanted: T) {
@@ -25,7 +24,7 @@ pub(crate) fn got<R: Abort, T, E: Debug + Drop>(rt: &R, answer: Result<T, E>) ->
 }
 
 /// The blocks of a history text, from which a test takes the entries that it needs.
-pub(crate) fn blocks<R: Abort>(rt: &R, alloc: Global, text: &[u8]) -> Vec<Block> {
+pub(crate) fn blocks<R: Abort>(rt: &R, alloc: Global, text: &[u8]) -> Vec<History> {
     match read_history(alloc, text) {
         Ok(blocks) => blocks,
         Err(_) => panic!(rt; "a history"),
@@ -33,7 +32,7 @@ pub(crate) fn blocks<R: Abort>(rt: &R, alloc: Global, text: &[u8]) -> Vec<Block>
 }
 
 /// The first of these blocks.
-pub(crate) fn first<'a, R: Abort>(rt: &R, blocks: &'a [Block]) -> &'a Block {
+pub(crate) fn first<'a, R: Abort>(rt: &R, blocks: &'a [History]) -> &'a History {
     match blocks.first() {
         Some(block) => block,
         None => panic!(rt; "a block"),

@@ -2,8 +2,8 @@
 use crate::checks::{blocks, got, is};
 use std::alloc::Global;
 use std::process::Abort;
-use tc_history::Block;
-use tc_table::{Entry, NoMemory, Run, component_of, deciding_entry, name_of, replay_check};
+use tc_blocks::History;
+use tc_rules::{Entry, NoMemory, Run, component_of, deciding_entry, name_of, replay_check};
 use tc_text::{append_number, append_text};
 
 /// No history has more behaviours.
@@ -134,7 +134,12 @@ fn append_deciding(out: &mut Vec<u8>, history: &[Entry]) -> Result<(), NoMemory>
 }
 
 /// Checks that the history is legal, and who decided its verdict.
-fn is_decided(rt: &impl Abort, alloc: Global, block: &Block, wanted: &str) -> Result<(), NoMemory> {
+fn is_decided(
+    rt: &impl Abort,
+    alloc: Global,
+    block: &History,
+    wanted: &str,
+) -> Result<(), NoMemory> {
     let history = block.entries.as_slice();
     let checked = replay_check(alloc, MOST_BEHAVIOURS, history);
     is(rt, "the verdict", got(rt, checked), block.verdict);

@@ -2,8 +2,8 @@
 use crate::checks::{got, is};
 use std::alloc::Global;
 use std::process::Abort;
+use tc_blocks::{Block, append_whole_block, read_evidence, read_evidence_from};
 use tc_entry::Sequence;
-use tc_evidence::{Block, append_whole_block, read_evidence, read_evidence_from};
 use tc_stream::InputFault;
 use tc_stream::devices::SlowReader;
 use tc_text::{TextFault, append_number, append_text};

@@ -1,7 +1,7 @@
 //! The text of a history, read and written again.
 use crate::checks::{blocks, first, is};
 use std::process::Abort;
-use tc_history::{Block, write_block};
+use tc_blocks::{History, write_block};
 use tc_text::append_text;
 use tc_verdict::NoMemory;
 
@@ -73,7 +73,7 @@ fn append_history(out: &mut Vec<u8>) -> Result<(), NoMemory> {
     append_text(out, "end fail\n")
 }
 
-fn append_again(out: &mut Vec<u8>, block: &Block) -> Result<(), NoMemory> {
+fn append_again(out: &mut Vec<u8>, block: &History) -> Result<(), NoMemory> {
     let entries = block.entries.as_slice();
     write_block(out, &block.name, block.behaviours, entries, block.verdict)
 }
@@ -83,7 +83,7 @@ fn is_read_and_written(
     rt: &impl Abort,
     out: &mut Vec<u8>,
     text: &[u8],
-    blocks: &[Block],
+    blocks: &[History],
     entries: usize,
 ) -> Result<(), NoMemory> {
     let block = first(rt, blocks);

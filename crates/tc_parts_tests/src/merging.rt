@@ -2,10 +2,10 @@
 use crate::checks::{blocks, first, is};
 use std::alloc::Global;
 use std::process::Abort;
+use tc_blocks::{History, write_block};
 use tc_entry::{Comp, Entry, NoMemory, Run};
-use tc_history::{Block, write_block};
 use tc_merge::{RunLog, merge};
-use tc_table::replay_check;
+use tc_rules::replay_check;
 
 /// The entries of no verdict call, and then the logs of runs 1, 0 and 2.
 const LOGS: &str = "\
@@ -55,7 +55,7 @@ end inconc
 ";
 
 /// The log of a run, whose entries are those of the last block.
-fn take_log(rt: &impl Abort, blocks: &mut Vec<Block>, run: u16, comp: u32) -> RunLog {
+fn take_log(rt: &impl Abort, blocks: &mut Vec<History>, run: u16, comp: u32) -> RunLog {
     match blocks.pop() {
         Some(block) => RunLog {
             run: Run(run),
@@ -71,7 +71,7 @@ fn append_replayed(
     rt: &impl Abort,
     alloc: Global,
     out: &mut Vec<u8>,
-    block: &Block,
+    block: &History,
     entries: &[Entry],
 ) -> Result<(), NoMemory> {
     match replay_check(alloc, 3, entries) {
@@ -84,7 +84,7 @@ fn is_merged(
     rt: &impl Abort,
     alloc: Global,
     out: &mut Vec<u8>,
-    others: &Block,
+    others: &History,
     logs: &[RunLog],
 ) -> Result<(), NoMemory> {
     let merged = merge(alloc, others.entries.as_slice(), logs)?;

@@ -3,8 +3,8 @@
 use crate::checks::{blocks, first, got, holds, is};
 use std::alloc::Global;
 use std::process::Abort;
-use tc_history::Block;
-use tc_table::{
+use tc_blocks::History;
+use tc_rules::{
     CaseState, CheckFault, Comp, NoMemory, Op, Phase, Reply, Run, Table, Verdict, copied_entries,
     replay_check,
 };
@@ -215,7 +215,7 @@ fn quiet_calls(rt: HostRuntime) -> Result<(), NoMemory> {
 }
 
 /// The check of the entries of a block of one behaviour.
-fn checked(alloc: Global, block: &Block) -> Result<Verdict, CheckFault> {
+fn checked(alloc: Global, block: &History) -> Result<Verdict, CheckFault> {
     replay_check(alloc, 1, block.entries.as_slice())
 }
 

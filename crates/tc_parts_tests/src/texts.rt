@@ -2,7 +2,7 @@
 use crate::checks::is;
 use std::alloc::Global;
 use std::process::Abort;
-use tc_table_texts::{
+use tc_table::{
     Args, Comp, Fault, InputFault, NoMemory, Op, Reply, Run, read_input, read_move, read_moves,
     write_move, write_reply,
 };

@@ -2,9 +2,9 @@
 use crate::checks::{blocks, first, is};
 use std::process::Abort;
 use tc_board::Record;
+use tc_book::counts;
 use tc_entry::Entry;
 use tc_verdict::UserVerdict;
-use tc_words::counts;
 
 const LOG: &str = "\
 history 2 t 2

@@ -9,12 +9,9 @@ use Rattle.std.specs.Cmp.Lexicographic.{bytes_decides}
 use Rattle.std.specs.Option.{option_map_or}
 use Rattle.std.specs.List.{AllZip, list_any, position_or_len}
 use Rattle.tc_entry.specs.declared.limits.TheConstants.{BEHAVIOURS}
-use Rattle.tc_evidence.specs.declared.block.Block.{Block}
-use Rattle.tc_line.specs.Words.{is_text}
-use Rattle.tc_script.specs.Campaign.{CampaignView}
-use Rattle.tc_script.specs.Law.{IsCase}
-use Rattle.tc_script.specs.Names.{Word, among, has_twice}
-use Rattle.tc_step.specs.Steps.{ScriptView}
+use Rattle.tc_blocks.specs.declared.block.Block.{Block}
+use Rattle.tc_reader.specs.Prelude.{is_text, CampaignView, IsCase, Word, among, has_twice}
+use Rattle.tc_step.specs.Prelude.{ScriptView}
 use Rattle.tc_program.specs.Scripted.{CaseView, scripts_of}
 use Rattle.tc_program.specs.declared.compare.Comparing.{Comparing}
 use Rattle.tc_campaign.specs.declared.case.Case.{Case}
@@ -22,7 +19,7 @@ use Rattle.tc_command.specs.declared.task.Choice.{Choice}
 use Rattle.tc_program.specs.Check.{RefusesHistory}
 use Rattle.tc_program.specs.Choosing.{RefusesChoice}
 use Rattle.tc_program.specs.Inside.{AddsIfMissing, AreComparable, AreMissing, AreMissingTo, AreReady, IsCaseOf, Judges, SaysNext, StandsBeside}
-use Rattle.tc_program.specs.Compared.{AreJudged, RefusesAgainst, blocks_part, is_late, is_met, missing, note, place, script_part}
+use Rattle.tc_program.specs.Compared.{AreJudged, RefusesAgainst, blocks_part, has_later, has_block_named, missing, note, place_in, script_part}
 use Rattle.tc_program.specs.declared.fault.RunFault.{RunFault}
 use Rattle.tc_program.specs.declared.fault.RunFault.TheVariants as F
 use Rattle.tc_program.proofs.Chosen.{or_left, or_right}
@@ -59,7 +56,7 @@ named_at (c ∷ cs) zero n d lt e = (c, refl, same n c.0 e)
 named_at (c ∷ cs) (suc p) n d lt e = named_at cs p n d (omega arith) e
 
 -- the test case at the place of a name has that name
-pub placed : (cases : CampaignView) (n : Word) (p : ℕ) → place cases n ≡ Some p → (c : CaseView) × (slice_get cases p ≡ Some c) × (n ≡ c.0)
+pub placed : (cases : CampaignView) (n : Word) (p : ℕ) → place_in cases n ≡ Some p → (c : CaseView) × (slice_get cases p ≡ Some c) × (n ≡ c.0)
 placed cases n p e =
     let at = position-Some (is_text n) (map (λ c. c.0) cases) p [] e in
     named_at cases p n [] at.0 at.1
@@ -73,7 +70,7 @@ among_at (t ∷ ts) n zero c at e =
 among_at (t ∷ ts) n (suc q) c at e = ap (λ b. is_text n t.0 || b) (among_at ts n q c at e) ∙ or_true (is_text n t.0)
 
 -- a name without a place is that of no test case
-pub unplaced : (cases : CampaignView) (n : Word) (q : ℕ) (c : CaseView) → place cases n ≡ None → slice_get cases q ≡ Some c → is_text c.0 n ≡ false
+pub unplaced : (cases : CampaignView) (n : Word) (q : ℕ) (c : CaseView) → place_in cases n ≡ None → slice_get cases q ≡ Some c → is_text c.0 n ≡ false
 unfolding among
 unplaced cases n q c none at = by (is_text c.0 n) refl
   where
@@ -105,7 +102,7 @@ once (t ∷ ts) (suc p) (suc q) c d distinct at at' e =
 -- ---- what is met
 
 -- the name of a test case is that of the one at this place exactly if it is at this place
-pub named_as : (cases : CampaignView) (n : Word) (p q : ℕ) (c : CaseView) → has_twice (map (λ t. t.0) cases) ≡ false → place cases n ≡ Some p → slice_get cases q ≡ Some c →
+pub named_as : (cases : CampaignView) (n : Word) (p q : ℕ) (c : CaseView) → has_twice (map (λ t. t.0) cases) ≡ false → place_in cases n ≡ Some p → slice_get cases q ≡ Some c →
     is_text c.0 n ≡ (q == p)
 named_as cases n p q c distinct e at =
     let is = placed cases n p e in
@@ -133,27 +130,27 @@ abbrev is_before : ℕ → Option ℕ → Bool
 is_before p o = option_map_or (nat_lt p) o false
 
 -- a block of a name that is met makes the places before its own late
-pub met_late : (cases : CampaignView) (blocks : List Block) (n : Word) (p q : ℕ) → place cases n ≡ Some p → is_met blocks n ≡ true → q < p → is_late cases blocks q ≡ true
+pub met_late : (cases : CampaignView) (blocks : List Block) (n : Word) (p q : ℕ) → place_in cases n ≡ Some p → has_block_named blocks n ≡ true → q < p → has_later cases blocks q ≡ true
 met_late cases [] n p q e met less = absurd cc
 met_late cases (b ∷ bs) n p q e met less = by (λ m. met_late cases bs n p q e m less) (is_text n b.header.name) refl met
   where
-    by : (is_met bs n ≡ true → is_late cases bs q ≡ true) → (t : Bool) → is_text n b.header.name ≡ t → (t || is_met bs n) ≡ true
-        → (is_before q (place cases b.header.name) || is_late cases bs q) ≡ true
+    by : (has_block_named bs n ≡ true → has_later cases bs q ≡ true) → (t : Bool) → is_text n b.header.name ≡ t → (t || has_block_named bs n) ≡ true
+        → (is_before q (place_in cases b.header.name) || has_later cases bs q) ≡ true
     by more true k m =
-        let here : place cases b.header.name ≡ Some p = ap (place cases) (sym (same n b.header.name k)) ∙ e in
+        let here : place_in cases b.header.name ≡ Some p = ap (place_in cases) (sym (same n b.header.name k)) ∙ e in
         let test : nat_lt q p ≡ true = grind (arith, nat_tests) in
         rw (here, test) refl
-    by more false k m = ap (λ x. is_before q (place cases b.header.name) || x) (more m) ∙ or_true (is_before q (place cases b.header.name))
+    by more false k m = ap (λ x. is_before q (place_in cases b.header.name) || x) (more m) ∙ or_true (is_before q (place_in cases b.header.name))
 
 -- ---- one more block
 
 -- what is met after one more block of the test case at place p
 met_more : (cases : CampaignView) (before : List Block) (b : Block) (met : List Bool) (p q : ℕ) (t : CaseView) → has_twice (map (λ t. t.0) cases) ≡ false →
-    place cases b.header.name ≡ Some p → p < length met → slice_get cases q ≡ Some t → slice_index_or met q false ≡ is_met before t.0 →
-    slice_index_or (slice_set met p true) q false ≡ is_met (b ∷ before) t.0
+    place_in cases b.header.name ≡ Some p → p < length met → slice_get cases q ≡ Some t → slice_index_or met q false ≡ has_block_named before t.0 →
+    slice_index_or (slice_set met p true) q false ≡ has_block_named (b ∷ before) t.0
 met_more cases before b met p q t distinct e within at was = by (q == p) refl
   where
-    by : (x : Bool) → (q == p) ≡ x → slice_index_or (slice_set met p true) q false ≡ is_met (b ∷ before) t.0
+    by : (x : Bool) → (q == p) ≡ x → slice_index_or (slice_set met p true) q false ≡ has_block_named (b ∷ before) t.0
     by true k =
         let here : q ≡ p = grind (arith, nat_tests) in
         let name : is_text t.0 b.header.name ≡ true = named_as cases b.header.name p q t distinct e at ∙ k in
@@ -164,7 +161,7 @@ met_more cases before b met p q t distinct e within at was = by (q == p) refl
         rw name (other ∙ was)
 
 -- a block of no test case changes nothing
-pub beside_unknown : (cases : CampaignView) (before : List Block) (b : Block) (c : Comparing) → place cases b.header.name ≡ None → StandsBeside cases before c →
+pub beside_unknown : (cases : CampaignView) (before : List Block) (b : Block) (c : Comparing) → place_in cases b.header.name ≡ None → StandsBeside cases before c →
     StandsBeside cases (b ∷ before) c
 beside_unknown cases before b c none s = record {
   names = s.names;
@@ -174,25 +171,25 @@ beside_unknown cases before b c none s = record {
 }
 
 -- nor does one of a test case that was met
-pub beside_twice : (cases : CampaignView) (before : List Block) (b : Block) (c : Comparing) (p : ℕ) → place cases b.header.name ≡ Some p →
-    slice_index_or c.met.items p false ≡ true → StandsBeside cases before c → (is_met before b.header.name ≡ true) × StandsBeside cases (b ∷ before) c
+pub beside_twice : (cases : CampaignView) (before : List Block) (b : Block) (c : Comparing) (p : ℕ) → place_in cases b.header.name ≡ Some p →
+    slice_index_or c.met.items p false ≡ true → StandsBeside cases before c → (has_block_named before b.header.name ≡ true) × StandsBeside cases (b ∷ before) c
 beside_twice cases before b c p e was s = (met, record { names = s.names; ready = s.ready; met = λ q t at. by_name q t at (is_text t.0 b.header.name) refl; next = λ q. by_place q (nat_lt q p) refl })
   where
-    met : is_met before b.header.name ≡ true
-    met = let is = placed cases b.header.name p e in ap (is_met before) is.2 ∙ (sym (s.met p is.0 is.1) ∙ was)
+    met : has_block_named before b.header.name ≡ true
+    met = let is = placed cases b.header.name p e in ap (has_block_named before) is.2 ∙ (sym (s.met p is.0 is.1) ∙ was)
 
-    by_name : (q : ℕ) (t : CaseView) → slice_get cases q ≡ Some t → (x : Bool) → is_text t.0 b.header.name ≡ x → slice_index_or c.met.items q false ≡ (is_text t.0 b.header.name || is_met before t.0)
-    by_name q t at true k = s.met q t at ∙ (ap (is_met before) (same t.0 b.header.name k) ∙ (met ∙ rw k refl))
+    by_name : (q : ℕ) (t : CaseView) → slice_get cases q ≡ Some t → (x : Bool) → is_text t.0 b.header.name ≡ x → slice_index_or c.met.items q false ≡ (is_text t.0 b.header.name || has_block_named before t.0)
+    by_name q t at true k = s.met q t at ∙ (ap (has_block_named before) (same t.0 b.header.name k) ∙ (met ∙ rw k refl))
     by_name q t at false k = s.met q t at ∙ rw k refl
 
-    by_place : (q : ℕ) (x : Bool) → nat_lt q p ≡ x → (is_before q (place cases b.header.name) || is_late cases before q) ≡ nat_lt (q + 1) c.next
+    by_place : (q : ℕ) (x : Bool) → nat_lt q p ≡ x → (is_before q (place_in cases b.header.name) || has_later cases before q) ≡ nat_lt (q + 1) c.next
     by_place q true k = let less : q < p = grind (arith, nat_tests) in let late = met_late cases before b.header.name p q e met less in rw (e, k) (sym late ∙ s.next q)
     by_place q false k = rw (e, k) (s.next q)
 
 -- a block of a test case before the last one that was met
 pub beside_late : (cases : CampaignView) (before : List Block) (b : Block) (c after : Comparing) (p : ℕ) → has_twice (map (λ t. t.0) cases) ≡ false →
-    place cases b.header.name ≡ Some p → p < length c.met.items → after.names ≡ c.names → after.ready ≡ c.ready → after.met.items ≡ slice_set c.met.items p true →
-    after.next ≡ c.next → p + 1 < c.next → StandsBeside cases before c → (is_late cases before p ≡ true) × StandsBeside cases (b ∷ before) after
+    place_in cases b.header.name ≡ Some p → p < length c.met.items → after.names ≡ c.names → after.ready ≡ c.ready → after.met.items ≡ slice_set c.met.items p true →
+    after.next ≡ c.next → p + 1 < c.next → StandsBeside cases before c → (has_later cases before p ≡ true) × StandsBeside cases (b ∷ before) after
 beside_late cases before b c after p distinct e within names ready met next less s = (
   s.next p ∙ test,
   record {
@@ -206,14 +203,14 @@ beside_late cases before b c after p distinct e within names ready met next less
     test : nat_lt (p + 1) c.next ≡ true
     test = grind (arith, nat_tests)
 
-    by_place : (q : ℕ) (x : Bool) → nat_lt q p ≡ x → (is_before q (place cases b.header.name) || is_late cases before q) ≡ nat_lt (q + 1) after.next
+    by_place : (q : ℕ) (x : Bool) → nat_lt q p ≡ x → (is_before q (place_in cases b.header.name) || has_later cases before q) ≡ nat_lt (q + 1) after.next
     by_place q true k = let far : nat_lt (q + 1) after.next ≡ true = grind (arith, nat_tests) in rw (e, k) (sym far)
     by_place q false k = rw (e, k) (s.next q ∙ ap (nat_lt (q + 1)) (sym next))
 
 -- a block of a test case after those that were met
 pub beside_next : (cases : CampaignView) (before : List Block) (b : Block) (c after : Comparing) (p : ℕ) → has_twice (map (λ t. t.0) cases) ≡ false →
-    place cases b.header.name ≡ Some p → p < length c.met.items → after.names ≡ c.names → after.ready ≡ c.ready → after.met.items ≡ slice_set c.met.items p true →
-    after.next ≡ p + 1 → c.next ≤ p + 1 → StandsBeside cases before c → (is_late cases before p ≡ false) × StandsBeside cases (b ∷ before) after
+    place_in cases b.header.name ≡ Some p → p < length c.met.items → after.names ≡ c.names → after.ready ≡ c.ready → after.met.items ≡ slice_set c.met.items p true →
+    after.next ≡ p + 1 → c.next ≤ p + 1 → StandsBeside cases before c → (has_later cases before p ≡ false) × StandsBeside cases (b ∷ before) after
 beside_next cases before b c after p distinct e within names ready met next least s = (
   s.next p ∙ test,
   record {
@@ -227,7 +224,7 @@ beside_next cases before b c after p distinct e within names ready met next leas
     test : nat_lt (p + 1) c.next ≡ false
     test = grind (arith, nat_tests)
 
-    by_place : (q : ℕ) (x : Bool) → nat_lt q p ≡ x → (is_before q (place cases b.header.name) || is_late cases before q) ≡ nat_lt (q + 1) after.next
+    by_place : (q : ℕ) (x : Bool) → nat_lt q p ≡ x → (is_before q (place_in cases b.header.name) || has_later cases before q) ≡ nat_lt (q + 1) after.next
     by_place q true k = let far : nat_lt (q + 1) after.next ≡ true = grind (arith, nat_tests) in rw (e, k) (sym far)
     by_place q false k =
         let near : nat_lt (q + 1) after.next ≡ false = grind (arith, nat_tests) in
@@ -235,9 +232,9 @@ beside_next cases before b c after p distinct e within names ready met next leas
         rw (e, k) (s.next q ∙ (was ∙ sym near))
 
 -- a test case that is met before a block of its name, by what is kept
-pub not_met : (cases : CampaignView) (before : List Block) (b : Block) (c : Comparing) (p : ℕ) → place cases b.header.name ≡ Some p →
-    slice_index_or c.met.items p false ≡ false → StandsBeside cases before c → is_met before b.header.name ≡ false
-not_met cases before b c p e was s = let is = placed cases b.header.name p e in ap (is_met before) is.2 ∙ (sym (s.met p is.0 is.1) ∙ was)
+pub not_met : (cases : CampaignView) (before : List Block) (b : Block) (c : Comparing) (p : ℕ) → place_in cases b.header.name ≡ Some p →
+    slice_index_or c.met.items p false ≡ false → StandsBeside cases before c → has_block_named before b.header.name ≡ false
+not_met cases before b c p e was s = let is = placed cases b.header.name p e in ap (has_block_named before) is.2 ∙ (sym (s.met p is.0 is.1) ∙ was)
 
 -- the scripts of the test case at a place
 pub scripts_at : (cases : CampaignView) (ready : List (Case ScriptView)) (p : ℕ) (t : CaseView) (d : Case ScriptView) → AllZip IsCaseOf cases ready → slice_get cases p ≡ Some t
@@ -343,7 +340,7 @@ names_long (t ∷ ts) = ap suc (names_long ts)
 
 missing_both : (before : List Block) (cs ds : CampaignView) → missing before (cs ++ ds) ≡ missing before cs ++ missing before ds
 missing_both before [] ds = refl
-missing_both before (c ∷ cs) ds = by (is_met before c.0) (missing_both before cs ds)
+missing_both before (c ∷ cs) ds = by (has_block_named before c.0) (missing_both before cs ds)
   where
     by : (b : Bool) → missing before (cs ++ ds) ≡ missing before cs ++ missing before ds
         → (if not b then c.0 ∷ missing before (cs ++ ds) else missing before (cs ++ ds)) ≡ (if not b then c.0 ∷ missing before cs else missing before cs) ++ missing before ds
@@ -367,13 +364,13 @@ missing_all c p names whole are cases blocks s =
 -- the test case at a place, by whether it is met
 pub adds_met : (c : Comparing) (p : ℕ) (old : List Word) → slice_index_or c.met.items p false ≡ true → AddsIfMissing p c old old
 adds_met c p old was cases before s t at =
-    let met : is_met before t.0 ≡ true = sym (s.met p t at) ∙ was in
+    let met : has_block_named before t.0 ≡ true = sym (s.met p t at) ∙ was in
     sym (append-nil old) ∙ ap (λ l. old ++ l) (sym (ap (λ (b : Bool). if not b then t.0 ∷ [] else []) met))
 
 pub adds_unmet : (c : Comparing) (p : ℕ) (old new : List Word) (name : Word) → slice_index_or c.met.items p false ≡ false → slice_get c.names.keys p ≡ Some name →
     new ≡ old ++ name ∷ [] → AddsIfMissing p c old new
 adds_unmet c p old new name was named added cases before s t at =
-    let unmet : is_met before t.0 ≡ false = sym (s.met p t at) ∙ was in
+    let unmet : has_block_named before t.0 ≡ false = sym (s.met p t at) ∙ was in
     let is : name ≡ t.0 = name_at cases p t name at (ap (λ l. slice_get l p) (sym s.names) ∙ named) in
     added ∙ (ap (λ n. old ++ n ∷ []) is ∙ ap (λ l. old ++ l) (sym (ap (λ (b : Bool). if not b then t.0 ∷ [] else []) unmet)))
   where

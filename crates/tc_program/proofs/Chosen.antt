@@ -3,20 +3,16 @@ use Rattle.std.proofs.Common.{ℕ, ◌≡◌, ◌∙◌, ◌+◌, ◌++◌, ◌&
 use Rattle.std.proofs.lemmas.List.Elements.{All-cons, All-head, All-tail}
 use Rattle.std.specs.List.{AllZip, list_any}
 use Rattle.std.specs.Prelude.{filter, if◌then◌else◌, map}
-use Rattle.tc_entry.specs.Pattern.{matches}
-use Rattle.tc_entry.specs.Shard.{ShardView, has_place}
+use Rattle.tc_rules.specs.Prelude.{matches, ShardView, has_place}
 use Rattle.tc_campaign.specs.declared.case.Case.{Case}
-use Rattle.tc_campaign.specs.Choosing.{case_name, chosen, have_names, is_asked, placed}
+use Rattle.tc_campaign.specs.Prelude.{case_name, chosen, have_names, is_asked, placed_in_shard}
 use Rattle.tc_campaign.specs.Inside.{named}
-use Rattle.tc_step.specs.Steps.{ScriptView}
+use Rattle.tc_step.specs.Prelude.{ScriptView}
 use Rattle.tc_program.specs.Choosing.{RefusesChoice}
 use Rattle.tc_program.specs.declared.fault.RunFault.{RunFault}
 use Rattle.tc_program.specs.declared.fault.RunFault.TheVariants as F
 use Rattle.tc_command.specs.declared.task.Choice.{Choice}
-use Rattle.tc_script.specs.Campaign.{CampaignView, campaign}
-use Rattle.tc_script.specs.Law.{IsCase}
-use Rattle.tc_script.specs.Names.{Word, among, has_twice}
-use Rattle.tc_line.specs.Words.{is_text}
+use Rattle.tc_reader.specs.Prelude.{CampaignView, campaign, IsCase, Word, among, has_twice, is_text}
 use Rattle.tc_program.specs.Inside.{AreReady, AreReadyAs, IsCaseOf, RefusesNames, case_parts, list_text, script_name}
 use Rattle.tc_program.specs.Scripted.{CaseView}
 
@@ -29,10 +25,10 @@ module _ {C : Type 0} (P : C → Type 0) where
   all_filtered test [] each = each
   all_filtered test (c ∷ cs) each = all_with (test c) c (filter test cs) (All-head P c cs each) (all_filtered test cs (All-tail P c cs each))
 
-  all_placed : (s : ShardView) (place : ℕ) (cs : List C) → All P cs → All P (placed s place cs)
+  all_placed : (s : ShardView) (place : ℕ) (cs : List C) → All P cs → All P (placed_in_shard s place cs)
   all_placed s place [] each = each
   all_placed s place (c ∷ cs) each =
-      all_with (has_place s place) c (placed s (place + 1) cs) (All-head P c cs each) (all_placed s (place + 1) cs (All-tail P c cs each))
+      all_with (has_place s place) c (placed_in_shard s (place + 1) cs) (All-head P c cs each) (all_placed s (place + 1) cs (All-tail P c cs each))
 
   pub all_chosen : (name_of : C → List ℕ) (only : List (List ℕ)) (shard : Option ShardView) (cs : List C) → All P cs → All P (chosen name_of only shard cs)
   all_chosen name_of only None cs each = all_filtered (λ c. is_asked only (name_of c)) cs each
@@ -84,19 +80,19 @@ module _ (test : CaseView → Bool) where
       distinct_with (test c) c (filter test cs) (unnamed_filtered c.0 cs new) (distinct_filtered cs rest)
 
 module _ (s : ShardView) where
-  unnamed_placed : (n : Word) (place : ℕ) (cs : List CaseView) → has_name n cs ≡ false → has_name n (placed s place cs) ≡ false
+  unnamed_placed : (n : Word) (place : ℕ) (cs : List CaseView) → has_name n cs ≡ false → has_name n (placed_in_shard s place cs) ≡ false
   unfolding among
   unnamed_placed n place [] other = other
   unnamed_placed n place (c ∷ cs) other =
       let rest = list_any (is_text n) (map (λ c. c.0) cs) in
-      unnamed_with n (has_place s place) c (placed s (place + 1) cs) (or_left (is_text n c.0) rest other) (unnamed_placed n (place + 1) cs (or_right (is_text n c.0) rest other))
+      unnamed_with n (has_place s place) c (placed_in_shard s (place + 1) cs) (or_left (is_text n c.0) rest other) (unnamed_placed n (place + 1) cs (or_right (is_text n c.0) rest other))
 
-  distinct_placed : (place : ℕ) (cs : List CaseView) → IsDistinct cs → IsDistinct (placed s place cs)
+  distinct_placed : (place : ℕ) (cs : List CaseView) → IsDistinct cs → IsDistinct (placed_in_shard s place cs)
   distinct_placed place [] each = each
   distinct_placed place (c ∷ cs) each =
       let new = or_left (has_name c.0 cs) (has_twice (map (λ c. c.0) cs)) each in
       let rest = or_right (has_name c.0 cs) (has_twice (map (λ c. c.0) cs)) each in
-      distinct_with (has_place s place) c (placed s (place + 1) cs) (unnamed_placed c.0 (place + 1) cs new) (distinct_placed (place + 1) cs rest)
+      distinct_with (has_place s place) c (placed_in_shard s (place + 1) cs) (unnamed_placed c.0 (place + 1) cs new) (distinct_placed (place + 1) cs rest)
 
 -- the chosen ones of test cases with different names have different names
 distinct_chosen : (only : List Word) (shard : Option ShardView) (cs : List CaseView) → IsDistinct cs → IsDistinct (chosen script_name only shard cs)
@@ -122,12 +118,12 @@ zip_named only (c ∷ cs) (k ∷ ks) each =
     zip_with (is_asked only (script_name c)) (is_asked only (case_name k)) c k (named script_name only cs) (named case_name only ks)
     (ap (is_asked only) (sym each.0.name)) each.0 (zip_named only cs ks each.1)
 
-zip_placed : (s : ShardView) (place : ℕ) (cs : List CaseView) (ks : List (Case ScriptView)) → AreCases cs ks → AreCases (placed s place cs) (placed s place ks)
+zip_placed : (s : ShardView) (place : ℕ) (cs : List CaseView) (ks : List (Case ScriptView)) → AreCases cs ks → AreCases (placed_in_shard s place cs) (placed_in_shard s place ks)
 zip_placed s place [] [] each = tt
 zip_placed s place [] (k ∷ ks) each = absurd each
 zip_placed s place (c ∷ cs) [] each = absurd each
 zip_placed s place (c ∷ cs) (k ∷ ks) each =
-    zip_with (has_place s place) (has_place s place) c k (placed s (place + 1) cs) (placed s (place + 1) ks) refl each.0 (zip_placed s (place + 1) cs ks each.1)
+    zip_with (has_place s place) (has_place s place) c k (placed_in_shard s (place + 1) cs) (placed_in_shard s (place + 1) ks) refl each.0 (zip_placed s (place + 1) cs ks each.1)
 
 pub zip_chosen : (only : List (List ℕ)) (shard : Option ShardView) (cs : List CaseView) (ks : List (Case ScriptView)) → AreCases cs ks
     → AreCases (chosen script_name only shard cs) (chosen case_name only shard ks)

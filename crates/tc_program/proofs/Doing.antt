@@ -11,15 +11,15 @@ use Rattle.tc_command.specs.declared.task.Task.TheVariants as T
 use Rattle.tc_program.specs.declared.limits.TheConstants.{HISTORY_LIMIT}
 use Rattle.tc_program.specs.declared.fault.RunFault.{RunFault}
 use Rattle.tc_program.specs.declared.fault.RunFault.TheVariants as F
-use Rattle.tc_program.specs.Fault.{line_of}
-use Rattle.tc_stream.specs.Input.{IsRead}
+use Rattle.tc_program.specs.Fault.{run_fault_line}
+use Rattle.tc_stream.specs.Prelude.{IsRead}
 use Rattle.tc_program.specs.Input.{IsUnread}
 use Rattle.tc_program.specs.Inside.{GivesAnswer, IsUnbegun, WritesTo}
 use Rattle.tc_program.specs.Limits.{limit_of}
 use Rattle.tc_program.specs.Made.{Does, IsMade}
 use Rattle.tc_program.specs.Alone.{IsNotBegun}
 use Rattle.tc_program.specs.Program.{IsCarriedOut, IsDone, IsDoneBy}
-use Rattle.tc_program.specs.Stderr.{IsRefusal}
+use Rattle.tc_program.specs.Stderr.{IsPrintedRefusal}
 use Rattle.tc_program.specs.Streams.{Streams}
 use Rattle.tc_program.specs.declared.outcome.Outcome.{Outcome}
 
@@ -68,7 +68,7 @@ done_by task Made Refused Runs a s outcome makes (inr given) = IsDoneBy.part a m
 abbrev pub IsDoneWhole : Task → Option (List ℕ) → Streams → Outcome → Type 0
 IsDoneWhole task input s outcome =
     IsRead (limit_of task) input (λ text. IsDone task text s outcome)
-    ⊎ ((fault : RunFault) × IsUnread (limit_of task) input fault × Keeps s.before s.after × IsRefusal s.untold s.told (line_of fault) outcome)
+    ⊎ ((fault : RunFault) × IsUnread (limit_of task) input fault × Keeps s.before s.after × IsPrintedRefusal s.untold s.told (run_fault_line fault) outcome)
 
 -- a task that is no service is carried out by its whole input
 pub carried_out : (task : Task) (input : Option (List ℕ)) (s : Streams) (outcome : Outcome) → task ≢ T.Serve → IsDoneWhole task input s outcome
@@ -88,12 +88,12 @@ parts_given choice input made a s outcome read is gives = inl (
 
 -- or it was refused, and no fault is explained
 pub parts_refused : (choice : Choice) (input : Option (List ℕ)) (made : Result Answer RunFault) (fault : RunFault) (s : Streams) (outcome : Outcome) → IsRead HISTORY_LIMIT input (λ text. IsMade (T.Check choice false) text made)
-    → made ≡ Err fault → Keeps s.before s.after → IsRefusal s.untold s.told (line_of fault) outcome → IsCarriedOut (T.Check choice false) input s outcome
+    → made ≡ Err fault → Keeps s.before s.after → IsPrintedRefusal s.untold s.told (run_fault_line fault) outcome → IsCarriedOut (T.Check choice false) input s outcome
 parts_refused choice input made fault s outcome read is keeps refusal = inl (
   read.0,
   read.1,
   read.2,
-  IsDoneBy.refused fault (subst (λ m. IsMade (T.Check choice false) read.0 m) is read.3) keeps (line_of fault, refl, refusal),
+  IsDoneBy.refused fault (subst (λ m. IsMade (T.Check choice false) read.0 m) is read.3) keeps (run_fault_line fault, refl, refusal),
 )
 
 -- where no thread can be started, a text that is lent is done or left, so the task is carried out by its whole input or left

@@ -2,13 +2,13 @@
 use Rattle.std.proofs.Common.{ℕ, ◌≡◌, ◌&&◌, Bool, true, false, List, Result, Ok, Err, IfOk, refl}
 use Rattle.std.specs.Global.{Vec}
 use Rattle.std.specs.Prelude.{MatchBool}
-use Rattle.tc_text.specs.Said.{Line, TellsAmong}
+use Rattle.tc_text.specs.Prelude.{Line, TellsAmong}
 use Rattle.tc_text.proofs.Lemmas.Among.{among_some}
 use Rattle.tc_command.specs.declared.task.Task.{Task}
 use Rattle.tc_program.specs.Inside.{notes_of}
 use Rattle.tc_program.specs.declared.fault.RunFault.{RunFault}
 use Rattle.tc_program.specs.Explained.{IsToldOf, explains, is_of_text, number_of, part_of}
-use Rattle.tc_program.specs.Fault.{line_of}
+use Rattle.tc_program.specs.Fault.{run_fault_line}
 use Rattle.tc_program.specs.Limits.{has_blocks}
 
 some_if : (b : Bool) (notes : List Line) (line : List ℕ) → (told : List ℕ) × MatchBool b (TellsAmong notes line told) (told ≡ line)
@@ -17,7 +17,7 @@ some_if false notes line = (line, refl)
 
 -- something can be printed
 pub some_told : (task : Task) (text : List ℕ) (fault : RunFault) → (told : List ℕ) × IsToldOf task text fault told
-some_told task text fault = some_if (explains task && is_of_text fault) (notes_of (number_of fault) (part_of (has_blocks task) fault text)) (line_of fault)
+some_told task text fault = some_if (explains task && is_of_text fault) (notes_of (number_of fault) (part_of (has_blocks task) fault text)) (run_fault_line fault)
 
 -- what was made for printing, or something that can be printed
 pub told_or : {E : Type 0} (r : Result (Vec ℕ) E) (Is : List ℕ → Type 0) → ((told : List ℕ) × Is told) → IfOk r (λ v. Is v.items) →

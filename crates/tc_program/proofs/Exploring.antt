@@ -7,7 +7,7 @@ use Rattle.tc_campaign.proofs.Lemmas.Running.{done_none}
 use Rattle.tc_campaign.specs.Inside.{AreDone}
 use Rattle.tc_campaign.specs.declared.case.Case.{Case}
 use Rattle.tc_command.specs.declared.task.ExploreOptions.{ExploreOptions}
-use Rattle.tc_step.specs.Steps.{ScriptView}
+use Rattle.tc_step.specs.Prelude.{ScriptView}
 use Rattle.tc_program.specs.Explore.{IsExplored, TellsLocals}
 use Rattle.tc_program.specs.Inside.{IsCaseOf, IsExploredOf, TellsLocalsIf}
 use Rattle.tc_program.specs.Scripted.{CaseView}

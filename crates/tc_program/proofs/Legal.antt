@@ -2,16 +2,15 @@
 use Rattle.std.proofs.Common.{ℕ, ◌≡◌, ◌∙◌, Bool, true, false, List, [], ◌∷◌, ◌++◌, length, refl, ap}
 use Rattle.std.specs.List.{flat_map}
 use Rattle.std.proofs.lemmas.Bool.{false≢true}
-use Rattle.tc_evidence.specs.declared.block.Block.{Block}
-use Rattle.tc_evidence.specs.Line.{entries_of}
-use Rattle.tc_evidence.specs.Laws.{AreLegal, overall_of}
+use Rattle.tc_blocks.specs.declared.block.Block.{Block}
+use Rattle.tc_blocks.specs.Prelude.{entries_of, LinesAreLegal, overall_of}
 use Rattle.tc_program.specs.Check.{AreAllLegal, Checks, IsIllegalLine, legal_line}
 use Rattle.tc_program.specs.Inside.{each}
 use Rattle.tc_program.proofs.Playing.{no_difference}
 
 -- each reply is the table's, and the verdict is that of the block
 abbrev pub IsRight : Block → Type 0
-IsRight b = AreLegal b.header.behaviours b.lines × (b.verdict ≡ overall_of b.lines)
+IsRight b = LinesAreLegal b.header.behaviours b.lines × (b.verdict ≡ overall_of b.lines)
 
 no_other : (b : Block) (line : List ℕ) → IsRight b → IsIllegalLine b line → ⊥
 no_other b line right (IsIllegalLine.other_reply before behind e reply place legal answers other said) =

@@ -2,14 +2,14 @@
 pub mod Doing
 pub mod Playing
 pub mod Legal
-pub mod Replaying
+pub mod Replays
 pub mod Running
 pub mod Telling
 pub mod Chosen
 pub mod OwnCases
 pub mod Passing
 pub mod Scripted
-pub mod Checking
+pub mod Checks
 pub mod Exploring
 pub mod Faults
 pub mod WrittenHistories

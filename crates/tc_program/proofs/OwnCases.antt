@@ -2,12 +2,10 @@
 use Rattle.std.proofs.Common.{ℕ, ◌≡◌, All, Bool, false, true, List, Option, IfOk, Result, Ok, Err, inl, inr, refl, subst, sym}
 use Rattle.std.specs.Prelude.{◌≢◌, ◌⊎◌}
 use Rattle.std.specs.Global.{Vec}
-use Rattle.tc_book.specs.Passes.{PassState}
-use Rattle.tc_campaign.specs.Campaign.{IsCalled}
-use Rattle.tc_campaign.specs.Choosing.{case_name, chosen, have_names}
-use Rattle.tc_campaign.specs.Outline.{HasNames, outline_of}
+use Rattle.tc_book.specs.Prelude.{PassState}
+use Rattle.tc_campaign.specs.Prelude.{IsCalled, case_name, chosen, have_names, HasNames, outline_of}
 use Rattle.tc_campaign.specs.declared.case.Case.{Case}
-use Rattle.tc_command.specs.Asked.{IsCasesReading, IsReading}
+use Rattle.tc_command.specs.Prelude.{IsCasesReading, IsReading}
 use Rattle.tc_command.specs.declared.read.Refused.{Refused}
 use Rattle.tc_command.specs.declared.task.Choice.{Choice}
 use Rattle.tc_command.specs.declared.task.RunOptions.{RunOptions}
@@ -20,12 +18,12 @@ use Rattle.tc_program.specs.Alone.{IsAnsweredAlone}
 use Rattle.tc_program.specs.Answer.{IsAnsweredBy, IsRefused}
 use Rattle.tc_program.specs.Cases.{DoesCases, IsMadeOfCases, RefusesCases, WereMade}
 use Rattle.tc_program.specs.Choosing.{AreChosenOf}
-use Rattle.tc_program.specs.Fault.{line_of, of_output}
+use Rattle.tc_program.specs.Fault.{run_fault_line, of_output}
 use Rattle.tc_program.specs.Inside.{IsOfCases, RefusesNames, IsUnbegun}
 use Rattle.tc_program.specs.Made.{IsListed}
 use Rattle.tc_program.specs.Program.{IsCarriedOut, IsDoneBy}
-use Rattle.tc_program.specs.Run.{IsRun, IsUnwritten}
-use Rattle.tc_program.specs.Stderr.{IsRefusal}
+use Rattle.tc_program.specs.Run.{IsRun, IsUnwrittenRun}
+use Rattle.tc_program.specs.Stderr.{IsPrintedRefusal}
 use Rattle.tc_program.specs.Streams.{Streams}
 use Rattle.tc_program.specs.declared.fault.RunFault.{RunFault}
 use Rattle.tc_program.specs.declared.fault.RunFault.TheVariants as F
@@ -105,13 +103,13 @@ module _ {B E : Type 0} (called : B → PassState → Back → Type 0) (made : R
     (ks : List (Case B)) (are : AreChosenOf case_name (WereMade made) o.choice ks) where
   -- a run of the chosen ones is what a task does that asks for it
   pub ran : (s : Streams) (outcome : Outcome) → IsRun outline_of (IsCalled called) ks o s outcome → DoesCases called (WereMade made) task s outcome
-  ran s outcome run = IsDoneBy.run o is (record { cases = ks; chosen = are; run = inl run })
+  ran s outcome run = IsDoneBy.run o is (record { asked_for = ks; chosen = are; run = inl run })
 
   -- and so is one whose results were not written whole
-  pub ran_unwritten : (s : Streams) (fault : OutFault) (told : Option (List ℕ)) (outcome : Outcome) → IsUnwritten outline_of (IsCalled called) ks o s fault
-      → IsRefusal s.told told (line_of (of_output fault)) outcome → DoesCases called (WereMade made) task (record s { told = told }) outcome
+  pub ran_unwritten : (s : Streams) (fault : OutFault) (told : Option (List ℕ)) (outcome : Outcome) → IsUnwrittenRun outline_of (IsCalled called) ks o s fault
+      → IsPrintedRefusal s.told told (run_fault_line (of_output fault)) outcome → DoesCases called (WereMade made) task (record s { told = told }) outcome
   ran_unwritten s fault told outcome run refusal = IsDoneBy.run o is (record {
-    cases = ks;
+    asked_for = ks;
     chosen = are;
     run = inr (record {
       fault = fault;

@@ -5,15 +5,12 @@ use Rattle.std.specs.Cmp.Lexicographic.{bytes_decides}
 use Rattle.std.specs.List.{AllZip, list_any}
 use Rattle.tc_campaign.specs.declared.case.Case.{Case}
 use Rattle.tc_command.specs.declared.task.Choice.{Choice}
-use Rattle.tc_evidence.specs.declared.block.Block.{Block}
-use Rattle.tc_evidence.specs.Text.{AreEvidence}
-use Rattle.tc_line.specs.Words.{is_text}
-use Rattle.tc_script.specs.Campaign.{CampaignView}
-use Rattle.tc_script.specs.Law.{IsCase}
-use Rattle.tc_script.specs.Names.{Word, add, among}
-use Rattle.tc_step.specs.Steps.{ScriptView}
+use Rattle.tc_blocks.specs.declared.block.Block.{Block}
+use Rattle.tc_blocks.specs.Prelude.{AreEvidence}
+use Rattle.tc_reader.specs.Prelude.{is_text, CampaignView, IsCase, Word, add, among}
+use Rattle.tc_step.specs.Prelude.{ScriptView}
 use Rattle.tc_program.specs.Choosing.{AreChosen}
-use Rattle.tc_program.specs.Compared.{blocks_part, is_met, script_part}
+use Rattle.tc_program.specs.Compared.{blocks_part, has_block_named, script_part}
 use Rattle.tc_program.specs.Inside.{AreReady, AreReadyAs, AreReadyToRun, HasSeen, IsCaseOf, names_with, shows_passed, is_passed, script_name}
 use Rattle.tc_program.specs.Passed.{AreUnpassed, has_passed}
 use Rattle.tc_program.specs.Scripted.{CaseView}
@@ -57,10 +54,10 @@ seen_none s passed failed name = (none_among name s.passed.keys passed, none_amo
 
 -- one block more of those that pass a test
 met_added : (test : Block → Bool) (before : List Block) (b : Block) (ns ms : List Word) → ms ≡ names_with test b ns
-    → ((n : Word) → among n ns ≡ is_met (filter test before) n) → (n : Word) → among n ms ≡ is_met (filter test (b ∷ before)) n
+    → ((n : Word) → among n ns ≡ has_block_named (filter test before) n) → (n : Word) → among n ms ≡ has_block_named (filter test (b ∷ before)) n
 met_added test before b ns ms added so n = ap (among n) added ∙ by (test b)
   where
-    by : (kept : Bool) → among n (if kept then add b.header.name ns else ns) ≡ is_met (if kept then b ∷ filter test before else filter test before) n
+    by : (kept : Bool) → among n (if kept then add b.header.name ns else ns) ≡ has_block_named (if kept then b ∷ filter test before else filter test before) n
     by true = among_added n b.header.name ns ∙ ap (λ x. is_text n b.header.name || x) (so n)
     by false = so n
 

@@ -4,35 +4,30 @@ use Rattle.std.specs.Prelude.{is_some, min}
 use Rattle.std.proofs.Math.Nat.{min-eq_left}
 use Rattle.std.proofs.lemmas.List.{append-nil, length-append, reverse-append}
 use Rattle.std.proofs.lemmas.List.Concat.{flat_map-append}
-use Rattle.tc_entry.specs.declared.entry.Entry.{Entry}
-use Rattle.tc_entry.specs.declared.reply.Reply.{Reply}
-use Rattle.tc_table.specs.Answers.{answer}
-use Rattle.tc_table.specs.Legal.{IsLegal}
-use Rattle.tc_table.specs.Standing.{IsReply, Kept, StandsFor, TakesIn}
-use Rattle.tc_evidence.specs.declared.line.Line.{Line}
-use Rattle.tc_evidence.specs.declared.line.Line.TheVariants as L
-use Rattle.tc_evidence.specs.Line.{entries_of, entry_of}
-use Rattle.tc_evidence.specs.Laws.{AreLegal}
+use Rattle.tc_rules.specs.Prelude.{Entry, Reply, answer, IsLegal, IsReplyOf, Kept, StandsFor, TakesIn}
+use Rattle.tc_blocks.specs.declared.line.Line.{Line}
+use Rattle.tc_blocks.specs.declared.line.Line.TheVariants as L
+use Rattle.tc_blocks.specs.Prelude.{entries_of, entry_in, LinesAreLegal}
 use Rattle.tc_program.specs.declared.judge.Difference.{Difference}
 use Rattle.tc_program.specs.Inside.{IsOtherReply, IsPlayedTo}
 
 -- the entries of lines and of those after them
 entries-append : (before behind : List Line) → entries_of (before ++ behind) ≡ entries_of before ++ entries_of behind
-entries-append before behind = flat_map-append entry_of before behind
+entries-append before behind = flat_map-append entry_in before behind
 
 entries_more : (lines : List Line) (e : Entry) → entries_of (lines ++ L.Entry e ∷ []) ≡ entries_of lines ++ e ∷ []
 entries_more lines e = entries-append lines (L.Entry e ∷ [])
 
 -- the entries of lines and of one more
-pub entries_last : (lines : List Line) (l : Line) → entries_of (lines ++ l ∷ []) ≡ entries_of lines ++ entry_of l
-entries_last lines l = entries-append lines (l ∷ []) ∙ ap (λ (es : List Entry). entries_of lines ++ es) (append-nil (entry_of l))
+pub entries_last : (lines : List Line) (l : Line) → entries_of (lines ++ l ∷ []) ≡ entries_of lines ++ entry_in l
+entries_last lines l = entries-append lines (l ∷ []) ∙ ap (λ (es : List Entry). entries_of lines ++ es) (append-nil (entry_in l))
 
 -- one more entry is the newest one
 newest : (lines : List Line) (e : Entry) → reverse (entries_of (lines ++ L.Entry e ∷ [])) ≡ e ∷ reverse (entries_of lines)
 newest lines e = ap reverse (entries_more lines e) ∙ reverse-append (entries_of lines) (e ∷ [])
 
 -- no line has two entries
-one_entry : (l : Line) → length (entry_of l) ≤ 1
+one_entry : (l : Line) → length (entry_in l) ≤ 1
 one_entry (L.Named run name) = omega arith
 one_entry (L.Entry e) = omega arith
 one_entry (L.Remark run sentence) = omega arith
@@ -40,7 +35,7 @@ one_entry (L.Refused run sentence) = omega arith
 
 few_entries : (lines : List Line) → length (entries_of lines) ≤ length lines
 few_entries [] = omega arith
-few_entries (l ∷ ls) = let more = few_entries ls in let one = one_entry l in omega (arith, more, one, length-append (entry_of l) (entries_of ls))
+few_entries (l ∷ ls) = let more = few_entries ls in let one = one_entry l in omega (arith, more, one, length-append (entry_in l) (entries_of ls))
 
 -- the first difference stays the first
 other_stays : (n first : ℕ) (lines : List Line) (l : Line) (line : ℕ) (given reply : Reply) → IsOtherReply n first lines line given reply → IsOtherReply n first (lines ++ l ∷ []) line given reply
@@ -62,7 +57,7 @@ passed_played n first lines l k entries None some so = absurd cc
 passed_played n first lines l k entries (Some d) some so = other_stays n first lines l d.line d.given d.reply so
 
 -- an entry with the table's reply; there are fewer entries than lines, so their number is exact
-pub entry_played : (n first : ℕ) (lines : List Line) (e : Entry) (k k' : Kept) (entries entries' line : ℕ) (o : Option Difference) → is_some o ≡ false → IsPlayedTo n first lines k entries o → IsReply k e.caller e.op e.reply → TakesIn k e k' → k'.behaviours ≡ k.behaviours
+pub entry_played : (n first : ℕ) (lines : List Line) (e : Entry) (k k' : Kept) (entries entries' line : ℕ) (o : Option Difference) → is_some o ≡ false → IsPlayedTo n first lines k entries o → IsReplyOf k e.caller e.op e.reply → TakesIn k e k' → k'.behaviours ≡ k.behaviours
     → entries' ≡ min (entries + 1) (2 ^ 64 - 1) → line ≡ first + length lines + 1 → line ≤ 2 ^ 64 - 1 → IsPlayedTo n first (lines ++ L.Entry e ∷ []) k' entries' o
 entry_played n first lines e k k' entries entries' line (Some d) none so replied takes same more here fits = absurd cc
 entry_played n first lines e k k' entries entries' line None none so replied takes same more here fits =
@@ -93,8 +88,8 @@ parted before behind e =
     ∙ (ap (λ (l : List Entry). l ++ reverse (entries_of before)) (reverse-append (e ∷ []) (entries_of behind))
     ∙ append_assoc (reverse (entries_of behind)) (e ∷ []) (reverse (entries_of before))))
 
-pub no_difference : (n : ℕ) (lines before behind : List Line) (e : Entry) (reply : Reply) → AreLegal n lines → lines ≡ before ++ L.Entry e ∷ behind → reply ≡ answer n (reverse (entries_of before)) e.caller.0 e.op → e.reply ≢ reply → ⊥
+pub no_difference : (n : ℕ) (lines before behind : List Line) (e : Entry) (reply : Reply) → LinesAreLegal n lines → lines ≡ before ++ L.Entry e ∷ behind → reply ≡ answer n (reverse (entries_of before)) e.caller.0 e.op → e.reply ≢ reply → ⊥
 no_difference n lines before behind e reply legal place answers other =
     let whole : IsLegal n (reverse (entries_of behind) ++ e ∷ reverse (entries_of before)) =
-    subst (IsLegal n) (parted before behind e) (subst (AreLegal n) place legal) in
+    subst (IsLegal n) (parted before behind e) (subst (LinesAreLegal n) place legal) in
     other ((legal_before n (reverse (entries_of behind)) (e ∷ reverse (entries_of before)) whole).0 ∙ sym answers)

@@ -4,19 +4,16 @@ use Rattle.std.specs.List.{flat_map}
 use Rattle.std.specs.Prelude.{◌≢◌, Ok, is_some}
 use Rattle.std.proofs.lemmas.List.{append-nil, map-append}
 use Rattle.std.proofs.lemmas.List.Elements.{All-head, All-tail}
-use Rattle.tc_table.specs.Standing.{StandsFor}
-use Rattle.tc_evidence.specs.declared.block.Block.{Block}
-use Rattle.tc_evidence.specs.declared.header.Kind.{Kind}
-use Rattle.tc_evidence.specs.Line.{entries_of}
-use Rattle.tc_evidence.specs.Laws.{history_of}
+use Rattle.tc_rules.specs.Prelude.{StandsFor, Verdict}
+use Rattle.tc_blocks.specs.declared.block.Block.{Block}
+use Rattle.tc_blocks.specs.declared.header.Kind.{Kind}
+use Rattle.tc_blocks.specs.Prelude.{entries_of, history_of}
 use Rattle.tc_report.specs.declared.summary.Summary.{Summary}
-use Rattle.tc_report.specs.Status.{verdict_status, worst_of}
+use Rattle.tc_report.specs.Prelude.{verdict_status, worst_of, bare_summary, block_summary, case_summary, summary_of, blocks_text}
 use Rattle.tc_report.specs.declared.results.CaseEnd.TheVariants as C
-use Rattle.tc_report.specs.Summary.{bare_summary, block_summary, case_summary, summary_of}
 use Rattle.tc_report.proofs.Lemmas.Agreeing.{one_same}
 use Rattle.tc_report.specs.declared.results.Finished.{Finished}
 use Rattle.tc_report.specs.declared.results.Results.{Results}
-use Rattle.tc_report.specs.Blocks.{blocks_text}
 use Rattle.tc_program.specs.declared.judge.Difference.{Difference}
 use Rattle.tc_program.specs.declared.judge.Judgement.{Judgement}
 use Rattle.tc_program.specs.declared.judge.Judgement.TheVariants as J
@@ -34,9 +31,8 @@ use Rattle.tc_program.specs.Report.{AnswersCases, IsForm, IsReport, IsReported, 
 use Rattle.tc_program.specs.declared.reply.Answer.{Answer}
 use Rattle.tc_program.specs.WrittenHistories.{AreFoundLegal, found_legal}
 use Rattle.tc_program.proofs.Doing.{answer_of}
-use Rattle.tc_program.proofs.Checking.{AreJudgedAt, each_chosen, fed_more, illegal_said, legal_said, whole}
-use Rattle.tc_script.specs.Names.{Word}
-use Rattle.tc_verdict.specs.declared.verdict.Verdict.{Verdict}
+use Rattle.tc_program.proofs.Checks.{AreJudgedAt, each_chosen, fed_more, illegal_said, legal_said, whole}
+use Rattle.tc_reader.specs.Prelude.{Word}
 use Rattle.tc_verdict.specs.declared.verdict.Verdict.TheVariants as V
 use Rattle.tc_program.proofs.Playing.{no_difference}
 use Rattle.tc_program.proofs.Legal.{IsRight, none_found, none_illegal, up_to}

@@ -4,9 +4,9 @@ use Rattle.std.specs.Borrow.{GName}
 use Rattle.std.specs.Prelude.{IfNone, IfSome, IsErrAnd, unwrap_or}
 use Rattle.std.specs.Io.KnownBytes.{Appends, Keeps}
 use Rattle.tc_verdict.specs.declared.verdict.Verdict.TheVariants as V
-use Rattle.tc_case.specs.declared.refusal.CaseError.TheVariants as C
-use Rattle.tc_stream.specs.Output.{AppendsPrefix}
-use Rattle.tc_book.specs.Passes.{PassState}
+use Rattle.tc_rules.specs.declared.refusal.CaseError.TheVariants as C
+use Rattle.tc_stream.specs.Prelude.{AppendsPrefix}
+use Rattle.tc_book.specs.Prelude.{PassState}
 use Rattle.tc_exec.specs.declared.job.Back.{Back}
 use Rattle.tc_report.specs.declared.fault.OutFault.{OutFault}
 use Rattle.tc_report.specs.declared.fault.OutFault.TheVariants as OutFaults
@@ -17,36 +17,29 @@ use Rattle.tc_report.specs.declared.results.CampaignEnd.{CampaignEnd}
 use Rattle.tc_report.specs.declared.results.CampaignEnd.TheVariants as E
 use Rattle.tc_report.specs.declared.results.Finished.{Finished}
 use Rattle.tc_report.specs.declared.results.Results.{Results}
-use Rattle.tc_report.specs.Ending.{abort_text}
+use Rattle.tc_report.specs.Prelude.{abort_text, closing_text, opening_text, LeavesPrefix, IsToldBy, ending_status, results_status, tally_of_cases}
 use Rattle.tc_report.specs.Inside.{form_text}
-use Rattle.tc_report.specs.Live.{closing_text, opening_text}
-use Rattle.tc_report.specs.Output.{LeavesPrefix}
-use Rattle.tc_report.specs.Progress.{IsToldBy}
-use Rattle.tc_report.specs.Status.{ending_status, results_status}
-use Rattle.tc_report.specs.Tally.{tally_of_cases}
 use Rattle.tc_report.proofs.Lemmas.Pieces.{IsAt, Takes, all_at, all_written, begun, case_left, closing_left, ended_at, opening_left, status_at}
 use Rattle.tc_report.proofs.Lemmas.Telling.{nothing_of}
 use Rattle.tc_campaign.specs.declared.case.Case.{Case}
-use Rattle.tc_campaign.specs.Choosing.{case_name}
+use Rattle.tc_campaign.specs.Prelude.{case_name, outline_of, AreFinished, IsCalled, IsRunTo}
 use Rattle.tc_campaign.specs.Inside.{IsUnrun}
-use Rattle.tc_campaign.specs.Outline.{outline_of}
-use Rattle.tc_campaign.specs.Campaign.{AreFinished, IsCalled, IsRunTo}
 use Rattle.tc_campaign.proofs.Lemmas.Keeping.{none_finished, unrun_run}
 use Rattle.tc_command.specs.declared.task.Form.{Form}
 use Rattle.tc_command.specs.declared.task.Form.TheVariants as Forms
 use Rattle.tc_command.specs.declared.task.RunOptions.{RunOptions}
 use Rattle.tc_program.specs.declared.fault.RunFault.{RunFault}
 use Rattle.tc_program.specs.declared.outcome.Outcome.{Outcome}
-use Rattle.tc_program.specs.Output.{live_form, text_of}
+use Rattle.tc_program.specs.Output.{live_form, results_in_form}
 use Rattle.tc_program.specs.Inside.{AreGiven, first_fault, worker_limit}
-use Rattle.tc_program.specs.Run.{IsLeft, IsRun, IsUnwritten, results_text}
+use Rattle.tc_program.specs.Run.{IsLeft, IsRun, IsUnwrittenRun, results_text}
 use Rattle.tc_program.specs.Streams.{Streams}
 use Rattle.tc_program.specs.Stderr.{IsTold}
 use Rattle.tc_program.proofs.Doing.{keeps_same}
 
 -- the text in a form that is written live is that of the form that was asked for
 live_text : (live : Bool) (form : Form) (found : LiveForm) (names : List (List ℕ)) (r : Results) → live_form live form ≡ Some found
-    → form_text found r ≡ text_of form names r
+    → form_text found r ≡ results_in_form form names r
 live_text true Forms.Text found names r is = sym (ap (λ o. form_text (unwrap_or o LiveForms.Text) r) is)
 live_text true Forms.Csv found names r is = sym (ap (λ o. form_text (unwrap_or o LiveForms.Text) r) is)
 live_text true Forms.History found names r is = sym (ap (λ o. form_text (unwrap_or o LiveForms.Text) r) is)
@@ -104,7 +97,7 @@ module _ {B : Type 0} (outcome : B → PassState → Back → Type 0) (cases : L
       → IsRunTo outline_of (IsCalled outcome) cases options.stop_on worker_limit r.finished r.ending
       → IsToldBy options.progress streams.untold streams.told r.finished telling
       → LeavesPrefix streams.before streams.after (results_text outline_of cases options r) fault
-      → IfErr answer (IsUnwritten outline_of (IsCalled outcome) cases options streams)
+      → IfErr answer (IsUnwrittenRun outline_of (IsCalled outcome) cases options streams)
   whole_left streams r telling fault (Ok ended) what is run told left = absurd what
   whole_left streams r telling fault (Err f) what is run told left = record {
     results = r;
@@ -118,7 +111,7 @@ module _ {B : Type 0} (outcome : B → PassState → Back → Type 0) (cases : L
     cut_up : (r : Results) (telling : Result (Unit {0}) OutFault) (fault : OutFault)
         → AreFinished outline_of (IsCalled outcome) cases options.stop_on worker_limit r.finished
         → IsToldBy options.progress streams.untold streams.told r.finished telling
-        → AppendsPrefix streams.before streams.after (form_text form r) → IsUnwritten outline_of (IsCalled outcome) cases options streams fault
+        → AppendsPrefix streams.before streams.after (form_text form r) → IsUnwrittenRun outline_of (IsCalled outcome) cases options streams fault
     cut_up r telling fault each told left = record {
       results = r;
       left = subst (λ live. IsLeft outline_of (IsCalled outcome) cases options live streams r fault) (sym same)
@@ -128,7 +121,7 @@ module _ {B : Type 0} (outcome : B → PassState → Back → Type 0) (cases : L
 
     -- what is before the test cases was not written whole, and nothing was printed
     pub at_opening : (fault : OutFault) → streams.told ≡ streams.untold → LeavesPrefix streams.before streams.after (opening_text form) fault
-        → IsUnwritten outline_of (IsCalled outcome) cases options streams fault
+        → IsUnwrittenRun outline_of (IsCalled outcome) cases options streams fault
     at_opening fault nothing left =
         cut_up (record { finished = []; ending = E.Complete }) (Ok tt) fault (none_finished outcome cases options.stop_on worker_limit)
         (subst (λ t. IsToldBy options.progress streams.untold t [] (Ok tt)) (sym nothing) (nothing_of options.progress streams.untold))
@@ -154,13 +147,13 @@ module _ {B : Type 0} (outcome : B → PassState → Back → Type 0) (cases : L
           → IsToldBy options.progress streams.untold streams.told finished telling
           → IfNone answer (streams.after ≡ (contents after.writer.now))
           → IfSome answer (λ e. LeavesPrefix (contents after.writer.now) streams.after (closing_text after.form after.tally e) fault)
-          → IsUnwritten outline_of (IsCalled outcome) cases options streams fault
+          → IsUnwrittenRun outline_of (IsCalled outcome) cases options streams fault
       live_left telling fault told cut part = go answer given cut part
         where
           go : (a : Option CampaignEnd) → AreGiven outcome (Takes contents) cases options before after finished a
               → IfNone a (streams.after ≡ (contents after.writer.now))
               → IfSome a (λ e. LeavesPrefix (contents after.writer.now) streams.after (closing_text after.form after.tally e) fault)
-              → IsUnwritten outline_of (IsCalled outcome) cases options streams fault
+              → IsUnwrittenRun outline_of (IsCalled outcome) cases options streams fault
           go (Some ending) given cut part =
               cut_up (record { finished = finished; ending = ending }) telling fault given.0.each told
               (closing_left contents form streams.before before after first finished ending given.1 streams.after fault part)
@@ -186,13 +179,13 @@ module _ {B : Type 0} (outcome : B → PassState → Back → Type 0) (cases : L
 
   -- nothing was run or written, since memory ran out
   pub unrun_left : (streams : Streams) → streams.after ≡ streams.before → streams.told ≡ streams.untold
-      → IsUnwritten outline_of (IsCalled outcome) cases options streams OutFaults.NoMemory
+      → IsUnwrittenRun outline_of (IsCalled outcome) cases options streams OutFaults.NoMemory
   unrun_left streams unwritten untold = go (live_form options.live options.form) refl
     where
       keeps : Keeps streams.before streams.after
       keeps = subst (Keeps streams.before) (sym unwritten) (keeps_same streams.before)
 
-      go : (live : Option LiveForm) → live_form options.live options.form ≡ live → IsUnwritten outline_of (IsCalled outcome) cases options streams OutFaults.NoMemory
+      go : (live : Option LiveForm) → live_form options.live options.form ≡ live → IsUnwrittenRun outline_of (IsCalled outcome) cases options streams OutFaults.NoMemory
       go None is =
           whole_left streams (record { finished = []; ending = unrun_ending cases }) (Ok tt) OutFaults.NoMemory (Err OutFaults.NoMemory) refl is
           (unrun_run outcome [] (unrun_ending cases) refl cases options.stop_on worker_limit (is_unrun cases))

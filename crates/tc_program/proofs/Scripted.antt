@@ -6,36 +6,34 @@ use Rattle.std.specs.List.{AllZip}
 use Rattle.std.specs.Io.KnownBytes.{Appends}
 use Rattle.std.specs.Vec.{vec_len}
 use Rattle.std.specs.Prelude.{slice_get}
-use Rattle.tc_stream.specs.Output.{AppendsPrefix}
-use Rattle.tc_verdict.specs.declared.verdict.Verdict.{Verdict}
-use Rattle.tc_step.specs.Steps.{ScriptView}
-use Rattle.tc_behaviour.specs.Acts.{Acts, MakesItsCalls}
-use Rattle.tc_behaviour.proofs.Lemmas.Running.{run_grown}
+use Rattle.tc_stream.specs.Prelude.{AppendsPrefix}
+use Rattle.tc_rules.specs.Prelude.{Verdict}
+use Rattle.tc_step.specs.Prelude.{ScriptView}
+use Rattle.tc_script.specs.Prelude.{Acts, MakesItsCalls}
+use Rattle.tc_script.proofs.Lemmas.Running.{run_grown}
 use Rattle.tc_scripted.proofs.Lemmas.Spelled.{are_called, made_of_calls}
-use Rattle.tc_script.specs.Law.{IsCase}
+use Rattle.tc_reader.specs.Prelude.{IsCase}
 use Rattle.tc_scripted.proofs.Lemmas.Reports.{report_is_course}
-use Rattle.tc_book.specs.Passes.{PassState}
+use Rattle.tc_book.specs.Prelude.{PassState}
 use Rattle.tc_exec.specs.declared.job.Back.{Back}
-use Rattle.tc_exec.specs.Case.{IsCaseReport, IsMadeOf}
+use Rattle.tc_exec.specs.Prelude.{IsCaseReport, IsMadeOf}
 use Rattle.tc_exec.proofs.Lemmas.Logs.{logs_by}
 use Rattle.tc_report.specs.declared.live_form.LiveForm.{LiveForm}
 use Rattle.tc_report.specs.declared.results.CampaignEnd.{CampaignEnd}
 use Rattle.tc_report.specs.declared.results.Finished.{Finished}
 use Rattle.tc_report.specs.declared.results.Results.{Results}
 use Rattle.tc_campaign.specs.declared.case.Case.{Case}
-use Rattle.tc_campaign.specs.Outline.{Outline, HasNames, outline_of}
-use Rattle.tc_campaign.specs.Campaign.{AreFinished, IsCalled, IsEnding, IsOfCase, IsRefusal as RefusesCase, IsRunTo}
+use Rattle.tc_campaign.specs.Prelude.{Outline, HasNames, outline_of, AreFinished, IsCalled, IsEnding, IsOfCase, IsRefusal as RefusesCase, IsRunTo}
 use Rattle.tc_campaign.specs.Inside.{IsReported}
-use Rattle.tc_report.specs.Output.{LeavesPrefix}
-use Rattle.tc_report.specs.Stopping.{IsMet}
-use Rattle.tc_case.specs.declared.refusal.CaseError.TheVariants as C
-use Rattle.tc_program.specs.Output.{live_form, text_of}
+use Rattle.tc_report.specs.Prelude.{LeavesPrefix, IsMet}
+use Rattle.tc_rules.specs.declared.refusal.CaseError.TheVariants as C
+use Rattle.tc_program.specs.Output.{live_form, results_in_form}
 use Rattle.tc_command.specs.declared.task.RunOptions.{RunOptions}
 use Rattle.tc_report.specs.declared.fault.OutFault.{OutFault}
-use Rattle.tc_program.specs.Fault.{line_of, of_output}
-use Rattle.tc_program.specs.Stderr.{IsRefusal}
+use Rattle.tc_program.specs.Fault.{run_fault_line, of_output}
+use Rattle.tc_program.specs.Stderr.{IsPrintedRefusal}
 use Rattle.tc_program.specs.declared.outcome.Outcome.{Outcome}
-use Rattle.tc_program.specs.Run.{IsLeft, IsRun, IsUnwritten}
+use Rattle.tc_program.specs.Run.{IsLeft, IsRun, IsUnwrittenRun}
 use Rattle.tc_program.specs.Passed.{AreToRun}
 use Rattle.tc_program.specs.Program.{RunsCases}
 use Rattle.tc_program.specs.Streams.{Streams}
@@ -132,13 +130,13 @@ module _ (o : RunOptions) (text : List ℕ) (cs : List CaseView) (ks : List (Cas
   pub run_done : (streams : Streams) (outcome : Outcome) → IsRun outline_of (IsCalled Acts) ks o streams outcome
       → RunsCases script_outline IsScripted (AreToRun o.choice text) o streams outcome
   run_done streams outcome run = record {
-    cases = cs;
+    asked_for = cs;
     chosen = chosen;
     run = inl (record {
       results = run.results;
       right = results cs ks o.stop_on worker_limit lawful each run.results.finished run.results.ending run.right;
       status = run.status;
-      written = subst (λ ns. Appends streams.before streams.after (text_of o.form ns run.results)) (same_names cs ks each) run.written;
+      written = subst (λ ns. Appends streams.before streams.after (results_in_form o.form ns run.results)) (same_names cs ks each) run.written;
       told = run.told;
     });
   }
@@ -147,19 +145,19 @@ module _ (o : RunOptions) (text : List ℕ) (cs : List CaseView) (ks : List (Cas
       → IsLeft script_outline IsScripted cs o live s r fault
   left_of None s r fault left = (
     results cs ks o.stop_on worker_limit lawful each r.finished r.ending left.0,
-    subst (λ ns. LeavesPrefix s.before s.after (text_of o.form ns r) fault) (same_names cs ks each) left.1,
+    subst (λ ns. LeavesPrefix s.before s.after (results_in_form o.form ns r) fault) (same_names cs ks each) left.1,
   )
   left_of (Some form) s r fault left = (
     finished cs ks o.stop_on worker_limit lawful each r.finished left.0,
-    subst (λ ns. AppendsPrefix s.before s.after (text_of o.form ns r)) (same_names cs ks each) left.1,
+    subst (λ ns. AppendsPrefix s.before s.after (results_in_form o.form ns r)) (same_names cs ks each) left.1,
   )
 
   -- and so is one whose results were not written whole
-  pub run_left : (streams : Streams) (fault : OutFault) (told : Option (List ℕ)) (outcome : Outcome) → IsUnwritten outline_of (IsCalled Acts) ks o streams fault
-      → IsRefusal streams.told told (line_of (of_output fault)) outcome
+  pub run_left : (streams : Streams) (fault : OutFault) (told : Option (List ℕ)) (outcome : Outcome) → IsUnwrittenRun outline_of (IsCalled Acts) ks o streams fault
+      → IsPrintedRefusal streams.told told (run_fault_line (of_output fault)) outcome
       → RunsCases script_outline IsScripted (AreToRun o.choice text) o (record streams { told = told }) outcome
   run_left streams fault told outcome run refusal = record {
-    cases = cs;
+    asked_for = cs;
     chosen = chosen;
     run = inr (record {
       fault = fault;

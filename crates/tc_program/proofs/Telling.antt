@@ -1,16 +1,16 @@
 -- What was printed about a campaign, and what the observer after it was given.
 use Rattle.std.proofs.Common.{Bool, true, ℕ, ◌≡◌, ◌++◌, ◌∷◌, List, [], Option, Some, None, Result, sym, subst}
 use Rattle.std.specs.Prelude.{IfNone, IfSome}
-use Rattle.tc_book.specs.Passes.{PassState}
+use Rattle.tc_book.specs.Prelude.{PassState}
 use Rattle.tc_exec.specs.declared.job.Back.{Back}
 use Rattle.tc_report.specs.declared.fault.OutFault.{OutFault}
 use Rattle.tc_report.specs.declared.results.CampaignEnd.{CampaignEnd}
 use Rattle.tc_report.specs.declared.results.Finished.{Finished}
 use Rattle.tc_report.specs.declared.progress.Progress.{Progress}
-use Rattle.tc_report.specs.Progress.{HasTold, IsToldBy}
+use Rattle.tc_report.specs.Prelude.{HasTold, IsToldBy}
 use Rattle.tc_report.proofs.Lemmas.Telling.{AreSame, Takes, all_told, ended_told}
 use Rattle.tc_campaign.specs.declared.case.Case.{Case}
-use Rattle.tc_campaign.specs.Campaign.{IsCutShort, IsObserved}
+use Rattle.tc_campaign.specs.Prelude.{IsCutShort, IsObserved}
 use Rattle.tc_campaign.proofs.Lemmas.Keeping.{ended_at, run_to}
 use Rattle.tc_command.specs.declared.task.RunOptions.{RunOptions}
 use Rattle.tc_program.specs.Inside.{WasTold, worker_limit}

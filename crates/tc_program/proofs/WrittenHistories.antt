@@ -6,26 +6,19 @@ use Rattle.std.proofs.lemmas.Bool.Decides.{nat_tests}
 use Rattle.std.proofs.lemmas.List.{length-take}
 use Rattle.std.proofs.lemmas.List.Elements.{All-nil, All-cons, All-head, All-tail, All-take}
 use Rattle.std.proofs.lemmas.List.Folds.{list_any-append}
-use Rattle.tc_entry.specs.Name.{IsName}
-use Rattle.tc_entry.specs.declared.entry.Entry.{Entry}
-use Rattle.tc_table.specs.Legal.{IsLegal}
-use Rattle.tc_table.specs.Local.{overall}
-use Rattle.tc_history.specs.Text.{AreEntries}
-use Rattle.tc_evidence.specs.declared.block.Block.{Block}
-use Rattle.tc_evidence.specs.declared.header.Kind.{Kind}
-use Rattle.tc_evidence.specs.declared.header.Kind.TheVariants as K
-use Rattle.tc_evidence.specs.declared.line.Line.{Line}
-use Rattle.tc_evidence.specs.declared.line.Line.TheVariants as L
-use Rattle.tc_evidence.specs.Line.{entries_of, is_about, is_met}
-use Rattle.tc_evidence.specs.Text.{AreBlocks, AreEvidence, AreLines, IsHeader, block_lines, format_of}
-use Rattle.tc_evidence.specs.Written.{text_of_block}
-use Rattle.tc_evidence.proofs.Lemmas.WrittenEvidence.{written_evidence}
-use Rattle.tc_case.specs.Report.{IsOneHistory}
+use Rattle.tc_rules.specs.Prelude.{IsName, Entry, IsLegal, overall, IsOneHistory}
+use Rattle.tc_blocks.specs.Prelude.{AreEntries, entries_of, is_about, is_met, AreBlocks, AreEvidence, AreLines, IsHeader, block_lines, format_of, text_of_block}
+use Rattle.tc_blocks.specs.declared.block.Block.{Block}
+use Rattle.tc_blocks.specs.declared.header.Kind.{Kind}
+use Rattle.tc_blocks.specs.declared.header.Kind.TheVariants as K
+use Rattle.tc_blocks.specs.declared.line.Line.{Line}
+use Rattle.tc_blocks.specs.declared.line.Line.TheVariants as L
+use Rattle.tc_blocks.proofs.Lemmas.WrittenEvidence.{written_evidence}
 use Rattle.tc_report.specs.declared.results.Finished.{Finished}
 use Rattle.tc_report.specs.declared.results.Results.{Results}
-use Rattle.tc_report.specs.Blocks.{blocks_text, case_block, header_of}
+use Rattle.tc_report.specs.Prelude.{blocks_text, case_block, finished_header}
 use Rattle.tc_report.specs.Inside.{case_lines, namings}
-use Rattle.tc_campaign.specs.Outline.{Outline}
+use Rattle.tc_campaign.specs.Prelude.{Outline}
 use Rattle.tc_campaign.specs.Inside.{IsReported}
 use Rattle.tc_program.specs.Check.{Checks, legal_line}
 use Rattle.tc_program.specs.WrittenHistories.{AreReported}
@@ -34,7 +27,7 @@ use Rattle.tc_program.proofs.Legal.{AreRight, IsRight, block_line, only_legal}
 
 -- the block of a finished test case, which begins in this line
 abbrev pub block_of : Kind → ℕ → Finished → Block
-block_of kind line f = record { header = header_of kind f; first_line = line; lines = case_lines kind f; verdict = f.report.verdict }
+block_of kind line f = record { header = finished_header kind f; first_line = line; lines = case_lines kind f; verdict = f.report.verdict }
 
 -- the line after that block
 abbrev pub after : Kind → ℕ → Finished → ℕ

@@ -1,29 +1,29 @@
 -- What the program does where no thread can be started.
 use Rattle.std.specs.Prelude.{ℕ, ◌⊎◌, List, Option, Ok, codes, false}
 use Rattle.std.specs.Io.KnownBytes.{Keeps}
-use Rattle.tc_command.specs.Asked.{IsReading}
+use Rattle.tc_command.specs.Prelude.{IsReading}
 use Rattle.tc_command.specs.declared.task.Task.{Task}
 use Rattle.tc_command.specs.declared.task.Task.TheVariants as T
-use Rattle.tc_script.specs.Campaign.{CampaignView}
+use Rattle.tc_reader.specs.Prelude.{CampaignView}
 use Rattle.tc_program.specs.declared.outcome.Outcome.{Outcome}
-use Rattle.tc_program.specs.Answer.{IsAnswered}
+use Rattle.tc_program.specs.Answer.{AnswersWords}
 use Rattle.tc_program.specs.Fault.{said}
-use Rattle.tc_stream.specs.Input.{IsRead}
+use Rattle.tc_stream.specs.Prelude.{IsRead}
 use Rattle.tc_program.specs.Limits.{limit_of}
 use Rattle.tc_program.specs.Passed.{AreToRun}
-use Rattle.tc_program.specs.Stderr.{IsRefusal}
+use Rattle.tc_program.specs.Stderr.{IsPrintedRefusal}
 use Rattle.tc_program.specs.Streams.{Streams}
 
 -- the task is a run of test cases that the text spells: it was not begun, nothing was written, and it is printed that it needs threads
 abbrev pub IsNotBegun : Task → List ℕ → Streams → Outcome → Type 0
 IsNotBegun (T.Run o) text s outcome =
     ((cases : CampaignView) × AreToRun o.choice text cases) × Keeps s.before s.after
-    × IsRefusal s.untold s.told (said (codes "a run needs threads, and there are none here: try explore")) outcome
+    × IsPrintedRefusal s.untold s.told (said (codes "a run needs threads, and there are none here: try explore")) outcome
 IsNotBegun task text s outcome = ⊥
 
 -- the arguments are answered as the program answers them, or they ask for a run of test cases that the input spells, which
 -- is not begun
 abbrev pub IsAnsweredAlone : List (List ℕ) → Option (List ℕ) → Streams → Type 0 → Type 0 → Outcome → Type 0
 IsAnsweredAlone words input s Unread Unwritten outcome =
-    IsAnswered false words input s Unread Unwritten outcome
+    AnswersWords false words input s Unread Unwritten outcome
     ⊎ ((task : Task) × IsReading false words (Ok task) × IsRead (limit_of task) input (λ text. IsNotBegun task text s outcome))

@@ -9,15 +9,14 @@ use Rattle.clap.specs.declared.error.kind.ErrorKind.TheVariants as Kinds
 use Rattle.tc_command.specs.declared.read.Refused.{Refused}
 use Rattle.tc_command.specs.declared.read.Refused.TheVariants as R
 use Rattle.tc_command.specs.declared.task.Task.{Task}
-use Rattle.tc_command.specs.Asked.{IsReading}
-use Rattle.tc_command.specs.Words.{text_of}
+use Rattle.tc_command.specs.Prelude.{IsReading, word_fault_text}
 use Rattle.tc_program.specs.declared.fault.RunFault.TheVariants as F
 use Rattle.tc_program.specs.declared.outcome.Outcome.{Outcome}
-use Rattle.tc_program.specs.Fault.{line_of, said}
+use Rattle.tc_program.specs.Fault.{run_fault_line, said}
 use Rattle.tc_program.specs.Output.{LeavesUnwritten}
 use Rattle.tc_program.specs.Program.{IsCarriedOut}
 use Rattle.tc_program.specs.Streams.{Streams}
-use Rattle.tc_program.specs.Stderr.{IsRefusal, IsTold}
+use Rattle.tc_program.specs.Stderr.{IsPrintedRefusal, IsTold}
 use Rattle.tc_program.specs.declared.fault.RunFault.{RunFault}
 
 -- the arguments are refused, and not because memory ran out; they ask neither for help nor for the version
@@ -29,26 +28,26 @@ IsMistake kind = (kind ≢ Kinds.DisplayHelp) × (kind ≢ Kinds.DisplayVersion)
 abbrev pub IsHelped : Streams → Outcome → Type 0
 IsHelped s outcome = (text : List ℕ) ×
     ((Appends s.before s.after text × Keeps s.untold s.told × (outcome.status ≡ 0))
-    ⊎ ((fault : RunFault) × LeavesUnwritten s.before s.after text fault × IsRefusal s.untold s.told (line_of fault) outcome))
+    ⊎ ((fault : RunFault) × LeavesUnwritten s.before s.after text fault × IsPrintedRefusal s.untold s.told (run_fault_line fault) outcome))
 
 -- the arguments are not available, since memory ran out or one is no text; the line says which, and takes no memory if
 -- it is the second
-abbrev pub IsUnread : IoKind → Option (List ℕ) → Option (List ℕ) → Outcome → Type 0
-IsUnread IoKinds.OutOfMemory untold told outcome = IsRefusal untold told (line_of F.NoMemory) outcome
-IsUnread kind untold told outcome = (outcome.status ≡ 3) × IsTold untold told (said (codes "an argument is not UTF-8")) outcome.told
+abbrev pub IsUnreadInput : IoKind → Option (List ℕ) → Option (List ℕ) → Outcome → Type 0
+IsUnreadInput IoKinds.OutOfMemory untold told outcome = IsPrintedRefusal untold told (run_fault_line F.NoMemory) outcome
+IsUnreadInput kind untold told outcome = (outcome.status ≡ 3) × IsTold untold told (said (codes "an argument is not UTF-8")) outcome.told
 
 -- what comes of arguments that clap takes for no task, by the kind of its error: help, the version or a refusal was
 -- shown, or that memory ran out. For refused arguments, and without memory, nothing was written.
 pub record IsNoTask (kind : ErrorKind) (streams : Streams) (Unwritten : Type 0) (outcome : Outcome) : Type 0 where
   pub help : kind ≡ Kinds.DisplayHelp → IsHelped streams outcome
   pub version : kind ≡ Kinds.DisplayVersion → IsHelped streams outcome
-  pub mistake : IsMistake kind → ((text : List ℕ) × IsRefusal streams.untold streams.told text outcome) × Unwritten
-  pub memory : kind ≡ Kinds.OutOfMemory → IsRefusal streams.untold streams.told (line_of F.NoMemory) outcome × Unwritten
+  pub mistake : IsMistake kind → ((text : List ℕ) × IsPrintedRefusal streams.untold streams.told text outcome) × Unwritten
+  pub memory : kind ≡ Kinds.OutOfMemory → IsPrintedRefusal streams.untold streams.told (run_fault_line F.NoMemory) outcome × Unwritten
 
 -- the same of any arguments that are refused: if a value names nothing, the line says so, and nothing was written
 abbrev pub IsRefused : Refused → Streams → Type 0 → Outcome → Type 0
 IsRefused (R.Line error) streams Unwritten outcome = IsNoTask (kind_of error) streams Unwritten outcome
-IsRefused (R.Word fault) streams Unwritten outcome = IsRefusal streams.untold streams.told (said (text_of fault)) outcome × Unwritten
+IsRefused (R.Word fault) streams Unwritten outcome = IsPrintedRefusal streams.untold streams.told (said (word_fault_text fault)) outcome × Unwritten
 
 -- The arguments are read as what they ask for by the rules of a command line. They are a task, which was carried out; or
 -- they ask for no task, and the input was not read.
@@ -60,6 +59,6 @@ pub record IsAnsweredBy (Reads : Result Task Refused → Type 0) (Does : Task �
   pub unread : OnErr answer Unread
 
 -- the same by the rules of the program's command line, and what it does with a task
-abbrev pub IsAnswered : Bool → List (List ℕ) → Option (List ℕ) → Streams → Type 0 → Type 0 → Outcome → Type 0
-IsAnswered at_terminal words input streams Unread Unwritten outcome =
+abbrev pub AnswersWords : Bool → List (List ℕ) → Option (List ℕ) → Streams → Type 0 → Type 0 → Outcome → Type 0
+AnswersWords at_terminal words input streams Unread Unwritten outcome =
     IsAnsweredBy (IsReading at_terminal words) (λ task. IsCarriedOut task input streams outcome) streams Unread Unwritten outcome

@@ -1,22 +1,20 @@
 -- What a program with test cases of its own does with its arguments.
 use Rattle.std.specs.Prelude.{ℕ, ◌≡◌, List, MatchResult, Result, IsOkAnd}
 use Rattle.std.specs.Global.{Vec}
-use Rattle.tc_book.specs.Passes.{PassState}
-use Rattle.tc_campaign.specs.Campaign.{IsCalled}
-use Rattle.tc_campaign.specs.Choosing.{case_name}
-use Rattle.tc_campaign.specs.Outline.{outline_of}
+use Rattle.tc_book.specs.Prelude.{PassState}
+use Rattle.tc_campaign.specs.Prelude.{IsCalled, case_name, outline_of}
 use Rattle.tc_campaign.specs.declared.case.Case.{Case}
-use Rattle.tc_command.specs.Asked.{IsCasesReading}
+use Rattle.tc_command.specs.Prelude.{IsCasesReading}
 use Rattle.tc_command.specs.declared.task.Choice.{Choice}
 use Rattle.tc_command.specs.declared.task.Task.{Task}
 use Rattle.tc_command.specs.declared.task.Task.TheVariants as T
 use Rattle.tc_exec.specs.declared.job.Back.{Back}
 use Rattle.tc_program.specs.Answer.{IsAnsweredBy}
 use Rattle.tc_program.specs.Choosing.{AreChosenOf, LackName}
-use Rattle.tc_program.specs.Fault.{line_of}
+use Rattle.tc_program.specs.Fault.{run_fault_line}
 use Rattle.tc_program.specs.Made.{IsListed}
 use Rattle.tc_program.specs.Program.{IsDoneBy, RunsCases}
-use Rattle.tc_program.specs.Stderr.{IsRefusal}
+use Rattle.tc_program.specs.Stderr.{IsPrintedRefusal}
 use Rattle.tc_program.specs.Streams.{Streams}
 use Rattle.tc_program.specs.declared.fault.RunFault.{RunFault}
 use Rattle.tc_program.specs.declared.fault.RunFault.TheVariants as F
@@ -45,7 +43,7 @@ module _ {B : Type 0} (called : B → PassState → Back → Type 0) (Are : List
   -- what its behaviours handed back.
   abbrev pub DoesCases : Task → Streams → Outcome → Type 0
   DoesCases task s outcome =
-      IsDoneBy task (IsMadeOfCases Are task) (λ fault. IsRefusal s.untold s.told (line_of fault) outcome)
+      IsDoneBy task (IsMadeOfCases Are task) (λ fault. IsPrintedRefusal s.untold s.told (run_fault_line fault) outcome)
       (λ o. RunsCases outline_of (IsCalled called) (AreChosenOf case_name Are o.choice) o s outcome) s outcome
 
   -- the arguments are read as those of a program with test cases of its own; they are a task, which was done, or ask for

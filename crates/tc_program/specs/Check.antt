@@ -1,19 +1,13 @@
 -- What `check` prints for histories and evidence, and of them the chosen.
 use Rattle.std.specs.Prelude.{ℕ, ◌≡◌, ◌≢◌, ◌+◌, Bool, true, false, if◌then◌else◌, List, [], ◌∷◌, ◌++◌, length, reverse, codes}
 use Rattle.std.specs.Fmt.{decimal}
-use Rattle.tc_verdict.specs.declared.verdict.Verdict.{Verdict}
-use Rattle.tc_verdict.specs.Verdict.{name_of}
-use Rattle.tc_entry.specs.declared.entry.Entry.{Entry}
-use Rattle.tc_entry.specs.declared.reply.Reply.{Reply}
-use Rattle.tc_text.specs.Spelling.{reply_text}
-use Rattle.tc_table.specs.Answers.{answer}
-use Rattle.tc_evidence.specs.declared.block.Block.{Block}
-use Rattle.tc_evidence.specs.declared.line.Line.{Line}
-use Rattle.tc_evidence.specs.declared.line.Line.TheVariants as L
-use Rattle.tc_evidence.specs.Line.{entries_of}
-use Rattle.tc_evidence.specs.Laws.{AreLegal, overall_of}
-use Rattle.tc_evidence.specs.Text.{AreEvidence, HoldsOfBlocks, IsFault, IsHeader}
-use Rattle.tc_campaign.specs.Choosing.{have_names}
+use Rattle.tc_rules.specs.Prelude.{Verdict, name_of, Entry, Reply, answer}
+use Rattle.tc_text.specs.Prelude.{reply_text}
+use Rattle.tc_blocks.specs.declared.block.Block.{Block}
+use Rattle.tc_blocks.specs.declared.line.Line.{Line}
+use Rattle.tc_blocks.specs.declared.line.Line.TheVariants as L
+use Rattle.tc_blocks.specs.Prelude.{entries_of, LinesAreLegal, overall_of, AreEvidence, HoldsOfBlocks, IsFault, IsHeader}
+use Rattle.tc_campaign.specs.Prelude.{have_names}
 use Rattle.tc_program.specs.Fault.{RefusesText}
 use Rattle.tc_program.specs.declared.fault.RunFault.{RunFault}
 use Rattle.tc_program.specs.declared.fault.RunFault.TheVariants as F
@@ -23,22 +17,22 @@ abbrev pub legal_line : List ℕ → ℕ → Verdict → List ℕ
 legal_line name entries verdict = codes "legal " ++ (name ++ (codes " " ++ (decimal entries ++ (codes " " ++ (name_of verdict ++ (10 ∷ []))))))
 
 -- the line of the text with this number gives one thing, and the table another
-unfoldable pub other_line : ℕ → List ℕ → List ℕ → List ℕ
-other_line line given table = codes "line " ++ (decimal line ++ (codes ": " ++ (given ++ (codes ", table gives " ++ (table ++ (10 ∷ []))))))
+unfoldable pub disagreeing_line : ℕ → List ℕ → List ℕ → List ℕ
+disagreeing_line line given table = codes "line " ++ (decimal line ++ (codes ": " ++ (given ++ (codes ", table gives " ++ (table ++ (10 ∷ []))))))
 
 -- the line of a legal block: each reply is the table's, and the verdict is right
 pub record IsLegalLine (b : Block) (line : List ℕ) : Type 0 where
-  pub replies : AreLegal b.header.behaviours b.lines
+  pub replies : LinesAreLegal b.header.behaviours b.lines
   pub verdict : b.verdict ≡ overall_of b.lines
   pub line_is : line ≡ legal_line b.header.name (length (entries_of b.lines)) b.verdict
 
 -- the line of a block that is not legal: its first entry with another reply, or, if there is none, its verdict
 pub data IsIllegalLine (b : Block) (line : List ℕ) : Type 0 where
-  other_reply : (before behind : List Line) (e : Entry) (reply : Reply) → b.lines ≡ before ++ L.Entry e ∷ behind → AreLegal b.header.behaviours before
+  other_reply : (before behind : List Line) (e : Entry) (reply : Reply) → b.lines ≡ before ++ L.Entry e ∷ behind → LinesAreLegal b.header.behaviours before
       → reply ≡ answer b.header.behaviours (reverse (entries_of before)) e.caller.0 e.op → e.reply ≢ reply
-      → line ≡ other_line (b.first_line + length before + 1) (reply_text e.reply) (reply_text reply) → IsIllegalLine b line
-  other_verdict : AreLegal b.header.behaviours b.lines → b.verdict ≢ overall_of b.lines
-      → line ≡ other_line (b.first_line + length b.lines + 1) (name_of b.verdict) (name_of (overall_of b.lines)) → IsIllegalLine b line
+      → line ≡ disagreeing_line (b.first_line + length before + 1) (reply_text e.reply) (reply_text reply) → IsIllegalLine b line
+  other_verdict : LinesAreLegal b.header.behaviours b.lines → b.verdict ≢ overall_of b.lines
+      → line ≡ disagreeing_line (b.first_line + length b.lines + 1) (name_of b.verdict) (name_of (overall_of b.lines)) → IsIllegalLine b line
 
 -- what is printed for blocks, one after the other up to the first that is not legal, and whether all are legal; of the
 -- legal ones only the chosen have a line

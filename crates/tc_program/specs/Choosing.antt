@@ -1,11 +1,11 @@
 -- The test cases of a script that are chosen, and the blocks without one.
 use Rattle.std.specs.Prelude.{ℕ, ◌≡◌, ◌==◌, ◌&&◌, Bool, List, [], Ok, Err, false, not, true}
-use Rattle.tc_campaign.specs.Choosing.{chosen, have_names, is_asked}
+use Rattle.tc_campaign.specs.Prelude.{chosen, have_names, is_asked}
 use Rattle.tc_command.specs.declared.task.Choice.{Choice}
-use Rattle.tc_evidence.specs.declared.block.Block.{Block}
-use Rattle.tc_report.specs.Status.{verdict_status}
-use Rattle.tc_script.specs.Campaign.{CampaignView, campaign}
-use Rattle.tc_verdict.specs.declared.verdict.Verdict.{Verdict}
+use Rattle.tc_blocks.specs.declared.block.Block.{Block}
+use Rattle.tc_report.specs.Prelude.{verdict_status}
+use Rattle.tc_reader.specs.Prelude.{CampaignView, campaign}
+use Rattle.tc_rules.specs.Prelude.{Verdict}
 use Rattle.tc_program.specs.Scripted.{CaseView}
 use Rattle.tc_program.specs.declared.fault.RunFault.{RunFault}
 use Rattle.tc_program.specs.declared.fault.RunFault.TheVariants as F

@@ -6,14 +6,11 @@ use Rattle.tc_command.specs.declared.task.Choice.{Choice}
 use Rattle.tc_command.specs.declared.task.ReportForm.{ReportForm}
 use Rattle.tc_program.specs.declared.reply.Answer.{Answer}
 use Rattle.tc_program.specs.Report.{IsReport}
-use Rattle.tc_evidence.specs.declared.block.Block.{Block}
-use Rattle.tc_evidence.specs.Line.{entries_of}
-use Rattle.tc_evidence.specs.Text.{AreEvidence, HoldsOfBlocks}
-use Rattle.tc_course.specs.Witnesses.{IsWitness}
-use Rattle.tc_step.specs.Steps.{ScriptView}
-use Rattle.tc_line.specs.Words.{is_text}
-use Rattle.tc_script.specs.Campaign.{CampaignView}
-use Rattle.tc_script.specs.Names.{Word}
+use Rattle.tc_blocks.specs.declared.block.Block.{Block}
+use Rattle.tc_blocks.specs.Prelude.{entries_of, AreEvidence, HoldsOfBlocks}
+use Rattle.tc_course.specs.Prelude.{IsWitness}
+use Rattle.tc_step.specs.Prelude.{ScriptView}
+use Rattle.tc_reader.specs.Prelude.{is_text, CampaignView, Word}
 use Rattle.tc_program.specs.Check.{IsChecked, RefusesHistory}
 use Rattle.tc_program.specs.Choosing.{AreChosen, RefusesChoice}
 use Rattle.tc_program.specs.declared.fault.RunFault.{RunFault}
@@ -44,16 +41,16 @@ blocks_part text = drop (script_bytes true text) text
 -- ---- the blocks, one after the other
 
 -- the place of the test case of this name in the script
-abbrev pub place : CampaignView → Word → Option ℕ
-place cases name = position (is_text name) (map (λ c. c.0) cases)
+abbrev pub place_in : CampaignView → Word → Option ℕ
+place_in cases name = position (is_text name) (map (λ c. c.0) cases)
 
 -- one of these blocks has this name
-abbrev pub is_met : List Block → Word → Bool
-is_met blocks name = list_any (λ b. is_text name b.header.name) blocks
+abbrev pub has_block_named : List Block → Word → Bool
+has_block_named blocks name = list_any (λ b. is_text name b.header.name) blocks
 
 -- one of these blocks is of a later test case than the one at this place
-abbrev pub is_late : CampaignView → List Block → ℕ → Bool
-is_late cases blocks p = list_any (λ b. option_map_or (nat_lt p) (place cases b.header.name) false) blocks
+abbrev pub has_later : CampaignView → List Block → ℕ → Bool
+has_later cases blocks p = list_any (λ b. option_map_or (nat_lt p) (place_in cases b.header.name) false) blocks
 
 -- the block is a complete course of these scripts, with its verdict
 pub record IsCourseOf (scripts : List ScriptView) (b : Block) : Type 0 where
@@ -63,14 +60,14 @@ pub record IsCourseOf (scripts : List ScriptView) (b : Block) : Type 0 where
 
 -- what is wrong with a block after these, if something is
 pub data IsJudged (cases : CampaignView) (before : List Block) (b : Block) : Option Wrong → Type 0 where
-  unknown : place cases b.header.name ≡ None → IsJudged cases before b (Some W.Unknown)
-  twice : (p : ℕ) → place cases b.header.name ≡ Some p → is_met before b.header.name ≡ true
+  unknown : place_in cases b.header.name ≡ None → IsJudged cases before b (Some W.Unknown)
+  twice : (p : ℕ) → place_in cases b.header.name ≡ Some p → has_block_named before b.header.name ≡ true
       → IsJudged cases before b (Some W.Twice)
-  out_of_order : (p : ℕ) → place cases b.header.name ≡ Some p → is_met before b.header.name ≡ false → is_late cases before p ≡ true
+  out_of_order : (p : ℕ) → place_in cases b.header.name ≡ Some p → has_block_named before b.header.name ≡ false → has_later cases before p ≡ true
       → IsJudged cases before b (Some W.OutOfOrder)
-  no_course : (p : ℕ) (c : CaseView) → place cases b.header.name ≡ Some p → is_met before b.header.name ≡ false → is_late cases before p ≡ false
+  no_course : (p : ℕ) (c : CaseView) → place_in cases b.header.name ≡ Some p → has_block_named before b.header.name ≡ false → has_later cases before p ≡ false
       → slice_get cases p ≡ Some c → (IsCourseOf (scripts_of c.1) b → ⊥) → IsJudged cases before b (Some W.NoCourse)
-  right : (p : ℕ) (c : CaseView) → place cases b.header.name ≡ Some p → is_met before b.header.name ≡ false → is_late cases before p ≡ false
+  right : (p : ℕ) (c : CaseView) → place_in cases b.header.name ≡ Some p → has_block_named before b.header.name ≡ false → has_later cases before p ≡ false
       → slice_get cases p ≡ Some c → IsCourseOf (scripts_of c.1) b → IsJudged cases before b None
 
 -- the words for what is wrong
@@ -93,7 +90,7 @@ pub data AreJudged (cases : CampaignView) : List Block → List ℕ → Type 0 w
 
 -- the names of test cases, in their order, that none of these blocks has
 abbrev pub missing : List Block → CampaignView → List Word
-missing blocks cases = filter (λ n. not (is_met blocks n)) (map (λ c. c.0) cases)
+missing blocks cases = filter (λ n. not (has_block_named blocks n)) (map (λ c. c.0) cases)
 
 -- what is said of the blocks of test cases, one after the other, and then of the test cases that have none
 pub record IsCompared (cases : CampaignView) (blocks : List Block) (out : List ℕ) : Type 0 where

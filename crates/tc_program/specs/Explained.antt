@@ -2,17 +2,17 @@
 use Rattle.std.specs.Prelude.{ℕ, Bool, MatchBool, true, false, ◌≡◌, ◌&&◌, Option, Some, None, List, []}
 use Rattle.std.specs.Option.{option_map_or}
 use Rattle.tc_text.specs.declared.fault.TextFault.TheVariants as X
-use Rattle.tc_explain.specs.Explanation.{explanation}
-use Rattle.tc_text.specs.Said.{TellsAmong}
+use Rattle.tc_explain.specs.Prelude.{explanation}
+use Rattle.tc_text.specs.Prelude.{TellsAmong}
 use Rattle.tc_command.specs.declared.task.Task.{Task}
 use Rattle.tc_command.specs.declared.task.Task.TheVariants as T
 use Rattle.tc_program.specs.declared.fault.RunFault.{RunFault}
 use Rattle.tc_program.specs.declared.fault.RunFault.TheVariants as F
 use Rattle.tc_program.specs.declared.outcome.Outcome.{Outcome}
 use Rattle.tc_program.specs.Compared.{blocks_part, script_part}
-use Rattle.tc_program.specs.Fault.{line_of}
+use Rattle.tc_program.specs.Fault.{run_fault_line}
 use Rattle.tc_program.specs.Limits.{has_blocks}
-use Rattle.tc_program.specs.Stderr.{IsRefusal}
+use Rattle.tc_program.specs.Stderr.{IsPrintedRefusal}
 
 -- the task is asked to explain a fault of its text
 abbrev pub explains : Task → Bool
@@ -48,8 +48,8 @@ is_of_text fault = true
 abbrev pub IsToldOf : Task → List ℕ → RunFault → List ℕ → Type 0
 IsToldOf task text fault told =
     MatchBool (explains task && is_of_text fault)
-    (TellsAmong (option_map_or (explanation (part_of (has_blocks task) fault text)) (number_of fault) []) (line_of fault) told) (told ≡ line_of fault)
+    (TellsAmong (option_map_or (explanation (part_of (has_blocks task) fault text)) (number_of fault) []) (run_fault_line fault) told) (told ≡ run_fault_line fault)
 
 -- the outcome of a task whose text has this fault: that is printed
 abbrev pub IsExplained : Task → List ℕ → RunFault → Option (List ℕ) → Option (List ℕ) → Outcome → Type 0
-IsExplained task text fault before after outcome = (told : List ℕ) × IsToldOf task text fault told × IsRefusal before after told outcome
+IsExplained task text fault before after outcome = (told : List ℕ) × IsToldOf task text fault told × IsPrintedRefusal before after told outcome

@@ -2,18 +2,14 @@
 use Rattle.std.specs.Prelude.{MatchBool, ℕ, ◌≡◌, ◌==◌, ◌≤◌, if◌then◌else◌, Bool, List, [], ◌++◌, length}
 use Rattle.std.specs.List.{AllZip, flat_map, list_any}
 use Rattle.tc_command.specs.declared.task.ExploreOptions.{ExploreOptions}
-use Rattle.tc_script.specs.Campaign.{CampaignView}
-use Rattle.tc_explore.specs.Details.{details as of_details}
-use Rattle.tc_text.specs.Said.{TellsAmong}
-use Rattle.tc_explore.specs.Limits.{most_states}
-use Rattle.tc_course.specs.Witnesses.{AllFound, AreWitnesses}
-use Rattle.tc_explore.specs.Found.{AreFromBest, AreLegal, AreMet, AreReached, HasCourses}
+use Rattle.tc_reader.specs.Prelude.{CampaignView}
+use Rattle.tc_explore.specs.Prelude.{details as of_details, most_states, AreFromBest, AreLegal, AreAllMet, AreReached, HasCourses, AllLocalsFound, AreLocals, locals_lines, explored_line, explored_status, witnesses_text}
+use Rattle.tc_text.specs.Prelude.{TellsAmong}
+use Rattle.tc_course.specs.Prelude.{AllFound, AreWitnesses}
 use Rattle.tc_explore.specs.declared.explored.Ending.TheVariants as E
 use Rattle.tc_explore.specs.declared.explored.Explored.{Explored}
 use Rattle.tc_explore.specs.declared.locals.Locals.{Locals}
-use Rattle.tc_explore.specs.Locals.{AllLocalsFound, AreLocals, locals_lines}
-use Rattle.tc_step.specs.Steps.{ScriptView}
-use Rattle.tc_explore.specs.Told.{explored_line, explored_status, witnesses_text}
+use Rattle.tc_step.specs.Prelude.{ScriptView}
 use Rattle.tc_program.specs.declared.explore.ExploredCase.{ExploredCase}
 use Rattle.tc_program.specs.Passed.{AreToRun}
 use Rattle.tc_program.specs.Scripted.{CaseView, scripts_of}
@@ -48,14 +44,14 @@ pub record IsExplored (o : ExploreOptions) (c : CaseView) (e : ExploredCase) : T
   pub ordered : AreFromBest e.explored.found
   pub complete : e.explored.ending ≡ E.Complete → AllFound (scripts_of c.1) e.explored.found
   pub reached : AreReached (scripts_of c.1) e.explored.reached
-  pub met : AreMet (scripts_of c.1) e.explored.reached e.explored.states
+  pub met : AreAllMet (scripts_of c.1) e.explored.reached e.explored.states
   pub most : e.explored.states ≤ most_states (scripts_of c.1) o.states
   pub undecided : e.explored.ending ≡ E.Undecided → 1 ≤ length (scripts_of c.1) → e.explored.states ≡ most_states (scripts_of c.1) o.states
   pub details_are : TellsAfter o (scripts_of c.1) e.explored e.details
 
 -- what is written of a test case: its line and its details, or the histories of its witnesses
-abbrev pub told_of : Bool → ExploredCase → List ℕ
-told_of histories e = if histories then witnesses_text e.name e.behaviours e.explored else explored_line e.name e.explored ++ e.details
+abbrev pub explored_text : Bool → ExploredCase → List ℕ
+explored_text histories e = if histories then witnesses_text e.name e.behaviours e.explored else explored_line e.name e.explored ++ e.details
 
 -- some test case has this status
 abbrev pub has_status : ℕ → List ExploredCase → Bool
@@ -72,5 +68,5 @@ pub record Explores (o : ExploreOptions) (text out : List ℕ) (status : ℕ) : 
   pub explored : List ExploredCase
   pub asked : AreToRun o.choice text cases
   pub each : AllZip (IsExplored o) cases explored
-  pub out_is : out ≡ flat_map (told_of o.histories) explored
+  pub out_is : out ≡ flat_map (explored_text o.histories) explored
   pub status_is : status ≡ status_of_all explored

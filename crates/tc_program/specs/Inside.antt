@@ -3,101 +3,76 @@ use Rattle.std.specs.Prelude.{ℕ, ◌≡◌, ◌≢◌, ◌⊎◌, ◌&&◌, �
 use Rattle.std.specs.List.{AllZip, flat_map}
 use Rattle.std.specs.Option.{option_map_or}
 use Rattle.std.specs.Result.{result_and, result_map_both}
-use Rattle.tc_explain.specs.Explanation.{explanation}
+use Rattle.tc_explain.specs.Prelude.{explanation}
 use Rattle.tc_entry.specs.declared.limits.TheConstants.{BEHAVIOURS}
-use Rattle.tc_script.specs.Names.{Word, add, among, has_twice}
-use Rattle.tc_program.specs.Compared.{AreJudged, IsCompared, IsJudged, is_late, is_met, missing}
+use Rattle.tc_reader.specs.Prelude.{Word, add, among, has_twice, script_kind_text, CampaignView, IsCase}
+use Rattle.tc_program.specs.Compared.{AreJudged, IsCompared, IsJudged, has_later, has_block_named, missing}
 use Rattle.tc_program.specs.declared.compare.Comparing.{Comparing}
 use Rattle.tc_program.specs.declared.compare.Comparison.{Comparison}
 use Rattle.tc_program.specs.declared.compare.Wrong.{Wrong}
 use Rattle.tc_program.specs.declared.passed.Seen.{Seen}
 use Rattle.tc_program.specs.Passed.{AreToRun}
-use Rattle.tc_verdict.specs.declared.verdict.Verdict.{Verdict}
+use Rattle.tc_rules.specs.Prelude.{Verdict, memory_text, IsName, Entry, Kept, StandsFor, answer, IsOneHistory, name_of, Reply}
 use Rattle.tc_stream.specs.declared.input.InputFault.{InputFault}
 use Rattle.tc_stream.specs.declared.input.InputFault.TheVariants as I
-use Rattle.tc_stream.specs.Fault.{input_text, write_text}
+use Rattle.tc_stream.specs.Prelude.{input_text, write_text, IsRead, AppendsPrefix}
 use Rattle.std.specs.Fmt.{decimal}
-use Rattle.tc_verdict.specs.Words.{memory_text}
-use Rattle.tc_text.specs.TextKind.{kind_text}
-use Rattle.tc_line.specs.ScriptKind.{kind_text as script_kind_text}
-use Rattle.tc_command.specs.Words.{text_of}
+use Rattle.tc_text.specs.Prelude.{text_kind_text, Move, Line, reply_text}
+use Rattle.tc_command.specs.Prelude.{word_fault_text}
 use Rattle.tc_command.specs.declared.word.WordFault.TheVariants as W
-use Rattle.tc_entry.specs.Name.{IsName}
-use Rattle.tc_entry.specs.declared.entry.Entry.{Entry}
 use Rattle.tc_text.specs.declared.fault.TextFault.{TextFault}
 use Rattle.tc_text.specs.declared.fault.TextFault.TheVariants as T
-use Rattle.tc_text.specs.MoveList.{Move}
-use Rattle.tc_step.specs.Steps.{ScriptView}
-use Rattle.tc_table.specs.Standing.{Kept, StandsFor}
-use Rattle.tc_table.specs.Answers.{answer}
-use Rattle.tc_history.specs.Text.{AreEntries}
-use Rattle.tc_evidence.specs.declared.block.Block.{Block}
-use Rattle.tc_evidence.specs.declared.header.Header.{Header}
-use Rattle.tc_evidence.specs.declared.header.Kind.{Kind}
-use Rattle.tc_evidence.specs.declared.line.Line.{Line as BlockLine}
-use Rattle.tc_evidence.specs.declared.line.Line.TheVariants as L
-use Rattle.tc_evidence.specs.Line.{entries_of}
-use Rattle.tc_evidence.specs.Laws.{AreLegal, history_of, overall_of}
-use Rattle.tc_evidence.specs.Text.{AreEvidence, AreLines, IsHeader}
-use Rattle.tc_case.specs.Report.{IsOneHistory}
+use Rattle.tc_step.specs.Prelude.{ScriptView}
+use Rattle.tc_blocks.specs.Prelude.{AreEntries, entries_of, LinesAreLegal, history_of, overall_of, AreEvidence, AreLines, IsHeader}
+use Rattle.tc_blocks.specs.declared.block.Block.{Block}
+use Rattle.tc_blocks.specs.declared.header.Header.{Header}
+use Rattle.tc_blocks.specs.declared.header.Kind.{Kind}
+use Rattle.tc_blocks.specs.declared.line.Line.{Line as BlockLine}
+use Rattle.tc_blocks.specs.declared.line.Line.TheVariants as L
 use Rattle.tc_report.specs.declared.fault.OutFault.{OutFault}
 use Rattle.tc_report.specs.declared.results.Results.{Results}
 use Rattle.tc_report.specs.declared.results.CampaignEnd.{CampaignEnd}
 use Rattle.tc_report.specs.declared.results.Finished.{Finished}
-use Rattle.tc_report.specs.Blocks.{header_of}
-use Rattle.tc_report.specs.Observers.{AreTaken}
+use Rattle.tc_report.specs.Prelude.{finished_header, AreTaken, IsToldBy, block_summary}
 use Rattle.tc_report.specs.Inside.{IsEndedAt, case_lines}
-use Rattle.tc_report.specs.Progress.{IsToldBy}
-use Rattle.tc_book.specs.Passes.{PassState}
+use Rattle.tc_book.specs.Prelude.{PassState}
 use Rattle.tc_exec.specs.declared.job.Back.{Back}
 use Rattle.tc_campaign.specs.declared.case.Case.{Case}
-use Rattle.tc_campaign.specs.Campaign.{AreFinished, IsCalled, IsRunTo}
-use Rattle.tc_campaign.specs.Outline.{outline_of}
+use Rattle.tc_campaign.specs.Prelude.{AreFinished, IsCalled, IsRunTo, outline_of, have_names, is_asked}
 use Rattle.tc_command.specs.declared.task.RunOptions.{RunOptions}
 use Rattle.tc_explore.specs.declared.explored.Explored.{Explored}
-use Rattle.tc_explore.specs.Details.{details as of_details}
-use Rattle.tc_text.specs.Said.{Line}
+use Rattle.tc_explore.specs.Prelude.{details as of_details}
 use Rattle.tc_program.specs.Alone.{IsNotBegun}
-use Rattle.tc_stream.specs.Input.{IsRead}
 use Rattle.tc_program.specs.Limits.{limit_of}
 use Rattle.tc_program.specs.declared.fault.RunFault.{RunFault}
 use Rattle.tc_program.specs.declared.fault.RunFault.TheVariants as F
-use Rattle.tc_program.specs.declared.check.Checking.{Checking}
+use Rattle.tc_program.specs.declared.checking.Checking.{Checking}
 use Rattle.tc_program.specs.declared.judge.Difference.{Difference}
 use Rattle.tc_program.specs.declared.judge.Judgement.{Judgement}
 use Rattle.tc_program.specs.declared.judge.Playing.{Playing}
 use Rattle.tc_program.specs.declared.report.Recorded.{Recorded}
 use Rattle.tc_program.specs.declared.report.ReportedBlock.{ReportedBlock}
 use Rattle.tc_program.specs.declared.outcome.Outcome.{Outcome}
-use Rattle.tc_program.specs.declared.replay.Replaying.{Replaying}
+use Rattle.tc_program.specs.declared.replaying.Replaying.{Replaying}
 use Rattle.tc_program.specs.Check.{Checks, RefusesHistory, legal_line}
 use Rattle.tc_program.specs.declared.judge.Judgement.TheVariants as J
-use Rattle.tc_text.specs.Spelling.{reply_text}
-use Rattle.tc_verdict.specs.Verdict.{name_of}
-use Rattle.tc_entry.specs.declared.reply.Reply.{Reply}
 use Rattle.tc_program.specs.Scripted.{CaseView, scripts_of}
-use Rattle.tc_script.specs.Names.{Word}
-use Rattle.tc_program.specs.Streams.{Streams, held}
+use Rattle.tc_program.specs.Streams.{Streams, held_streams}
 use Rattle.std.specs.Io.KnownBytes.{Appends, Keeps}
-use Rattle.tc_stream.specs.Output.{AppendsPrefix}
 use Rattle.tc_command.specs.declared.read.Refused.{Refused}
 use Rattle.tc_command.specs.declared.task.Choice.{Choice}
 use Rattle.tc_command.specs.declared.task.ExploreOptions.{ExploreOptions}
 use Rattle.tc_command.specs.declared.task.Task.{Task}
 use Rattle.tc_command.specs.declared.task.Task.TheVariants as Tasks
-use Rattle.tc_script.specs.Campaign.{CampaignView}
-use Rattle.tc_script.specs.Law.{IsCase}
 use Rattle.tc_program.specs.Answer.{IsRefused}
-use Rattle.tc_campaign.specs.Choosing.{have_names, is_asked}
 use Rattle.tc_program.specs.Choosing.{AreChosen, is_passing}
 use Rattle.tc_program.specs.Explore.{IsExplored, TellsLocals}
 use Rattle.tc_program.specs.declared.explore.ExploredCase.{ExploredCase}
 use Rattle.tc_program.specs.Made.{IsMade}
 use Rattle.tc_program.specs.Program.{IsDone}
-use Rattle.tc_program.specs.Fault.{line_of, of_output}
-use Rattle.tc_program.specs.Stderr.{IsRefusal, IsTold}
+use Rattle.tc_program.specs.Fault.{run_fault_line, of_output}
+use Rattle.tc_program.specs.Stderr.{IsPrintedRefusal, IsTold}
 use Rattle.tc_program.specs.declared.reply.Answer.{Answer}
-use Rattle.tc_report.specs.Summary.{block_summary}
 use Rattle.tc_report.specs.declared.summary.Summary.{Summary}
 use Rattle.tc_program.specs.Output.{LeavesUnwritten}
 
@@ -155,11 +130,11 @@ words_of F.TooLong = input_text I.TooLong
 words_of F.Read = input_text I.Read
 words_of F.Write = write_text
 words_of F.NoMemory = memory_text
-words_of (F.Text (T.At line kind)) = kind_text kind
+words_of (F.Text (T.At line kind)) = text_kind_text kind
 words_of (F.Text T.NoMemory) = memory_text
 words_of (F.Script fault) = script_kind_text fault.kind
-words_of F.StopOn = text_of W.StopOn
-words_of F.Only = text_of W.Only
+words_of F.StopOn = word_fault_text W.StopOn
+words_of F.Only = word_fault_text W.Only
 
 -- the number of a line
 unfoldable pub place_text : ℕ → List ℕ
@@ -202,7 +177,7 @@ FitsItsTypes f = IsName f.name × All IsName f.names × AreEntries 2 f.report.hi
 
 -- a test case that was run to its end, whose block may be of this kind
 pub record WasRun (kind : Kind) (f : Finished) : Type 0 where
-  pub header : IsHeader (header_of kind f)
+  pub header : IsHeader (finished_header kind f)
   pub inside : AreLines kind f.report.behaviours [] (case_lines kind f)
   -- its report is one history of one thread
   pub report : IsOneHistory f.report
@@ -227,7 +202,7 @@ pub record IsOtherReply (n first_line : ℕ) (lines : List BlockLine) (line : �
   pub behind : List BlockLine
   pub entry : Entry
   pub place : lines ≡ before ++ L.Entry entry ∷ behind
-  pub legal : AreLegal n before
+  pub legal : LinesAreLegal n before
   pub answers : reply ≡ answer n (reverse (entries_of before)) entry.caller.0 entry.op
   pub other : entry.reply ≢ reply
   pub given_is : given ≡ entry.reply
@@ -236,10 +211,10 @@ pub record IsOtherReply (n first_line : ℕ) (lines : List BlockLine) (line : �
 -- what the table says of a block: each reply is the table's and the verdict is right, or the first other reply, or another verdict
 abbrev pub IsJudgement : Block → Judgement → Type 0
 IsJudgement b (J.Legal name entries verdict) =
-    AreLegal b.header.behaviours b.lines × (b.verdict ≡ overall_of b.lines) × (name ≡ b.header.name) × (entries ≡ length (entries_of b.lines)) × (verdict ≡ b.verdict)
+    LinesAreLegal b.header.behaviours b.lines × (b.verdict ≡ overall_of b.lines) × (name ≡ b.header.name) × (entries ≡ length (entries_of b.lines)) × (verdict ≡ b.verdict)
 IsJudgement b (J.OtherReply line given reply) = IsOtherReply b.header.behaviours b.first_line b.lines line given reply
 IsJudgement b (J.OtherVerdict line given verdict) =
-    AreLegal b.header.behaviours b.lines × (verdict ≡ overall_of b.lines) × (b.verdict ≢ verdict) × (given ≡ b.verdict) × (line ≡ b.first_line + length b.lines + 1)
+    LinesAreLegal b.header.behaviours b.lines × (verdict ≡ overall_of b.lines) × (b.verdict ≢ verdict) × (given ≡ b.verdict) × (line ≡ b.first_line + length b.lines + 1)
 
 -- whether it is the judgement of a legal block
 abbrev pub judges_legal : Judgement → Bool
@@ -259,7 +234,7 @@ judgement_line (J.OtherVerdict line given verdict) = made_line line (name_of giv
 -- this state represents the entries among the lines, of which there are that many, and each of whose replies is the table's; or this is their first difference
 abbrev pub IsPlayedTo : ℕ → ℕ → List BlockLine → Kept → ℕ → Option Difference → Type 0
 IsPlayedTo n first_line lines k entries None =
-    (k.behaviours ≡ n) × StandsFor k (reverse (entries_of lines)) × AreLegal n lines × (entries ≡ length (entries_of lines))
+    (k.behaviours ≡ n) × StandsFor k (reverse (entries_of lines)) × LinesAreLegal n lines × (entries ≡ length (entries_of lines))
 IsPlayedTo n first_line lines k entries (Some d) = IsOtherReply n first_line lines d.line d.given d.reply
 
 -- these lines of a block, which are below its first line, are played
@@ -394,8 +369,8 @@ AreReadyToRun choice text = AreReadyAs (AreToRun choice text)
 
 -- these are the names that the blocks have, by whether their verdict is none or pass
 abbrev pub HasSeen : List Block → Seen → Type 0
-HasSeen blocks s = (name : Word) → (among name s.passed.keys ≡ is_met (filter is_passed blocks) name)
-    × (among name s.failed.keys ≡ is_met (filter (λ b. not (is_passed b)) blocks) name)
+HasSeen blocks s = (name : Word) → (among name s.passed.keys ≡ has_block_named (filter is_passed blocks) name)
+    × (among name s.failed.keys ≡ has_block_named (filter (λ b. not (is_passed b)) blocks) name)
 
 -- names, with that of the block if it passes a test
 abbrev pub names_with : (Block → Bool) → Block → List Word → List Word
@@ -435,7 +410,7 @@ Finishes task text made s outcome = IsMade task text made → IsDone task text s
 abbrev pub GivesAnswer : Answer → Streams → Outcome → Type 0
 GivesAnswer a s outcome =
     (Appends s.before s.after a.out × IsTold s.untold s.told a.told outcome.told × (outcome.status ≡ a.status))
-    ⊎ (AppendsPrefix s.before s.after a.out × IsRefusal s.untold s.told (line_of F.Write) outcome)
+    ⊎ (AppendsPrefix s.before s.after a.out × IsPrintedRefusal s.untold s.told (run_fault_line F.Write) outcome)
 
 -- a task that is done with test cases of a program's own
 abbrev pub IsOfCases : Task → Type 0
@@ -450,7 +425,7 @@ ShowsText before after answer = (text : List ℕ) × MatchResult answer (λ _. A
 -- what comes of arguments that are refused, by what two writers held before and after: first the output, and then
 -- standard error
 abbrev pub ShowsNoTask : {W E : Type 0} → (W → Option (List ℕ)) → W → W → (E → Option (List ℕ)) → E → E → Refused → Outcome → Type 0
-ShowsNoTask contents w w' lines e e' why outcome = IsRefused why (held contents w w' lines e e') (w' ≡ w) outcome
+ShowsNoTask contents w w' lines e e' why outcome = IsRefused why (held_streams contents w w' lines e e') (w' ≡ w) outcome
 
 module _ {B O : Type 0} (outcome : B → PassState → Back → Type 0) (takes : O → Finished → O → Bool → Type 0) (cases : List (Case B)) (o : RunOptions) where
   -- these test cases were finished and given to the observer; the campaign ended so, or the observer has ended it at the last of them
@@ -490,8 +465,8 @@ pub record IsWhole (c : Comparing) : Type 0 where
 pub record StandsBeside (cases : CampaignView) (before : List Block) (c : Comparing) : Type 0 where
   pub names : c.names.keys ≡ map (λ t. t.0) cases
   pub ready : AllZip IsCaseOf cases c.ready.items
-  pub met : (p : ℕ) (t : CaseView) → slice_get cases p ≡ Some t → slice_index_or c.met.items p false ≡ is_met before t.0
-  pub next : (p : ℕ) → is_late cases before p ≡ nat_lt (p + 1) c.next
+  pub met : (p : ℕ) (t : CaseView) → slice_get cases p ≡ Some t → slice_index_or c.met.items p false ≡ has_block_named before t.0
+  pub next : (p : ℕ) → has_later cases before p ≡ nat_lt (p + 1) c.next
 
 -- a block was taken in after those before it, and this is wrong with it, if something is
 abbrev pub Judges : Comparing → Block → Option Wrong → Comparing → Type 0

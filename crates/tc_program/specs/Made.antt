@@ -2,8 +2,8 @@
 use Rattle.std.specs.Prelude.{ℕ, ◌≡◌, ◌⊎◌, List, [], ◌∷◌, ◌++◌, MatchResult, Option, Some, None, Result, Ok, Err}
 use Rattle.std.specs.List.{flat_map}
 use Rattle.std.specs.Io.KnownBytes.{Appends, Keeps}
-use Rattle.tc_stream.specs.Output.{AppendsPrefix}
-use Rattle.tc_text.specs.MoveList.{IsListFault}
+use Rattle.tc_stream.specs.Prelude.{AppendsPrefix, IsRead}
+use Rattle.tc_text.specs.Prelude.{IsListFault}
 use Rattle.tc_command.specs.declared.task.Choice.{Choice}
 use Rattle.tc_command.specs.declared.task.Task.{Task}
 use Rattle.tc_command.specs.declared.task.Task.TheVariants as T
@@ -15,7 +15,6 @@ use Rattle.tc_program.specs.Compared.{IsCheckedAgainst, IsReportedAgainst, Refus
 use Rattle.tc_program.specs.Choosing.{is_chosen}
 use Rattle.tc_program.specs.Explore.{Explores}
 use Rattle.tc_program.specs.Fault.{RefusesText}
-use Rattle.tc_stream.specs.Input.{IsRead}
 use Rattle.tc_program.specs.Input.{IsUnread}
 use Rattle.tc_program.specs.Limits.{limit_of}
 use Rattle.tc_program.specs.Passed.{AreToRun, RefusesRun}

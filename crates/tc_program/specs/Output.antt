@@ -3,14 +3,9 @@ use Rattle.std.specs.Prelude.{ℕ, ◌≡◌, Bool, true, false, List, Option, S
 use Rattle.tc_report.specs.declared.results.Results.{Results}
 use Rattle.tc_report.specs.declared.live_form.LiveForm.{LiveForm}
 use Rattle.tc_report.specs.declared.live_form.LiveForm.TheVariants as LiveForms
-use Rattle.tc_evidence.specs.declared.header.Kind.TheVariants as K
-use Rattle.tc_report.specs.Blocks.{blocks_text}
-use Rattle.tc_report.specs.Csv.{csv_of}
-use Rattle.tc_report.specs.Report.{report_text}
-use Rattle.tc_report.specs.Output.{LeavesPrefix}
+use Rattle.tc_blocks.specs.declared.header.Kind.TheVariants as K
+use Rattle.tc_report.specs.Prelude.{blocks_text, csv_of, report_text, LeavesPrefix, junit_of, case_summary, results_summaries}
 use Rattle.tc_report.specs.declared.fault.OutFault.{OutFault}
-use Rattle.tc_report.specs.Junit.{junit_of}
-use Rattle.tc_report.specs.Summary.{case_summary, results_summaries}
 use Rattle.tc_command.specs.declared.command.TheConstants.{VERSION}
 use Rattle.tc_command.specs.declared.task.Form.{Form}
 use Rattle.tc_command.specs.declared.task.Form.TheVariants as Forms
@@ -28,12 +23,12 @@ live_form true Forms.Evidence = Some LiveForms.Evidence
 live_form true (Forms.Junit suite) = None
 
 -- the text of the results of test cases with these names in this form
-abbrev pub text_of : Form → List (List ℕ) → Results → List ℕ
-text_of Forms.Text names r = report_text r
-text_of Forms.Csv names r = csv_of (map case_summary r.finished)
-text_of Forms.History names r = blocks_text K.History2 r
-text_of Forms.Evidence names r = blocks_text K.Evidence r
-text_of (Forms.Junit suite) names r = junit_of VERSION.now suite (results_summaries names r)
+abbrev pub results_in_form : Form → List (List ℕ) → Results → List ℕ
+results_in_form Forms.Text names r = report_text r
+results_in_form Forms.Csv names r = csv_of (map case_summary r.finished)
+results_in_form Forms.History names r = blocks_text K.History2 r
+results_in_form Forms.Evidence names r = blocks_text K.Evidence r
+results_in_form (Forms.Junit suite) names r = junit_of VERSION.now suite (results_summaries names r)
 
 -- why a text was not written whole: without memory nothing was, if the writer failed a prefix; there is no other fault
 abbrev pub LeavesUnwritten : Option (List ℕ) → Option (List ℕ) → List ℕ → RunFault → Type 0

@@ -1,17 +1,16 @@
 -- The test cases that evidence shows to have passed, and those that a run is asked to run.
 use Rattle.std.specs.Prelude.{ℕ, ◌≡◌, ◌&&◌, Bool, true, false, not, List, filter, reverse}
 use Rattle.tc_command.specs.declared.task.Choice.{Choice}
-use Rattle.tc_evidence.specs.Text.{HoldsOfBlocks}
-use Rattle.tc_evidence.specs.declared.block.Block.{Block}
-use Rattle.tc_script.specs.Campaign.{CampaignView}
-use Rattle.tc_script.specs.Names.{Word}
+use Rattle.tc_blocks.specs.Prelude.{HoldsOfBlocks}
+use Rattle.tc_blocks.specs.declared.block.Block.{Block}
+use Rattle.tc_reader.specs.Prelude.{CampaignView, Word}
 use Rattle.tc_program.specs.Choosing.{AreChosen, RefusesChoice, is_passing}
-use Rattle.tc_program.specs.Compared.{RefusesAgainst, blocks_part, is_met, script_part}
+use Rattle.tc_program.specs.Compared.{RefusesAgainst, blocks_part, has_block_named, script_part}
 use Rattle.tc_program.specs.declared.fault.RunFault.{RunFault}
 
 -- one of the blocks of this name has the verdict none or pass, and none has another
 abbrev pub has_passed : List Block → Word → Bool
-has_passed blocks name = is_met (filter (λ b. is_passing b.verdict) blocks) name && not (is_met (filter (λ b. not (is_passing b.verdict)) blocks) name)
+has_passed blocks name = has_block_named (filter (λ b. is_passing b.verdict) blocks) name && not (has_block_named (filter (λ b. not (is_passing b.verdict)) blocks) name)
 
 -- the text is a script, and histories and evidence after it; these are the chosen test cases of the script but those that
 -- have passed by the blocks

@@ -1,13 +1,9 @@
 -- What `replay` prints for a move list.
 use Rattle.std.specs.Prelude.{ℕ, ◌≡◌, List, [], ◌∷◌, ◌++◌, map, reverse}
 use Rattle.std.specs.List.{flat_map}
-use Rattle.tc_entry.specs.declared.entry.Entry.{Entry}
-use Rattle.tc_text.specs.Spelling.{reply_text}
-use Rattle.tc_text.specs.MoveList.{IsMoveList}
-use Rattle.tc_table.specs.Legal.{IsLegal}
-use Rattle.tc_table.specs.Local.{overall}
-use Rattle.tc_report.specs.Report.{verdict_line}
-use Rattle.tc_report.specs.Status.{verdict_status}
+use Rattle.tc_rules.specs.Prelude.{Entry, IsLegal, overall}
+use Rattle.tc_text.specs.Prelude.{reply_text, IsMoveList}
+use Rattle.tc_report.specs.Prelude.{verdict_line, verdict_status}
 
 -- The text is a list of moves, and there is a history of them in which each reply is the component table's. The output is a line for each
 -- reply, and then the overall verdict; the status is that of the verdict.

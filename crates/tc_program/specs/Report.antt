@@ -3,16 +3,11 @@ use Rattle.std.specs.Prelude.{ℕ, Bool, false, ◌≡◌, ◌==◌, if◌then�
 use Rattle.tc_command.specs.declared.command.TheConstants.{VERSION}
 use Rattle.tc_command.specs.declared.task.ReportForm.{ReportForm}
 use Rattle.tc_command.specs.declared.task.ReportForm.TheVariants as Forms
-use Rattle.tc_evidence.specs.Text.{HoldsOfBlocks}
-use Rattle.tc_evidence.specs.declared.block.Block.{Block}
-use Rattle.tc_evidence.specs.Laws.{history_of}
-use Rattle.tc_page.specs.Page.{page_of}
+use Rattle.tc_blocks.specs.Prelude.{HoldsOfBlocks, history_of}
+use Rattle.tc_blocks.specs.declared.block.Block.{Block}
+use Rattle.tc_page.specs.Prelude.{page_of}
 use Rattle.tc_report.specs.declared.summary.Summary.{Summary}
-use Rattle.tc_report.specs.Csv.{csv_of}
-use Rattle.tc_report.specs.Junit.{junit_of}
-use Rattle.tc_report.specs.Status.{verdict_status, worst_of}
-use Rattle.tc_report.specs.Summary.{bare_summary, block_summary}
-use Rattle.tc_report.specs.SummaryText.{IsSummary}
+use Rattle.tc_report.specs.Prelude.{csv_of, junit_of, verdict_status, worst_of, bare_summary, block_summary, IsSummary}
 use Rattle.tc_report.specs.declared.results.CaseEnd.TheVariants as C
 use Rattle.tc_program.specs.declared.reply.Answer.{Answer}
 use Rattle.tc_program.specs.Check.{AreAllLegal, Checks}

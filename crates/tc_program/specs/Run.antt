@@ -2,22 +2,18 @@
 use Rattle.std.specs.Prelude.{ℕ, ◌≡◌, Bool, List, Option, Some, None, Result, map}
 use Rattle.std.specs.Result.{result_and, result_map_both}
 use Rattle.std.specs.Io.KnownBytes.{Appends}
-use Rattle.tc_stream.specs.Output.{AppendsPrefix}
-use Rattle.tc_campaign.specs.Outline.{Outline}
-use Rattle.tc_campaign.specs.Campaign.{AreFinished, IsRunTo}
+use Rattle.tc_stream.specs.Prelude.{AppendsPrefix}
+use Rattle.tc_campaign.specs.Prelude.{Outline, AreFinished, IsRunTo}
 use Rattle.tc_report.specs.declared.fault.OutFault.{OutFault}
 use Rattle.tc_report.specs.declared.live_form.LiveForm.{LiveForm}
 use Rattle.tc_report.specs.declared.results.Finished.{Finished}
 use Rattle.tc_report.specs.declared.results.Results.{Results}
-use Rattle.tc_report.specs.Ending.{abort_text}
-use Rattle.tc_report.specs.Output.{LeavesPrefix}
-use Rattle.tc_report.specs.Progress.{IsToldBy}
-use Rattle.tc_report.specs.Status.{results_status}
+use Rattle.tc_report.specs.Prelude.{abort_text, LeavesPrefix, IsToldBy, results_status}
 use Rattle.tc_command.specs.declared.task.RunOptions.{RunOptions}
 use Rattle.tc_program.specs.declared.fault.RunFault.{RunFault}
 use Rattle.tc_program.specs.declared.outcome.Outcome.{Outcome}
 use Rattle.tc_program.specs.Fault.{of_output}
-use Rattle.tc_program.specs.Output.{live_form, text_of}
+use Rattle.tc_program.specs.Output.{live_form, results_in_form}
 use Rattle.tc_entry.specs.declared.limits.TheConstants.{BEHAVIOURS}
 use Rattle.tc_program.specs.Streams.{Streams}
 use Rattle.tc_program.specs.Stderr.{IsTold}
@@ -34,7 +30,7 @@ pub record TellsRun (progress : Bool) (r : Results) (untold told : Option (List 
 
 -- the text of the results of these cases, in the form asked for
 abbrev pub results_text : {C : Type 0} → (C → Outline) → List C → RunOptions → Results → List ℕ
-results_text outline cases options r = text_of options.form (map (λ c. (outline c).name) cases) r
+results_text outline cases options r = results_in_form options.form (map (λ c. (outline c).name) cases) r
 
 module _ {C : Type 0} (outline : C → Outline) (called : C → Finished → Type 0) (cases : List C) (options : RunOptions) where
   -- these cases were run under these options, and the results were given
@@ -59,7 +55,7 @@ module _ {C : Type 0} (outline : C → Outline) (called : C → Finished → Typ
 
   -- these cases were run under these options, and the text of the results was not written whole; what is due of them was
   -- printed, or not all of it
-  pub record IsUnwritten (streams : Streams) (fault : OutFault) : Type 0 where
+  pub record IsUnwrittenRun (streams : Streams) (fault : OutFault) : Type 0 where
     pub results : Results
     pub left : IsLeft (live_form options.live options.form) streams results fault
     pub told : (telling : Result (Unit {0}) OutFault) × IsToldBy options.progress streams.untold streams.told results.finished telling

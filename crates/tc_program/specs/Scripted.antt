@@ -1,13 +1,12 @@
 -- The test cases of a script: what is run of them, and what their reports say.
 use Rattle.std.specs.Prelude.{List, length, map}
-use Rattle.tc_step.specs.Steps.{ScriptView}
-use Rattle.tc_exec.specs.Case.{AreCalled, IsMadeOf}
-use Rattle.tc_exec.specs.Logs.{AreLogsBy}
-use Rattle.tc_behaviour.specs.Acts.{MakesItsCalls}
-use Rattle.tc_script.specs.Names.{Word}
-use Rattle.tc_course.specs.Witnesses.{IsWitness}
+use Rattle.tc_step.specs.Prelude.{ScriptView}
+use Rattle.tc_exec.specs.Prelude.{AreCalled, IsMadeOf, AreLogsBy}
+use Rattle.tc_script.specs.Prelude.{MakesItsCalls}
+use Rattle.tc_reader.specs.Prelude.{Word}
+use Rattle.tc_course.specs.Prelude.{IsWitness}
 use Rattle.tc_report.specs.declared.results.Finished.{Finished}
-use Rattle.tc_campaign.specs.Outline.{Outline}
+use Rattle.tc_campaign.specs.Prelude.{Outline}
 
 -- a test case of a script: its name, and its behaviours by name
 abbrev pub CaseView : Type 0

@@ -1,26 +1,25 @@
 -- What `serve` writes, prints and ends with.
 use Rattle.std.specs.Prelude.{ℕ, ◌≡◌, Bool, true, false, if◌then◌else◌, List, Option, Result, Ok, Err}
 use Rattle.std.specs.Io.KnownBytes.{Keeps}
-use Rattle.tc_report.specs.Status.{verdict_status}
+use Rattle.tc_report.specs.Prelude.{verdict_status}
 use Rattle.tc_serve.specs.declared.fault.ServeFault.{ServeFault}
 use Rattle.tc_serve.specs.declared.fault.ServeFault.TheVariants as S
 use Rattle.tc_serve.specs.declared.service.Ending.{Ending}
 use Rattle.tc_serve.specs.declared.service.Served.{Served}
-use Rattle.tc_serve.specs.Serve.{IsEnding, devices}
-use Rattle.tc_serve.specs.Text.{refusal_text}
+use Rattle.tc_serve.specs.Prelude.{IsServiceEnd, devices, refused_line_text}
 use Rattle.tc_program.specs.declared.fault.RunFault.TheVariants as F
 use Rattle.tc_program.specs.declared.outcome.Outcome.{Outcome}
-use Rattle.tc_program.specs.Fault.{line_of}
+use Rattle.tc_program.specs.Fault.{run_fault_line}
 use Rattle.tc_program.specs.Streams.{Streams}
-use Rattle.tc_program.specs.Stderr.{IsRefusal}
+use Rattle.tc_program.specs.Stderr.{IsPrintedRefusal}
 
 -- the line of a fault that ended a service
 abbrev pub service_line : ServeFault → List ℕ
-service_line (S.Line n why) = refusal_text n why
-service_line S.TooLong = line_of F.TooLong
-service_line S.Read = line_of F.Read
-service_line S.Write = line_of F.Write
-service_line S.NoMemory = line_of F.NoMemory
+service_line (S.Line n why) = refused_line_text n why
+service_line S.TooLong = run_fault_line F.TooLong
+service_line S.Read = run_fault_line F.Read
+service_line S.Write = run_fault_line F.Write
+service_line S.NoMemory = run_fault_line F.NoMemory
 
 -- the status of a service: 3 if a line was refused or a fault ended it, and otherwise that of the worst verdict
 abbrev pub service_status : Result Served ServeFault → ℕ
@@ -29,15 +28,15 @@ service_status (Err fault) = 3
 
 -- the outcome of a service that ended so: if standard error has taken all so far, the line of its fault is printed, and
 -- otherwise nothing more
-abbrev pub IsSettled : Bool → Result Served ServeFault → Option (List ℕ) → Option (List ℕ) → Outcome → Type 0
-IsSettled true (Ok served) untold told outcome = Keeps untold told × (outcome ≡ record { status = service_status (Ok served); told = Ok tt })
-IsSettled true (Err fault) untold told outcome = IsRefusal untold told (service_line fault) outcome
-IsSettled false ended untold told outcome = Keeps untold told × (outcome ≡ record { status = service_status ended; told = Err F.Write })
+abbrev pub IsServiceStatus : Bool → Result Served ServeFault → Option (List ℕ) → Option (List ℕ) → Outcome → Type 0
+IsServiceStatus true (Ok served) untold told outcome = Keeps untold told × (outcome ≡ record { status = service_status (Ok served); told = Ok tt })
+IsServiceStatus true (Err fault) untold told outcome = IsPrintedRefusal untold told (service_line fault) outcome
+IsServiceStatus false ended untold told outcome = Keeps untold told × (outcome ≡ record { status = service_status ended; told = Err F.Write })
 
 -- the input was served, line by line, until it or the service ended, and that was settled
 pub record Serves (input : Option (List ℕ)) (s : Streams) (outcome : Outcome) : Type 0 where
   pub left : Option (List ℕ)
   pub between : Option (List ℕ)
   pub ending : Ending
-  pub served : IsEnding (devices input s.before s.untold) (devices left s.after between) ending
-  pub settled : IsSettled ending.told ending.outcome between s.told outcome
+  pub served : IsServiceEnd (devices input s.before s.untold) (devices left s.after between) ending
+  pub settled : IsServiceStatus ending.told ending.outcome between s.told outcome

@@ -9,5 +9,5 @@ pub record Streams : Type 0 where
   pub told : Option (List ℕ)
 
 -- what two writers held before and after: first the output, and then standard error
-abbrev pub held : {W E : Type 0} → (W → Option (List ℕ)) → W → W → (E → Option (List ℕ)) → E → E → Streams
-held contents w w' lines e e' = record { before = contents w; after = contents w'; untold = lines e; told = lines e' }
+abbrev pub held_streams : {W E : Type 0} → (W → Option (List ℕ)) → W → W → (E → Option (List ℕ)) → E → E → Streams
+held_streams contents w w' lines e e' = record { before = contents w; after = contents w'; untold = lines e; told = lines e' }

@@ -2,13 +2,13 @@
 use Rattle.std.specs.Prelude.{ℕ, ◌≡◌, ◌≢◌, Bool, List, [], All, Ok, length, map, take}
 use Rattle.std.specs.List.{AllZip, flat_map}
 use Rattle.tc_report.specs.declared.results.Results.{Results}
-use Rattle.tc_entry.specs.Limits.{IsBehaviours}
-use Rattle.tc_campaign.specs.Outline.{Outline}
-use Rattle.tc_exec.specs.Case.{IsCaseReport}
+use Rattle.tc_rules.specs.Prelude.{IsBehaviours}
+use Rattle.tc_campaign.specs.Prelude.{Outline}
+use Rattle.tc_exec.specs.Prelude.{IsCaseReport}
 use Rattle.tc_command.specs.declared.task.Choice.{Choice}
 use Rattle.tc_command.specs.declared.task.ReportForm.{ReportForm}
 use Rattle.tc_command.specs.declared.task.Task.TheVariants as T
-use Rattle.tc_report.specs.Summary.{case_summary}
+use Rattle.tc_report.specs.Prelude.{case_summary}
 use Rattle.tc_program.specs.declared.reply.Answer.{Answer}
 use Rattle.tc_program.specs.Check.{RefusesBlocks, legal_line}
 use Rattle.tc_program.specs.Choosing.{ChoosesEach}

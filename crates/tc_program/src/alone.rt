@@ -3,13 +3,13 @@ ghost use Rattle.std.specs.Prelude.{◌≡◌, ◌≢◌, ◌⊎◌, IfOk, IfErr
 ghost use Rattle.std.specs.IoError.{error_kind};
 ghost use Rattle.tc_command.specs.declared.task.Task.TheVariants.{Run, Serve};
 ghost use Rattle.tc_program.specs.Alone.{IsAnsweredAlone, IsNotBegun};
-ghost use Rattle.tc_program.specs.Answer.{IsUnread};
+ghost use Rattle.tc_program.specs.Answer.{IsUnreadInput};
 ghost use Rattle.tc_program.specs.Inside.{IsUnbegun};
 ghost use Rattle.tc_program.specs.Program.{IsCarriedOut, IsDone};
-ghost use Rattle.tc_program.specs.Streams.{held};
+ghost use Rattle.tc_program.specs.Streams.{held_streams};
 
-use crate::answer::{answer_refused, answer_unread};
-use crate::carry_out::made_text;
+use crate::answering::{answer_refused, answer_unread};
+use crate::carrying_out::made_text;
 use crate::explained::refuse_text;
 use crate::input::read_text;
 use crate::limits::limit_of;
@@ -33,8 +33,8 @@ fn leave_run<W: Write, E: Write>(
     errors: &mut E,
 ) -> Outcome
     requires { task.now ≡ Run options.now }
-    ensures { IsDone task.now text.now (held W.contents writer.old writer.new E.contents errors.old errors.new) result
-        ⊎ IsNotBegun task.now text.now (held W.contents writer.old writer.new E.contents errors.old errors.new) result }
+    ensures { IsDone task.now text.now (held_streams W.contents writer.old writer.new E.contents errors.old errors.new) result
+        ⊎ IsNotBegun task.now text.now (held_streams W.contents writer.old writer.new E.contents errors.old errors.new) result }
 {
     match cases_to_run(alloc, text, &options.choice) {
         Ok(cases) => drop(cases),
@@ -56,8 +56,8 @@ fn do_text<W: Write, E: Write>(
     errors: &mut E,
 ) -> Outcome
     requires { task.now ≢ Serve }
-    ensures { IsDone task.now text.now (held W.contents writer.old writer.new E.contents errors.old errors.new) result
-        ⊎ IsNotBegun task.now text.now (held W.contents writer.old writer.new E.contents errors.old errors.new) result }
+    ensures { IsDone task.now text.now (held_streams W.contents writer.old writer.new E.contents errors.old errors.new) result
+        ⊎ IsNotBegun task.now text.now (held_streams W.contents writer.old writer.new E.contents errors.old errors.new) result }
 {
     match task {
         Task::Run(options) => leave_run(alloc, task, options, text, writer, errors),
@@ -80,8 +80,8 @@ fn carry_out<I: Read, W: Write, E: Write>(
     writer: &mut W,
     errors: &mut E,
 ) -> Outcome
-    ensures { IsCarriedOut task.now (I.remaining reader.old) (held W.contents writer.old writer.new E.contents errors.old errors.new) result
-        ⊎ IsUnbegun task.now (I.remaining reader.old) (held W.contents writer.old writer.new E.contents errors.old errors.new) result }
+    ensures { IsCarriedOut task.now (I.remaining reader.old) (held_streams W.contents writer.old writer.new E.contents errors.old errors.new) result
+        ⊎ IsUnbegun task.now (I.remaining reader.old) (held_streams W.contents writer.old writer.new E.contents errors.old errors.new) result }
 {
     if let Task::Serve = task {
         return serve_input(alloc, reader, writer, errors);
@@ -92,7 +92,7 @@ fn carry_out<I: Read, W: Write, E: Write>(
     }
 }
 
-/// Does what the arguments ask for, as `answer::answer` does, but begins no run: it says that a run needs threads.
+/// Does what the arguments ask for, as `answer` does, but begins no run: it says that a run needs threads.
 pub fn answer_alone<I: Read, W: Write, E: Write>(
     alloc: Global,
     words: io::Result<Vec<String>>,
@@ -101,9 +101,9 @@ pub fn answer_alone<I: Read, W: Write, E: Write>(
     errors: &mut E,
 ) -> Outcome
     ensures had { IfOk words (λ given. IsAnsweredAlone (map string_bytes given.items) (I.remaining reader.old)
-        (held W.contents writer.old writer.new E.contents errors.old errors.new)
+        (held_streams W.contents writer.old writer.new E.contents errors.old errors.new)
         (reader.new ≡ reader.old) (writer.new ≡ writer.old) result) }
-    ensures not_had { IfErr words (λ error. IsUnread (error_kind error) (E.contents errors.old) (E.contents errors.new) result) }
+    ensures not_had { IfErr words (λ error. IsUnreadInput (error_kind error) (E.contents errors.old) (E.contents errors.new) result) }
     ensures unwritten { OnErr words (writer.new ≡ writer.old) }
 {
     let words = match words {

@@ -1,7 +1,7 @@
 //! The chosen test cases of a script.
 ghost use Rattle.std.specs.Prelude.{◌≡◌, IfOk, IfErr, map, true};
 ghost use Rattle.std.specs.List.{AllZip};
-ghost use Rattle.tc_campaign.specs.Choosing.{case_name, chosen, have_names};
+ghost use Rattle.tc_campaign.specs.Prelude.{case_name, chosen, have_names};
 ghost use Rattle.tc_program.specs.Choosing.{RefusesChoice};
 ghost use Rattle.tc_program.specs.Inside.{AreReady, IsCaseOf, RefusesNames, case_parts};
 
@@ -9,11 +9,11 @@ use crate::fault::RunFault;
 use crate::script::read_script;
 use std::alloc::Global;
 use std::sync::Wait;
-use tc_behaviour::ScriptJob;
 use tc_campaign::{Case, choose, have_all};
 use tc_command::Choice;
 use tc_entry::Name;
-use tc_script::{Campaign, CaseScript};
+use tc_reader::{Campaign, CaseScript};
+use tc_script::ScriptJob;
 use tc_step::Script;
 use tc_verdict::NoMemory;
 

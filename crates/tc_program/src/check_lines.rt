@@ -1,8 +1,8 @@
 //! The lines that `check` prints.
 ghost use Rattle.std.specs.Prelude.{◌≡◌, ◌++◌, IfOk, OnOk};
 ghost use Rattle.std.specs.List.{flat_map};
-ghost use Rattle.tc_text.specs.Spelling.{reply_text};
-ghost use Rattle.tc_verdict.specs.Verdict.{name_of};
+ghost use Rattle.tc_text.specs.Prelude.{reply_text};
+ghost use Rattle.tc_rules.specs.Prelude.{name_of};
 ghost use Rattle.tc_program.specs.Check.{legal_line};
 ghost use Rattle.tc_program.specs.Inside.{gives_text, judgement_line, made_line, line_by, is_picked as spec_picked};
 
@@ -11,7 +11,7 @@ use crate::judge::Judgement;
 use crate::picked::is_picked;
 use std::alloc::Global;
 use tc_entry::{Name, Pattern};
-use tc_table::{NoMemory, Reply, Verdict};
+use tc_rules::{NoMemory, Reply, Verdict};
 use tc_text::{append_number, append_text, write_reply};
 use tc_verdict::name as name_of_verdict;
 

@@ -2,17 +2,16 @@
 ghost use Rattle.std.specs.Prelude.{◌≡◌, ◌↔◌, ◌≤◌, ◌<◌, ◌++◌, ◌∷◌, [], List, false, true, IfErr, IfOk, IfSome, OnOk, length, map};
 ghost use Rattle.std.specs.List.{AllZip, flat_map};
 ghost use Rattle.tc_entry.specs.declared.limits.TheConstants.{BEHAVIOURS};
-ghost use Rattle.tc_evidence.specs.declared.block.Block.{Block as AnyBlock};
-ghost use Rattle.tc_evidence.specs.Text.{AreEvidence};
-ghost use Rattle.tc_script.specs.Campaign.{CampaignView};
-ghost use Rattle.tc_script.specs.Names.{among};
+ghost use Rattle.tc_blocks.specs.declared.block.Block.{Block as AnyBlock};
+ghost use Rattle.tc_blocks.specs.Prelude.{AreEvidence};
+ghost use Rattle.tc_reader.specs.Prelude.{CampaignView, among};
 ghost use Rattle.tc_program.specs.Check.{RefusesHistory};
-ghost use Rattle.tc_program.specs.Compared.{IsCheckedAgainst, IsCourseOf, IsReportedAgainst, RefusesAgainst, note, place, script_part, wrong_text};
+ghost use Rattle.tc_program.specs.Compared.{IsCheckedAgainst, IsCourseOf, IsReportedAgainst, RefusesAgainst, note, place_in, script_part, wrong_text};
 ghost use Rattle.tc_program.specs.Inside.{AddsIfMissing, AreComparable, AreMissing, AreReady, Compares, Finds, IsCaseOf, IsWhole, Judges, SaysNext, StandsBeside};
 ghost use Rattle.tc_program.specs.declared.compare.Wrong.TheVariants.{Missing};
 
 use crate::cases::chosen_cases;
-use crate::check::check_lines;
+use crate::checking::check_lines;
 use crate::fault::RunFault;
 use crate::outcome::REFUSED;
 use crate::reply::Answer;
@@ -20,11 +19,11 @@ use crate::report::{read_reported, report_blocks};
 use crate::split::split;
 use indexmap::IndexSet;
 use std::alloc::Global;
+use tc_blocks::{Block, read_evidence};
 use tc_campaign::Case;
 use tc_command::{Choice, ReportForm};
 use tc_course::is_course;
 use tc_entry::{Name, Sequence};
-use tc_evidence::{Block, read_evidence};
 use tc_step::Script;
 use tc_text::append_text;
 use tc_verdict::NoMemory;
@@ -82,7 +81,7 @@ fn is_course_of(alloc: Global, scripts: &[Script], block: &Block) -> Result<bool
 }
 
 // Adds a name that is none of them.
-#[tactic(auto, unfolding(tc_line::specs::Words::is_text, tc_script::specs::Names::among))]
+#[tactic(auto, unfolding(tc_reader::specs::Words::is_text, tc_reader::specs::Names::among))]
 fn add_name(names: &mut IndexSet<Name>, name: Name) -> Result<(), NoMemory>
     requires { among name names.old.keys ≡ false }
     ensures { OnOk result (names.new.keys ≡ names.old.keys ++ name ∷ []) }
@@ -134,9 +133,9 @@ impl Comparing {
     }
 
     // The place of the test case of this name.
-    #[tactic(auto, unfolding(tc_line::specs::Words::is_text))]
+    #[tactic(auto, unfolding(tc_reader::specs::Words::is_text))]
     fn place_of(&self, name: &Name) -> Option<usize>
-        ensures is { (cases : CampaignView) → self.now.names.keys ≡ map (λ t. t.0) cases → result ≡ place cases name.now }
+        ensures is { (cases : CampaignView) → self.now.names.keys ≡ map (λ t. t.0) cases → result ≡ place_in cases name.now }
         ensures within { IfSome result (λ p. p < length self.now.names.keys) }
     {
         self.names.get_index_of(name)

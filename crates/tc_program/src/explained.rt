@@ -1,8 +1,8 @@
 //! What is printed about a text that is refused.
 ghost use Rattle.std.specs.Prelude.{◌≡◌, [], IfOk, OnOk};
 ghost use Rattle.std.specs.Option.{option_map};
-ghost use Rattle.tc_explain.specs.Explanation.{explanation};
-ghost use Rattle.tc_text.specs.Said.{TellsAmong};
+ghost use Rattle.tc_explain.specs.Prelude.{explanation};
+ghost use Rattle.tc_text.specs.Prelude.{TellsAmong};
 ghost use Rattle.tc_program.specs.Explained.{IsExplained, IsToldOf, explains as spec_explains, is_of_text as spec_of_text, number_of, part_of as spec_part_of};
 ghost use Rattle.tc_program.specs.Limits.{has_blocks as spec_blocks};
 ghost use Rattle.tc_program.specs.Inside.{notes_of};

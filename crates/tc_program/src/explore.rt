@@ -2,10 +2,10 @@
 ghost use Rattle.std.specs.Prelude.{◌≡◌, ◌≤◌, [], All, IfOk, IfErr, OnOk, length};
 ghost use Rattle.std.specs.List.{AllZip, flat_map};
 ghost use Rattle.tc_entry.specs.declared.limits.TheConstants.{BEHAVIOURS};
-ghost use Rattle.tc_explore.specs.Found.{AreLegal};
-ghost use Rattle.tc_text.specs.Said.{TellsAmong};
+ghost use Rattle.tc_explore.specs.Prelude.{AreLegal};
+ghost use Rattle.tc_text.specs.Prelude.{TellsAmong};
 ghost use Rattle.tc_program.specs.Inside.{HasFewJobs, IsExploredOf, details_if, TellsLocalsIf};
-ghost use Rattle.tc_program.specs.Explore.{Explores, TellsAfter, TellsLocals, has_status as status_in, status_of_all, told_of};
+ghost use Rattle.tc_program.specs.Explore.{Explores, TellsAfter, TellsLocals, has_status as status_in, status_of_all, explored_text};
 ghost use Rattle.tc_program.specs.Passed.{RefusesRun};
 
 use crate::fault::RunFault;
@@ -143,7 +143,7 @@ fn text_of(
     histories: bool,
     explored: &[ExploredCase],
 ) -> Result<(Vec<u8>, u8), NoMemory>
-    ensures text { IfOk result (λ r. r.0.items ≡ flat_map (told_of histories) explored.now) }
+    ensures text { IfOk result (λ r. r.0.items ≡ flat_map (explored_text histories) explored.now) }
     ensures status { IfOk result (λ r. r.1 ≡ status_of_all explored.now) }
 {
     let mut out = Vec::new(alloc);

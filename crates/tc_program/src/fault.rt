@@ -1,19 +1,19 @@
 //! The faults of the program, and their lines on standard error.
 ghost use Rattle.std.specs.Prelude.{◌≡◌, ◌++◌, IfOk, OnOk, OnErr, Some};
 ghost use Rattle.std.specs.Io.{StartsWith};
-ghost use Rattle.tc_report.specs.Ending.{abort_text, aborted_text, is_aborted};
-ghost use Rattle.tc_program.specs.Fault.{fault_text, line_of, said};
+ghost use Rattle.tc_report.specs.Prelude.{abort_text, aborted_text, is_aborted};
+ghost use Rattle.tc_program.specs.Fault.{run_fault_text, run_fault_line, said};
 ghost use Rattle.tc_program.specs.Inside.{of_input as spec_input, place_text, placed, words_of};
 ghost use Rattle.tc_program.specs.Explained.{number_of};
 
 use std::alloc::{AllocError, AllocFailed, Global};
 use std::fmt;
 use tc_campaign::{CampaignEnd, OutFault, Results};
-use tc_case::CaseError;
 use tc_command::WordFault;
 use tc_entry::{Name, NoMemory};
+use tc_reader::ScriptFault;
 use tc_report::append_aborted;
-use tc_script::ScriptFault;
+use tc_rules::CaseError;
 use tc_stream::{InputFault, WriteFault};
 use tc_text::{TextFault, append_number, append_text};
 use thiserror::Error;
@@ -152,7 +152,7 @@ impl RunFault {
 }
 
 impl fmt::Display for RunFault {
-    ghost output = { λ f. Some (fault_text f) };
+    ghost output = { λ f. Some (run_fault_text f) };
 
     fn fmt<W: fmt::Write>(&self, f: &mut fmt::Formatter<W>) -> fmt::Result {
         match self {
@@ -203,7 +203,7 @@ fn append_line(out: &mut Vec<u8>, fault: &RunFault) -> Result<(), NoMemory>
 
 /// Appends the fault's line on standard error, its line feed included, or nothing if memory runs out.
 pub fn fault_line(fault: &RunFault, out: &mut Vec<u8>) -> Result<(), NoMemory>
-    ensures ok { OnOk result (out.new.items ≡ out.old.items ++ line_of fault.now) }
+    ensures ok { OnOk result (out.new.items ≡ out.old.items ++ run_fault_line fault.now) }
     ensures err { OnErr result (out.new.items ≡ out.old.items) }
 {
     let start = out.len();

@@ -1,18 +1,17 @@
 //! What the table says of a block.
 ghost use Rattle.std.specs.Prelude.{◌≡◌, [], ℕ, Some, IfOk, OnOk, is_some, reverse};
-ghost use Rattle.tc_history.specs.Text.{short_entry};
-ghost use Rattle.tc_evidence.specs.Text.{IsHeader};
-ghost use Rattle.tc_evidence.specs.declared.line.Line.TheVariants as lines;
-ghost use Rattle.tc_table.specs.Standing.{StandsFor};
-ghost use Rattle.tc_report.specs.Summary.{summary_of};
+ghost use Rattle.tc_blocks.specs.Prelude.{short_entry, IsHeader};
+ghost use Rattle.tc_blocks.specs.declared.line.Line.TheVariants as lines;
+ghost use Rattle.tc_rules.specs.Prelude.{StandsFor};
+ghost use Rattle.tc_report.specs.Prelude.{summary_of};
 ghost use Rattle.tc_program.specs.Inside.{IsPlayed, JudgesPlayed, PlaysNext, judges_legal};
 
 use crate::short::play_short;
 use std::alloc::Global;
+use tc_blocks::{Header, Line};
 use tc_entry::Name;
-use tc_evidence::{Header, Line};
 use tc_report::{Summary, summary_of_state};
-use tc_table::{CaseState, Entry, NoMemory, Reply, Run, Verdict};
+use tc_rules::{CaseState, Entry, NoMemory, Reply, Run, Verdict};
 use tc_text::ShortOp;
 
 /// What the table says of a block, with all that is printed of it.

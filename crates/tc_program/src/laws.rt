@@ -1,16 +1,16 @@
 //! What the program's parts say together: each function changes nothing, and its contract is the law.
 ghost use Rattle.std.specs.Prelude.{All, List, map};
-ghost use Rattle.tc_entry.specs.Name.{IsName};
-ghost use Rattle.tc_evidence.specs.declared.header.Kind.TheVariants as kinds;
+ghost use Rattle.tc_rules.specs.Prelude.{IsName};
+ghost use Rattle.tc_blocks.specs.declared.header.Kind.TheVariants as kinds;
 ghost use Rattle.tc_command.specs.declared.task.Form.TheVariants as forms;
-ghost use Rattle.tc_campaign.specs.Outline.{Outline};
+ghost use Rattle.tc_campaign.specs.Prelude.{Outline};
 ghost use Rattle.tc_program.specs.Inside.{FitsItsTypes, WereRun};
-ghost use Rattle.tc_program.specs.Output.{text_of};
+ghost use Rattle.tc_program.specs.Output.{results_in_form};
 ghost use Rattle.tc_program.specs.WrittenHistories.{AreFoundLegal, AreReported};
 
+use tc_blocks::laws::entries_fit;
 use tc_campaign::{Finished, Results};
 use tc_entry::Name;
-use tc_history::laws::entries_fit;
 
 fn name_fits(name: &Name)
     ensures { IsName name.now }
@@ -57,9 +57,9 @@ fn were_run(results: &Results)
 /// It is refused only if memory runs out.
 pub fn written_is_legal(results: &Results)
     ensures histories { (cases : List Outline) → AreReported cases results.now
-        → AreFoundLegal (text_of forms.History (map (λ c. c.name) cases) results.now) results.now }
+        → AreFoundLegal (results_in_form forms.History (map (λ c. c.name) cases) results.now) results.now }
     ensures evidence { (cases : List Outline) → AreReported cases results.now
-        → AreFoundLegal (text_of forms.Evidence (map (λ c. c.name) cases) results.now) results.now }
+        → AreFoundLegal (results_in_form forms.Evidence (map (λ c. c.name) cases) results.now) results.now }
 {
     were_run(results);
 }

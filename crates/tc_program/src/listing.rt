@@ -1,7 +1,7 @@
 //! The list of the chosen test cases of a script.
 ghost use Rattle.std.specs.Prelude.{◌≡◌, [], IfOk, IfErr};
 ghost use Rattle.std.specs.List.{flat_map};
-ghost use Rattle.tc_campaign.specs.Choosing.{case_name};
+ghost use Rattle.tc_campaign.specs.Prelude.{case_name};
 ghost use Rattle.tc_program.specs.Inside.{case_line, list_text as text_of_list, script_name};
 ghost use Rattle.tc_program.specs.Made.{IsListed};
 ghost use Rattle.tc_program.specs.Passed.{AreToRun, RefusesRun};

@@ -3,7 +3,7 @@ ghost use Rattle.std.specs.Prelude.{List, ℕ};
 ghost use Rattle.tc_command.specs.declared.task.Task.{Task as AnyTask};
 ghost use Rattle.tc_program.specs.Inside.{Finishes, GivesAnswer, WritesTo};
 ghost use Rattle.tc_program.specs.Made.{IsMade};
-ghost use Rattle.tc_program.specs.Streams.{held};
+ghost use Rattle.tc_program.specs.Streams.{held_streams};
 
 use crate::explained::refuse_text;
 use crate::fault::RunFault;
@@ -35,7 +35,7 @@ pub(crate) fn give_answer<W: Write, E: Write>(
     writer: &mut W,
     errors: &mut E,
 ) -> Outcome
-    ensures { GivesAnswer answer.now (held W.contents writer.old writer.new E.contents errors.old errors.new) result }
+    ensures { GivesAnswer answer.now (held_streams W.contents writer.old writer.new E.contents errors.old errors.new) result }
 {
     match write_whole(writer, answer.out.as_slice()) {
         Ok(()) => Outcome {
@@ -55,7 +55,7 @@ pub(crate) fn finish<W: Write, E: Write>(
     writer: &mut W,
     errors: &mut E,
 ) -> Outcome
-    ensures { Finishes task.now text.now made (held W.contents writer.old writer.new E.contents errors.old errors.new) result }
+    ensures { Finishes task.now text.now made (held_streams W.contents writer.old writer.new E.contents errors.old errors.new) result }
 {
     match made {
         Ok(answer) => give_answer(alloc, &answer, writer, errors),

@@ -1,9 +1,8 @@
 //! The results of a campaign, as the program writes them.
 ghost use Rattle.std.specs.Prelude.{◌≡◌, [], IfOk, IfErr, OnOk};
 ghost use Rattle.std.specs.Io.KnownBytes.{Appends};
-ghost use Rattle.tc_report.specs.Status.{results_status};
-ghost use Rattle.tc_report.specs.Output.{LeavesPrefix};
-ghost use Rattle.tc_program.specs.Output.{LeavesUnwritten, live_form as spec_form, text_of};
+ghost use Rattle.tc_report.specs.Prelude.{results_status, LeavesPrefix};
+ghost use Rattle.tc_program.specs.Output.{LeavesUnwritten, live_form as spec_form, results_in_form};
 
 use crate::fault::RunFault;
 use std::alloc::Global;
@@ -40,8 +39,8 @@ fn write_results<W: Write>(
     results: &Results,
     writer: &mut W,
 ) -> Result<(), OutFault>
-    ensures done { OnOk result (Appends (W.contents writer.old) (W.contents writer.new) (text_of form.now names.now results.now)) }
-    ensures refused { IfErr result (LeavesPrefix (W.contents writer.old) (W.contents writer.new) (text_of form.now names.now results.now)) }
+    ensures done { OnOk result (Appends (W.contents writer.old) (W.contents writer.new) (results_in_form form.now names.now results.now)) }
+    ensures refused { IfErr result (LeavesPrefix (W.contents writer.old) (W.contents writer.new) (results_in_form form.now names.now results.now)) }
 {
     match form {
         Form::Text => write_text(alloc, results, writer),
@@ -61,8 +60,8 @@ pub(crate) fn give_named<W: Write>(
     writer: &mut W,
 ) -> Result<u8, OutFault>
     ensures status { IfOk result (λ status. status ≡ results_status results.now) }
-    ensures done { OnOk result (Appends (W.contents writer.old) (W.contents writer.new) (text_of form.now names.now results.now)) }
-    ensures refused { IfErr result (LeavesPrefix (W.contents writer.old) (W.contents writer.new) (text_of form.now names.now results.now)) }
+    ensures done { OnOk result (Appends (W.contents writer.old) (W.contents writer.new) (results_in_form form.now names.now results.now)) }
+    ensures refused { IfErr result (LeavesPrefix (W.contents writer.old) (W.contents writer.new) (results_in_form form.now names.now results.now)) }
 {
     write_results(alloc, form, names, results, writer)?;
     Ok(status_of(results))
@@ -77,8 +76,8 @@ pub fn give<W: Write>(
     writer: &mut W,
 ) -> Result<u8, RunFault>
     ensures status { IfOk result (λ status. status ≡ results_status results.now) }
-    ensures done { OnOk result (Appends (W.contents writer.old) (W.contents writer.new) (text_of form.now [] results.now)) }
-    ensures refused { IfErr result (LeavesUnwritten (W.contents writer.old) (W.contents writer.new) (text_of form.now [] results.now)) }
+    ensures done { OnOk result (Appends (W.contents writer.old) (W.contents writer.new) (results_in_form form.now [] results.now)) }
+    ensures refused { IfErr result (LeavesUnwritten (W.contents writer.old) (W.contents writer.new) (results_in_form form.now [] results.now)) }
 {
     Ok(give_named(alloc, form, &[], results, writer)?)
 }

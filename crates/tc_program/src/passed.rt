@@ -1,6 +1,6 @@
 //! The test cases that a run is asked to run: not those that evidence shows to have passed, if it is given any.
 ghost use Rattle.std.specs.Prelude.{◌≡◌, ◌++◌, IfOk, IfErr, OnOk, [], filter, not, reverse};
-ghost use Rattle.tc_script.specs.Names.{add, among};
+ghost use Rattle.tc_reader.specs.Prelude.{add, among};
 ghost use Rattle.tc_program.specs.Compared.{RefusesAgainst};
 ghost use Rattle.tc_program.specs.Inside.{AreReadyAs, AreReadyToRun, HasSeen, kept_unless, names_with, shows_passed, is_passed};
 ghost use Rattle.tc_program.specs.Passed.{AreUnpassed, RefusesRun};
@@ -12,12 +12,12 @@ use crate::split::split;
 use indexmap::IndexSet;
 use std::alloc::Global;
 use std::sync::Wait;
-use tc_behaviour::ScriptJob;
+use tc_blocks::Block;
 use tc_campaign::Case;
 use tc_command::Choice;
 use tc_entry::Name;
-use tc_evidence::Block;
 use tc_report::verdict_status;
+use tc_script::ScriptJob;
 use tc_step::Script;
 use tc_verdict::NoMemory;
 
@@ -29,7 +29,7 @@ pub(crate) struct Seen {
 }
 
 // Adds a name, if it is not there.
-#[tactic(auto, unfolding(tc_line::specs::Words::is_text, tc_script::specs::Names::among))]
+#[tactic(auto, unfolding(tc_reader::specs::Words::is_text, tc_reader::specs::Names::among))]
 fn add_name(names: &mut IndexSet<Name>, name: &Name) -> Result<(), NoMemory>
     ensures { OnOk result (names.new.keys ≡ add name.now names.old.keys) }
 {
@@ -38,7 +38,7 @@ fn add_name(names: &mut IndexSet<Name>, name: &Name) -> Result<(), NoMemory>
 }
 
 // Whether the name is one of them.
-#[tactic(auto, unfolding(tc_line::specs::Words::is_text, tc_script::specs::Names::among))]
+#[tactic(auto, unfolding(tc_reader::specs::Words::is_text, tc_reader::specs::Names::among))]
 fn has_name(names: &IndexSet<Name>, name: &Name) -> bool
     ensures { result ≡ among name.now names.now.keys }
 {

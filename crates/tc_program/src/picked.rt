@@ -1,16 +1,16 @@
 //! Which blocks of a text are picked, and whether each pattern picks one.
 ghost use Rattle.std.specs.Prelude.{◌≡◌, IfErr, OnOk};
 ghost use Rattle.std.specs.List.{list_any};
-ghost use Rattle.tc_campaign.specs.Choosing.{have_names, is_asked as spec_asked};
-ghost use Rattle.tc_entry.specs.Pattern.{matches};
+ghost use Rattle.tc_campaign.specs.Prelude.{have_names, is_asked as spec_asked};
+ghost use Rattle.tc_rules.specs.Prelude.{matches};
 ghost use Rattle.tc_program.specs.Inside.{NamesBlocksAt, RefusesNamesAt, is_picked as spec_picked, block_name};
 
 use crate::compare::read_blocks;
 use crate::fault::RunFault;
 use crate::outcome::REFUSED;
 use std::alloc::Global;
+use tc_blocks::Block;
 use tc_entry::{Name, Pattern};
-use tc_evidence::Block;
 use tc_report::verdict_status;
 use tc_verdict::Verdict;
 

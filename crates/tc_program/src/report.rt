@@ -1,16 +1,14 @@
 //! The subcommand `report`.
 ghost use Rattle.std.specs.Prelude.{◌≡◌, ◌==◌, ◌++◌, List, filter, IfOk, IfErr, OnOk, if◌then◌else◌, length, map};
 ghost use Rattle.std.specs.List.{flat_map};
-ghost use Rattle.tc_evidence.specs.Line.{entry_of};
-ghost use Rattle.tc_evidence.specs.Text.{AreEvidence};
-ghost use Rattle.tc_evidence.specs.declared.block.Block.{Block as AnyBlock};
+ghost use Rattle.tc_blocks.specs.Prelude.{entry_in, AreEvidence};
+ghost use Rattle.tc_blocks.specs.declared.block.Block.{Block as AnyBlock};
 ghost use Rattle.tc_program.specs.Check.{RefusesHistory};
 ghost use Rattle.tc_program.specs.Choosing.{is_chosen};
 ghost use Rattle.tc_program.specs.Inside.{IsRecorded, Reports, Summarizes, case_if_picked, illegal_line, judgement_line, picked_by, is_picked as spec_picked};
 ghost use Rattle.tc_program.specs.Made.{IsMadeOfBlocks};
 ghost use Rattle.tc_program.specs.Report.{AnswersCases, IsForm, IsReport, IsReported, unreported};
-ghost use Rattle.tc_report.specs.Status.{verdict_status, worst_of};
-ghost use Rattle.tc_report.specs.Summary.{bare_summary as bare};
+ghost use Rattle.tc_report.specs.Prelude.{verdict_status, worst_of, bare_summary as bare};
 ghost use Rattle.tc_report.specs.declared.results.CaseEnd.TheVariants.{Missing};
 
 use crate::check_lines::append_judgement;
@@ -20,14 +18,14 @@ use crate::outcome::REFUSED;
 use crate::picked::{is_picked, refuse_names};
 use crate::reply::Answer;
 use std::alloc::Global;
+use tc_blocks::{Header, Line, TakesEvidence, read_evidence_into};
 use tc_command::{Choice, ReportForm, VERSION};
 use tc_entry::{Name, Pattern, Sequence};
-use tc_evidence::{Header, Line, TakesEvidence, read_evidence_into};
 use tc_page::html_page;
 use tc_report::{
     CaseEnd, Summary, bare_summary, csv_report, junit_report, summary_report, worst_status,
 };
-use tc_table::{Entry, NoMemory, Verdict};
+use tc_rules::{Entry, NoMemory, Verdict};
 use tc_text::append_text;
 
 /// A block that is played as it is read, with its entries.
@@ -63,7 +61,7 @@ fn played_of(recorded: Recorded) -> Playing
 
 // Keeps the line, if it is an entry.
 fn keep(entries: &mut Vec<Entry>, line: &Line) -> Result<(), NoMemory>
-    ensures { OnOk result (entries.new.items ≡ entries.old.items ++ entry_of line.now) }
+    ensures { OnOk result (entries.new.items ≡ entries.old.items ++ entry_in line.now) }
 {
     if let Line::Entry(entry) = line {
         entries.push(entry.copy())?;

@@ -3,19 +3,13 @@ ghost use Rattle.std.specs.Prelude.{true, ◌≡◌, ◌≤◌, [], All, Err, If
 ghost use Rattle.std.specs.Io.KnownBytes.{Appends};
 ghost use Rattle.std.specs.Vec.{vec_capacity, vec_len};
 ghost use Rattle.tc_verdict.specs.declared.verdict.Verdict.TheVariants.{None as NoVerdict};
-ghost use Rattle.tc_campaign.specs.Choosing.{case_name};
-ghost use Rattle.tc_campaign.specs.Outline.{HasNames, outline_of};
-ghost use Rattle.tc_campaign.specs.Campaign.{IsCalled, IsRunTo};
-ghost use Rattle.tc_report.specs.Live.{closing_text};
-ghost use Rattle.tc_report.specs.Output.{LeavesPrefix};
-ghost use Rattle.tc_report.specs.Progress.{HasTold, IsToldBy};
-ghost use Rattle.tc_report.specs.Status.{ending_status};
-ghost use Rattle.tc_report.specs.Tally.{tally_of_cases};
+ghost use Rattle.tc_campaign.specs.Prelude.{case_name, HasNames, outline_of, IsCalled, IsRunTo};
+ghost use Rattle.tc_report.specs.Prelude.{closing_text, LeavesPrefix, HasTold, IsToldBy, ending_status, tally_of_cases};
 ghost use Rattle.tc_program.specs.Output.{live_form as spec_form};
 ghost use Rattle.tc_program.specs.Inside.{WasTold};
 ghost use Rattle.tc_entry.specs.declared.limits.TheConstants.{BEHAVIOURS as MOST_BEHAVIOURS};
-ghost use Rattle.tc_program.specs.Run.{IsRun, IsUnwritten};
-ghost use Rattle.tc_program.specs.Streams.{held};
+ghost use Rattle.tc_program.specs.Run.{IsRun, IsUnwrittenRun};
+ghost use Rattle.tc_program.specs.Streams.{held_streams};
 
 use crate::outcome::Outcome;
 use crate::output::{give_named, live_form};
@@ -190,9 +184,9 @@ where
     requires tally { live.old.tally ≡ tally_of_cases [] }
     requires worst { live.old.worst ≡ NoVerdict }
     ensures done { IfOk result (IsRun outline_of (IsCalled B.outcome) cases.items options.now
-        (held W.contents live.old.writer.now live.new.writer.now E.contents errors.old errors.new)) }
-    ensures refused { IfErr result (IsUnwritten outline_of (IsCalled B.outcome) cases.items options.now
-        (held W.contents live.old.writer.now live.new.writer.now E.contents errors.old errors.new)) }
+        (held_streams W.contents live.old.writer.now live.new.writer.now E.contents errors.old errors.new)) }
+    ensures refused { IfErr result (IsUnwrittenRun outline_of (IsCalled B.outcome) cases.items options.now
+        (held_streams W.contents live.old.writer.now live.new.writer.now E.contents errors.old errors.new)) }
     ensures same { live.new.writer.ghost_name ≡ live.old.writer.ghost_name }
 {
     if let Err(fault) = live.begin() {
@@ -227,9 +221,9 @@ where
     requires names { All HasNames cases.items }
     requires are { names.now ≡ map case_name cases.items }
     ensures done { IfOk result (IsRun outline_of (IsCalled B.outcome) cases.items options.now
-        (held W.contents writer.old writer.new E.contents errors.old errors.new)) }
-    ensures refused { IfErr result (IsUnwritten outline_of (IsCalled B.outcome) cases.items options.now
-        (held W.contents writer.old writer.new E.contents errors.old errors.new)) }
+        (held_streams W.contents writer.old writer.new E.contents errors.old errors.new)) }
+    ensures refused { IfErr result (IsUnwrittenRun outline_of (IsCalled B.outcome) cases.items options.now
+        (held_streams W.contents writer.old writer.new E.contents errors.old errors.new)) }
 {
     if let Some(form) = live_form(options.live, &options.form) {
         let mut live = LiveWriter::new(alloc, form, writer);
@@ -256,9 +250,9 @@ where
     R: Threads + Wait + Clock + Copy + Send + 'static,
     requires names { All HasNames cases.items }
     ensures done { IfOk result (IsRun outline_of (IsCalled B.outcome) cases.items options.now
-        (held W.contents writer.old writer.new E.contents errors.old errors.new)) }
-    ensures refused { IfErr result (IsUnwritten outline_of (IsCalled B.outcome) cases.items options.now
-        (held W.contents writer.old writer.new E.contents errors.old errors.new)) }
+        (held_streams W.contents writer.old writer.new E.contents errors.old errors.new)) }
+    ensures refused { IfErr result (IsUnwrittenRun outline_of (IsCalled B.outcome) cases.items options.now
+        (held_streams W.contents writer.old writer.new E.contents errors.old errors.new)) }
     ensures workers { THREADS ≡ MOST_BEHAVIOURS }
 {
     match names_of(alloc, cases.as_slice()) {

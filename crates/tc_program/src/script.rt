@@ -1,10 +1,8 @@
 //! The script of a campaign.
 ghost use Rattle.std.specs.Prelude.{◌≡◌, ◌⊎◌, All, IfOk, IfErr, Ok, false, map};
-ghost use Rattle.tc_script.specs.Campaign.{campaign};
-ghost use Rattle.tc_script.specs.Law.{IsCase};
-ghost use Rattle.tc_script.specs.Names.{has_twice};
+ghost use Rattle.tc_reader.specs.Prelude.{campaign, IsCase, has_twice};
 ghost use Rattle.tc_program.specs.Choosing.{RefusesScript};
-ghost use Rattle.tc_stream.specs.Input.{IsRead};
+ghost use Rattle.tc_stream.specs.Prelude.{IsRead};
 ghost use Rattle.tc_program.specs.Input.{IsUnread};
 ghost use Rattle.tc_program.specs.declared.limits.TheConstants.{SCRIPT_LIMIT};
 
@@ -13,7 +11,7 @@ use crate::input::read_text;
 use crate::limits::SCRIPT_LIMIT;
 use std::alloc::Global;
 use std::io::Read;
-use tc_script::{Campaign, ReadFault, read_campaign};
+use tc_reader::{Campaign, ReadFault, read_campaign};
 
 /// The campaign that the text spells.
 pub(crate) fn read_script(alloc: Global, text: &[u8]) -> Result<Campaign, RunFault>

@@ -1,8 +1,8 @@
 //! The subcommand `serve`.
 ghost use Rattle.std.specs.Prelude.{◌≡◌, IfOk};
-ghost use Rattle.tc_program.specs.Serve.{IsSettled, Serves, service_line as spec_line, service_status as spec_status};
-ghost use Rattle.tc_program.specs.Stderr.{IsRefusal};
-ghost use Rattle.tc_program.specs.Streams.{held};
+ghost use Rattle.tc_program.specs.Serve.{IsServiceStatus, Serves, service_line as spec_line, service_status as spec_status};
+ghost use Rattle.tc_program.specs.Stderr.{IsPrintedRefusal};
+ghost use Rattle.tc_program.specs.Streams.{held_streams};
 
 use crate::fault::{RunFault, fault_line};
 use crate::outcome::{Outcome, REFUSED};
@@ -30,7 +30,7 @@ fn service_line(alloc: Global, fault: ServeFault) -> Result<Vec<u8>, NoMemory>
 
 // The outcome of a service that ended by this fault: its line is printed.
 fn refuse<E: Write>(alloc: Global, errors: &mut E, fault: ServeFault) -> Outcome
-    ensures { IsRefusal (E.contents errors.old) (E.contents errors.new) (spec_line fault) result }
+    ensures { IsPrintedRefusal (E.contents errors.old) (E.contents errors.new) (spec_line fault) result }
 {
     refuse_with(errors, service_line(alloc, fault))
 }
@@ -47,7 +47,7 @@ fn service_status(ended: Result<Served, ServeFault>) -> u8
 
 // The outcome of a service: the line of its fault is printed, if standard error has taken all so far.
 fn settle<E: Write>(alloc: Global, ending: Ending, errors: &mut E) -> Outcome
-    ensures { IsSettled ending.told ending.outcome (E.contents errors.old) (E.contents errors.new) result }
+    ensures { IsServiceStatus ending.told ending.outcome (E.contents errors.old) (E.contents errors.new) result }
 {
     let status = service_status(ending.outcome);
     match (ending.told, ending.outcome) {
@@ -70,7 +70,7 @@ pub(crate) fn serve_input<I: Read, W: Write, E: Write>(
     writer: &mut W,
     errors: &mut E,
 ) -> Outcome
-    ensures { Serves (I.remaining reader.old) (held W.contents writer.old writer.new E.contents errors.old errors.new) result }
+    ensures { Serves (I.remaining reader.old) (held_streams W.contents writer.old writer.new E.contents errors.old errors.new) result }
 {
     let ending = serve(alloc, reader, writer, errors);
     settle(alloc, ending, errors)

@@ -1,10 +1,10 @@
 //! Calls with short operations.
 ghost use Rattle.std.specs.Prelude.{◌≡◌, IfOk};
 ghost use Rattle.tc_entry.specs.declared.op.Op.TheVariants as ops;
-ghost use Rattle.tc_text.specs.Reading.{op_of};
-ghost use Rattle.tc_table.specs.Standing.{IsReply, TakesIn};
+ghost use Rattle.tc_text.specs.Prelude.{op_of};
+ghost use Rattle.tc_rules.specs.Prelude.{IsReplyOf, TakesIn};
 
-use tc_table::{CaseState, NoMemory, Op, Reply, Run, Target};
+use tc_rules::{CaseState, NoMemory, Op, Reply, Run, Target};
 use tc_text::ShortOp;
 
 #[inline(always)]
@@ -32,7 +32,7 @@ pub(crate) fn play_short<T>(
     op: ShortOp,
 ) -> Result<Reply, NoMemory>
     ensures behaviours { state.new.behaviours ≡ state.old.behaviours }
-    ensures reply { IfOk result (λ r. IsReply state.old caller (op_of op) r) }
+    ensures reply { IfOk result (λ r. IsReplyOf state.old caller (op_of op) r) }
     ensures stands { IfOk result (λ r. TakesIn state.old (record { caller = caller; op = op_of op; reply = r }) state.new) }
 {
     match op {

@@ -1,7 +1,6 @@
 //! The value of `--stop-on`.
 ghost use Rattle.std.specs.Prelude.{◌≡◌, IfOk, IfErr};
-ghost use Rattle.tc_verdict.specs.Verdict.{name_of};
-ghost use Rattle.tc_verdict.specs.declared.verdict.Verdict.{Verdict as AnyVerdict};
+ghost use Rattle.tc_rules.specs.Prelude.{name_of, Verdict as AnyVerdict};
 ghost use Rattle.tc_program.specs.declared.fault.RunFault.TheVariants.{StopOn};
 
 use crate::fault::RunFault;

@@ -1,6 +1,6 @@
 //! Which pattern of `--only` matches no name.
 ghost use Rattle.std.specs.Prelude.{[], OnOk};
-ghost use Rattle.tc_text.specs.Said.{TellsAmong};
+ghost use Rattle.tc_text.specs.Prelude.{TellsAmong};
 
 use crate::compare::read_blocks;
 use crate::fault::RunFault;

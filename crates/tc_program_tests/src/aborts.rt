@@ -1,6 +1,6 @@
 //! What is printed about a campaign that is aborted, to a standard error that fails.
 ghost use Rattle.std.specs.Prelude.{All, IfOk, ⊤};
-ghost use Rattle.tc_campaign.specs.Outline.{HasNames};
+ghost use Rattle.tc_campaign.specs.Prelude.{HasNames};
 
 use crate::checks::{holds, is};
 use std::alloc::Global;
@@ -14,8 +14,7 @@ use tc_campaign::Case;
 use tc_command::{Choice, Form, RunOptions};
 use tc_entry::Name;
 use tc_exec::{Back, Callable, Ending};
-use tc_program::outcome::Outcome;
-use tc_program::run::run_cases;
+use tc_program::{Outcome, run_cases};
 use tc_stream::devices::{NarrowWriter, WriteFailure};
 
 const ABORTED: &[u8] = b"ttrun: aborted at a: no behaviours\n";

@@ -7,8 +7,7 @@ use std::test::Fail;
 use std::thread::Threads;
 use std::time::Clock;
 use tc_command::{Refused, Task};
-use tc_program::fault::RunFault;
-use tc_program::outcome::Outcome;
+use tc_program::{Outcome, RunFault};
 
 /// The bytes of a text, with a line feed for each `;`.
 pub(crate) fn in_lines(alloc: Global, text: &str) -> Result<Vec<u8>, AllocError> {
@@ -57,7 +56,7 @@ pub(crate) fn replay<W: Write>(
     writer: &mut W,
 ) -> Result<u8, RunFault> {
     let mut reader = input;
-    tc_program::replay::replay(alloc, &mut reader, writer)
+    tc_program::replay(alloc, &mut reader, writer)
 }
 
 pub(crate) fn answer<R, I: Read, W: Write, E: Write>(
@@ -71,7 +70,7 @@ pub(crate) fn answer<R, I: Read, W: Write, E: Write>(
 where
     R: Threads + Wait + Clock + Copy + Send + 'static,
 {
-    tc_program::answer::answer(rt, alloc, words, false, reader, writer, errors)
+    tc_program::answer(rt, alloc, words, false, reader, writer, errors)
 }
 
 pub(crate) fn carry_out<R, I: Read, W: Write, E: Write>(
@@ -85,5 +84,5 @@ pub(crate) fn carry_out<R, I: Read, W: Write, E: Write>(
 where
     R: Threads + Wait + Clock + Copy + Send + 'static,
 {
-    tc_program::carry_out::carry_out(rt, alloc, task, reader, writer, errors)
+    tc_program::carry_out(rt, alloc, task, reader, writer, errors)
 }

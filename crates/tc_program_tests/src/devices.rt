@@ -13,11 +13,7 @@ use tc_campaign::{CampaignEnd, Finished, Results};
 use tc_command::{Form, Task};
 use tc_entry::{Comp, Entry, Name, Op, Reply, Run, Sequence, Verdict};
 use tc_exec::CaseError;
-use tc_program::check::check;
-use tc_program::fault::{RunFault, abort_line};
-use tc_program::outcome::Outcome;
-use tc_program::output::give;
-use tc_program::replay::replay;
+use tc_program::{Outcome, RunFault, abort_line, check, give, replay};
 use tc_stream::devices::{NarrowWriter, SlowReader, WriteFailure};
 
 /// The words of a task, its input, and its status.

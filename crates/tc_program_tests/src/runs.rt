@@ -9,9 +9,7 @@ use std::test::Fail;
 use std::thread::Threads;
 use std::time::Clock;
 use std::{io, str};
-use tc_program::check::check;
-use tc_program::fault::RunFault;
-use tc_program::stop_on::stop_word;
+use tc_program::{RunFault, check, stop_word};
 use tc_stream::devices::SlowReader;
 use tc_verdict::Verdict;
 

@@ -5,7 +5,7 @@ use std::io;
 use std::io::Read;
 use std::process::Abort;
 use std::test::Fail;
-use tc_program::terminal::{Announcing, awaited_line};
+use tc_program::{Announcing, awaited_line};
 use tc_stream::devices::{NarrowWriter, SlowReader, WriteFailure};
 
 /// The number of bytes of the next read into one byte, and that byte.

@@ -6,9 +6,7 @@ use crate::runs::STORED;
 use std::alloc::{AllocError, Global};
 use std::process::Abort;
 use std::test::Fail;
-use tc_program::check::check;
-use tc_program::fault::{RunFault, fault_line};
-use tc_program::script::take_script;
+use tc_program::{RunFault, check, fault_line, take_script};
 use tc_stream::devices::SlowReader;
 
 /// What a row is given to.

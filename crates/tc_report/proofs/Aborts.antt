@@ -1,9 +1,9 @@
 -- The line of an aborted campaign, piece by piece.
 use Rattle.std.proofs.Common.{ℕ, ◌≡◌, ◌∙◌, List, ◌++◌, Option, Result, Ok, Err, OnErr, codes, sym, ap, subst, append_assoc}
 use Rattle.std.specs.Io.KnownBytes.{Appends}
-use Rattle.tc_stream.specs.Output.{AppendsPrefix}
-use Rattle.tc_case.specs.declared.refusal.CaseError.{CaseError}
-use Rattle.tc_case.specs.Refusals.{refusal_text}
+use Rattle.tc_stream.specs.Prelude.{AppendsPrefix}
+use Rattle.tc_rules.specs.declared.refusal.CaseError.{CaseError}
+use Rattle.tc_rules.specs.Prelude.{refusal_text}
 use Rattle.tc_report.specs.declared.results.CampaignEnd.TheVariants as E
 use Rattle.tc_report.specs.Ending.{abort_text}
 use Rattle.tc_report.proofs.Writing.{appends_both, prefix_behind, prefix_longer}

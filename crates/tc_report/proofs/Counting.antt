@@ -3,10 +3,9 @@ use Rattle.std.proofs.Common.{ℕ, ◌≡◌, ◌∙◌, ◌+◌, Bool, true, fa
 use Rattle.std.specs.Prelude.{◌==◌, if◌then◌else◌, filter}
 use Rattle.std.proofs.lemmas.List.{length-append}
 use Rattle.std.proofs.lemmas.List.Elements.{filter-append}
-use Rattle.tc_verdict.specs.declared.verdict.Verdict.{Verdict}
+use Rattle.tc_rules.specs.Prelude.{Verdict, level_of}
 use Rattle.tc_verdict.specs.declared.verdict.Verdict.TheVariants as V
 use Rattle.tc_report.specs.declared.results.Finished.{Finished}
-use Rattle.tc_verdict.specs.Verdict.{level_of}
 use Rattle.tc_report.specs.declared.results.Tally.{Tally}
 use Rattle.tc_report.specs.Inside.{IsOneMore, cases_of, one_if, tally_with}
 use Rattle.tc_report.specs.Tally.{tally_of_cases}

@@ -1,8 +1,7 @@
 -- The worst of the verdicts that test cases count as, one test case more.
 use Rattle.std.proofs.Common.{ℕ, ◌≡◌, ◌∙◌, ◌+◌, ◌<◌, List, [], ◌∷◌, ◌++◌, length, map, take, get_or, ap, sym}
 use Rattle.std.proofs.lemmas.List.{map-append, take_more}
-use Rattle.tc_verdict.specs.declared.verdict.Verdict.{Verdict}
-use Rattle.tc_verdict.specs.Verdict.{worse, worst}
+use Rattle.tc_rules.specs.Prelude.{Verdict, worse, worst}
 use Rattle.tc_verdict.proofs.Lemmas.Order.{worst-more}
 use Rattle.tc_report.specs.declared.results.Finished.{Finished}
 use Rattle.tc_report.specs.declared.summary.Summary.{Summary}

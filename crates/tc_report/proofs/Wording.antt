@@ -3,7 +3,7 @@ use Rattle.std.proofs.Common.{ℕ, ◌≡◌, ◌∙◌, ◌+◌, ◌<◌, nat_l
 use Rattle.std.specs.List.{AllZip, concat}
 use Rattle.std.proofs.lemmas.List.{append-nil, map-append, take_more}
 use Rattle.std.proofs.lemmas.List.Elements.{filter-append}
-use Rattle.tc_text.specs.Said.{Holds, Line, ends_word}
+use Rattle.tc_text.specs.Prelude.{Holds, Line, ends_word}
 use Rattle.tc_report.specs.Csv.{end_word}
 use Rattle.tc_report.specs.Inside.{AddsShown, AddsWords, AreShown}
 use Rattle.tc_report.specs.Status.{counted_as, verdict_status}

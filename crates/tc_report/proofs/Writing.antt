@@ -4,14 +4,14 @@ use Rattle.std.proofs.lemmas.List.{append-nil, flat_map_more, length-append, tak
 use Rattle.std.proofs.lemmas.List.Folds.{flat_map-map}
 use Rattle.std.proofs.Math.Seq.{take-append-add}
 use Rattle.std.specs.Io.KnownBytes.{Appends, Keeps}
-use Rattle.tc_stream.specs.Output.{AppendsPrefix}
+use Rattle.tc_stream.specs.Prelude.{AppendsPrefix}
 use Rattle.tc_report.specs.declared.fault.OutFault.{OutFault}
 use Rattle.tc_report.specs.declared.fault.OutFault.TheVariants as O
 use Rattle.tc_report.specs.declared.live_form.LiveForm.{LiveForm}
 use Rattle.tc_report.specs.declared.live_form.LiveForm.TheVariants as F
 use Rattle.tc_report.specs.declared.results.CampaignEnd.{CampaignEnd}
 use Rattle.tc_report.specs.declared.results.Finished.{Finished}
-use Rattle.tc_report.specs.Csv.{header_text, row_line}
+use Rattle.tc_report.specs.Csv.{columns_text, row_line}
 use Rattle.tc_report.specs.Live.{closing_text, part_text}
 use Rattle.tc_report.specs.Inside.{form_text, text_so_far}
 use Rattle.tc_report.specs.Output.{LeavesPrefix}
@@ -55,6 +55,6 @@ so_far_more form fs f = flat_map_more (part_text form) _ fs f
 pub whole_text : (form : LiveForm) (fs : List Finished) (ending : CampaignEnd)
     → text_so_far form fs ++ closing_text form (tally_of_cases fs) ending ≡ form_text form (record { finished = fs; ending = ending })
 whole_text F.Text fs ending = refl
-whole_text F.Csv fs ending = append-nil _ ∙ ap (λ l. header_text ++ l) (sym (flat_map-map row_line case_summary fs))
+whole_text F.Csv fs ending = append-nil _ ∙ ap (λ l. columns_text ++ l) (sym (flat_map-map row_line case_summary fs))
 whole_text F.History fs ending = append-nil _
 whole_text F.Evidence fs ending = append-nil _

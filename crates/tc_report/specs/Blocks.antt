@@ -1,18 +1,18 @@
 -- The histories and the evidence of a campaign: a block for each finished test case.
 use Rattle.std.specs.Prelude.{ℕ, List, [], ◌++◌, map, take}
 use Rattle.std.specs.List.{enumerate_from, flat_map}
-use Rattle.tc_evidence.specs.declared.header.Header.{Header}
-use Rattle.tc_evidence.specs.declared.header.Kind.{Kind}
-use Rattle.tc_evidence.specs.declared.header.Kind.TheVariants as K
-use Rattle.tc_evidence.specs.declared.line.Line.{Line}
-use Rattle.tc_evidence.specs.declared.line.Line.TheVariants as L
-use Rattle.tc_evidence.specs.Block.{block_text}
+use Rattle.tc_blocks.specs.declared.header.Header.{Header}
+use Rattle.tc_blocks.specs.declared.header.Kind.{Kind}
+use Rattle.tc_blocks.specs.declared.header.Kind.TheVariants as K
+use Rattle.tc_blocks.specs.declared.line.Line.{Line}
+use Rattle.tc_blocks.specs.declared.line.Line.TheVariants as L
+use Rattle.tc_blocks.specs.Prelude.{block_text}
 use Rattle.tc_report.specs.declared.results.Results.{Results}
 use Rattle.tc_report.specs.declared.results.Finished.{Finished}
 
 -- the first line of the block of a finished test case
-abbrev pub header_of : Kind → Finished → Header
-header_of kind f = record { kind = kind; name = f.name; behaviours = f.report.behaviours }
+abbrev pub finished_header : Kind → Finished → Header
+finished_header kind f = record { kind = kind; name = f.name; behaviours = f.report.behaviours }
 
 -- the names in that block: in evidence those of the behaviours of the test case by their runs, in a history none
 abbrev pub name_lines : Kind → Finished → List Line
@@ -21,7 +21,7 @@ name_lines kind f = []
 
 -- that block: the names, the entries and the overall verdict
 abbrev pub case_block : Kind → Finished → List ℕ
-case_block kind f = block_text (header_of kind f) (name_lines kind f ++ map L.Entry f.report.history) f.report.verdict
+case_block kind f = block_text (finished_header kind f) (name_lines kind f ++ map L.Entry f.report.history) f.report.verdict
 
 -- the block of each finished test case
 abbrev pub blocks_text : Kind → Results → List ℕ

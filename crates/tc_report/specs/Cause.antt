@@ -2,12 +2,7 @@
 use Rattle.std.specs.Prelude.{ℕ, nat_lt, if◌then◌else◌, Option, None, List, [], ◌++◌, codes, length, reverse, slice_get, take}
 use Rattle.std.specs.Option.{option_and_then, option_map, option_map_or}
 use Rattle.std.specs.Fmt.{decimal}
-use Rattle.tc_verdict.specs.Verdict.{level_of}
-use Rattle.tc_entry.specs.declared.comp.Comp.{Comp}
-use Rattle.tc_entry.specs.declared.entry.Entry.{Entry}
-use Rattle.tc_table.specs.Deciding.{deciding, name_of}
-use Rattle.tc_table.specs.History.{comp_of}
-use Rattle.tc_case.specs.Parts.{part}
+use Rattle.tc_rules.specs.Prelude.{level_of, Comp, Entry, deciding, component_name, comp_of, part}
 use Rattle.tc_report.specs.declared.cause.Cause.{Cause}
 use Rattle.tc_report.specs.declared.results.CaseEnd.{CaseEnd}
 use Rattle.tc_report.specs.declared.results.CaseEnd.TheVariants as C
@@ -19,7 +14,7 @@ abbrev pub cause_by : List Entry → ℕ → Entry → Cause
 cause_by history at e = record {
   entry = e;
   comp = comp_of (reverse history) e.caller.0;
-  name = option_and_then (λ (c : Comp). name_of (reverse history) c.0) (comp_of (reverse history) e.caller.0);
+  name = option_and_then (λ (c : Comp). component_name (reverse history) c.0) (comp_of (reverse history) e.caller.0);
   log = part history e.caller.0;
   before = length (part (take at history) e.caller.0);
 }

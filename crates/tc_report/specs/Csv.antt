@@ -2,17 +2,16 @@
 use Rattle.std.specs.Prelude.{ℕ, List, [], ◌∷◌, ◌++◌, length, map, codes}
 use Rattle.std.specs.List.{flat_map, join_with_byte}
 use Rattle.std.specs.Fmt.{decimal}
-use Rattle.tc_verdict.specs.declared.verdict.Verdict.{Verdict}
+use Rattle.tc_rules.specs.Prelude.{Verdict, name_of}
 use Rattle.tc_verdict.specs.declared.verdict.Verdict.TheVariants as V
-use Rattle.tc_verdict.specs.Verdict.{name_of}
 use Rattle.tc_report.specs.declared.results.CaseEnd.{CaseEnd}
 use Rattle.tc_report.specs.declared.results.CaseEnd.TheVariants as C
 use Rattle.tc_report.specs.declared.summary.Summary.{Summary}
 use Rattle.tc_report.specs.Tally.{count_of}
 
 -- the header
-abbrev pub header_text : List ℕ
-header_text = codes "testcase,components,none,pass,inconc,fail,error,verdict\n"
+abbrev pub columns_text : List ℕ
+columns_text = codes "testcase,components,none,pass,inconc,fail,error,verdict\n"
 
 -- how many components a test case has, and how many of them have each local verdict
 abbrev pub counts_of : List Verdict → List ℕ
@@ -32,4 +31,4 @@ row_line s = join_with_byte 44 (s.name ∷ (map decimal (counts_of s.locals) ++ 
 
 -- the header, and a line for each test case
 abbrev pub csv_of : List Summary → List ℕ
-csv_of ss = header_text ++ flat_map row_line ss
+csv_of ss = columns_text ++ flat_map row_line ss

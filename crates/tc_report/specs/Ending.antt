@@ -1,7 +1,7 @@
 -- How a campaign ended, as texts say it.
 use Rattle.std.specs.Prelude.{ℕ, Bool, true, false, List, [], ◌∷◌, ◌++◌, codes}
-use Rattle.tc_case.specs.declared.refusal.CaseError.{CaseError}
-use Rattle.tc_case.specs.Refusals.{refusal_text}
+use Rattle.tc_rules.specs.declared.refusal.CaseError.{CaseError}
+use Rattle.tc_rules.specs.Prelude.{refusal_text}
 use Rattle.tc_report.specs.declared.results.CampaignEnd.{CampaignEnd}
 use Rattle.tc_report.specs.declared.results.CampaignEnd.TheVariants as E
 

@@ -4,7 +4,7 @@ use Rattle.std.specs.Global.{Vec}
 use Rattle.csv.specs.declared.writer.Writer.{Writer}
 use Rattle.csv.specs.Writing.{default_writer, writer_setup, fields_written, has_written, writer_under, writer_pending}
 use Rattle.tc_report.specs.Cause.{named_text}
-use Rattle.tc_report.specs.Csv.{csv_of, header_text}
+use Rattle.tc_report.specs.Csv.{csv_of, columns_text}
 use Rattle.std.specs.List.{enumerate_from, flat_map, join_with_byte}
 use Rattle.std.specs.Option.{option_and_then, option_map_or}
 use Rattle.tc_report.specs.declared.live_form.LiveForm.{LiveForm}
@@ -12,28 +12,23 @@ use Rattle.tc_report.specs.Summary.{case_summary}
 use Rattle.tc_report.specs.Report.{report_text}
 use Rattle.tc_report.specs.Blocks.{blocks_text, name_lines}
 use Rattle.tc_report.specs.Tally.{tally_of_cases}
-use Rattle.tc_entry.specs.declared.comp.Comp.{Comp}
-use Rattle.tc_entry.specs.declared.entry.Entry.{Entry}
-use Rattle.tc_table.specs.Deciding.{name_in}
-use Rattle.tc_table.specs.History.{created}
-use Rattle.tc_evidence.specs.declared.header.Kind.{Kind}
+use Rattle.tc_rules.specs.Prelude.{Comp, Entry, name_in, created, Verdict, level_of}
+use Rattle.tc_blocks.specs.declared.header.Kind.{Kind}
 use Rattle.tc_report.specs.declared.results.Results.{Results}
 use Rattle.tc_report.specs.declared.live_form.LiveForm.TheVariants as F
-use Rattle.tc_evidence.specs.declared.header.Kind.TheVariants as K
+use Rattle.tc_blocks.specs.declared.header.Kind.TheVariants as K
 use Rattle.tc_report.specs.declared.results.Finished.{Finished}
 use Rattle.tc_report.specs.declared.results.Tally.{Tally}
-use Rattle.tc_verdict.specs.declared.verdict.Verdict.{Verdict}
 use Rattle.tc_verdict.specs.declared.verdict.Verdict.TheVariants as V
-use Rattle.tc_verdict.specs.Verdict.{level_of}
-use Rattle.tc_evidence.specs.declared.line.Line.{Line as BlockLine}
-use Rattle.tc_evidence.specs.declared.line.Line.TheVariants as L
+use Rattle.tc_blocks.specs.declared.line.Line.{Line as BlockLine}
+use Rattle.tc_blocks.specs.declared.line.Line.TheVariants as L
 use Rattle.tc_report.specs.Live.{opening_text, part_text}
 use Rattle.tc_report.specs.Observers.{AreTaken}
 use Rattle.tc_report.specs.declared.fault.OutFault.{OutFault}
 use Rattle.tc_report.specs.Progress.{Names, Prints, failed}
 use Rattle.tc_report.specs.SummaryText.{IsShown}
 use Rattle.tc_report.specs.declared.summary.Summary.{Summary}
-use Rattle.tc_text.specs.Said.{Holds, Line, ends_word}
+use Rattle.tc_text.specs.Prelude.{Holds, Line, ends_word}
 
 -- the bytes in memory, and then those that the writer holds back
 abbrev pub written_by : Writer (Vec ℕ) → List ℕ
@@ -48,7 +43,7 @@ pub record IsBetweenRecords (w : Writer (Vec ℕ)) : Type 0 where
 -- the header was written, and nothing else
 pub record IsStarted (w : Writer (Vec ℕ)) : Type 0 where
   pub between : IsBetweenRecords w
-  pub header : written_by w ≡ header_text
+  pub header : written_by w ≡ columns_text
 
 -- fields with a comma between them, and LF
 abbrev pub csv_line : List (List ℕ) → List ℕ

@@ -3,10 +3,8 @@
 use Rattle.std.specs.Prelude.{ℕ, ◌==◌, Option, Some, None, List, [], ◌++◌, length, filter, codes, unwrap_or}
 use Rattle.std.specs.List.{flat_map}
 use Rattle.std.specs.Fmt.{decimal}
-use Rattle.tc_case.specs.Refusals.{refusal_text}
-use Rattle.tc_verdict.specs.declared.verdict.Verdict.{Verdict}
+use Rattle.tc_rules.specs.Prelude.{refusal_text, Verdict, level_of, name_of}
 use Rattle.tc_verdict.specs.declared.verdict.Verdict.TheVariants as V
-use Rattle.tc_verdict.specs.Verdict.{level_of, name_of}
 use Rattle.tc_report.specs.declared.cause.Cause.{Cause}
 use Rattle.tc_report.specs.declared.results.CaseEnd.{CaseEnd}
 use Rattle.tc_report.specs.declared.results.CaseEnd.TheVariants as C
@@ -28,8 +26,8 @@ unfoldable pub number_text : List ℕ → ℕ → List ℕ
 number_text name n = name ++ (decimal n ++ codes "\"")
 
 -- the counts, as attributes
-unfoldable pub counts_text : List Summary → List ℕ
-counts_text ss =
+unfoldable pub counts_attributes : List Summary → List ℕ
+counts_attributes ss =
     number_text (codes " tests=\"") (length ss) ++ (number_text (codes " failures=\"") (with_status 1 ss) ++
     number_text (codes " errors=\"") (with_status 2 ss))
 
@@ -40,8 +38,8 @@ suite_tag suite = codes ">\n<testsuite name=\"" ++ (suite ++ codes "\"")
 -- the first tags, each with the counts; the suite also counts those that are skipped
 unfoldable pub head_text : List ℕ → List Summary → List ℕ
 head_text suite ss =
-    codes "<?xml version=\"1.0\" encoding=\"UTF-8\"?>\n<testsuites" ++ (counts_text ss ++
-    (suite_tag suite ++ (counts_text ss ++ number_text (codes " skipped=\"") (skipped ss))))
+    codes "<?xml version=\"1.0\" encoding=\"UTF-8\"?>\n<testsuites" ++ (counts_attributes ss ++
+    (suite_tag suite ++ (counts_attributes ss ++ number_text (codes " skipped=\"") (skipped ss))))
 
 -- the program's version
 unfoldable pub version_text : List ℕ → List ℕ

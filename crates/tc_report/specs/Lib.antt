@@ -18,3 +18,8 @@ pub mod Kept
 pub mod Live
 pub mod Laws
 pub mod Inside
+pub mod Prelude
+pub use Rattle.tc_stream.specs.Prelude as OfStream
+pub use Rattle.tc_text.specs.Prelude as OfText
+pub use Rattle.tc_rules.specs.Prelude as OfRules
+pub use Rattle.tc_blocks.specs.Prelude as OfBlocks

@@ -1,8 +1,8 @@
 -- The text of a campaign that is written as its test cases finish.
 use Rattle.std.specs.Prelude.{ℕ, ◌≡◌, Bool, true, false, List, [], ◌∷◌, ◌++◌, IsSomeAnd, Option}
 use Rattle.std.specs.Io.KnownBytes.{Appends}
-use Rattle.tc_verdict.specs.Verdict.{worse}
-use Rattle.tc_evidence.specs.declared.header.Kind.TheVariants as K
+use Rattle.tc_rules.specs.Prelude.{worse}
+use Rattle.tc_blocks.specs.declared.header.Kind.TheVariants as K
 use Rattle.tc_report.specs.declared.live_form.LiveForm.{LiveForm}
 use Rattle.tc_report.specs.declared.live_form.LiveForm.TheVariants as F
 use Rattle.tc_report.specs.declared.live.LiveWriter.{LiveWriter}
@@ -10,7 +10,7 @@ use Rattle.tc_report.specs.declared.results.CampaignEnd.{CampaignEnd}
 use Rattle.tc_report.specs.declared.results.Finished.{Finished}
 use Rattle.tc_report.specs.declared.results.Tally.{Tally}
 use Rattle.tc_report.specs.Blocks.{case_block}
-use Rattle.tc_report.specs.Csv.{header_text, row_line}
+use Rattle.tc_report.specs.Csv.{columns_text, row_line}
 use Rattle.tc_report.specs.Ending.{ending_line}
 use Rattle.tc_report.specs.Output.{LeavesPrefix}
 use Rattle.tc_report.specs.Report.{case_text}
@@ -19,7 +19,7 @@ use Rattle.tc_report.specs.Tally.{tally_line, tally_of_cases}
 
 -- what is before the test cases, in this form
 abbrev pub opening_text : LiveForm → List ℕ
-opening_text F.Csv = header_text
+opening_text F.Csv = columns_text
 opening_text form = []
 
 -- what says one test case

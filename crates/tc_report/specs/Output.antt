@@ -1,9 +1,8 @@
 -- What a fault of an output says.
 use Rattle.std.specs.Prelude.{ℕ, List, Option}
 use Rattle.std.specs.Io.KnownBytes.{Keeps}
-use Rattle.tc_stream.specs.Output.{AppendsPrefix}
-use Rattle.tc_stream.specs.Fault.{write_text}
-use Rattle.tc_verdict.specs.Words.{memory_text}
+use Rattle.tc_stream.specs.Prelude.{AppendsPrefix, write_text}
+use Rattle.tc_rules.specs.Prelude.{memory_text}
 use Rattle.tc_report.specs.declared.fault.OutFault.{OutFault}
 use Rattle.tc_report.specs.declared.fault.OutFault.TheVariants as F
 

@@ -1,8 +1,7 @@
 -- What matters of what is printed about test cases as they begin and finish. No clause spells it.
 use Rattle.std.specs.Prelude.{ℕ, ◌≡◌, nat_lt, Bool, true, false, List, [], ◌∷◌, ◌++◌, MatchOption, Option, Result, Ok, Err, codes, filter}
 use Rattle.std.specs.Io.KnownBytes.{Appends, Keeps}
-use Rattle.tc_verdict.specs.Verdict.{name_of}
-use Rattle.tc_entry.specs.Name.{is_name_byte}
+use Rattle.tc_rules.specs.Prelude.{name_of, is_name_byte}
 use Rattle.tc_report.specs.declared.fault.OutFault.{OutFault}
 use Rattle.tc_report.specs.declared.progress.Progress.{Progress}
 use Rattle.tc_report.specs.declared.results.Finished.{Finished}
@@ -39,5 +38,5 @@ module _ {O E C : Type 0} (contents : E → Option (List ℕ)) where
       MatchOption p.fault (Prints fs start (contents p.writer.now) × Names (failed fs) p.failed.now.items) (λ _. Prints [] start (contents p.writer.now))
 
   -- one more is reported
-  abbrev pub Tells : Progress O E C → Finished → Progress O E C → Type 0
-  Tells before f after = (start : Option (List ℕ)) (fs : List Finished) → HasTold start fs before → HasTold start (fs ++ f ∷ []) after
+  abbrev pub TellsProgress : Progress O E C → Finished → Progress O E C → Type 0
+  TellsProgress before f after = (start : Option (List ℕ)) (fs : List Finished) → HasTold start fs before → HasTold start (fs ++ f ∷ []) after

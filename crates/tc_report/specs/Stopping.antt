@@ -1,7 +1,6 @@
 -- The stopping rule of a campaign.
 use Rattle.std.specs.Prelude.{◌≤◌, IsSomeAnd, Option}
-use Rattle.tc_verdict.specs.declared.verdict.Verdict.{Verdict}
-use Rattle.tc_verdict.specs.Verdict.{level_of}
+use Rattle.tc_rules.specs.Prelude.{Verdict, level_of}
 
 -- the verdict is stop_on or worse; without a stopping rule none is
 abbrev pub IsMet : Option Verdict → Verdict → Type 0

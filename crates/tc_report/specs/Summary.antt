@@ -1,10 +1,7 @@
 -- What reports say of a test case: by its history, or by its own report.
 use Rattle.std.specs.Prelude.{ℕ, if◌then◌else◌, None, List, [], ◌∷◌, ◌++◌, drop, length, map, reverse}
-use Rattle.tc_verdict.specs.declared.verdict.Verdict.{Verdict}
-use Rattle.tc_entry.specs.declared.entry.Entry.{Entry}
-use Rattle.tc_table.specs.History.{comps, is_over}
-use Rattle.tc_table.specs.Local.{local, overall}
-use Rattle.tc_history.specs.declared.block.Block.{Block}
+use Rattle.tc_rules.specs.Prelude.{Verdict, Entry, comps, is_over, local, overall}
+use Rattle.tc_blocks.specs.declared.history_block.History.{History}
 use Rattle.tc_report.specs.Cause.{cause_of}
 use Rattle.tc_report.specs.Names.{names_of}
 use Rattle.tc_report.specs.declared.results.CampaignEnd.{CampaignEnd}
@@ -16,8 +13,8 @@ use Rattle.tc_report.specs.declared.results.Results.{Results}
 use Rattle.tc_report.specs.declared.summary.Summary.{Summary}
 
 -- how a test case with these past entries, the newest first, ended
-abbrev pub end_of : List Entry → CaseEnd
-end_of past = if is_over past then C.Over (overall past) else C.Unfinished
+abbrev pub case_end : List Entry → CaseEnd
+case_end past = if is_over past then C.Over (overall past) else C.Unfinished
 
 -- the test case of this name, with these local verdicts, this end and this history
 abbrev pub summary_with : List ℕ → List Verdict → CaseEnd → List Entry → Summary
@@ -26,10 +23,10 @@ summary_with name locals ending history =
 
 -- the test case of this name, with these entries
 abbrev pub summary_of : List ℕ → List Entry → Summary
-summary_of name history = summary_with name (map (local (reverse history)) (comps (reverse history))) (end_of (reverse history)) history
+summary_of name history = summary_with name (map (local (reverse history)) (comps (reverse history))) (case_end (reverse history)) history
 
 -- the test case of a block of a history text
-abbrev pub block_summary : Block → Summary
+abbrev pub block_summary : History → Summary
 block_summary b = summary_of b.name b.entries
 
 -- a finished test case, by its report

@@ -5,11 +5,9 @@ use Rattle.std.specs.List.{AllZip, concat, enumerate_from, flat_map}
 use Rattle.std.specs.Option.{option_and_then}
 use Rattle.std.specs.Fmt.{decimal}
 use Rattle.std.specs.Str.{bytes_eq}
-use Rattle.tc_case.specs.Refusals.{refusal_text}
-use Rattle.tc_text.specs.Said.{Holds, Line, ends_word}
-use Rattle.tc_verdict.specs.declared.verdict.Verdict.{Verdict}
+use Rattle.tc_rules.specs.Prelude.{refusal_text, Verdict, level_of, name_of}
+use Rattle.tc_text.specs.Prelude.{Holds, Line, ends_word}
 use Rattle.tc_verdict.specs.declared.verdict.Verdict.TheVariants as V
-use Rattle.tc_verdict.specs.Verdict.{level_of, name_of}
 use Rattle.tc_report.specs.Cause.{cause_text, named_text}
 use Rattle.tc_report.specs.Csv.{end_word}
 use Rattle.tc_report.specs.Status.{counted_as, verdict_status}
@@ -20,17 +18,17 @@ use Rattle.tc_report.specs.declared.results.CaseEnd.TheVariants as C
 use Rattle.tc_report.specs.declared.summary.Summary.{Summary}
 
 -- how many of the test cases ended with this word
-abbrev pub ended : List ℕ → List Summary → ℕ
-ended word ss = length (filter (λ s. bytes_eq (end_word s.ending) word) ss)
+abbrev pub ended_so : List ℕ → List Summary → ℕ
+ended_so word ss = length (filter (λ s. bytes_eq (end_word s.ending) word) ss)
 
 -- the line of those that have none, if there are some
 abbrev pub other_line : List ℕ → List Summary → List ℕ
-other_line word ss = if ended word ss == 0 then [] else word ++ (codes " " ++ (decimal (ended word ss) ++ (10 ∷ [])))
+other_line word ss = if ended_so word ss == 0 then [] else word ++ (codes " " ++ (decimal (ended_so word ss) ++ (10 ∷ [])))
 
 -- the counts
 unfoldable pub counts_text : List Summary → List ℕ
 counts_text ss =
-    tally_line (tally_by (length ss) (λ v. ended (name_of v) ss)) ++ (other_line (codes "unfinished") ss ++ (other_line (codes "aborted") ss
+    tally_line (tally_by (length ss) (λ v. ended_so (name_of v) ss)) ++ (other_line (codes "unfinished") ss ++ (other_line (codes "aborted") ss
     ++ (other_line (codes "missing") ss ++ other_line (codes "notrun") ss)))
 
 -- the components with this local verdict, each with its name if it has one

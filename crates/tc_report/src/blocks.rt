@@ -2,10 +2,9 @@
 ghost use Rattle.std.specs.Prelude.{◌≡◌, ◌≤◌, ◌++◌, OnOk, IfErr, length, take};
 ghost use Rattle.std.specs.List.{flat_map};
 ghost use Rattle.std.specs.Io.KnownBytes.{Appends};
-ghost use Rattle.tc_evidence.specs.declared.header.Kind.TheVariants.{Evidence, History2};
-ghost use Rattle.tc_evidence.specs.Block.{ended, header_text};
-ghost use Rattle.tc_evidence.specs.Line.{line_text, naming_text};
-ghost use Rattle.tc_report.specs.Blocks.{blocks_text, case_block, header_of, name_lines};
+ghost use Rattle.tc_blocks.specs.declared.header.Kind.TheVariants.{Evidence, History2};
+ghost use Rattle.tc_blocks.specs.Prelude.{with_lf, header_text, line_text, naming_text};
+ghost use Rattle.tc_report.specs.Blocks.{blocks_text, case_block, finished_header, name_lines};
 ghost use Rattle.tc_report.specs.Inside.{namings};
 ghost use Rattle.tc_report.specs.Output.{LeavesPrefix};
 
@@ -14,13 +13,12 @@ use crate::output::write_made;
 use crate::results::{Finished, Results};
 use std::alloc::Global;
 use std::io::Write;
+use tc_blocks::{Header, Kind, Line, append_end, append_entries, append_first_line, append_line};
 use tc_entry::{Name, NoMemory, Run};
-use tc_evidence::{Header, Kind, Line, append_first_line, append_line};
-use tc_history::{append_end, append_entries};
 
 fn append_header(out: &mut Vec<u8>, kind: Kind, case: &Finished) -> Result<(), NoMemory>
     ensures { OnOk result (out.new.items ≡ out.old.items
-        ++ ended (header_text (header_of kind case.now))) }
+        ++ with_lf (header_text (finished_header kind case.now))) }
 {
     let header = Header {
         kind,
@@ -31,7 +29,7 @@ fn append_header(out: &mut Vec<u8>, kind: Kind, case: &Finished) -> Result<(), N
 }
 
 fn append_naming(out: &mut Vec<u8>, run: u16, name: &Name) -> Result<(), NoMemory>
-    ensures { OnOk result (out.new.items ≡ out.old.items ++ ended (naming_text run name.now)) }
+    ensures { OnOk result (out.new.items ≡ out.old.items ++ with_lf (naming_text run name.now)) }
 {
     let line = Line::Named {
         run: Run(run),
@@ -44,7 +42,7 @@ fn append_naming(out: &mut Vec<u8>, run: u16, name: &Name) -> Result<(), NoMemor
 fn append_namings(out: &mut Vec<u8>, names: &[Name]) -> Result<(), NoMemory>
     requires { length names.now ≤ u16.MAX }
     ensures { OnOk result (out.new.items ≡ out.old.items
-        ++ flat_map (λ l. ended (line_text l)) (namings 0 names.now)) }
+        ++ flat_map (λ l. with_lf (line_text l)) (namings 0 names.now)) }
 {
     let mut run = 0;
     let mut rest = names;
@@ -70,7 +68,7 @@ fn names_of(case: &Finished) -> &[Name]
 // Appends the names that are in the block of a finished test case.
 fn append_names(out: &mut Vec<u8>, kind: Kind, case: &Finished) -> Result<(), NoMemory>
     ensures { OnOk result (out.new.items ≡ out.old.items
-        ++ flat_map (λ l. ended (line_text l)) (name_lines kind case.now)) }
+        ++ flat_map (λ l. with_lf (line_text l)) (name_lines kind case.now)) }
 {
     match kind {
         Kind::Evidence => append_namings(out, names_of(case)),

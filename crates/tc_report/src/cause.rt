@@ -1,9 +1,7 @@
 //! The call that decided the verdict of a test case, and its caller.
 ghost use Rattle.std.specs.Prelude.{◌≡◌, ◌<◌, ◌++◌, ◌∷◌, [], Some, IfOk, OnOk, codes, filter, length, reverse, slice_get};
 ghost use Rattle.std.specs.Option.{option_and_then, option_map, option_map_or};
-ghost use Rattle.tc_case.specs.Parts.{is_by, part};
-ghost use Rattle.tc_entry.specs.declared.comp.Comp.{Comp as AnyComp};
-ghost use Rattle.tc_table.specs.Deciding.{name_of as spec_name};
+ghost use Rattle.tc_rules.specs.Prelude.{is_by, part, Comp as AnyComp, component_name as spec_name};
 ghost use Rattle.tc_report.specs.Cause as spec;
 ghost use Rattle.tc_report.specs.Report.{call_text};
 
@@ -11,7 +9,7 @@ use crate::report::append_op;
 use crate::results::CaseEnd;
 use std::alloc::Global;
 use tc_entry::{Comp, Entry, Name, NoMemory, Run, Sequence, Verdict};
-use tc_table::{component_of, deciding_entry, name_of};
+use tc_rules::{component_of, deciding_entry, name_of};
 use tc_text::{append_number, append_text, write_reply};
 
 /// The call that decided the verdict of a test case, and its caller.
@@ -50,7 +48,7 @@ fn add_if_by(log: &mut Vec<Entry>, run: Run, entry: &Entry) -> Result<(), NoMemo
 }
 
 // The entries of the run.
-#[tactic(auto, unfolding(tc_case::specs::Parts::part))]
+#[tactic(auto, unfolding(tc_rules::specs::Parts::part))]
 fn log_of(alloc: Global, history: &[Entry], run: Run) -> Result<Vec<Entry>, NoMemory>
     ensures { IfOk result (λ v. v.items ≡ part history.now run.0) }
 {
@@ -62,7 +60,7 @@ fn log_of(alloc: Global, history: &[Entry], run: Run) -> Result<Vec<Entry>, NoMe
 }
 
 // How many of these entries are of the run.
-#[tactic(auto, unfolding(tc_case::specs::Parts::part))]
+#[tactic(auto, unfolding(tc_rules::specs::Parts::part))]
 fn count_by(entries: &[Entry], run: Run) -> usize
     ensures { result ≡ length (part entries.now run.0) }
 {

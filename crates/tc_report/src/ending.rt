@@ -2,15 +2,15 @@
 ghost use Rattle.std.specs.Prelude.{◌≡◌, ◌++◌, OnOk, OnErr, IfOk};
 ghost use Rattle.std.specs.Io.{StartsWith};
 ghost use Rattle.std.specs.Io.KnownBytes.{Appends};
-ghost use Rattle.tc_stream.specs.Output.{AppendsPrefix};
+ghost use Rattle.tc_stream.specs.Prelude.{AppendsPrefix};
 ghost use Rattle.tc_report.specs.declared.results.CampaignEnd.TheVariants.{Aborted};
 ghost use Rattle.tc_report.specs.Ending.{abort_text, aborted_text, ending_line, is_aborted};
 
 use crate::output::write_both;
 use crate::results::{CampaignEnd, Results};
 use std::io::Write;
-use tc_case::CaseError;
 use tc_entry::{Name, NoMemory};
+use tc_rules::CaseError;
 use tc_stream::{WriteFault, write_whole};
 use tc_text::append_text;
 

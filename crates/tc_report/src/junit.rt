@@ -1,6 +1,6 @@
 //! The JUnit report.
 ghost use Rattle.std.specs.Prelude.{◌≡◌, ◌==◌, ◌++◌, codes, filter, length, unwrap_or, IfOk, IfErr, OnOk, Some};
-ghost use Rattle.tc_verdict.specs.Verdict.{level_of};
+ghost use Rattle.tc_rules.specs.Prelude.{level_of};
 ghost use Rattle.tc_report.specs.declared.summary.Summary.{Summary as AnySummary};
 ghost use Rattle.std.specs.Io.KnownBytes.{Appends};
 ghost use Rattle.std.specs.List.{flat_map};
@@ -74,9 +74,9 @@ fn append_attribute(out: &mut Vec<u8>, name: &str, number: usize) -> Result<(), 
 }
 
 // Appends the counts, as attributes.
-#[tactic(auto, unfolding(crate::specs::Junit::counts_text))]
+#[tactic(auto, unfolding(crate::specs::Junit::counts_attributes))]
 fn append_counts(out: &mut Vec<u8>, cases: &[Summary]) -> Result<(), NoMemory>
-    ensures { OnOk result (out.new.items ≡ out.old.items ++ spec.counts_text cases.now) }
+    ensures { OnOk result (out.new.items ≡ out.old.items ++ spec.counts_attributes cases.now) }
 {
     append_attribute(out, " tests=\"", cases.len())?;
     append_attribute(out, " failures=\"", with_status(cases, 1))?;

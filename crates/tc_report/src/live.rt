@@ -2,7 +2,7 @@
 ghost use Rattle.std.specs.Prelude.{◌≡◌, [], None, OnOk, OnErr, IfOk, IfErr};
 ghost use Rattle.std.specs.Io.KnownBytes.{Appends};
 ghost use Rattle.tc_verdict.specs.declared.verdict.Verdict.TheVariants.{None as NoVerdict};
-ghost use Rattle.tc_verdict.specs.Verdict.{worse};
+ghost use Rattle.tc_rules.specs.Prelude.{worse};
 ghost use Rattle.tc_report.specs.Live.{Writes, closing_text as spec_closing, opening_text as spec_opening, part_text as spec_part};
 ghost use Rattle.tc_report.specs.Inside.{IsOneMore};
 ghost use Rattle.tc_report.specs.Status.{ending_status as spec_status};
@@ -22,8 +22,8 @@ use crate::results::{CampaignEnd, Finished, Tally};
 use crate::status::ending_status;
 use std::alloc::Global;
 use std::io::Write;
+use tc_blocks::Kind;
 use tc_entry::{NoMemory, Verdict};
-use tc_evidence::Kind;
 use tc_verdict::worse_of;
 
 // What is before the test cases.

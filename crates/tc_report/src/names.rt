@@ -1,14 +1,14 @@
 //! The names of the components of a test case.
 ghost use Rattle.std.specs.Prelude.{◌≡◌, ◌++◌, IfOk, OnOk};
 ghost use Rattle.std.specs.List.{flat_map};
-ghost use Rattle.tc_table.specs.Deciding.{name_in as spec_name};
+ghost use Rattle.tc_rules.specs.Prelude.{name_in as spec_name};
 ghost use Rattle.tc_report.specs.Inside.{made_name};
 ghost use Rattle.tc_report.specs.Names as spec;
 
 use crate::results::CaseEnd;
 use std::alloc::Global;
 use tc_entry::{Entry, Name, NoMemory, Op, Verdict};
-use tc_table::created;
+use tc_rules::created;
 
 // The name that an operation gives.
 fn name_in(op: &Op) -> Option<Name>

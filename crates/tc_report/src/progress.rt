@@ -2,7 +2,7 @@
 ghost use Rattle.std.specs.Prelude.{ℕ, List, Option, ◌≡◌, ◌++◌, ◌∷◌, [], true, IfOk, OnOk, OnErr};
 ghost use Rattle.tc_report.specs.declared.results.Finished.{Finished as AnyFinished};
 ghost use Rattle.tc_report.specs.Inside.{Adds, AddsWords};
-ghost use Rattle.tc_report.specs.Progress.{HasTold, IsToldBy, Prints, Tells, failed as spec_failed, told};
+ghost use Rattle.tc_report.specs.Progress.{HasTold, IsToldBy, Prints, TellsProgress, failed as spec_failed, told};
 
 use crate::cause::{Cause, cause_of};
 use crate::fault::OutFault;
@@ -295,7 +295,7 @@ impl<'a, O: Observer, E: Write, C: Clock> Progress<'a, O, E, C> {
 
     // Reports the test case, if lines are still printed.
     fn tell(&mut self, case: &Finished)
-        ensures told { Tells E.contents self.old case.now self.new }
+        ensures told { TellsProgress E.contents self.old case.now self.new }
         ensures others { self.new.observer ≡ self.old.observer }
         ensures same_writer { self.new.writer.ghost_name ≡ self.old.writer.ghost_name }
         ensures same_failed { self.new.failed.ghost_name ≡ self.old.failed.ghost_name }
@@ -327,7 +327,7 @@ impl<'a, O: Observer, E: Write, C: Clock> Progress<'a, O, E, C> {
 impl<O: Observer, E: Write, C: Clock> Observer for Progress<'_, O, E, C> {
     ghost takes = { λ before f after goes_on.
         O.takes before.observer.now f after.observer.now goes_on
-        × Tells E.contents before f after
+        × TellsProgress E.contents before f after
         × (after.observer.ghost_name ≡ before.observer.ghost_name)
         × (after.writer.ghost_name ≡ before.writer.ghost_name)
         × (after.failed.ghost_name ≡ before.failed.ghost_name) };

@@ -4,8 +4,8 @@ ghost use Rattle.std.specs.List.{flat_map};
 ghost use Rattle.std.specs.Fmt.{IsBoundedDecimal, decimal};
 ghost use Rattle.std.specs.Io.KnownBytes.{Appends};
 ghost use Rattle.csv.specs.Records.{fields_of, partial_of};
-ghost use Rattle.tc_entry.specs.Name.{IsName};
-ghost use Rattle.tc_report.specs.Csv.{counts_of, csv_of, end_word as spec_word, header_text, row_line};
+ghost use Rattle.tc_rules.specs.Prelude.{IsName};
+ghost use Rattle.tc_report.specs.Csv.{counts_of, csv_of, end_word as spec_word, columns_text, row_line};
 ghost use Rattle.tc_report.specs.Summary.{case_summary};
 ghost use Rattle.tc_report.specs.Output.{LeavesPrefix};
 ghost use Rattle.tc_report.specs.Inside.{IsBetweenRecords, IsStarted, written_by};
@@ -151,7 +151,7 @@ pub fn csv_report(alloc: Global, cases: &[Summary]) -> Result<Vec<u8>, NoMemory>
 
 /// The header of the CSV report.
 pub(crate) fn csv_header(alloc: Global) -> Result<Vec<u8>, NoMemory>
-    ensures { IfOk result (λ v. v.items ≡ header_text) }
+    ensures { IfOk result (λ v. v.items ≡ columns_text) }
 {
     whole(started(alloc)?)
 }

@@ -1,6 +1,6 @@
 //! What a campaign hands back.
-use tc_case::{CaseError, Closed};
 use tc_entry::{Name, Sequence, Verdict};
+use tc_rules::{CaseError, Closed};
 
 /// A test case that was run to its end.
 #[derive(Drop)]

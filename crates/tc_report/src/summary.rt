@@ -1,16 +1,15 @@
 //! What reports say of a test case.
 ghost use Rattle.std.specs.Prelude.{◌≡◌, ◌++◌, IfOk, OnOk, List, drop, map, reverse};
-ghost use Rattle.tc_entry.specs.declared.entry.Entry.{Entry as AnyEntry};
-ghost use Rattle.tc_table.specs.Standing.{StandsFor};
+ghost use Rattle.tc_rules.specs.Prelude.{Entry as AnyEntry, StandsFor};
 ghost use Rattle.tc_report.specs.declared.results.CaseEnd.TheVariants.{NotRun};
-ghost use Rattle.tc_report.specs.Summary.{aborted_summary, bare_summary as spec_bare, case_summary, end_of, results_summaries, summary_of, summary_with as spec_with};
+ghost use Rattle.tc_report.specs.Summary.{aborted_summary, bare_summary as spec_bare, case_summary, case_end, results_summaries, summary_of, summary_with as spec_with};
 
 use crate::cause::{Cause, cause_of};
 use crate::names::names_of;
 use crate::results::{CampaignEnd, CaseEnd, Finished, Results};
 use std::alloc::Global;
 use tc_entry::{Entry, Name, NoMemory, Sequence, Verdict};
-use tc_table::{CaseState, locals_of};
+use tc_rules::{CaseState, locals_of};
 
 /// What reports say of a test case.
 #[derive(Drop)]
@@ -30,7 +29,7 @@ pub struct Summary {
 
 // How a test case ended whose history left this state.
 fn end_of_state(state: &CaseState) -> CaseEnd
-    ensures { (past : List AnyEntry) → StandsFor state.now past → result ≡ end_of past }
+    ensures { (past : List AnyEntry) → StandsFor state.now past → result ≡ case_end past }
 {
     if state.is_over() {
         CaseEnd::Over(state.overall())

@@ -1,7 +1,6 @@
 //! The summary of test cases, a page for a person.
 ghost use Rattle.std.specs.Prelude.{◌≡◌, ◌++◌, ◌∷◌, [], IfOk, OnOk, codes, length, map};
-ghost use Rattle.tc_case.specs.Refusals.{refusal_text};
-ghost use Rattle.tc_verdict.specs.Verdict.{name_of as spec_name};
+ghost use Rattle.tc_rules.specs.Prelude.{refusal_text, name_of as spec_name};
 ghost use Rattle.tc_report.specs.Cause.{cause_text};
 ghost use Rattle.tc_report.specs.Csv.{end_word as end_text};
 ghost use Rattle.tc_report.specs.Inside.{AddsShown, AddsWords, member_text as spec_member, numbers_with};
@@ -16,14 +15,14 @@ use crate::status::{counted_as, verdict_status};
 use crate::summary::Summary;
 use crate::words::{append_cause_word, append_prose, append_word};
 use std::alloc::Global;
-use tc_case::CaseError;
 use tc_entry::{Entry, Name, NoMemory, Reply, Verdict};
+use tc_rules::CaseError;
 use tc_text::append_text;
 use tc_verdict::name as name_of;
 
 // How many of the test cases ended with this word.
 fn ended(cases: &[Summary], word: &str) -> usize
-    ensures { result ≡ spec.ended word.now cases.now }
+    ensures { result ≡ spec.ended_so word.now cases.now }
 {
     cases
         .iter()
@@ -33,7 +32,7 @@ fn ended(cases: &[Summary], word: &str) -> usize
 
 // The test cases by their overall verdicts.
 fn tally_of(cases: &[Summary]) -> Tally
-    ensures { result ≡ tally_by (length cases.now) (λ v. spec.ended (spec_name v) cases.now) }
+    ensures { result ≡ tally_by (length cases.now) (λ v. spec.ended_so (spec_name v) cases.now) }
 {
     Tally {
         cases: cases.len(),

@@ -1,6 +1,6 @@
 //! Words of a line, each after a space, and the prose between them.
 ghost use Rattle.std.specs.Prelude.{◌≡◌, ◌∷◌, [], true, OnOk};
-ghost use Rattle.tc_text.specs.Said.{ends_word};
+ghost use Rattle.tc_text.specs.Prelude.{ends_word};
 ghost use Rattle.tc_report.specs.Cause.{cause_text};
 ghost use Rattle.tc_report.specs.Inside.{AddsWords};
 

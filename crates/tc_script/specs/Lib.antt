@@ -1,10 +1,8 @@
 -- The definitions that the contracts of this crate cite.
-pub mod Names
-pub mod FirstPass
-pub mod Scope
-pub mod SecondPass
-pub mod Campaign
-pub mod Reading
-pub mod Law
-pub mod Fault
+pub mod Calls
+pub mod Acts
 pub mod Inside
+pub mod Prelude
+pub use Rattle.tc_rules.specs.Prelude as OfRules
+pub use Rattle.tc_book.specs.Prelude as OfBook
+pub use Rattle.tc_step.specs.Prelude as OfStep

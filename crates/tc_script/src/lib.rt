@@ -1,23 +1,15 @@
-//! Scripts: the campaign that a text spells.
+//! Scripts, read and run: a script makes the calls of its steps on the pass of its run.
 #![tactic(auto)]
 
-mod campaign;
-mod counts;
-mod fault;
-mod first_pass;
-mod heads;
-mod kept_lines;
-mod limits;
-mod names;
-mod open;
-mod reading;
-mod scope;
-mod second_pass;
-mod steps;
+mod behaviour;
+mod bound;
+mod call;
+mod job;
 
-pub use campaign::{Campaign, CaseScript};
-pub use fault::{ReadFault, ScriptFault};
-pub use limits::TEST_CASES;
-pub use reading::read_campaign;
-pub use tc_line::{Name, ScriptKind};
-pub use tc_step::{GroupPlace, Place, Places, STEPS, Script, Status, Step, TargetPlace};
+pub use behaviour::Behaviour;
+pub use job::ScriptJob;
+pub use tc_exec::{Back, Ending};
+pub use tc_reader::{
+    Campaign, CaseScript, Name, ReadFault, ScriptFault, ScriptKind, read_campaign,
+};
+pub use tc_step::Script;

@@ -6,27 +6,19 @@ use Rattle.std.specs.Option.{option_map}
 use Rattle.std.proofs.lemmas.List.{length-map}
 use Rattle.std.proofs.lemmas.List.Elements.{All-nil, All-cons, All-append, All-tail}
 use Rattle.std.proofs.lemmas.Bool.Decides.{nat_tests}
-use Rattle.tc_verdict.specs.declared.run.Run.{Run}
-use Rattle.tc_entry.specs.declared.comp.Comp.{Comp}
-use Rattle.tc_entry.specs.declared.entry.Entry.{Entry}
-use Rattle.tc_entry.specs.declared.op.Op.{Op}
+use Rattle.tc_rules.specs.Prelude.{Run, Comp, Entry, Op, Target, Reply}
 use Rattle.tc_entry.specs.declared.op.Op.TheVariants as O
-use Rattle.tc_entry.specs.declared.op.Target.{Target}
-use Rattle.tc_entry.specs.declared.reply.Reply.{Reply}
 use Rattle.tc_entry.specs.declared.reply.Reply.TheVariants as R
 use Rattle.tc_step.specs.declared.step.Status.{Status}
 use Rattle.tc_step.specs.declared.step.Status.TheVariants as Asks
 use Rattle.tc_step.specs.declared.step.Step.{Step}
 use Rattle.tc_step.specs.declared.step.Step.TheVariants as S
-use Rattle.tc_step.specs.Operation.{operation, question, target, component}
-use Rattle.tc_step.specs.Steps.{ScriptView}
-use Rattle.tc_script.specs.Scope.{Head}
-use Rattle.tc_script.specs.Law.{StartsOne}
-use Rattle.tc_book.specs.Passes.{PassState, LeftState, has_ended, added, entry_of}
+use Rattle.tc_step.specs.Prelude.{operation, question, target, component, ScriptView}
+use Rattle.tc_reader.specs.Prelude.{Head, StartsOne}
+use Rattle.tc_book.specs.Prelude.{PassState, LeftState, has_ended, with_own_entry, entry_of}
 use Rattle.tc_exec.specs.declared.job.Back.{Back}
-use Rattle.tc_exec.specs.Workers.{HasLeft, IsLeftBy}
-use Rattle.tc_behaviour.specs.Acts.{Acts}
-use Rattle.tc_behaviour.specs.Calls.{Calls, HasCalled, none, one_more}
+use Rattle.tc_exec.specs.Prelude.{HasLeft, IsLeftBy}
+use Rattle.tc_script.specs.Prelude.{Acts, Calls, HasCalled, none, one_more}
 
 -- a Start is of a behaviour with as many parameters as it gives arguments
 abbrev pub GivesAll : List Head → Op → Type 0
@@ -58,10 +50,10 @@ operation_gives hs me bound S.StopCase one = tt
 operation_gives hs me bound S.GetVerdict one = tt
 
 -- one entry more
-added_gives : (hs : List Head) (p q : PassState) (op : Op) (r : Reply) → q ≡ added p op r → GivesAll hs op → GiveAll hs p.log → GiveAll hs q.log
+added_gives : (hs : List Head) (p q : PassState) (op : Op) (r : Reply) → q ≡ with_own_entry p op r → GivesAll hs op → GiveAll hs p.log → GiveAll hs q.log
 added_gives hs p q op r is one all =
     let e = entry_of p.run op r in
-    let more : GiveAll hs (added p op r).log = All-append (λ e. GivesAll hs e.op) p.log (e ∷ []) all (All-cons (λ e. GivesAll hs e.op) e [] one (give_none hs)) in
+    let more : GiveAll hs (with_own_entry p op r).log = All-append (λ e. GivesAll hs e.op) p.log (e ∷ []) all (All-cons (λ e. GivesAll hs e.op) e [] one (give_none hs)) in
     subst (λ x. GiveAll hs x.log) (sym is) more
 
 -- the call of one step
@@ -74,7 +66,7 @@ call_gives hs (S.Kill g) bound p q r one is all = added_gives hs p q (operation 
 call_gives hs (S.Ask status t) bound p q r one is all = added_gives hs p q (operation p.me bound (S.Ask status t)) r is (operation_gives hs p.me bound (S.Ask status t) one) all
 call_gives hs (S.Wait killed t) bound p q r one (inl is, awake) all = added_gives hs p q (O.Wait killed (target p.me bound t)) r is tt all
 call_gives hs (S.Wait killed t) bound p q r one (inr is, awake) all =
-    let parked : PassState = added p (O.Wait killed (target p.me bound t)) R.Parked in
+    let parked : PassState = with_own_entry p (O.Wait killed (target p.me bound t)) R.Parked in
     added_gives hs parked q (O.Wake killed (target p.me bound t)) r is tt (added_gives hs p parked (O.Wait killed (target p.me bound t)) R.Parked refl tt all)
 call_gives hs (S.SetVerdict v) bound p q r one is all = added_gives hs p q (O.SetVerdict v) r is tt all
 call_gives hs S.StopCase bound p q r one is all = added_gives hs p q O.StopCase r is tt all
@@ -104,7 +96,7 @@ left_gives hs p l left all = by (has_ended p) refl
   where
     by : (t : Bool) → has_ended p ≡ t → GiveAll hs l.log
     by true is = subst (GiveAll hs) (sym (left.ended is)) all
-    by false is = let f = left.finished is in subst (GiveAll hs) (sym f.1) (added_gives hs p (added p O.Finish f.0) O.Finish f.0 refl tt all)
+    by false is = let f = left.finished is in subst (GiveAll hs) (sym f.1) (added_gives hs p (with_own_entry p O.Finish f.0) O.Finish f.0 refl tt all)
 
 -- what the worker of a run left
 pub worker_gives : (hs : List Head) (run : Run) (s : ScriptView) (l : LeftState) → All (StartsOne hs) s.steps → IsLeftBy Acts run s l → GiveAll hs l.log

@@ -3,75 +3,65 @@ use Rattle.std.proofs.Common.{ℕ, ◌≡◌, ◌∙◌, ◌+◌, ◌++◌, ◌|
 use Rattle.std.proofs.lemmas.List.{append-nil, length-append}
 use Rattle.std.proofs.lemmas.List.Folds.{list_any-append}
 use Rattle.std.proofs.lemmas.Option.{slice_get_past}
-use Rattle.tc_verdict.specs.declared.run.Run.{Run}
-use Rattle.tc_entry.specs.declared.comp.Comp.{Comp}
-use Rattle.tc_entry.specs.declared.entry.Entry.{Entry}
-use Rattle.tc_entry.specs.declared.op.Op.{Op}
+use Rattle.tc_rules.specs.Prelude.{Run, Comp, Entry, Op, Target, Reply, is_ended, is_fault, is_ok, is_parked, is_wake, created, ends_pass}
 use Rattle.tc_entry.specs.declared.op.Op.TheVariants as O
-use Rattle.tc_entry.specs.declared.op.Target.{Target}
-use Rattle.tc_entry.specs.declared.reply.Reply.{Reply}
 use Rattle.tc_entry.specs.declared.reply.Reply.TheVariants as R
-use Rattle.tc_entry.specs.Reply.{is_ended, is_fault, is_ok}
 use Rattle.tc_step.specs.declared.step.Status.TheVariants as Asks
 use Rattle.tc_step.specs.declared.step.Step.{Step}
 use Rattle.tc_step.specs.declared.step.Step.TheVariants as S
 use Rattle.tc_step.specs.declared.place.Place.{Place}
 use Rattle.tc_step.specs.declared.place.TargetPlace.{TargetPlace}
-use Rattle.tc_step.specs.Operation.{operation, target}
-use Rattle.tc_step.specs.Steps.{ScriptView}
-use Rattle.tc_table.specs.History.{created, ends_pass}
-use Rattle.tc_table.proofs.Lemmas.Deciding.{self_equal}
-use Rattle.tc_book.specs.Passes.{PassState, LeftState, has_ended, added, entry_of}
-use Rattle.tc_book.specs.Replies.{is_parked}
+use Rattle.tc_step.specs.Prelude.{operation, target, ScriptView}
+use Rattle.tc_rules.proofs.Lemmas.Deciding.{self_equal}
+use Rattle.tc_book.specs.Prelude.{PassState, LeftState, has_ended, with_own_entry, entry_of}
 use Rattle.tc_exec.specs.declared.job.Back.{Back}
 use Rattle.tc_exec.specs.declared.job.Ending.TheVariants as E
-use Rattle.tc_exec.specs.Workers.{HasLeft}
-use Rattle.tc_behaviour.specs.Acts.{MakesItsCalls}
-use Rattle.tc_behaviour.specs.Calls.{Calls, HasCalled, bound_behind, ending}
-use Rattle.tc_behaviour.specs.Calls.HasCalled.{none, one_more}
+use Rattle.tc_exec.specs.Prelude.{HasLeft}
+use Rattle.tc_script.specs.Prelude.{MakesItsCalls, Calls, HasCalled, bound_behind, ending}
+use Rattle.tc_script.specs.Calls.HasCalled.{none, one_more}
 use Rattle.std.specs.Option.{unwrap_or, option_to_list}
-use Rattle.tc_course.specs.Course.{Stand, after_own, is_idle, is_wake, turn_on}
+use Rattle.tc_course.specs.Prelude.{CourseState, after_own, is_idle, turn_on}
 use Rattle.tc_course.specs.Inside.Standing.{call_of, wake_for, wake_if}
 use Rattle.tc_course.proofs.Lemmas.Turning.{other_not_idle}
 
 -- ---- a run and its own entries
 
 -- a run that is on this component, of which these components are bound and that many steps called, with no Wake to come
-abbrev pub standing : Comp → List Comp → ℕ → Bool → Stand
+abbrev pub standing : Comp → List Comp → ℕ → Bool → CourseState
 standing me bound k left = record { comp = Some me; bound = bound; called = k; left = left; wake = None }
 
 -- a run that was started on this component with these arguments
-abbrev pub fresh : Comp → List Comp → Stand
+abbrev pub fresh : Comp → List Comp → CourseState
 fresh me args = standing me args 0 false
 
 -- what is known of it after these entries of its own, the oldest first
-abbrev pub after_all : Stand → List Entry → Stand
+abbrev pub after_all : CourseState → List Entry → CourseState
 after_all s [] = s
 after_all s (e ∷ log) = after_all (after_own e s) log
 
-pub after_append : (s : Stand) (xs ys : List Entry) → after_all s (xs ++ ys) ≡ after_all (after_all s xs) ys
+pub after_append : (s : CourseState) (xs ys : List Entry) → after_all s (xs ++ ys) ≡ after_all (after_all s xs) ys
 after_append s [] ys = refl
 after_append s (x ∷ xs) ys = after_append (after_own x s) xs ys
 
-pub after_comp : (s : Stand) (xs : List Entry) → (after_all s xs).comp ≡ s.comp
+pub after_comp : (s : CourseState) (xs : List Entry) → (after_all s xs).comp ≡ s.comp
 after_comp s [] = refl
 after_comp s (x ∷ xs) = after_comp (after_own x s) xs
 
 -- the entry is what the run calls next, and no idle Wake
-pub record IsOwnTurn (steps : List Step) (s : Stand) (e : Entry) : Type 0 where
+pub record IsOwnTurn (steps : List Step) (s : CourseState) (e : Entry) : Type 0 where
   pub turn : turn_on s.comp steps s ≡ Some e.op
   pub not_idle : is_idle e.op e.reply ≡ false
 
 -- each of these entries is, one after the other
-abbrev pub AreTurns : List Step → Stand → List Entry → Type 0
+abbrev pub AreTurns : List Step → CourseState → List Entry → Type 0
 AreTurns steps s [] = Unit {0}
 AreTurns steps s (e ∷ log) = IsOwnTurn steps s e × AreTurns steps (after_own e s) log
 
-turns_append : (steps : List Step) (s : Stand) (xs ys : List Entry) → AreTurns steps s xs → AreTurns steps (after_all s xs) ys → AreTurns steps s (xs ++ ys)
+turns_append : (steps : List Step) (s : CourseState) (xs ys : List Entry) → AreTurns steps s xs → AreTurns steps (after_all s xs) ys → AreTurns steps s (xs ++ ys)
 turns_append steps s [] ys one two = two
 turns_append steps s (x ∷ xs) ys one two = (one.0, turns_append steps (after_own x s) xs ys one.1 two)
 
-pub turn_at : (steps : List Step) (s : Stand) (xs : List Entry) (e : Entry) (ys : List Entry) → AreTurns steps s (xs ++ e ∷ ys) → IsOwnTurn steps (after_all s xs) e
+pub turn_at : (steps : List Step) (s : CourseState) (xs : List Entry) (e : Entry) (ys : List Entry) → AreTurns steps s (xs ++ e ∷ ys) → IsOwnTurn steps (after_all s xs) e
 turn_at steps s [] e ys are = are.0
 turn_at steps s (x ∷ xs) e ys are = turn_at steps (after_own x s) xs e ys are.1
 
@@ -85,7 +75,7 @@ slice_get_seam : {A : Type 0} (xs : List A) (y : A) (ys : List A) → slice_get 
 slice_get_seam [] y ys = refl
 slice_get_seam (x ∷ xs) y ys = slice_get_seam xs y ys
 
-ended_added : (p : PassState) (op : Op) (r : Reply) → has_ended p ≡ false → has_ended (added p op r) ≡ ends_pass p.me (entry_of p.run op r)
+ended_added : (p : PassState) (op : Op) (r : Reply) → has_ended p ≡ false → has_ended (with_own_entry p op r) ≡ ends_pass p.me (entry_of p.run op r)
 ended_added p op r on =
     list_any-append (ends_pass p.me) p.log (entry_of p.run op r ∷ [])
     ∙ (ap (λ b. b || (ends_pass p.me (entry_of p.run op r) || false)) on ∙ or_nothing (ends_pass p.me (entry_of p.run op r)))
@@ -158,13 +148,13 @@ module _ (steps : List Step) (s : Step) (left : List Step) (bound : List Comp) (
 
   -- a call that is not parked
   plain_at : (bound-new : List Comp) (q : PassState) (op : Op) (r : Reply) → op ≡ operation p.me bound s → is_wake op ≡ false → wake_if op r ≡ None → bound-new ≡ bound ++ option_to_list (created op r)
-      → q ≡ added p op r → IsAt steps left bound-new q
+      → q ≡ with_own_entry p op r → IsAt steps left bound-new q
   plain_at bound-new q op r same calls still binds is-new =
       let e : Entry = entry_of p.run op r in
       let k : ℕ = length is.front in
       let stands : after_all (fresh p.me p.args) (p.log ++ e ∷ []) ≡ standing p.me bound-new (k + 1) (ends_pass p.me e) =
       after_append (fresh p.me p.args) p.log (e ∷ []) ∙ (ap (after_own e) here ∙ own_call p.me bound bound-new k p.run op r calls still binds) in
-      let now : IsAt steps left bound-new (added p op r) = record {
+      let now : IsAt steps left bound-new (with_own_entry p op r) = record {
         front = is.front ++ s ∷ [];
         steps_are = longer;
         stands = stands ∙ (ap (λ n. standing p.me bound-new n (ends_pass p.me e)) (sym one_longer)
@@ -174,11 +164,11 @@ module _ (steps : List Step) (s : Step) (left : List Step) (bound : List Comp) (
       subst (IsAt steps left bound-new) (sym is-new) now
 
   -- a call that binds nothing, and does not wait
-  calm_at : (q : PassState) (op : Op) (r : Reply) → op ≡ operation p.me bound s → is_wake op ≡ false → wake_for op ≡ None → option_to_list (created op r) ≡ [] → q ≡ added p op r → IsAt steps left bound q
+  calm_at : (q : PassState) (op : Op) (r : Reply) → op ≡ operation p.me bound s → is_wake op ≡ false → wake_for op ≡ None → option_to_list (created op r) ≡ [] → q ≡ with_own_entry p op r → IsAt steps left bound q
   calm_at q op r same calls waits makes is-new = plain_at bound q op r same calls (no_wait op r waits) (sym (append-nil bound) ∙ ap (λ l. bound ++ l) (sym makes)) is-new
 
 -- a run whose Wait was parked, before its Wake
-waits_at : Comp → List Comp → ℕ → Op → Stand
+waits_at : Comp → List Comp → ℕ → Op → CourseState
 waits_at me bound k wake = record { comp = Some me; bound = bound; called = k; left = false; wake = Some wake }
 
 parked_own : (me : Comp) (bound : List Comp) (k : ℕ) (run : Run) (killed : Bool) (t : Target)
@@ -213,28 +203,28 @@ parked_goes_on me run killed t = refl
 module _ (steps : List Step) (killed : Bool) (t : TargetPlace (Place ℕ)) (left : List Step) (bound : List Comp) (p : PassState)
     (is : IsAt steps (S.Wait killed t ∷ left) bound p) (on : has_ended p ≡ false) where
   -- a wait that was parked, and its Wake
-  wait_at : (q : PassState) (r : Reply) → is_parked r ≡ false → q ≡ added (added p (O.Wait killed (target p.me bound t)) R.Parked) (O.Wake killed (target p.me bound t)) r → IsAt steps left bound q
+  wait_at : (q : PassState) (r : Reply) → is_parked r ≡ false → q ≡ with_own_entry (with_own_entry p (O.Wait killed (target p.me bound t)) R.Parked) (O.Wake killed (target p.me bound t)) r → IsAt steps left bound q
   wait_at q r awake is-new =
       let wait : Op = O.Wait killed (target p.me bound t) in
       let wake : Op = O.Wake killed (target p.me bound t) in
       let parked : Entry = entry_of p.run wait R.Parked in
       let woken : Entry = entry_of p.run wake r in
       let k : ℕ = length is.front in
-      let start : Stand = fresh p.me p.args in
+      let start : CourseState = fresh p.me p.args in
       let waits : after_all start (p.log ++ parked ∷ []) ≡ waits_at p.me bound (k + 1) wake =
       after_append start p.log (parked ∷ []) ∙ (ap (after_own parked) (here steps (S.Wait killed t) left bound p is on) ∙ parked_own p.me bound k p.run killed (target p.me bound t)) in
       let stands : after_all start ((p.log ++ parked ∷ []) ++ woken ∷ []) ≡ standing p.me bound (k + 1) (ends_pass p.me woken) =
       after_append start (p.log ++ parked ∷ []) (woken ∷ []) ∙ (ap (after_own woken) waits ∙ woken_own p.me bound (k + 1) p.run killed (target p.me bound t) r awake) in
-      let goes_on : has_ended (added p wait R.Parked) ≡ false = ended_added p wait R.Parked on ∙ parked_goes_on p.me p.run killed (target p.me bound t) in
+      let goes_on : has_ended (with_own_entry p wait R.Parked) ≡ false = ended_added p wait R.Parked on ∙ parked_goes_on p.me p.run killed (target p.me bound t) in
       let one : AreTurns steps start (p.log ++ parked ∷ []) =
       turns_append steps start p.log (parked ∷ []) is.turns (own_turn steps (S.Wait killed t) left bound p is on wait R.Parked refl refl, tt) in
       let turn : IsOwnTurn steps (after_all start (p.log ++ parked ∷ [])) woken =
       subst (λ st. IsOwnTurn steps st woken) (sym waits) (wake_turn steps p.me bound (k + 1) p.run wake r awake) in
-      let now : IsAt steps left bound (added (added p wait R.Parked) wake r) = record {
+      let now : IsAt steps left bound (with_own_entry (with_own_entry p wait R.Parked) wake r) = record {
         front = is.front ++ S.Wait killed t ∷ [];
         steps_are = longer steps (S.Wait killed t) left bound p is on;
         stands = stands ∙ (ap (λ n. standing p.me bound n (ends_pass p.me woken)) (sym (one_longer steps (S.Wait killed t) left bound p is on))
-            ∙ ap (standing p.me bound (length (is.front ++ S.Wait killed t ∷ []))) (sym (ended_added (added p wait R.Parked) wake r goes_on)));
+            ∙ ap (standing p.me bound (length (is.front ++ S.Wait killed t ∷ []))) (sym (ended_added (with_own_entry p wait R.Parked) wake r goes_on)));
         turns = turns_append steps start (p.log ++ parked ∷ []) (woken ∷ []) one (turn, tt);
       } in
       subst (IsAt steps left bound) (sym is-new) now
@@ -297,7 +287,7 @@ log_left s p b l new makes back left = by (has_ended b.pass) refl
     me : Comp
     me = b.pass.me
 
-    start : Stand
+    start : CourseState
     start = fresh b.pass.me b.pass.args
 
     at : IsAt s.steps makes.calls.left makes.calls.bound b.pass
@@ -306,7 +296,7 @@ log_left s p b l new makes back left = by (has_ended b.pass) refl
     by : (t : Bool) → has_ended b.pass ≡ t → IsLogOf s.steps b.pass.me b.pass.args l.log
     by true is = record {
       turns = subst (AreTurns s.steps start) (sym (left.ended is)) at.turns;
-      left = ap (λ log. (after_all start log).left) (left.ended is) ∙ (ap (λ (st : Stand). st.left) at.stands ∙ is);
+      left = ap (λ log. (after_all start log).left) (left.ended is) ∙ (ap (λ (st : CourseState). st.left) at.stands ∙ is);
     }
     by false is =
         let f = left.finished is in
@@ -322,5 +312,5 @@ log_left s p b l new makes back left = by (has_ended b.pass) refl
         record {
           turns = subst (AreTurns s.steps start) (sym f.1) (turns_append s.steps start b.pass.log (e ∷ []) at.turns (own, tt));
           left = ap (λ log. (after_all start log).left) f.1
-              ∙ (ap (λ (st : Stand). st.left) (after_append start b.pass.log (e ∷ [])) ∙ (ap (λ st. (after_own e st).left) stands ∙ ends));
+              ∙ (ap (λ (st : CourseState). st.left) (after_append start b.pass.log (e ∷ [])) ∙ (ap (λ st. (after_own e st).left) stands ∙ ends));
         }

@@ -1,11 +1,11 @@
 -- What the report of a test case says of the courses of its scripts.
 use Rattle.std.specs.Prelude.{◌≡◌, true, List, length}
-use Rattle.tc_step.specs.Steps.{ScriptView}
-use Rattle.tc_case.specs.declared.closed.Closed.{Closed}
-use Rattle.tc_exec.specs.Case.{IsCaseReport, IsMadeOf}
-use Rattle.tc_behaviour.specs.Acts.{MakesItsCalls}
+use Rattle.tc_step.specs.Prelude.{ScriptView}
+use Rattle.tc_rules.specs.declared.closed.Closed.{Closed}
+use Rattle.tc_exec.specs.Prelude.{IsCaseReport, IsMadeOf}
+use Rattle.tc_script.specs.Prelude.{MakesItsCalls}
 use Rattle.tc_course.specs.declared.witness.Witness.{Witness}
-use Rattle.tc_course.specs.Witnesses.{IsWitness, AllFound, is_found}
+use Rattle.tc_course.specs.Prelude.{IsWitness, AllFound, is_found}
 
 -- this is the report of a run of these scripts: one history, made of the logs of passes with which each script made its calls
 pub record IsReportOf (scripts : List ScriptView) (c : Closed) : Type 0 where

@@ -2,29 +2,19 @@
 use Rattle.std.proofs.Common.{ℕ, ◌≡◌, ◌∙◌, ◌<◌, ◌==◌, ◌||◌, append_assoc, nat_lt, if◌then◌else◌, is_some, Bool, true, false, Option, Some, None, Result, Ok, Err, MatchResult, List, [], ◌∷◌, ◌++◌, refl, ap, sym, subst, arith}
 use Rattle.std.specs.Result.{result_err}
 use Rattle.std.proofs.lemmas.Bool.Decides.{nat_tests}
-use Rattle.tc_verdict.specs.declared.run.Run.{Run}
-use Rattle.tc_entry.specs.declared.entry.Entry.{Entry}
-use Rattle.tc_entry.specs.declared.op.Op.{Op}
+use Rattle.tc_rules.specs.Prelude.{Run, Entry, Op, Reply, answer, IsReplyOf, Kept, StandsFor, TakesIn, keeps_phases, IsLegal, awaited, parks, waiting, is_parked, is_wake}
 use Rattle.tc_entry.specs.declared.op.Op.TheVariants as Ops
-use Rattle.tc_entry.specs.declared.reply.Reply.{Reply}
 use Rattle.tc_entry.specs.declared.reply.Reply.TheVariants as R
-use Rattle.tc_table.specs.declared.awaited.Awaited.{Awaited}
-use Rattle.tc_table.specs.Answers.{answer}
-use Rattle.tc_table.specs.Standing.{IsReply, Kept, StandsFor, TakesIn}
-use Rattle.tc_table.specs.Laws.{keeps_phases}
-use Rattle.tc_table.specs.Legal.{IsLegal}
-use Rattle.tc_table.specs.Waiting.{awaited, parks, waiting}
-use Rattle.tc_table.proofs.Lemmas.Standing.{legal_for}
-use Rattle.tc_evidence.specs.declared.line.Line.{Line}
-use Rattle.tc_evidence.specs.declared.line.Line.TheVariants as L
-use Rattle.tc_evidence.specs.Block.{ended}
-use Rattle.tc_evidence.specs.Line.{entry_of, is_met, line_text, starts}
-use Rattle.tc_evidence.specs.declared.met.MetRuns.{MetRuns}
-use Rattle.tc_evidence.specs.Met.{AreMet}
+use Rattle.tc_rules.specs.declared.awaited.Awaited.{Awaited}
+use Rattle.tc_rules.proofs.Lemmas.Standing.{legal_for}
+use Rattle.tc_blocks.specs.declared.line.Line.{Line}
+use Rattle.tc_blocks.specs.declared.line.Line.TheVariants as L
+use Rattle.tc_blocks.specs.Prelude.{with_lf, entry_in, is_met, line_text, starts, AreMet}
+use Rattle.tc_blocks.specs.declared.met.MetRuns.{MetRuns}
 use Rattle.tc_serve.specs.declared.open_case.OpenCase.{OpenCase}
 use Rattle.tc_serve.specs.declared.refusal.Refusal.{Refusal}
 use Rattle.tc_serve.specs.declared.refusal.Refusal.TheVariants as W
-use Rattle.tc_serve.specs.Protocol.{Played, called, is_parked, is_wake, made, moved, past_of, sleep_of, woken}
+use Rattle.tc_serve.specs.Protocol.{Played, called, made, moved, played_past, sleep_of, woken}
 use Rattle.tc_serve.specs.Inside.{AreAsleep, Becomes, BecomesAwake, Holds, IsAdded, IsCalled, IsKept, IsOpen, IsText, Moves, Rests, after_call, entry, started, wakes_nobody, with_line}
 use Rattle.tc_serve.proofs.Going.{appended, grows, line_more}
 use Rattle.tc_serve.proofs.Settled.{moved_settled, nobody_woken, noted_settled}
@@ -32,10 +22,10 @@ use Rattle.tc_serve.proofs.Sleeping.{asleep_more, asleep_on}
 
 -- ---- a line that is no entry
 
-pub noted : (v w : OpenCase) (p : Played) (l : Line) (closed : List Played) (before out written : List ℕ) → Rests v p closed before out → entry_of l ≡ [] → w.state ≡ v.state → w.sleepers ≡ v.sleepers → ((ls : List Line) → AreMet v.met ls → AreMet w.met (l ∷ ls)) →
-    written ≡ out ++ ended (line_text l) → Rests w (with_line p l) closed before written
+pub noted : (v w : OpenCase) (p : Played) (l : Line) (closed : List Played) (before out written : List ℕ) → Rests v p closed before out → entry_in l ≡ [] → w.state ≡ v.state → w.sleepers ≡ v.sleepers → ((ls : List Line) → AreMet v.met ls → AreMet w.met (l ∷ ls)) →
+    written ≡ out ++ with_lf (line_text l) → Rests w (with_line p l) closed before written
 noted v w p l closed before out written holds none state sleepers met appends =
-    let past : past_of p ≡ past_of (with_line p l) = ap (λ (es : List Entry). es ++ past_of p) (sym none) in
+    let past : played_past p ≡ played_past (with_line p l) = ap (λ (es : List Entry). es ++ played_past p) (sym none) in
     let kept = holds.is.opened.kept in
     record {
       is = record {
@@ -43,14 +33,14 @@ noted v w p l closed before out written holds none state sleepers met appends =
           kept = record {
             behaviours = ap (λ (k : Kept). k.behaviours) state ∙ kept.behaviours;
             few = kept.few;
-            stands = subst (StandsFor w.state) past (subst (λ (k : Kept). StandsFor k (past_of p)) (sym state) kept.stands);
+            stands = subst (StandsFor w.state) past (subst (λ (k : Kept). StandsFor k (played_past p)) (sym state) kept.stands);
             met_are = met p.lines kept.met_are;
           };
           asleep = subst (AreAsleep p.behaviours w.sleepers.items) past (rw sleepers holds.is.opened.asleep);
         };
         settled = noted_settled p l none holds.is.settled;
       };
-      text = appended before out written _ _ _ holds.text appends (grows closed p (l ∷ p.lines) (ended (line_text l)) (line_more l p.lines));
+      text = appended before out written _ _ _ holds.text appends (grows closed p (l ∷ p.lines) (with_lf (line_text l)) (line_more l p.lines));
     }
 
 -- ---- a change that may be made, and one that may not
@@ -105,23 +95,23 @@ met_some met caller run op reply ls some are b d less = are b d less ∙ by_op o
     by_op (Ops.Start c r args) e = let same : run ≡ r = cc in ap (λ (k : Run). (k.0 == b) || ((caller.0 == b) || is_met b ls)) same ∙ turned (r.0 == b) (caller.0 == b) (is_met b ls)
     by_op _ e = absurd cc
 
-pub call_made : (v w : OpenCase) (caller : Run) (op : Op) (reply : Reply) (out written : List ℕ) → IsReply v.state caller op reply → TakesIn v.state (entry caller op reply) w.state → w.state.behaviours ≡ v.state.behaviours → w.sleepers ≡ v.sleepers →
-    ((ls : List Line) → AreMet v.met ls → AreMet w.met (L.Entry (entry caller op reply) ∷ ls)) → written ≡ out ++ ended (line_text (L.Entry (entry caller op reply))) → IsCalled caller op reply v w out written
+pub call_made : (v w : OpenCase) (caller : Run) (op : Op) (reply : Reply) (out written : List ℕ) → IsReplyOf v.state caller op reply → TakesIn v.state (entry caller op reply) w.state → w.state.behaviours ≡ v.state.behaviours → w.sleepers ≡ v.sleepers →
+    ((ls : List Line) → AreMet v.met ls → AreMet w.met (L.Entry (entry caller op reply) ∷ ls)) → written ≡ out ++ with_lf (line_text (L.Entry (entry caller op reply))) → IsCalled caller op reply v w out written
 call_made v w caller op reply out written replied takes behaviours sleepers met appends = record {
   same = sleepers;
   replied = answered;
   kept = λ p kept. subst (λ (e : Entry). IsKept w.state w.met (record p { lines = L.Entry e ∷ p.lines })) (entry_is p kept) (record {
     behaviours = behaviours ∙ kept.behaviours;
     few = kept.few;
-    stands = takes (past_of p) kept.stands;
+    stands = takes (played_past p) kept.stands;
     met_are = met p.lines kept.met_are;
   });
   text = λ p closed before kept text. subst (λ (e : Entry). IsText (record p { lines = L.Entry e ∷ p.lines }) closed before written) (entry_is p kept)
       (appended before out written _ _ _ text appends (grows closed p (L.Entry (entry caller op reply) ∷ p.lines) _ (line_more (L.Entry (entry caller op reply)) p.lines)));
 }
   where
-    answered : (p : Played) → IsKept v.state v.met p → reply ≡ answer p.behaviours (past_of p) caller.0 op
-    answered p kept = replied (past_of p) kept.stands ∙ ap (λ (n : ℕ). answer n (past_of p) caller.0 op) kept.behaviours
+    answered : (p : Played) → IsKept v.state v.met p → reply ≡ answer p.behaviours (played_past p) caller.0 op
+    answered p kept = replied (played_past p) kept.stands ∙ ap (λ (n : ℕ). answer n (played_past p) caller.0 op) kept.behaviours
 
     entry_is : (p : Played) → IsKept v.state v.met p → entry caller op reply ≡ called p.behaviours p.lines caller op
     entry_is p kept = ap (entry caller op) (answered p kept)
@@ -132,8 +122,8 @@ below : (a b : ℕ) → a < b → nat_lt a b ≡ true
 below a b less = grind (arith, nat_tests)
 
 -- it did not wait before
-awake : (p : Played) (b : ℕ) → sleep_of p b ≡ None → b < p.behaviours → waiting (past_of p) b ≡ None
-awake p b none less = sym (ap (λ (t : Bool). if t then waiting (past_of p) b else None) (below b p.behaviours less)) ∙ none
+awake : (p : Played) (b : ℕ) → sleep_of p b ≡ None → b < p.behaviours → waiting (played_past p) b ≡ None
+awake p b none less = sym (ap (λ (t : Bool). if t then waiting (played_past p) b else None) (below b p.behaviours less)) ∙ none
 
 -- ---- a call that is barred, and one that is not
 
@@ -173,7 +163,7 @@ module _ (v w : OpenCase) (caller : Run) (op : Op) (reply : Reply) (out written 
   goes_on goes p closed before none holds = record {
     is = record {
       kept = call.kept p holds.is.kept;
-      asleep = rw (ap (λ x. x.items) call.same) (asleep_on p.behaviours v.sleepers.items (past_of p) (called p.behaviours p.lines caller op) holds.is.asleep (awake p caller.0 none) (λ less. ap (parks op) (sym (call.replied p holds.is.kept)) ∙ sym goes));
+      asleep = rw (ap (λ x. x.items) call.same) (asleep_on p.behaviours v.sleepers.items (played_past p) (called p.behaviours p.lines caller op) holds.is.asleep (awake p caller.0 none) (λ less. ap (parks op) (sym (call.replied p holds.is.kept)) ∙ sym goes));
     };
     text = call.text p closed before holds.is.kept holds.text;
   }
@@ -185,7 +175,7 @@ module _ (v w : OpenCase) (caller : Run) (op : Op) (reply : Reply) (out written 
       record {
         is = record {
           kept = call.kept p holds.is.kept;
-          asleep = rw (ap (λ x. x.items) call.same) (asleep_on p.behaviours v.sleepers.items (past_of p) (called p.behaviours p.lines caller op) holds.is.asleep (awake p caller.0 none) (λ less. absurd (never less)));
+          asleep = rw (ap (λ x. x.items) call.same) (asleep_on p.behaviours v.sleepers.items (played_past p) (called p.behaviours p.lines caller op) holds.is.asleep (awake p caller.0 none) (λ less. absurd (never less)));
         };
         text = call.text p closed before holds.is.kept holds.text;
       }
@@ -199,7 +189,7 @@ module _ (v w : OpenCase) (caller : Run) (op : Op) (reply : Reply) (out written 
       record {
         is = record {
           kept = rw (state, met) kept;
-          asleep = asleep_more p.behaviours (record { run = caller.0; awaited = a }) v.sleepers.items x.sleepers.items (past_of p) (called p.behaviours p.lines caller op) holds.is.asleep (rw (sym (ap (λ y. y.items) call.same)) added) refl less (awake p caller.0 none less)
+          asleep = asleep_more p.behaviours (record { run = caller.0; awaited = a }) v.sleepers.items x.sleepers.items (played_past p) (called p.behaviours p.lines caller op) holds.is.asleep (rw (sym (ap (λ y. y.items) call.same)) added) refl less (awake p caller.0 none less)
               (ap (parks op) (sym (call.replied p holds.is.kept)) ∙ sym waits);
         };
         text = call.text p closed before holds.is.kept holds.text;
@@ -207,8 +197,8 @@ module _ (v w : OpenCase) (caller : Run) (op : Op) (reply : Reply) (out written 
 
 -- ---- a call, and who is woken by it
 
-legal : (o : OpenCase) (p : Played) → IsKept o.state o.met p → IsLegal p.behaviours (past_of p)
-legal o p kept = legal_for p.behaviours o.state (past_of p) kept.behaviours kept.stands
+legal : (o : OpenCase) (p : Played) → IsKept o.state o.met p → IsLegal p.behaviours (played_past p)
+legal o p kept = legal_for p.behaviours o.state (played_past p) kept.behaviours kept.stands
 
 some : (o : OpenCase) (p : Played) → IsKept o.state o.met p → 0 < p.behaviours
 some o p kept = omega (arith, kept.few.0)

@@ -3,29 +3,25 @@ use Rattle.std.proofs.Common.{ℕ, ◌≡◌, ◌∙◌, ◌⊎◌, ◌<◌, ◌
 use Rattle.std.specs.List.{AllByRecursion}
 use Rattle.std.specs.Option.{option_map_or}
 use Rattle.std.specs.Result.{result_map_both, result_unwrap_or}
-use Rattle.tc_verdict.specs.declared.run.Run.{Run}
-use Rattle.tc_entry.specs.declared.op.Op.{Op}
-use Rattle.tc_entry.specs.Limits.{IsBehaviours}
-use Rattle.tc_entry.specs.Name.{IsName}
-use Rattle.tc_text.specs.Spelling.{IsOp}
-use Rattle.tc_evidence.specs.declared.line.Line.{Line}
-use Rattle.tc_evidence.specs.declared.line.Line.TheVariants as L
-use Rattle.tc_evidence.specs.Line.{is_met}
-use Rattle.tc_evidence.specs.Sentence.{IsSentence}
+use Rattle.tc_rules.specs.Prelude.{Run, Op, IsBehaviours, IsName, is_wake}
+use Rattle.tc_text.specs.Prelude.{IsOp}
+use Rattle.tc_blocks.specs.declared.line.Line.{Line}
+use Rattle.tc_blocks.specs.declared.line.Line.TheVariants as L
+use Rattle.tc_blocks.specs.Prelude.{is_met, IsSentence}
 use Rattle.tc_serve.specs.declared.order.Order.{Order}
 use Rattle.tc_serve.specs.declared.order.Order.TheVariants as O
 use Rattle.tc_serve.specs.declared.refusal.Refusal.{Refusal}
 use Rattle.tc_serve.specs.declared.refusal.Refusal.TheVariants as W
 use Rattle.tc_serve.specs.Order.{IsOrder}
 use Rattle.tc_serve.specs.Refusal.{why_text}
-use Rattle.tc_serve.specs.Protocol.{AreServed, Came, Comes, Played, Sent, Stand, added, is_wake, made, moved, named, sleep_of, taken, was_done, was_lost, was_refused, with_current, with_open}
+use Rattle.tc_serve.specs.Protocol.{AreServed, Came, Comes, Played, Sent, ServiceState, with_added_line, made, moved, with_name, sleep_of, after_order, was_done, was_lost, was_refused, with_current, with_open}
 use Rattle.tc_serve.specs.Inside.{with_line}
 use Rattle.tc_serve.specs.Laws.{AllServed, asked_by}
 
 abbrev pub new : List ℕ → ℕ → Played
 new name n = record { name = name; behaviours = n; lines = [] }
 
-abbrev pub without : Stand → Played → Stand
+abbrev pub without : ServiceState → Played → ServiceState
 without s p = record { closed = p ∷ s.closed; current = None }
 
 -- a client may make the call
@@ -47,7 +43,7 @@ IsNote (L.Remark run sentence) = IsSentence sentence
 IsNote (L.Refused run sentence) = (why : Refusal) × (sentence ≡ why_text why)
 
 -- a test case is opened
-pub record Opens (asks : List Order) (s t : Stand) : Type 0 where
+pub record Opens (asks : List Order) (s t : ServiceState) : Type 0 where
   pub name : List ℕ
   pub behaviours : ℕ
   pub name_is : IsName name
@@ -57,7 +53,7 @@ pub record Opens (asks : List Order) (s t : Stand) : Type 0 where
   pub is : with_current s (new name behaviours) ≡ t
 
 -- a line that is no entry is added
-pub record AddsNote (asks : List Order) (s t : Stand) : Type 0 where
+pub record AddsNote (asks : List Order) (s t : ServiceState) : Type 0 where
   pub case : Played
   pub line : Line
   pub some : s.current ≡ Some case
@@ -67,7 +63,7 @@ pub record AddsNote (asks : List Order) (s t : Stand) : Type 0 where
   pub is : with_current s (with_line case line) ≡ t
 
 -- a move is made
-pub record Moves (asks : List Order) (s t : Stand) : Type 0 where
+pub record Moves (asks : List Order) (s t : ServiceState) : Type 0 where
   pub case : Played
   pub caller : Run
   pub op : Op
@@ -79,28 +75,28 @@ pub record Moves (asks : List Order) (s t : Stand) : Type 0 where
   pub is : with_current s (moved case caller op) ≡ t
 
 -- the test case is closed
-pub record Closes (asks : List Order) (s t : Stand) : Type 0 where
+pub record Closes (asks : List Order) (s t : ServiceState) : Type 0 where
   pub case : Played
   pub some : s.current ≡ Some case
   pub asked : asks ≡ O.End ∷ []
   pub is : without s case ≡ t
 
-abbrev pub Changed : List Order → Stand → Stand → Type 0
+abbrev pub Changed : List Order → ServiceState → ServiceState → Type 0
 Changed asks s t = Opens asks s t ⊎ (AddsNote asks s t ⊎ (Moves asks s t ⊎ (Closes asks s t ⊎ ((asks ≡ []) × (s ≡ t)))))
 
-same_ok : (x t : Stand) → ◌≡◌ {A = Result Stand Refusal} (Ok x) (Ok t) → x ≡ t
+same_ok : (x t : ServiceState) → ◌≡◌ {A = Result ServiceState Refusal} (Ok x) (Ok t) → x ≡ t
 same_ok x t e = cc
 
 -- ---- what may be done of the test case that is open
 
-added_is : (run : Run) (l : Line) (p q : Played) → added run l p ≡ Ok q → (nat_lt run.0 p.behaviours ≡ true) × (with_line p l ≡ q)
+added_is : (run : Run) (l : Line) (p q : Played) → with_added_line run l p ≡ Ok q → (nat_lt run.0 p.behaviours ≡ true) × (with_line p l ≡ q)
 added_is run l p q e = by_test (nat_lt run.0 p.behaviours) e
   where
     by_test : (b : Bool) → ◌≡◌ {A = Result Played Refusal} (if b then Ok (with_line p l) else Err W.NoRun) (Ok q) → (b ≡ true) × (with_line p l ≡ q)
     by_test true e = (refl, let same : with_line p l ≡ q = cc in same)
     by_test false e = absurd cc
 
-named_is : (run : Run) (name : List ℕ) (p q : Played) → named run name p ≡ Ok q → (may_add p (L.Named run name) ≡ true) × (with_line p (L.Named run name) ≡ q)
+named_is : (run : Run) (name : List ℕ) (p q : Played) → with_name run name p ≡ Ok q → (may_add p (L.Named run name) ≡ true) × (with_line p (L.Named run name) ≡ q)
 named_is run name p q e = by_tests (nat_lt run.0 p.behaviours) (is_met run.0 p.lines) e
   where
     by_tests : (a b : Bool) → ◌≡◌ {A = Result Played Refusal} (if a && b then Err W.LateName else if a then Ok (with_line p (L.Named run name)) else Err W.NoRun) (Ok q) →
@@ -118,14 +114,14 @@ made_is caller op p q e = by_tests (is_wake op) (is_some (sleep_of p caller.0)) 
     by_tests false false e = (refl, let same : moved p caller op ≡ q = cc in same)
 
 -- the test case that is open became another
-record Became (s t : Stand) (change : Played → Result Played Refusal) : Type 0 where
+record Became (s t : ServiceState) (change : Played → Result Played Refusal) : Type 0 where
   case : Played
   after : Played
   some : s.current ≡ Some case
   changed : change case ≡ Ok after
   is : with_current s after ≡ t
 
-became : (s t : Stand) (change : Played → Result Played Refusal) (c : Option Played) → s.current ≡ c → result_map_both (with_current s) (λ why. why) (option_map_or change c (Err W.NoCase)) ≡ Ok t → Became s t change
+became : (s t : ServiceState) (change : Played → Result Played Refusal) (c : Option Played) → s.current ≡ c → result_map_both (with_current s) (λ why. why) (option_map_or change c (Err W.NoCase)) ≡ Ok t → Became s t change
 became s t change None is e = absurd cc
 became s t change (Some p) is e = by_change (change p) refl e
   where
@@ -135,33 +131,33 @@ became s t change (Some p) is e = by_change (change p) refl e
 
 -- ---- what is done
 
-noted : (asks : List Order) (s t : Stand) (l : Line) (change : Played → Result Played Refusal) → ((p q : Played) → change p ≡ Ok q → (may_add p l ≡ true) × (with_line p l ≡ q)) → IsNote l → asks ≡ asked_by l → with_open s change ≡ Ok t → Changed asks s t
+noted : (asks : List Order) (s t : ServiceState) (l : Line) (change : Played → Result Played Refusal) → ((p q : Played) → change p ≡ Ok q → (may_add p l ≡ true) × (with_line p l ≡ q)) → IsNote l → asks ≡ asked_by l → with_open s change ≡ Ok t → Changed asks s t
 noted asks s t l change adds note asked e =
     let so = became s t change s.current refl e in
     let two = adds so.case so.after so.changed in
     inr (inl (record { case = so.case; line = l; some = so.some; may = two.0; note = note; asked = asked; is = ap (with_current s) two.1 ∙ so.is }))
 
-opened : (asks : List Order) (s t : Stand) (name : List ℕ) (n : ℕ) (c : Option Played) → IsName name → IsBehaviours n → asks ≡ O.Case name n ∷ [] → s.current ≡ c →
-    ◌≡◌ {A = Result Stand Refusal} (if is_some c then Err W.CaseOpen else Ok (with_current s (new name n))) (Ok t) → Changed asks s t
+opened : (asks : List Order) (s t : ServiceState) (name : List ℕ) (n : ℕ) (c : Option Played) → IsName name → IsBehaviours n → asks ≡ O.Case name n ∷ [] → s.current ≡ c →
+    ◌≡◌ {A = Result ServiceState Refusal} (if is_some c then Err W.CaseOpen else Ok (with_current s (new name n))) (Ok t) → Changed asks s t
 opened asks s t name n None name_is few asked is e = inl (record { name = name; behaviours = n; name_is = name_is; few = few; none = is; asked = asked; is = same_ok (with_current s (new name n)) t e })
 opened asks s t name n (Some p) name_is few asked is e = absurd cc
 
 -- the test case that is open is closed, if one is
-abbrev pub closing : Stand → Option Played → Result Stand Refusal
+abbrev pub closing : ServiceState → Option Played → Result ServiceState Refusal
 closing s c = option_map_or (λ p. Ok (without s p)) c (Err W.NoCase)
 
-closed : (asks : List Order) (s t : Stand) (c : Option Played) → asks ≡ O.End ∷ [] → s.current ≡ c → closing s c ≡ Ok t → Changed asks s t
+closed : (asks : List Order) (s t : ServiceState) (c : Option Played) → asks ≡ O.End ∷ [] → s.current ≡ c → closing s c ≡ Ok t → Changed asks s t
 closed asks s t None asked is e = absurd cc
 closed asks s t (Some p) asked is e = inr (inr (inr (inl (record { case = p; some = is; asked = asked; is = same_ok (without s p) t e }))))
 
-done : (s t : Stand) (o : Order) → IsOrder o → taken s o ≡ Ok t → Changed (o ∷ []) s t
+done : (s t : ServiceState) (o : Order) → IsOrder o → after_order s o ≡ Ok t → Changed (o ∷ []) s t
 done s t (O.Case name n) fits e = opened _ s t name n s.current fits.0 fits.1 refl refl e
-done s t (O.Named run name) fits e = noted _ s t (L.Named run name) (named run name) (named_is run name) fits.1 refl e
+done s t (O.Named run name) fits e = noted _ s t (L.Named run name) (with_name run name) (named_is run name) fits.1 refl e
 done s t (O.Move caller op) fits e =
     let so = became s t (made caller op) s.current refl e in
     let two = made_is caller op so.case so.after so.changed in
     inr (inr (inl (record { case = so.case; caller = caller; op = op; some = so.some; may = two.0; low = fits.0; fits = fits.1; asked = refl; is = ap (with_current s) two.1 ∙ so.is })))
-done s t (O.Remark run sentence) fits e = noted _ s t (L.Remark run sentence) (added run (L.Remark run sentence)) (added_is run (L.Remark run sentence)) fits.1 refl e
+done s t (O.Remark run sentence) fits e = noted _ s t (L.Remark run sentence) (with_added_line run (L.Remark run sentence)) (added_is run (L.Remark run sentence)) fits.1 refl e
 done s t O.End fits e = closed _ s t s.current refl refl e
 
 -- what a line asked for that was done
@@ -169,24 +165,24 @@ abbrev pub done_by : Came → List Order
 done_by (was_done o) = o ∷ []
 done_by _ = []
 
-pub changes : (c : Came) (ended : Bool) (line : List ℕ) (s t : Stand) → Comes c ended line s t → Changed (done_by c) s t
+pub changes : (c : Came) (ended : Bool) (line : List ℕ) (s t : ServiceState) → Comes c ended line s t → Changed (done_by c) s t
 changes (was_done o) ended line s t came = done s t o came.0.1 came.1
-changes (was_refused run why) ended line s t came = noted [] s t (L.Refused run (why_text why)) (added run (L.Refused run (why_text why))) (added_is run (L.Refused run (why_text why))) (why, refl) refl came.2
+changes (was_refused run why) ended line s t came = noted [] s t (L.Refused run (why_text why)) (with_added_line run (L.Refused run (why_text why))) (added_is run (L.Refused run (why_text why))) (why, refl) refl came.2
 changes (was_lost why) ended line s t came = inr (inr (inr (inr (refl, sym came.3))))
 
 -- ---- what holds of each test case
 
 -- also of one that is open
-abbrev pub AllOf : (Played → Type 0) → Stand → Type 0
+abbrev pub AllOf : (Played → Type 0) → ServiceState → Type 0
 AllOf P s = AllByRecursion P s.closed × MatchOption s.current (Unit {0}) P
 
-pub of_current : (s : Stand) (p : Played) (P : Played → Type 0) → s.current ≡ Some p → MatchOption s.current (Unit {0}) P → P p
+pub of_current : (s : ServiceState) (p : Played) (P : Played → Type 0) → s.current ≡ Some p → MatchOption s.current (Unit {0}) P → P p
 of_current s p P some so = subst (λ (c : Option Played). MatchOption c (Unit {0}) P) some so
 
 module _ (P : Played → Type 0) (at_first : (name : List ℕ) (n : ℕ) → IsName name → IsBehaviours n → P (new name n))
     (note : (p : Played) (l : Line) → may_add p l ≡ true → IsNote l → P p → P (with_line p l))
     (move : (p : Played) (caller : Run) (op : Op) → may_ask p caller op ≡ true → caller.0 < 2 ^ 16 → IsOp op → P p → P (moved p caller op)) where
-  next : (asks : List Order) (s t : Stand) → AllOf P s → Changed asks s t → AllOf P t
+  next : (asks : List Order) (s t : ServiceState) → AllOf P s → Changed asks s t → AllOf P t
   next asks s t so (inl opens) = subst (AllOf P) opens.is (so.0, at_first opens.name opens.behaviours opens.name_is opens.few)
   next asks s t so (inr (inl adds)) = subst (AllOf P) adds.is (so.0, note adds.case adds.line adds.may adds.note (of_current s adds.case P adds.some so.1))
   next asks s t so (inr (inr (inl moves))) =
@@ -194,11 +190,11 @@ module _ (P : Played → Type 0) (at_first : (name : List ℕ) (n : ℕ) → IsN
   next asks s t so (inr (inr (inr (inl closes)))) = subst (AllOf P) closes.is ((of_current s closes.case P closes.some so.1, so.0), tt)
   next asks s t so (inr (inr (inr (inr same)))) = subst (AllOf P) same.1 so
 
-  all : (lines : List Sent) (s : Stand) → AreServed lines s → AllOf P s
+  all : (lines : List Sent) (s : ServiceState) → AreServed lines s → AllOf P s
   all [] s served = subst (AllOf P) (sym served) (tt, tt)
   all (l ∷ before) t served = next _ served.0 t (all before served.0 served.1) (changes l.came l.ended _ served.0 t served.4)
 
-  at_end : (s : Stand) (c : Option Played) → AllByRecursion P s.closed → MatchOption c (Unit {0}) P → AllByRecursion P (result_unwrap_or (closing s c) s).closed
+  at_end : (s : ServiceState) (c : Option Played) → AllByRecursion P s.closed → MatchOption c (Unit {0}) P → AllByRecursion P (result_unwrap_or (closing s c) s).closed
   at_end s None closed current = closed
   at_end s (Some p) closed current = (current, closed)
 

@@ -4,40 +4,23 @@ use Rattle.std.specs.Result.{result_unwrap_or}
 use Rattle.std.specs.List.{All, AllByRecursion, flat_map, list_all}
 use Rattle.std.proofs.lemmas.Bool.Decides.{nat_tests}
 use Rattle.std.proofs.lemmas.List.{append-nil, reverse-append, reverse-reverse}
-use Rattle.tc_verdict.specs.declared.run.Run.{Run}
-use Rattle.tc_entry.specs.Limits.{IsBehaviours}
-use Rattle.tc_entry.specs.Name.{IsName}
-use Rattle.tc_entry.specs.declared.comp.Comp.{Comp}
-use Rattle.tc_entry.specs.declared.entry.Entry.{Entry}
-use Rattle.tc_entry.specs.declared.op.Op.{Op}
+use Rattle.tc_rules.specs.Prelude.{Run, IsBehaviours, IsName, Comp, Entry, Op, Reply, answer, local_reply, plain_answer, comp_of, created, overall, awaited, holds, parks, waiting, is_parked}
 use Rattle.tc_entry.specs.declared.op.Op.TheVariants as Ops
-use Rattle.tc_entry.specs.declared.reply.Reply.{Reply}
 use Rattle.tc_entry.specs.declared.reply.Reply.TheVariants as R
 use Rattle.tc_entry.specs.declared.reply.Fault.TheVariants as F
-use Rattle.tc_text.specs.Shown.{is_plain}
-use Rattle.tc_text.specs.Spelling.{IsOp, IsReply, IsTarget}
-use Rattle.tc_table.specs.declared.awaited.Awaited.{Awaited}
-use Rattle.tc_table.specs.Answers.{answer, local_reply, plain_answer}
-use Rattle.tc_table.specs.History.{comp_of, created}
-use Rattle.tc_table.specs.Local.{overall}
-use Rattle.tc_table.specs.Waiting.{awaited, holds, parks, waiting}
-use Rattle.tc_table.proofs.Lemmas.Sound.{next, plain_if}
-use Rattle.tc_history.specs.Block.{end_text}
-use Rattle.tc_history.specs.Text.{AreEntries, IsEntry}
-use Rattle.tc_evidence.specs.declared.header.Kind.TheVariants as K
-use Rattle.tc_evidence.specs.declared.line.Line.{Line}
-use Rattle.tc_evidence.specs.declared.line.Line.TheVariants as L
-use Rattle.tc_evidence.specs.Block.{ended, header_text}
-use Rattle.tc_evidence.specs.Line.{entries_of, is_about, is_met}
-use Rattle.tc_evidence.specs.Sentence.{IsSentence}
-use Rattle.tc_evidence.specs.Text.{AreBlocks, AreLines, IsHeader, IsLine, block_lines}
-use Rattle.tc_evidence.specs.Written.{text_of_block}
-use Rattle.tc_evidence.proofs.Lemmas.Meeting.{met_last}
-use Rattle.tc_evidence.proofs.Lemmas.WrittenEvidence.{written_evidence}
+use Rattle.tc_text.specs.Prelude.{is_plain, IsOp, IsReply, IsTarget}
+use Rattle.tc_rules.specs.declared.awaited.Awaited.{Awaited}
+use Rattle.tc_rules.proofs.Lemmas.Sound.{next, plain_if}
+use Rattle.tc_blocks.specs.Prelude.{end_text, AreEntries, IsEntry, with_lf, header_text, entries_of, is_about, is_met, IsSentence, AreBlocks, AreLines, IsHeader, IsLine, block_lines, text_of_block}
+use Rattle.tc_blocks.specs.declared.header.Kind.TheVariants as K
+use Rattle.tc_blocks.specs.declared.line.Line.{Line}
+use Rattle.tc_blocks.specs.declared.line.Line.TheVariants as L
+use Rattle.tc_blocks.proofs.Lemmas.Meeting.{met_last}
+use Rattle.tc_blocks.proofs.Lemmas.WrittenEvidence.{written_evidence}
 use Rattle.tc_serve.specs.declared.refusal.Refusal.{Refusal}
 use Rattle.tc_serve.specs.declared.refusal.Refusal.TheVariants as W
-use Rattle.tc_serve.specs.Protocol.{Played, Stand, called, finished, is_parked, moved, past_of, wake_op, woken, woken_from}
-use Rattle.tc_serve.specs.Text.{block, header_of, stand_text}
+use Rattle.tc_serve.specs.Protocol.{Played, ServiceState, called, finished_state, moved, played_past, wake_op, woken, woken_from}
+use Rattle.tc_serve.specs.Text.{block, case_header, stand_text}
 use Rattle.tc_serve.specs.Inside.{after_call, with_line}
 use Rattle.tc_serve.specs.Laws.{ServedIsEvidence, block_of, blocks_of}
 use Rattle.tc_serve.specs.Refusal.{why_text}
@@ -153,7 +136,7 @@ met_reverse b (l ∷ ls) = ap (λ (t : Bool). is_about b l || t) (met_reverse b 
 record IsEvident (p : Played) : Type 0 where
   name : IsName p.name
   behaviours : IsBehaviours p.behaviours
-  entries : AreEntries 2 (past_of p)
+  entries : AreEntries 2 (played_past p)
   lines : AreLines K.Evidence p.behaviours [] (reverse p.lines)
 
 fit_of : (p : Played) → IsEvident p → Fit p.behaviours p.lines
@@ -227,7 +210,7 @@ fit_reverse [] a = a
 fit_reverse (x ∷ xs) a = rw (reverse-append (x ∷ []) xs) (fit_append (reverse xs) (x ∷ []) (fit_reverse xs a.1) (a.0, tt))
 
 block_is : (line : ℕ) (p : Played) → text_of_block (block_of line p) ≡ block p
-block_is line p = sym (append_assoc (ended (header_text (header_of p))) (lines_text p.lines) (ended (end_text (overall (past_of p)))))
+block_is line p = sym (append_assoc (with_lf (header_text (case_header p))) (lines_text p.lines) (with_lf (end_text (overall (played_past p)))))
 
 blocks_text : (line : ℕ) (ps : List Played) → flat_map text_of_block (blocks_of line ps) ≡ flat_map block ps
 blocks_text line [] = refl
@@ -250,17 +233,17 @@ some_reversed : (ps : List Played) → ps ≢ [] → reverse ps ≢ []
 some_reversed ps some = λ e. some (sym (reverse-reverse ps) ∙ ap reverse e)
 
 -- nothing is open at the end
-none_left : (s : Stand) (c : Option Played) → s.current ≡ c → (result_unwrap_or (closing s c) s).current ≡ None
+none_left : (s : ServiceState) (c : Option Played) → s.current ≡ c → (result_unwrap_or (closing s c) s).current ≡ None
 none_left s None is = is
 none_left s (Some p) is = refl
 
-closed_text : (s : Stand) → s.current ≡ None → stand_text s ≡ flat_map block (reverse s.closed)
+closed_text : (s : ServiceState) → s.current ≡ None → stand_text s ≡ flat_map block (reverse s.closed)
 closed_text s none = ap (λ (c : Option Played). stand_text (record { closed = s.closed; current = c })) none ∙ append-nil (flat_map block (reverse s.closed))
 
 pub served_is_evidence : ServedIsEvidence
 served_is_evidence lines s served some =
-    let ps = reverse (finished s).closed in
+    let ps = reverse (finished_state s).closed in
     let are = all_served IsEvident (λ name n name_is few. record { name = name_is; behaviours = few; entries = tt; lines = tt }) note_fits (λ p caller op may. move_fits p caller op) lines s served in
-    let fit : AllByRecursion IsEvident ps = fit_reverse (finished s).closed are in
-    rw (closed_text (finished s) (none_left s s.current refl))
-    (rw (blocks_text 1 ps) at (written_evidence (blocks_of 1 ps) (some_blocks ps (some_reversed (finished s).closed some)) (are_blocks 1 ps fit)))
+    let fit : AllByRecursion IsEvident ps = fit_reverse (finished_state s).closed are in
+    rw (closed_text (finished_state s) (none_left s s.current refl))
+    (rw (blocks_text 1 ps) at (written_evidence (blocks_of 1 ps) (some_blocks ps (some_reversed (finished_state s).closed some)) (are_blocks 1 ps fit)))

@@ -13,9 +13,9 @@ use Rattle.tc_serve.specs.declared.server.Server.{Server}
 use Rattle.tc_serve.specs.declared.service.Served.{Served}
 use Rattle.tc_serve.specs.declared.serving.Serving.{Serving}
 use Rattle.tc_serve.specs.declared.order.TheConstants.{LINE_BYTES}
-use Rattle.tc_serve.specs.Protocol.{AllEnded, Asks, Came, Comes, IsNobodys, IsOf, NoLf, Refuses, Sent, Stand, finished, seen, taken, was_done, was_lost, was_refused}
+use Rattle.tc_serve.specs.Protocol.{AllEnded, IsOrderOf, Came, Comes, IsNobodys, IsOf, NoLf, Refuses, Sent, ServiceState, finished_state, seen, after_order, was_done, was_lost, was_refused}
 use Rattle.tc_serve.specs.Refusal.{why_text}
-use Rattle.tc_serve.specs.Text.{bytes_of, end_told, lost_text, refusal_text, told_of, worst_of}
+use Rattle.tc_serve.specs.Text.{bytes_of, end_told, lost_text, refused_line_text, lines_messages, worst_case}
 use Rattle.tc_serve.specs.Serve.{HasEnded, IsWhy, served, stopped}
 use Rattle.tc_serve.specs.Inside.{Closes, Counts, Fails, Feeds, IsAtLine, IsBadLine, IsEnd, IsFed, Serves, StandsAs, StopsIn, TakesPiece, TellsRun, Tries, TriesLine, is_refused}
 use Rattle.tc_serve.proofs.Going.{appended}
@@ -60,7 +60,7 @@ all_parts t x d c w l =
     append_assoc (((t ++ x) ++ d) ++ c) w l
     ∙ (append_assoc ((t ++ x) ++ d) c (w ++ l) ∙ (append_assoc (t ++ x) d (c ++ (w ++ l)) ∙ append_assoc t x (d ++ (c ++ (w ++ l)))))
 
-pub refusal_is : (told a b d e f : List ℕ) (n : ℕ) (why : Refusal) → a ≡ told ++ codes "ttrun: line " → b ≡ a ++ decimal n → d ≡ b ++ codes ": " → e ≡ d ++ why_text why → f ≡ e ++ 10 ∷ [] → f ≡ told ++ refusal_text n why
+pub refusal_is : (told a b d e f : List ℕ) (n : ℕ) (why : Refusal) → a ≡ told ++ codes "ttrun: line " → b ≡ a ++ decimal n → d ≡ b ++ codes ": " → e ≡ d ++ why_text why → f ≡ e ++ 10 ∷ [] → f ≡ told ++ refused_line_text n why
 refusal_is told a b d e f n why one two three four five =
     five ∙ (ap (λ (l : List ℕ). l ++ 10 ∷ []) (four ∙ ap (λ (l : List ℕ). l ++ why_text why) (three ∙ ap (λ (l : List ℕ). l ++ codes ": ") (two ∙ ap (λ (l : List ℕ). l ++ decimal n) one)))
     ∙ all_parts told (codes "ttrun: line ") (decimal n) (codes ": ") (why_text why) (10 ∷ []))
@@ -71,13 +71,13 @@ abbrev pub sent : List ℕ → Bool → Came → Sent
 sent line ended came = record { bytes = line; ended = ended; came = came }
 
 -- one more line, of which this came
-more : (ended : Bool) (line : List ℕ) (lines : List Sent) (s t : Stand) (v w : Serving) (came : Came) (before out written before' told told' : List ℕ) → IsAtLine line lines s v before out before' told →
+more : (ended : Bool) (line : List ℕ) (lines : List Sent) (s t : ServiceState) (v w : Serving) (came : Came) (before out written before' told told' : List ℕ) → IsAtLine line lines s v before out before' told →
     Comes came ended (seen line) s t → StandsAs w.server t before written → w.lines ≡ v.lines + 1 → w.refused ≡ (is_refused came || v.refused) → told' ≡ told ++ lost_text (length lines + 1) came →
     Counts w (sent line ended came ∷ lines) t before written before' told'
 more ended line lines s t v w came before out written before' told told' at_ comes stands many refuses tells = record {
   served = (s, at_.counts.served, at_.all, at_.last_is, comes);
   stands = stands;
-  tells = appended before' told told' (told_of lines) _ _ at_.counts.tells tells refl;
+  tells = appended before' told told' (lines_messages lines) _ _ at_.counts.tells tells refl;
   many = many ∙ ap (λ (n : ℕ). n + 1) at_.counts.many ∙ one_longer lines;
   refused = refuses ∙ ap (λ (t : Bool). is_refused came || t) at_.counts.refused;
 }
@@ -90,7 +90,7 @@ pub done_more : (ended : Bool) (v w : Serving) (server : Server) (looked out wri
 done_more ended v w server looked out written told tries same is many refuses line lines s before before' at_ =
     let so = tries s before at_.counts.stands in
     let kept : looked ≡ seen line = same ∙ at_.kept in
-    let asks : Asks ended (seen line) so.0 = subst (λ (l : List ℕ). Asks ended l so.0) kept so.2 in (
+    let asks : IsOrderOf ended (seen line) so.0 = subst (λ (l : List ℕ). IsOrderOf ended l so.0) kept so.2 in (
       was_done so.0,
       so.1,
       more ended line lines s so.1 v w (was_done so.0) before out written before' told told at_ (asks, so.3)
@@ -111,8 +111,8 @@ module _ (ended : Bool) (v : Serving) (server server' : Server) (looked out mid 
             (subst (λ (x : Server). StandsAs x so.1 before written) (sym is) so.4) many refuses (sym (append-nil told)),
       )
 
-  pub lost_more : (w : Serving) (written told told' : List ℕ) (number : ℕ) → TellsRun looked why false server server' mid written → ((s : Stand) (before out : List ℕ) → StandsAs server s before out → true ≡ is_some s.current) →
-      w.server ≡ server' → number ≡ v.lines + 1 → w.lines ≡ number → w.refused ≡ true → told' ≡ told ++ refusal_text number why → Serves ended v w out written told told'
+  pub lost_more : (w : Serving) (written told told' : List ℕ) (number : ℕ) → TellsRun looked why false server server' mid written → ((s : ServiceState) (before out : List ℕ) → StandsAs server s before out → true ≡ is_some s.current) →
+      w.server ≡ server' → number ≡ v.lines + 1 → w.lines ≡ number → w.refused ≡ true → told' ≡ told ++ refused_line_text number why → Serves ended v w out written told told'
   lost_more w written told told' number tells some_open is next many refuses reports line lines s before before' at_ =
       let none = tries s before at_.counts.stands in
       let so = tells s before none.1 in
@@ -122,10 +122,10 @@ module _ (ended : Bool) (v : Serving) (server server' : Server) (looked out mid 
         was_lost why,
         s,
         more ended line lines s s v w (was_lost why) before out written before' told told' at_ (nothing_asked, nobodys, sym (some_open s before mid none.1), refl)
-            (subst (λ (x : Server). StandsAs x s before written) (sym is) so.1) (many ∙ next) refuses (reports ∙ ap (λ (n : ℕ). told ++ refusal_text n why) (next ∙ ap (λ (n : ℕ). n + 1) at_.counts.many)),
+            (subst (λ (x : Server). StandsAs x s before written) (sym is) so.1) (many ∙ next) refuses (reports ∙ ap (λ (n : ℕ). told ++ refused_line_text n why) (next ∙ ap (λ (n : ℕ). n + 1) at_.counts.many)),
       )
 
-  pub bad_line : (number : ℕ) (told : List ℕ) → ((s : Stand) (before out : List ℕ) → StandsAs server s before out → false ≡ is_some s.current) → number ≡ v.lines + 1 → Fails ended v out told (F.Line number why)
+  pub bad_line : (number : ℕ) (told : List ℕ) → ((s : ServiceState) (before out : List ℕ) → StandsAs server s before out → false ≡ is_some s.current) → number ≡ v.lines + 1 → Fails ended v out told (F.Line number why)
   bad_line number told closed next line lines s before before' at_ =
       let none = tries s before at_.counts.stands in
       (next ∙ ap (λ (n : ℕ). n + 1) at_.counts.many, sym (closed s before mid none.1), subst (λ (l : List ℕ). Refuses why ended l s) (same ∙ at_.kept) none.0)
@@ -201,7 +201,7 @@ long_lines (l ∷ before) all = by_end l.ended refl (long_lines before (second l
     by_end true is so = subst (λ (t : Bool). length (l ∷ before) ≤ length (bytes_of before ++ (l.bytes ++ (if t then 10 ∷ [] else [])))) (sym is)
         (omega (arith, so, length-append (bytes_of before) (l.bytes ++ 10 ∷ []), length-append l.bytes (10 ∷ [])))
 
-pub why_line : (f : ServeFault) (line behind : List ℕ) (lines : List Sent) (s : Stand) (input : Option (List ℕ)) → AllEnded lines → NoLf line → IsBadLine f true line lines s → IsWhy f lines s (line ++ 10 ∷ behind) input
+pub why_line : (f : ServeFault) (line behind : List ℕ) (lines : List Sent) (s : ServiceState) (input : Option (List ℕ)) → AllEnded lines → NoLf line → IsBadLine f true line lines s → IsWhy f lines s (line ++ 10 ∷ behind) input
 why_line (F.Line n why) line behind lines s input all plain bad = (bad.0, bad.1, (line, behind, plain, inl (refl, bad.2)))
 why_line F.TooLong line behind lines s input all plain bad = omega (arith, bad, long_lines lines all, length-append (bytes_of lines) (line ++ 10 ∷ behind))
 why_line F.Read line behind lines s input all plain bad = absurd bad
@@ -279,14 +279,14 @@ taken_bad bytes rest v w out mid written told said told' f so stops read before 
 -- ---- the end
 
 -- what comes of a server whose input has ended
-pub closes : (v w : Serving) (server : Server) (why : Option Refusal) (some_open : Bool) (out written told told' : List ℕ) → Tries (λ s. taken s O.End) why v.server server out written → w.server ≡ server →
-    ((s : Stand) (before out : List ℕ) → StandsAs v.server s before out → some_open ≡ is_some s.current) → told' ≡ told ++ end_told some_open → Closes v w out written told told'
+pub closes : (v w : Serving) (server : Server) (why : Option Refusal) (some_open : Bool) (out written told told' : List ℕ) → Tries (λ s. after_order s O.End) why v.server server out written → w.server ≡ server →
+    ((s : ServiceState) (before out : List ℕ) → StandsAs v.server s before out → some_open ≡ is_some s.current) → told' ≡ told ++ end_told some_open → Closes v w out written told told'
 closes v w server why some_open out written told told' tries is opens reports lines s before before' counts = (
-  subst (λ (x : Server). StandsAs x (finished s) before written) (sym is) (by_taken (taken s O.End) (tries s before counts.stands)),
-  appended before' told told' (told_of lines) _ _ counts.tells (reports ∙ ap (λ (t : Bool). told ++ end_told t) (opens s before out counts.stands)) refl,
+  subst (λ (x : Server). StandsAs x (finished_state s) before written) (sym is) (by_taken (after_order s O.End) (tries s before counts.stands)),
+  appended before' told told' (lines_messages lines) _ _ counts.tells (reports ∙ ap (λ (t : Bool). told ++ end_told t) (opens s before out counts.stands)) refl,
 )
   where
-    by_taken : (r : Result Stand Refusal) → MatchResult r (λ t. (why ≡ None) × StandsAs server t before written) (λ e. (why ≡ Some e) × StandsAs server s before written) → StandsAs server (result_unwrap_or r s) before written
+    by_taken : (r : Result ServiceState Refusal) → MatchResult r (λ t. (why ≡ None) × StandsAs server t before written) (λ e. (why ≡ Some e) × StandsAs server s before written) → StandsAs server (result_unwrap_or r s) before written
     by_taken (Ok t) so = so.1
     by_taken (Err e) so = so.1
 
@@ -313,7 +313,7 @@ ends_some bytes before before' v w out written told told' fed serves =
 some_seen : (line looked : List ℕ) → looked ≡ seen line → looked ≢ [] → line ≢ []
 some_seen line looked same some = λ none. some (same ∙ (ap seen none ∙ take_none LINE_BYTES))
 
-why_last : (f : ServeFault) (line : List ℕ) (lines : List Sent) (s : Stand) (input : Option (List ℕ)) → IsAtEnd input → AllEnded lines → NoLf line → line ≢ [] → IsBadLine f false line lines s → IsWhy f lines s line input
+why_last : (f : ServeFault) (line : List ℕ) (lines : List Sent) (s : ServiceState) (input : Option (List ℕ)) → IsAtEnd input → AllEnded lines → NoLf line → line ≢ [] → IsBadLine f false line lines s → IsWhy f lines s line input
 why_last (F.Line n why) line lines s input end all plain some bad = (bad.0, bad.1, (line, [], plain, inr (refl, some, end, bad.2)))
 why_last F.TooLong line lines s input end all plain some bad = omega (arith, bad, long_lines lines all, length-append (bytes_of lines) line)
 why_last F.Read line lines s input end all plain some bad = absurd bad
@@ -328,10 +328,10 @@ stops_last bytes before before' v out written told told' input f end fed some fa
 
 -- the test case that is open is closed
 pub finishes : (bytes before before' : List ℕ) (v w : Serving) (out written told told' : List ℕ) (input : Option (List ℕ)) (r : Served) → IsAtEnd input → IsEnd bytes v before out before' told → Closes v w out written told told' → w.refused ≡ v.refused →
-    ((s : Stand) (before out : List ℕ) → StandsAs w.server s before out → r.worst ≡ worst_of s) → r.refused ≡ w.refused → HasEnded bytes input (before ++ written) (before' ++ told') (Ok r)
+    ((s : ServiceState) (before out : List ℕ) → StandsAs w.server s before out → r.worst ≡ worst_case s) → r.refused ≡ w.refused → HasEnded bytes input (before ++ written) (before' ++ told') (Ok r)
 finishes bytes before before' v w out written told told' input r end at_end closes same worst refuses =
     let so = closes at_end.lines at_end.stand before before' at_end.counts in
-    served at_end.lines at_end.stand r at_end.counts.served at_end.parts end (worst (finished at_end.stand) before written so.0) (refuses ∙ (same ∙ at_end.counts.refused)) so.0.text so.1
+    served at_end.lines at_end.stand r at_end.counts.served at_end.parts end (worst (finished_state at_end.stand) before written so.0) (refuses ∙ (same ∙ at_end.counts.refused)) so.0.text so.1
 
 -- memory runs out as it is closed
 pub stops_close : (bytes before before' : List ℕ) (v : Serving) (out written told told' : List ℕ) (input : Option (List ℕ)) → IsAtEnd input → IsEnd bytes v before out before' told → written ≡ out → told' ≡ told →

@@ -4,13 +4,11 @@ use Rattle.std.specs.List.{flat_map}
 use Rattle.std.specs.Io.{StartsWith}
 use Rattle.std.proofs.lemmas.List.{append-nil, reverse-append, take-append-drop}
 use Rattle.std.proofs.lemmas.List.Concat.{flat_map-append}
-use Rattle.tc_history.specs.Block.{end_text}
-use Rattle.tc_table.specs.Local.{overall}
-use Rattle.tc_evidence.specs.declared.line.Line.{Line}
-use Rattle.tc_evidence.specs.Block.{ended, header_text}
-use Rattle.tc_evidence.specs.Line.{line_text}
-use Rattle.tc_serve.specs.Protocol.{Played, Stand, past_of, woken}
-use Rattle.tc_serve.specs.Text.{block, header_of, opening, stand_text}
+use Rattle.tc_blocks.specs.Prelude.{end_text, with_lf, header_text, line_text}
+use Rattle.tc_rules.specs.Prelude.{overall}
+use Rattle.tc_blocks.specs.declared.line.Line.{Line}
+use Rattle.tc_serve.specs.Protocol.{Played, ServiceState, played_past, woken}
+use Rattle.tc_serve.specs.Text.{block, case_header, opened_text, stand_text}
 use Rattle.tc_serve.specs.Inside.{woken_once}
 
 -- one more run is woken, if it can continue
@@ -30,26 +28,26 @@ begun_before out move begun written is begins =
     ap (take (length out)) parts ∙ take_at out (move ++ behind) (length out) refl
 
 abbrev pub lines_text : List Line → List ℕ
-lines_text lines = flat_map (λ l. ended (line_text l)) (reverse lines)
+lines_text lines = flat_map (λ l. with_lf (line_text l)) (reverse lines)
 
 -- the text of one more line
-pub line_more : (l : Line) (lines : List Line) → lines_text (l ∷ lines) ≡ lines_text lines ++ ended (line_text l)
+pub line_more : (l : Line) (lines : List Line) → lines_text (l ∷ lines) ≡ lines_text lines ++ with_lf (line_text l)
 line_more l lines =
-    ap (flat_map (λ x. ended (line_text x))) (reverse-append (l ∷ []) lines)
-    ∙ (flat_map-append (λ x. ended (line_text x)) (reverse lines) (l ∷ []) ∙ ap (λ (x : List ℕ). lines_text lines ++ x) (append-nil (ended (line_text l))))
+    ap (flat_map (λ x. with_lf (line_text x))) (reverse-append (l ∷ []) lines)
+    ∙ (flat_map-append (λ x. with_lf (line_text x)) (reverse lines) (l ∷ []) ∙ ap (λ (x : List ℕ). lines_text lines ++ x) (append-nil (with_lf (line_text l))))
 
 abbrev pub closed_text : List Played → List ℕ
 closed_text ps = flat_map block (reverse ps)
 
-abbrev pub open_stand : List Played → Played → Stand
+abbrev pub open_stand : List Played → Played → ServiceState
 open_stand closed p = record { closed = closed; current = Some p }
 
 -- what the lines of the open test case grow by the whole text does
 pub grows : (closed : List Played) (p : Played) (ls : List Line) (text : List ℕ) → lines_text ls ≡ lines_text p.lines ++ text → stand_text (open_stand closed (record p { lines = ls })) ≡ stand_text (open_stand closed p) ++ text
 grows closed p ls text more =
-    let head = ended (header_text (header_of p)) in
+    let head = with_lf (header_text (case_header p)) in
     ap (λ (l : List ℕ). closed_text closed ++ (head ++ l)) more
-    ∙ (ap (λ (l : List ℕ). closed_text closed ++ l) (sym (append_assoc head (lines_text p.lines) text)) ∙ sym (append_assoc (closed_text closed) (opening p) text))
+    ∙ (ap (λ (l : List ℕ). closed_text closed ++ l) (sym (append_assoc head (lines_text p.lines) text)) ∙ sym (append_assoc (closed_text closed) (opened_text p) text))
 
 pub one_block : (ps : List Played) (p : Played) → closed_text (p ∷ ps) ≡ closed_text ps ++ block p
 one_block ps p =
@@ -57,12 +55,12 @@ one_block ps p =
     ∙ (flat_map-append block (reverse ps) (p ∷ []) ∙ ap (λ (l : List ℕ). closed_text ps ++ l) (append-nil (block p)))
 
 -- the open test case is closed
-pub ends : (closed : List Played) (p : Played) → stand_text (record { closed = p ∷ closed; current = None }) ≡ stand_text (open_stand closed p) ++ ended (end_text (overall (past_of p)))
-ends closed p = append-nil (closed_text (p ∷ closed)) ∙ (one_block closed p ∙ sym (append_assoc (closed_text closed) (opening p) (ended (end_text (overall (past_of p))))))
+pub ends : (closed : List Played) (p : Played) → stand_text (record { closed = p ∷ closed; current = None }) ≡ stand_text (open_stand closed p) ++ with_lf (end_text (overall (played_past p)))
+ends closed p = append-nil (closed_text (p ∷ closed)) ∙ (one_block closed p ∙ sym (append_assoc (closed_text closed) (opened_text p) (with_lf (end_text (overall (played_past p))))))
 
 -- a test case is opened
-pub begins : (closed : List Played) (p : Played) → lines_text p.lines ≡ [] → stand_text (open_stand closed p) ≡ stand_text (record { closed = closed; current = None }) ++ ended (header_text (header_of p))
+pub begins : (closed : List Played) (p : Played) → lines_text p.lines ≡ [] → stand_text (open_stand closed p) ≡ stand_text (record { closed = closed; current = None }) ++ with_lf (header_text (case_header p))
 begins closed p none =
-    let head = ended (header_text (header_of p)) in
+    let head = with_lf (header_text (case_header p)) in
     ap (λ (l : List ℕ). closed_text closed ++ (head ++ l)) none
     ∙ (ap (λ (l : List ℕ). closed_text closed ++ l) (append-nil head) ∙ ap (λ (l : List ℕ). l ++ head) (sym (append-nil (closed_text closed))))

@@ -3,18 +3,12 @@ use Rattle.std.proofs.Common.{ℕ, ◌*◌, ◌<◌, ◌≤◌, ◌^◌, inr, tr
 use Rattle.std.specs.Fmt.{decimal}
 use Rattle.std.proofs.lemmas.Fmt.{length-decimal-le}
 use Rattle.std.proofs.lemmas.List.{length-append, length-take-le}
-use Rattle.tc_verdict.specs.declared.user_verdict.UserVerdict.{UserVerdict}
+use Rattle.tc_rules.specs.Prelude.{UserVerdict, given, name_of, Comp, Group, Target, Op}
 use Rattle.tc_verdict.specs.declared.user_verdict.UserVerdict.TheVariants as U
-use Rattle.tc_verdict.specs.UserVerdict.{given}
-use Rattle.tc_verdict.specs.Verdict.{name_of}
-use Rattle.tc_entry.specs.declared.comp.Comp.{Comp}
-use Rattle.tc_entry.specs.declared.op.Group.{Group}
 use Rattle.tc_entry.specs.declared.op.Group.TheVariants as G
-use Rattle.tc_entry.specs.declared.op.Target.{Target}
 use Rattle.tc_entry.specs.declared.op.Target.TheVariants as T
-use Rattle.tc_entry.specs.declared.op.Op.{Op}
 use Rattle.tc_entry.specs.declared.op.Op.TheVariants as Ops
-use Rattle.tc_text.specs.Spelling.{AreComps, IsGroup, IsOp, IsTarget, args_text, group_text, op_text, target_text}
+use Rattle.tc_text.specs.Prelude.{AreComps, IsGroup, IsOp, IsTarget, args_text, group_text, op_text, target_text}
 use Rattle.tc_serve.specs.declared.order.Order.{Order}
 use Rattle.tc_serve.specs.declared.order.Order.TheVariants as O
 use Rattle.tc_serve.specs.declared.order.TheConstants.{LINE_BYTES}

@@ -1,15 +1,12 @@
 -- A line spells one order at most.
 use Rattle.std.proofs.Common.{◌≡◌, ◌∙◌, ◌<◌, ◌^◌, ◌∷◌, ◌++◌, ℕ, false, List, codes, Option, Some, None, Result, Ok, Err, ap, sym, append_assoc, subst, arith}
 use Rattle.std.specs.Fmt.{decimal}
-use Rattle.tc_verdict.specs.declared.run.Run.{Run}
-use Rattle.tc_entry.specs.declared.entry.Entry.{Entry}
-use Rattle.tc_entry.specs.declared.op.Op.{Op}
+use Rattle.tc_rules.specs.Prelude.{Run, Entry, Op}
 use Rattle.tc_entry.specs.declared.reply.Reply.TheVariants as R
 use Rattle.tc_text.proofs.Lemmas.Digits.{no_letter}
-use Rattle.tc_text.specs.Spelling.{move_text, op_text, IsOp}
-use Rattle.tc_evidence.specs.Line.{said_text}
-use Rattle.tc_evidence.specs.Sentence.{IsSentence}
-use Rattle.tc_evidence.proofs.Notes.{entry_not_said, said_not_naming}
+use Rattle.tc_text.specs.Prelude.{move_text, op_text, IsOp}
+use Rattle.tc_blocks.specs.Prelude.{said_text, IsSentence}
+use Rattle.tc_blocks.proofs.Lemmas.Notes.{entry_not_said, said_not_naming}
 use Rattle.tc_serve.specs.declared.refusal.Refusal.{Refusal}
 use Rattle.tc_serve.specs.declared.refusal.Refusal.TheVariants as W
 use Rattle.tc_serve.specs.Order.{IsOrder, order_text}

@@ -2,36 +2,21 @@
 use Rattle.std.proofs.Common.{ℕ, ◌≡◌, ◌≢◌, ◌<◌, ◌≤◌, ◌==◌, ◌&&◌, ◌||◌, ◌⊎◌, inl, inr, not, if◌then◌else◌, zero, suc, Bool, true, false, Option, Some, None, List, [], ◌∷◌, ◌++◌, drop, refl, ap, sym, subst, ◌∙◌, arith}
 use Rattle.std.specs.List.{AllByRecursion, list_any, list_all}
 use Rattle.std.proofs.lemmas.Bool.Decides.{nat_tests}
-use Rattle.tc_verdict.specs.declared.run.Run.{Run}
-use Rattle.tc_entry.specs.declared.comp.Comp.{Comp}
-use Rattle.tc_entry.specs.declared.entry.Entry.{Entry}
-use Rattle.tc_entry.specs.declared.op.Op.{Op}
+use Rattle.tc_rules.specs.Prelude.{Run, Comp, Entry, Op, Target, Phase, Fault, Reply, add_new, comp_of, comps, created, exists, is_alive_type, phase, phase_if_not_killed, last_run, was_halted, was_killed, done, is_done, is_killed, is_running, killed, holds, is_still, is_stuck, parks, waiting, waits_in_vain, all_exist, asks_many, fault, target_names, answer, answer_unless, is_active, is_active_on, is_run_of, local_reply, plain_answer, is_quiet, keeps_phases, IsLegal}
 use Rattle.tc_entry.specs.declared.op.Op.TheVariants as Ops
-use Rattle.tc_entry.specs.declared.op.Target.{Target}
 use Rattle.tc_entry.specs.declared.op.Target.TheVariants as T
-use Rattle.tc_entry.specs.declared.phase.Phase.{Phase}
 use Rattle.tc_entry.specs.declared.phase.Phase.TheVariants as P
-use Rattle.tc_entry.specs.declared.reply.Fault.{Fault}
 use Rattle.tc_entry.specs.declared.reply.Fault.TheVariants as F
-use Rattle.tc_entry.specs.declared.reply.Reply.{Reply}
 use Rattle.tc_entry.specs.declared.reply.Reply.TheVariants as R
-use Rattle.tc_table.specs.declared.awaited.Awaited.{Awaited}
-use Rattle.tc_table.specs.History.{add_new, comp_of, comps, created, exists, is_alive_type}
-use Rattle.tc_table.specs.Phases.{phase, phase_if_not_killed, last_run, was_halted, was_killed}
-use Rattle.tc_table.specs.Status.{done, is_done, is_killed, is_running, killed}
-use Rattle.tc_table.specs.Waiting.{holds, is_still, is_stuck, parks, waiting, waits_in_vain}
-use Rattle.tc_table.specs.Faults.{all_exist, asks_many, fault, target_names}
-use Rattle.tc_table.specs.Answers.{answer, answer_unless, is_active, is_active_on, is_run_of, local_reply, plain_answer}
-use Rattle.tc_table.specs.Laws.{is_quiet, keeps_phases}
-use Rattle.tc_table.specs.Legal.{IsLegal}
-use Rattle.tc_table.proofs.Lemmas.Deciding.{and_left, and_no, and_right, equal_if, first_alone, self_equal}
-use Rattle.tc_table.proofs.Lemmas.Going.{last_on_it}
-use Rattle.tc_table.proofs.Lemmas.Over.{on_existing, stays}
-use Rattle.tc_table.proofs.Lemmas.Quiet.{quiet_wakes_nobody}
-use Rattle.tc_table.proofs.Lemmas.Sound.{plain_if}
-use Rattle.tc_evidence.specs.declared.line.Line.{Line}
-use Rattle.tc_evidence.specs.Line.{entries_of, entry_of}
-use Rattle.tc_serve.specs.Protocol.{Played, called, moved, past_of, wake_op, woken, woken_from}
+use Rattle.tc_rules.specs.declared.awaited.Awaited.{Awaited}
+use Rattle.tc_rules.proofs.Lemmas.Deciding.{and_left, and_no, and_right, equal_if, first_alone, self_equal}
+use Rattle.tc_rules.proofs.Lemmas.Going.{last_on_it}
+use Rattle.tc_rules.proofs.Lemmas.Over.{on_existing, stays}
+use Rattle.tc_rules.proofs.Lemmas.Quiet.{quiet_wakes_nobody}
+use Rattle.tc_rules.proofs.Lemmas.Sound.{plain_if}
+use Rattle.tc_blocks.specs.declared.line.Line.{Line}
+use Rattle.tc_blocks.specs.Prelude.{entries_of, entry_in}
+use Rattle.tc_serve.specs.Protocol.{Played, called, moved, played_past, wake_op, woken, woken_from}
 use Rattle.tc_serve.specs.Inside.{after_call, wakes_nobody, with_line}
 use Rattle.tc_serve.specs.Laws.{AllServed, IsSettled, IsSound}
 use Rattle.tc_serve.proofs.Changes.{all_served}
@@ -385,9 +370,9 @@ none_woken n lines (suc k) few settled =
     sleeps_on (Some a) is = let parked : answer n (entries_of lines) k (wake_op a) ≡ R.Parked = settled k a (omega (arith, few)) is in rw parked refl
 
 -- after such a call nobody is woken
-pub nobody_woken : (p : Played) (caller : Run) (op : Op) → 0 < p.behaviours → IsLegal p.behaviours (past_of p) → IsSettled p → wakes_nobody (keeps_phases op) (called p.behaviours p.lines caller op).reply ≡ true → record p { lines = after_call p caller op } ≡ moved p caller op
+pub nobody_woken : (p : Played) (caller : Run) (op : Op) → 0 < p.behaviours → IsLegal p.behaviours (played_past p) → IsSettled p → wakes_nobody (keeps_phases op) (called p.behaviours p.lines caller op).reply ≡ true → record p { lines = after_call p caller op } ≡ moved p caller op
 nobody_woken p caller op some legal settled nobody =
-    let none = none_woken p.behaviours (after_call p caller op) p.behaviours (omega arith) (still_settled p.behaviours (past_of p) caller op some legal settled nobody) in
+    let none = none_woken p.behaviours (after_call p caller op) p.behaviours (omega arith) (still_settled p.behaviours (played_past p) caller op some legal settled nobody) in
     ap (λ (ls : List Line). record p { lines = ls }) (sym none)
 
 -- ---- all that is served
@@ -395,12 +380,12 @@ nobody_woken p caller op some legal settled nobody =
 pub new_settled : (name : List ℕ) (n : ℕ) → IsSettled (record { name = name; behaviours = n; lines = [] })
 new_settled name n b a less waits = never_some a (answer n [] b (wake_op a) ≡ R.Parked) waits
 
-pub moved_settled : (p : Played) (caller : Run) (op : Op) → IsLegal p.behaviours (past_of p) → IsSettled (moved p caller op)
+pub moved_settled : (p : Played) (caller : Run) (op : Op) → IsLegal p.behaviours (played_past p) → IsSettled (moved p caller op)
 moved_settled p caller op legal b a less waits = pass_all p.behaviours (after_call p caller op) p.behaviours (omega (arith, less)) (refl, legal) b a less waits
 
-pub noted_settled : (p : Played) (l : Line) → entry_of l ≡ [] → IsSettled p → IsSettled (with_line p l)
+pub noted_settled : (p : Played) (l : Line) → entry_in l ≡ [] → IsSettled p → IsSettled (with_line p l)
 noted_settled p l none so =
-    let same : past_of p ≡ past_of (with_line p l) = sym (ap (λ (es : List Entry). es ++ past_of p) none) in
+    let same : played_past p ≡ played_past (with_line p l) = sym (ap (λ (es : List Entry). es ++ played_past p) none) in
     subst (λ (es : List Entry). (b : ℕ) (a : Awaited) → b < p.behaviours → waiting es b ≡ Some a → answer p.behaviours es b (wake_op a) ≡ R.Parked) same so
 
 both : AllServed (λ p. IsSound p × IsSettled p)

@@ -3,13 +3,10 @@ use Rattle.std.proofs.Common.{ℕ, ◌≡◌, ◌≢◌, ◌∙◌, ◌+◌, ◌
 use Rattle.std.specs.Prelude.{remove}
 use Rattle.std.proofs.lemmas.Bool.Decides.{nat_tests}
 use Rattle.std.proofs.lemmas.List.{append-nil, take-append-drop, take_more}
-use Rattle.tc_entry.specs.declared.entry.Entry.{Entry}
-use Rattle.tc_entry.specs.declared.op.Op.{Op}
-use Rattle.tc_entry.specs.declared.reply.Reply.{Reply}
+use Rattle.tc_rules.specs.Prelude.{Entry, Op, Reply, parks, waiting, is_parked}
 use Rattle.tc_entry.specs.declared.reply.Reply.TheVariants as R
-use Rattle.tc_table.specs.Waiting.{parks, waiting}
 use Rattle.tc_serve.specs.declared.sleepers.Sleeper.{Sleeper}
-use Rattle.tc_serve.specs.Protocol.{Played, is_parked, past_of, sleep_of}
+use Rattle.tc_serve.specs.Protocol.{Played, played_past, sleep_of}
 use Rattle.tc_serve.specs.Inside.{AllBelow, AreAsleep, AreInOrder, IsAdded, IsPassed, sleep_in}
 
 -- ---- lists in order
@@ -300,13 +297,13 @@ removed ss place within =
         parts = ap (λ l. l ++ drop place (take (suc place) ss)) (sym (take-take place (suc place) ss (omega arith))) ∙ take-append-drop place (take (suc place) ss)
 
 -- what a run of any number waits for
-pub sleep_is : (p : Played) (ss : List Sleeper) (b : ℕ) → AreAsleep p.behaviours ss (past_of p) → sleep_in ss b ≡ sleep_of p b
+pub sleep_is : (p : Played) (ss : List Sleeper) (b : ℕ) → AreAsleep p.behaviours ss (played_past p) → sleep_in ss b ≡ sleep_of p b
 sleep_is p ss b so = by_test (nat_lt b p.behaviours) refl
   where
     beyond : (n : ℕ) (xs : List Sleeper) → AllBelow n xs → n ≤ b → sleep_in xs b ≡ None
     beyond n xs below less = ap (λ l. sleep_in l b) (sym (append-nil xs)) ∙ none_from n b xs [] below less
 
-    by_test : (t : Bool) → nat_lt b p.behaviours ≡ t → sleep_in ss b ≡ (if t then waiting (past_of p) b else None)
+    by_test : (t : Bool) → nat_lt b p.behaviours ≡ t → sleep_in ss b ≡ (if t then waiting (played_past p) b else None)
     by_test true test = so.sleeps b (grind (arith, nat_tests))
     by_test false test = beyond p.behaviours ss so.few (grind (arith, nat_tests))
 

@@ -1,16 +1,12 @@
 -- All that is served is legal, and nobody is woken for nothing.
 use Rattle.std.proofs.Common.{ℕ, ◌≡◌, ◌&&◌, not, if◌then◌else◌, zero, suc, Bool, true, false, Option, Some, None, List, [], ◌∷◌, ◌++◌, refl, ap, sym, subst}
 use Rattle.std.specs.List.{AllByRecursion}
-use Rattle.tc_verdict.specs.declared.run.Run.{Run}
-use Rattle.tc_entry.specs.declared.entry.Entry.{Entry}
-use Rattle.tc_entry.specs.declared.op.Op.{Op}
-use Rattle.tc_table.specs.declared.awaited.Awaited.{Awaited}
-use Rattle.tc_table.specs.Legal.{IsLegal}
-use Rattle.tc_table.specs.Waiting.{waiting}
-use Rattle.tc_evidence.specs.declared.line.Line.{Line}
-use Rattle.tc_evidence.specs.declared.line.Line.TheVariants as L
-use Rattle.tc_evidence.specs.Line.{entries_of, entry_of}
-use Rattle.tc_serve.specs.Protocol.{Played, called, is_parked, is_wake, moved, wake_op, woken, woken_from}
+use Rattle.tc_rules.specs.Prelude.{Run, Entry, Op, IsLegal, waiting, is_parked, is_wake}
+use Rattle.tc_rules.specs.declared.awaited.Awaited.{Awaited}
+use Rattle.tc_blocks.specs.declared.line.Line.{Line}
+use Rattle.tc_blocks.specs.declared.line.Line.TheVariants as L
+use Rattle.tc_blocks.specs.Prelude.{entries_of, entry_in}
+use Rattle.tc_serve.specs.Protocol.{Played, called, moved, wake_op, woken, woken_from}
 use Rattle.tc_serve.specs.Inside.{after_call, with_line}
 use Rattle.tc_serve.specs.Laws.{AllServed, IsSound}
 use Rattle.tc_serve.proofs.Changes.{all_served, may_add, may_ask}
@@ -58,7 +54,7 @@ made_sound p caller op may so = record {
   wakes = all_wakes p.behaviours (after_call p caller op) p.behaviours (λ wake. absurd (no_wake (is_wake op) _ may wake), so.wakes);
 }
 
-noted : (n : ℕ) (lines : List Line) (l : Line) → entry_of l ≡ [] → Sound n lines → Sound n (l ∷ lines)
+noted : (n : ℕ) (lines : List Line) (l : Line) → entry_in l ≡ [] → Sound n lines → Sound n (l ∷ lines)
 noted n lines l none so =
     let same : entries_of lines ≡ entries_of (l ∷ lines) = sym (ap (λ (es : List Entry). es ++ entries_of lines) none) in
     record { legal = subst (IsLegal n) same so.legal; wakes = subst NoIdleWake same so.wakes }
@@ -66,7 +62,7 @@ noted n lines l none so =
 sound : (p : Played) → IsSound p → Sound p.behaviours p.lines
 sound p so = record { legal = so.legal; wakes = so.wakes }
 
-pub no_entry : (p : Played) (l : Line) → may_add p l ≡ true → entry_of l ≡ []
+pub no_entry : (p : Played) (l : Line) → may_add p l ≡ true → entry_in l ≡ []
 no_entry p (L.Named run name) may = refl
 no_entry p (L.Entry e) may = absurd cc
 no_entry p (L.Remark run sentence) may = refl

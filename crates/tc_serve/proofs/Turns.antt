@@ -3,13 +3,13 @@ use Rattle.std.proofs.Common.{ℕ, ◌≡◌, ◌∙◌, ◌+◌, ◌-◌, ◌<�
 use Rattle.std.specs.Io.KnownBytes.{Appends, Consumes, Keeps}
 use Rattle.std.proofs.lemmas.Grind.{common_steps}
 use Rattle.std.proofs.lemmas.List.{append-nil, length-append}
-use Rattle.tc_stream.specs.Output.{AppendsPrefix}
+use Rattle.tc_stream.specs.Prelude.{AppendsPrefix}
 use Rattle.tc_serve.specs.declared.fault.ServeFault.{ServeFault}
 use Rattle.tc_serve.specs.declared.fault.ServeFault.TheVariants as F
 use Rattle.tc_serve.specs.declared.service.Ending.{Ending}
 use Rattle.tc_serve.specs.declared.service.Served.{Served}
 use Rattle.tc_serve.specs.declared.serving.Serving.{Serving}
-use Rattle.tc_serve.specs.Serve.{Devices, HasEnded, IsEnding, IsTaken, IsWhy, devices}
+use Rattle.tc_serve.specs.Serve.{Devices, HasEnded, IsServiceEnd, IsTaken, IsWhy, devices}
 use Rattle.tc_serve.specs.Inside.{Hears, IsAt, IsFed, IsOwn, IsTurn}
 use Rattle.tc_serve.proofs.Feeding.{stops_here}
 
@@ -80,7 +80,7 @@ abbrev ending : Result Served ServeFault → Bool → Ending
 ending outcome told = record { outcome = outcome; told = told }
 
 -- no more is read
-stopped_at : (from to : Devices) (told : Bool) (turns : ℕ) (v : Serving) (f : ServeFault) → (at_ : IsAt from to told turns v) → IsWhy f at_.fed.lines at_.fed.stand at_.fed.last to.input → IsEnding from to (ending (Err f) told)
+stopped_at : (from to : Devices) (told : Bool) (turns : ℕ) (v : Serving) (f : ServeFault) → (at_ : IsAt from to told turns v) → IsWhy f at_.fed.lines at_.fed.stand at_.fed.last to.input → IsServiceEnd from to (ending (Err f) told)
 stopped_at from to told turns v f at_ why = record {
   bytes = at_.bytes;
   text = at_.before ++ [];
@@ -92,11 +92,11 @@ stopped_at from to told turns v f at_ why = record {
   reported = subst (λ (l : List ℕ). IsTaken told from.errors to.errors l) (sym (append-nil at_.before')) at_.told_is;
 }
 
-pub uncounted : (from to : Devices) (told : Bool) (turns : ℕ) (v : Serving) → 2 ^ 64 - 1 ≤ turns → IsAt from to told turns v → IsEnding from to (ending (Err F.TooLong) told)
+pub uncounted : (from to : Devices) (told : Bool) (turns : ℕ) (v : Serving) → 2 ^ 64 - 1 ≤ turns → IsAt from to told turns v → IsServiceEnd from to (ending (Err F.TooLong) told)
 uncounted from to told turns v most at_ =
     stopped_at from to told turns v F.TooLong at_ (subst (λ (l : List ℕ). 2 ^ 64 - 1 ≤ length l) at_.fed.parts (omega (arith, most, at_.many)))
 
-pub unread : (from : Devices) (left rest output errors : Option (List ℕ)) (told : Bool) (turns : ℕ) (v : Serving) → IsAt from (devices left output errors) told turns v → Keeps left rest → IsEnding from (devices rest output errors) (ending (Err F.Read) told)
+pub unread : (from : Devices) (left rest output errors : Option (List ℕ)) (told : Bool) (turns : ℕ) (v : Serving) → IsAt from (devices left output errors) told turns v → Keeps left rest → IsServiceEnd from (devices rest output errors) (ending (Err F.Read) told)
 unread from left rest output errors told turns v at_ kept =
     let still : IsAt from (devices rest output errors) told turns v = record {
       bytes = at_.bytes;
@@ -122,11 +122,11 @@ module _ (from : Devices) (left rest output output' errors errors' : Option (Lis
 
   -- this was due, and that came of it
   ends : (due o : Result Served ServeFault) → HasEnded (at_.bytes ++ chunk) rest (at_.before ++ out) (at_.before' ++ said) due →
-      ((o ≡ due) × Appends from.output output' (at_.before ++ out)) ⊎ ((o ≡ Err F.Write) × AppendsPrefix from.output output' (at_.before ++ out)) → IsEnding from (devices rest output' errors') (ending o told)
+      ((o ≡ due) × Appends from.output output' (at_.before ++ out)) ⊎ ((o ≡ Err F.Write) × AppendsPrefix from.output output' (at_.before ++ out)) → IsServiceEnd from (devices rest output' errors') (ending o told)
   ends due o so written =
       record { bytes = at_.bytes ++ chunk; text = at_.before ++ out; reports = at_.before' ++ said; due = due; read = all_read; ended = so; written = written; reported = reports }
 
-  fails : (due : Result Served ServeFault) → HasEnded (at_.bytes ++ chunk) rest (at_.before ++ out) (at_.before' ++ said) due → AppendsPrefix output output' out → IsEnding from (devices rest output' errors') (ending (Err F.Write) told)
+  fails : (due : Result Served ServeFault) → HasEnded (at_.bytes ++ chunk) rest (at_.before ++ out) (at_.before' ++ said) due → AppendsPrefix output output' out → IsServiceEnd from (devices rest output' errors') (ending (Err F.Write) told)
   fails due so wrote = ends due (Err F.Write) so (inr (refl, prefix_behind from.output output output' at_.before out at_.written wrote))
 
   -- what the texts of the turn say
@@ -135,7 +135,7 @@ module _ (from : Devices) (left rest output output' errors errors' : Option (Lis
       IsTurn ((0 < length chunk) × IsFed (at_.bytes ++ chunk) w at_.before out at_.before' said) (HasEnded (at_.bytes ++ chunk) rest (at_.before ++ out) (at_.before' ++ said)) result
 
   -- they were written
-  pub written : (result : Result (Option Served) ServeFault) → IsDue result → Appends output output' out → IsTurn (IsAt from (devices rest output' errors') told (turns + 1) w) (λ o. IsEnding from (devices rest output' errors') (ending o told)) result
+  pub written : (result : Result (Option Served) ServeFault) → IsDue result → Appends output output' out → IsTurn (IsAt from (devices rest output' errors') told (turns + 1) w) (λ o. IsServiceEnd from (devices rest output' errors') (ending o told)) result
   written (Ok None) so wrote = record {
     bytes = at_.bytes ++ chunk;
     read = all_read;
@@ -150,7 +150,7 @@ module _ (from : Devices) (left rest output output' errors errors' : Option (Lis
   written (Err f) so wrote = ends (Err f) (Err f) so (inl (refl, written_whole wrote))
 
   -- the output failed
-  pub unwritten : (result : Result (Option Served) ServeFault) → IsDue result → AppendsPrefix output output' out → IsEnding from (devices rest output' errors') (ending (Err F.Write) told)
+  pub unwritten : (result : Result (Option Served) ServeFault) → IsDue result → AppendsPrefix output output' out → IsServiceEnd from (devices rest output' errors') (ending (Err F.Write) told)
   unwritten (Ok None) so wrote = let fed = so.1 in fails (Err F.Write) (stops_here (at_.bytes ++ chunk) fed.last _ w at_.before out out at_.before' said said rest F.Write fed fed.parts tt refl refl) wrote
   unwritten (Ok (Some r)) so wrote = fails (Ok r) so wrote
   unwritten (Err f) so wrote = fails (Err f) so wrote

@@ -2,32 +2,29 @@
 use Rattle.std.proofs.Common.{ℕ, ◌≡◌, ◌∙◌, ◌+◌, ◌-◌, ◌<◌, ◌≤◌, if◌then◌else◌, zero, suc, Bool, true, false, None, List, [], ◌∷◌, ◌++◌, length, take, drop, take_all, refl, ap, sym, subst, arith}
 use Rattle.std.specs.Prelude.{remove}
 use Rattle.std.proofs.lemmas.List.{append-nil, length-drop, take-append-drop}
-use Rattle.tc_entry.specs.declared.reply.Reply.{Reply}
-use Rattle.tc_table.specs.declared.awaited.Awaited.{Awaited}
-use Rattle.tc_table.specs.Answers.{answer}
-use Rattle.tc_table.specs.Standing.{IsReply, Kept}
-use Rattle.tc_table.specs.Waiting.{waiting}
-use Rattle.tc_evidence.specs.declared.line.Line.{Line}
-use Rattle.tc_evidence.specs.declared.met.MetRuns.{MetRuns}
-use Rattle.tc_evidence.specs.Line.{entries_of}
+use Rattle.tc_rules.specs.Prelude.{Reply, answer, IsReplyOf, Kept, waiting, is_parked}
+use Rattle.tc_rules.specs.declared.awaited.Awaited.{Awaited}
+use Rattle.tc_blocks.specs.declared.line.Line.{Line}
+use Rattle.tc_blocks.specs.declared.met.MetRuns.{MetRuns}
+use Rattle.tc_blocks.specs.Prelude.{entries_of}
 use Rattle.tc_serve.specs.declared.open_case.OpenCase.{OpenCase}
 use Rattle.tc_serve.specs.declared.sleepers.Sleeper.{Sleeper}
-use Rattle.tc_serve.specs.Protocol.{Played, called, is_parked, past_of, wake_op, woken, woken_from}
+use Rattle.tc_serve.specs.Protocol.{Played, called, played_past, wake_op, woken, woken_from}
 use Rattle.tc_serve.specs.Inside.{AllBelow, AreAsleep, AreInOrder, Becomes, Holds, IsCalled, IsKept, IsOpen, IsPassed, after_call, sleep_in, woken_once}
 use Rattle.tc_serve.proofs.Going.{woken_next}
 use Rattle.tc_serve.proofs.Sleeping.{asleep_less, below_more, below_next, drop_next, goes_if, nobody_between, of_case, waits_so}
 
 -- ---- one run
 
-same_reply : (state : Kept) (met : MetRuns) (p : Played) (run : ℕ) (a : Awaited) (reply : Reply) → IsKept state met p → IsReply state (record { 0 = run }) (wake_op a) reply → reply ≡ answer p.behaviours (past_of p) run (wake_op a)
-same_reply state met p run a reply kept replied = replied (past_of p) kept.stands ∙ ap (λ (n : ℕ). answer n (past_of p) run (wake_op a)) kept.behaviours
+same_reply : (state : Kept) (met : MetRuns) (p : Played) (run : ℕ) (a : Awaited) (reply : Reply) → IsKept state met p → IsReplyOf state (record { 0 = run }) (wake_op a) reply → reply ≡ answer p.behaviours (played_past p) run (wake_op a)
+same_reply state met p run a reply kept replied = replied (played_past p) kept.stands ∙ ap (λ (n : ℕ). answer n (played_past p) run (wake_op a)) kept.behaviours
 
-module _ (o : OpenCase) (p : Played) (place : ℕ) (s : Sleeper) (behind : List Sleeper) (reply : Reply) (so : IsOpen o p) (here : drop place o.sleepers.items ≡ s ∷ behind) (replied : IsReply o.state (record { 0 = s.run }) (wake_op s.awaited) reply) where
+module _ (o : OpenCase) (p : Played) (place : ℕ) (s : Sleeper) (behind : List Sleeper) (reply : Reply) (so : IsOpen o p) (here : drop place o.sleepers.items ≡ s ∷ behind) (replied : IsReplyOf o.state (record { 0 = s.run }) (wake_op s.awaited) reply) where
   -- it is woken if its wake would not be parked
   once : (t : Bool) → is_parked reply ≡ t → (if t then p.lines else after_call p (record { 0 = s.run }) (wake_op s.awaited)) ≡ woken_once p.behaviours p.lines s.run
   once t parked =
       let same = ap is_parked (sym (same_reply o.state o.met p s.run s.awaited reply so.kept replied)) ∙ parked in
-      sym (ap (woken_from p.behaviours p.lines s.run) (waits_so p.behaviours o.sleepers.items place s behind (past_of p) so.asleep here)
+      sym (ap (woken_from p.behaviours p.lines s.run) (waits_so p.behaviours o.sleepers.items place s behind (played_past p) so.asleep here)
       ∙ ap (λ (u : Bool). if u then p.lines else after_call p (record { 0 = s.run }) (wake_op s.awaited)) same)
 
   pub slept_on : is_parked reply ≡ true → p.lines ≡ woken_once p.behaviours p.lines s.run
@@ -37,20 +34,20 @@ module _ (o : OpenCase) (p : Played) (place : ℕ) (s : Sleeper) (behind : List 
   woken_up goes = once false goes
 
   -- the others sleep
-  pub others : is_parked reply ≡ false → AreAsleep p.behaviours (take place o.sleepers.items ++ behind) (past_of (record p { lines = after_call p (record { 0 = s.run }) (wake_op s.awaited) }))
+  pub others : is_parked reply ≡ false → AreAsleep p.behaviours (take place o.sleepers.items ++ behind) (played_past (record p { lines = after_call p (record { 0 = s.run }) (wake_op s.awaited) }))
   others goes =
-      asleep_less p.behaviours o.sleepers.items place s behind (past_of p) so.asleep here (called p.behaviours p.lines (record { 0 = s.run }) (wake_op s.awaited)) refl
+      asleep_less p.behaviours o.sleepers.items place s behind (played_past p) so.asleep here (called p.behaviours p.lines (record { 0 = s.run }) (wake_op s.awaited)) refl
       (goes_if (wake_op s.awaited) _ (ap is_parked (sym (same_reply o.state o.met p s.run s.awaited reply so.kept replied)) ∙ goes))
 
 -- a run that sleeps on
-pub sleeps_on : (o : OpenCase) (place : ℕ) (s : Sleeper) (behind : List Sleeper) (out : List ℕ) → drop place o.sleepers.items ≡ s ∷ behind → (reply : Reply) → IsReply o.state (record { 0 = s.run }) (wake_op s.awaited) reply → is_parked reply ≡ true →
+pub sleeps_on : (o : OpenCase) (place : ℕ) (s : Sleeper) (behind : List Sleeper) (out : List ℕ) → drop place o.sleepers.items ≡ s ∷ behind → (reply : Reply) → IsReplyOf o.state (record { 0 = s.run }) (wake_op s.awaited) reply → is_parked reply ≡ true →
     Becomes (λ p. record p { lines = woken_once p.behaviours p.lines s.run }) o o out out
 sleeps_on o place s behind out here reply replied parked p closed before holds =
     subst (λ (ls : List Line). Holds o (record p { lines = ls }) closed before out) (slept_on o p place s behind reply holds.is here replied parked) holds
 
 -- a run that is woken
 pub wakes_up : (o w : OpenCase) (place : ℕ) (s : Sleeper) (behind : List Sleeper) (out : List ℕ) → drop place o.sleepers.items ≡ s ∷ behind → (reply : Reply) (written : List ℕ) (x : OpenCase) (given : Reply) →
-    IsReply o.state (record { 0 = s.run }) (wake_op s.awaited) reply → is_parked reply ≡ false → IsCalled (record { 0 = s.run }) (wake_op s.awaited) given o w out written → x.state ≡ w.state → x.met ≡ w.met → x.sleepers.items ≡ remove w.sleepers.items place →
+    IsReplyOf o.state (record { 0 = s.run }) (wake_op s.awaited) reply → is_parked reply ≡ false → IsCalled (record { 0 = s.run }) (wake_op s.awaited) given o w out written → x.state ≡ w.state → x.met ≡ w.met → x.sleepers.items ≡ remove w.sleepers.items place →
     Becomes (λ p. record p { lines = woken_once p.behaviours p.lines s.run }) o x out written
 wakes_up o w place s behind out here reply written x given replied goes call state met removed p closed before holds =
     let items : x.sleepers.items ≡ take place o.sleepers.items ++ behind = removed ∙ (ap (λ (v : List Sleeper). remove v place) (ap (λ y. y.items) call.same) ∙ ap (λ (l : List Sleeper). take place o.sleepers.items ++ l) (drop_next o.sleepers.items place s behind here)) in

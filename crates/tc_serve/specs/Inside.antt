@@ -2,21 +2,14 @@
 use Rattle.std.specs.Prelude.{ℕ, ◌≡◌, ◌+◌, ◌-◌, ◌<◌, ◌≤◌, ◌^◌, ◌==◌, suc, if◌then◌else◌, Bool, true, false, is_some, is_none, Option, Some, None, Result, Ok, Err, List, [], ◌∷◌, ◌++◌, length, take, drop, insert, MatchResult}
 use Rattle.std.specs.List.{list_any}
 use Rattle.std.specs.Io.KnownBytes.{Appends, Consumes}
-use Rattle.tc_verdict.specs.declared.run.Run.{Run}
-use Rattle.tc_entry.specs.Limits.{IsBehaviours}
-use Rattle.tc_table.specs.declared.awaited.Awaited.{Awaited}
-use Rattle.tc_table.specs.Standing.{Kept, StandsFor}
-use Rattle.tc_table.specs.Waiting.{waiting}
-use Rattle.tc_entry.specs.declared.entry.Entry.{Entry}
-use Rattle.tc_entry.specs.declared.op.Op.{Op}
+use Rattle.tc_rules.specs.Prelude.{Run, IsBehaviours, Kept, StandsFor, waiting, Entry, Op, Reply}
+use Rattle.tc_rules.specs.declared.awaited.Awaited.{Awaited}
 use Rattle.tc_entry.specs.declared.op.Op.TheVariants as Ops
-use Rattle.tc_entry.specs.declared.reply.Reply.{Reply}
 use Rattle.tc_entry.specs.declared.reply.Reply.TheVariants as R
-use Rattle.tc_evidence.specs.declared.met.MetRuns.{MetRuns}
-use Rattle.tc_evidence.specs.declared.line.Line.{Line}
-use Rattle.tc_evidence.specs.declared.line.Line.TheVariants as L
-use Rattle.tc_evidence.specs.Line.{entries_of}
-use Rattle.tc_evidence.specs.Met.{AreMet}
+use Rattle.tc_blocks.specs.declared.met.MetRuns.{MetRuns}
+use Rattle.tc_blocks.specs.declared.line.Line.{Line}
+use Rattle.tc_blocks.specs.declared.line.Line.TheVariants as L
+use Rattle.tc_blocks.specs.Prelude.{entries_of, AreMet}
 use Rattle.tc_serve.specs.declared.fault.ServeFault.{ServeFault}
 use Rattle.tc_serve.specs.declared.fault.ServeFault.TheVariants as F
 use Rattle.tc_serve.specs.declared.open_case.OpenCase.{OpenCase}
@@ -29,9 +22,9 @@ use Rattle.tc_serve.specs.declared.serving.Serving.{Serving}
 use Rattle.tc_serve.specs.declared.sleepers.Sleeper.{Sleeper}
 use Rattle.tc_serve.specs.Laws.{IsSettled}
 use Rattle.tc_serve.specs.Order.{order_text}
-use Rattle.tc_serve.specs.Protocol.{AllEnded, AreServed, Asks, Came, IsNobodys, IsOf, NoLf, Played, Refuses, Sent, Stand, called, done_of, finished, moved, past_of, refused, seen, sleep_of, taken, woken_from}
+use Rattle.tc_serve.specs.Protocol.{AllEnded, AreServed, IsOrderOf, Came, IsNobodys, IsOf, NoLf, Played, Refuses, Sent, ServiceState, called, done_of, finished_state, moved, played_past, refused, seen, sleep_of, after_order, woken_from}
 use Rattle.tc_serve.specs.Serve.{Devices, HasEnded, IsTaken}
-use Rattle.tc_serve.specs.Text.{bytes_of, end_told, stand_text, told_of, worst_of}
+use Rattle.tc_serve.specs.Text.{bytes_of, end_told, stand_text, lines_messages, worst_case}
 
 -- the line is neither a move nor a remark
 abbrev pub IsOther : Order → Type 0
@@ -88,13 +81,13 @@ with_line p l = record p { lines = l ∷ p.lines }
 pub record IsKept (state : Kept) (met : MetRuns) (p : Played) : Type 0 where
   pub behaviours : state.behaviours ≡ p.behaviours
   pub few : IsBehaviours p.behaviours
-  pub stands : StandsFor state (past_of p)
+  pub stands : StandsFor state (played_past p)
   pub met_are : AreMet met p.lines
 
 -- it is kept so
 pub record IsOpen (o : OpenCase) (p : Played) : Type 0 where
   pub kept : IsKept o.state o.met p
-  pub asleep : AreAsleep p.behaviours o.sleepers.items (past_of p)
+  pub asleep : AreAsleep p.behaviours o.sleepers.items (played_past p)
 
 -- after these closed ones the text of the test case is what was written before and this
 abbrev pub IsText : Played → List Played → List ℕ → List ℕ → Type 0
@@ -166,7 +159,7 @@ Changes change why o o' out written = (p : Played) (closed : List Played) (befor
 -- ---- the server
 
 -- before the first line
-abbrev pub start : Stand
+abbrev pub start : ServiceState
 start = record { closed = []; current = None }
 
 -- a test case is kept so and at rest, or none is open
@@ -177,27 +170,27 @@ IsCurrent (Some o) None = ⊥
 IsCurrent (Some o) (Some p) = IsAtRest o p
 
 -- this is the server's state, whose text is what was written before and this
-pub record StandsAs (v : Server) (s : Stand) (before out : List ℕ) : Type 0 where
+pub record StandsAs (v : Server) (s : ServiceState) (before out : List ℕ) : Type 0 where
   pub current : IsCurrent v.current s.current
-  pub worst : v.worst ≡ worst_of s
+  pub worst : v.worst ≡ worst_case s
   pub text : before ++ out ≡ stand_text s
 
 -- what is asked is done, or refused, and nothing changes
-abbrev pub Tries : (Stand → Result Stand Refusal) → Option Refusal → Server → Server → List ℕ → List ℕ → Type 0
-Tries ask why v w out written = (s : Stand) (before : List ℕ) → StandsAs v s before out
+abbrev pub Tries : (ServiceState → Result ServiceState Refusal) → Option Refusal → Server → Server → List ℕ → List ℕ → Type 0
+Tries ask why v w out written = (s : ServiceState) (before : List ℕ) → StandsAs v s before out
     → MatchResult (ask s) (λ t. (why ≡ None) × StandsAs w t before written) (λ e. (why ≡ Some e) × StandsAs w s before written)
 
 -- what the line asks for is done, or it is refused, and nothing changes
 abbrev pub TriesLine : Bool → List ℕ → Option Refusal → Server → Server → List ℕ → List ℕ → Type 0
-TriesLine ended line None v w out written = (s : Stand) (before : List ℕ) → StandsAs v s before out
-    → (o : Order) × (t : Stand) × Asks ended line o × (taken s o ≡ Ok t) × StandsAs w t before written
-TriesLine ended line (Some why) v w out written = (s : Stand) (before : List ℕ) → StandsAs v s before out → Refuses why ended line s × StandsAs w s before written
+TriesLine ended line None v w out written = (s : ServiceState) (before : List ℕ) → StandsAs v s before out
+    → (o : Order) × (t : ServiceState) × IsOrderOf ended line o × (after_order s o ≡ Ok t) × StandsAs w t before written
+TriesLine ended line (Some why) v w out written = (s : ServiceState) (before : List ℕ) → StandsAs v s before out → Refuses why ended line s × StandsAs w s before written
 
 -- the run that the line begins with gets this refusal, or no run gets one
 abbrev pub TellsRun : List ℕ → Refusal → Bool → Server → Server → List ℕ → List ℕ → Type 0
-TellsRun line why true v w out written = (s : Stand) (before : List ℕ) → StandsAs v s before out
-    → (run : Run) × (t : Stand) × IsOf line run.0 × (refused s run why ≡ Ok t) × StandsAs w t before written
-TellsRun line why false v w out written = (s : Stand) (before : List ℕ) → StandsAs v s before out → IsNobodys line s × StandsAs w s before written
+TellsRun line why true v w out written = (s : ServiceState) (before : List ℕ) → StandsAs v s before out
+    → (run : Run) × (t : ServiceState) × IsOf line run.0 × (refused s run why ≡ Ok t) × StandsAs w t before written
+TellsRun line why false v w out written = (s : ServiceState) (before : List ℕ) → StandsAs v s before out → IsNobodys line s × StandsAs w s before written
 
 -- ---- lines that come in pieces
 
@@ -206,21 +199,21 @@ abbrev pub is_refused : Came → Bool
 is_refused c = is_none (done_of c)
 
 -- what goes to standard error in all, if the input ends after these lines in this state
-abbrev pub told_at_end : List Sent → Stand → List ℕ
-told_at_end lines s = told_of lines ++ end_told (is_some s.current)
+abbrev pub told_at_end : List Sent → ServiceState → List ℕ
+told_at_end lines s = lines_messages lines ++ end_told (is_some s.current)
 
 -- these lines were served, which are counted; what was written before and this is their text, and so it is with reports
-pub record Counts (v : Serving) (lines : List Sent) (s : Stand) (before out before' told : List ℕ) : Type 0 where
+pub record Counts (v : Serving) (lines : List Sent) (s : ServiceState) (before out before' told : List ℕ) : Type 0 where
   pub served : AreServed lines s
   pub stands : StandsAs v.server s before out
-  pub tells : before' ++ told ≡ told_of lines
+  pub tells : before' ++ told ≡ lines_messages lines
   pub many : v.lines ≡ length lines
   pub refused : v.refused ≡ list_any (λ l. is_refused l.came) lines
 
 -- of these bytes the lines that have ended were served, and what is looked at of the next one is kept
 pub record IsFed (bytes : List ℕ) (v : Serving) (before out before' told : List ℕ) : Type 0 where
   pub lines : List Sent
-  pub stand : Stand
+  pub stand : ServiceState
   pub last : List ℕ
   pub parts : bytes ≡ bytes_of lines ++ last
   pub all : AllEnded lines
@@ -235,7 +228,7 @@ IsOwn F.Write = ⊥
 IsOwn _ = Unit {0}
 
 -- why a line ends the service
-abbrev pub IsBadLine : ServeFault → Bool → List ℕ → List Sent → Stand → Type 0
+abbrev pub IsBadLine : ServeFault → Bool → List ℕ → List Sent → ServiceState → Type 0
 IsBadLine (F.Line n why) ended line lines s = (n ≡ length lines + 1) × (is_some s.current ≡ false) × Refuses why ended (seen line) s
 IsBadLine F.TooLong ended line lines s = 2 ^ 64 - 1 ≤ length lines
 IsBadLine F.Read ended line lines s = ⊥
@@ -243,7 +236,7 @@ IsBadLine F.Write ended line lines s = ⊥
 IsBadLine F.NoMemory ended line lines s = Unit {0}
 
 -- the service is at this line, which has ended or is the last
-pub record IsAtLine (line : List ℕ) (lines : List Sent) (stand : Stand) (v : Serving) (before out before' told : List ℕ) : Type 0 where
+pub record IsAtLine (line : List ℕ) (lines : List Sent) (stand : ServiceState) (v : Serving) (before out before' told : List ℕ) : Type 0 where
   pub all : AllEnded lines
   pub last_is : NoLf line
   pub kept : v.line.items ≡ seen line
@@ -251,17 +244,17 @@ pub record IsAtLine (line : List ℕ) (lines : List Sent) (stand : Stand) (v : S
 
 -- the line is served
 abbrev pub Serves : Bool → Serving → Serving → List ℕ → List ℕ → List ℕ → List ℕ → Type 0
-Serves ended v w out written told told' = (line : List ℕ) (lines : List Sent) (s : Stand) (before before' : List ℕ) → IsAtLine line lines s v before out before' told
-    → (came : Came) × (t : Stand) × Counts w (record { bytes = line; ended = ended; came = came } ∷ lines) t before written before' told'
+Serves ended v w out written told told' = (line : List ℕ) (lines : List Sent) (s : ServiceState) (before before' : List ℕ) → IsAtLine line lines s v before out before' told
+    → (came : Came) × (t : ServiceState) × Counts w (record { bytes = line; ended = ended; came = came } ∷ lines) t before written before' told'
 
 -- it ends the service
 abbrev pub Fails : Bool → Serving → List ℕ → List ℕ → ServeFault → Type 0
-Fails ended v out told f = (line : List ℕ) (lines : List Sent) (s : Stand) (before before' : List ℕ) → IsAtLine line lines s v before out before' told → IsBadLine f ended line lines s
+Fails ended v out told f = (line : List ℕ) (lines : List Sent) (s : ServiceState) (before before' : List ℕ) → IsAtLine line lines s v before out before' told → IsBadLine f ended line lines s
 
 -- the test case that is open is closed, if one is, and that is reported
 abbrev pub Closes : Serving → Serving → List ℕ → List ℕ → List ℕ → List ℕ → Type 0
-Closes v w out written told told' = (lines : List Sent) (s : Stand) (before before' : List ℕ) → Counts v lines s before out before' told
-    → StandsAs w.server (finished s) before written × (before' ++ told' ≡ told_at_end lines s)
+Closes v w out written told told' = (lines : List Sent) (s : ServiceState) (before before' : List ℕ) → Counts v lines s before out before' told
+    → StandsAs w.server (finished_state s) before written × (before' ++ told' ≡ told_at_end lines s)
 
 -- these bytes are taken
 abbrev pub Feeds : List ℕ → Serving → Serving → List ℕ → List ℕ → List ℕ → List ℕ → Type 0
@@ -283,7 +276,7 @@ StopsIn bytes v out written told told' f =
 -- these bytes are lines that were served, of which the last may lack its LF
 pub record IsEnd (bytes : List ℕ) (v : Serving) (before out before' told : List ℕ) : Type 0 where
   pub lines : List Sent
-  pub stand : Stand
+  pub stand : ServiceState
   pub parts : bytes ≡ bytes_of lines
   pub counts : Counts v lines stand before out before' told
 

@@ -1,11 +1,9 @@
 -- What a line of a client asks for, and its one spelling; it is this project's own.
 use Rattle.std.specs.Prelude.{ℕ, ◌<◌, ◌^◌, false, List, ◌++◌, codes}
 use Rattle.std.specs.Fmt.{decimal}
-use Rattle.tc_entry.specs.Limits.{IsBehaviours}
-use Rattle.tc_entry.specs.Name.{IsName}
-use Rattle.tc_text.specs.Spelling.{move_text, IsOp}
-use Rattle.tc_evidence.specs.Line.{naming_text, said_text}
-use Rattle.tc_evidence.specs.Sentence.{IsSentence}
+use Rattle.tc_rules.specs.Prelude.{IsBehaviours, IsName}
+use Rattle.tc_text.specs.Prelude.{move_text, IsOp}
+use Rattle.tc_blocks.specs.Prelude.{naming_text, said_text, IsSentence}
 use Rattle.tc_serve.specs.declared.order.Order.{Order}
 use Rattle.tc_serve.specs.declared.order.Order.TheVariants as O
 

@@ -5,19 +5,14 @@ use Rattle.std.specs.Option.{option_map_or}
 use Rattle.std.specs.Result.{result_map_both, result_unwrap_or}
 use Rattle.std.specs.List.{AllByRecursion, list_all}
 use Rattle.std.specs.Fmt.{decimal}
-use Rattle.tc_verdict.specs.declared.run.Run.{Run}
-use Rattle.tc_entry.specs.declared.entry.Entry.{Entry}
-use Rattle.tc_entry.specs.declared.op.Op.{Op}
+use Rattle.tc_rules.specs.Prelude.{Run, Entry, Op, Reply, answer, waiting, is_parked, is_wake}
 use Rattle.tc_entry.specs.declared.op.Op.TheVariants as Ops
-use Rattle.tc_entry.specs.declared.reply.Reply.{Reply}
 use Rattle.tc_entry.specs.declared.reply.Reply.TheVariants as R
-use Rattle.tc_text.specs.Reading.{EndsNumber}
-use Rattle.tc_table.specs.declared.awaited.Awaited.{Awaited}
-use Rattle.tc_table.specs.Answers.{answer}
-use Rattle.tc_table.specs.Waiting.{waiting}
-use Rattle.tc_evidence.specs.declared.line.Line.{Line}
-use Rattle.tc_evidence.specs.declared.line.Line.TheVariants as L
-use Rattle.tc_evidence.specs.Line.{entries_of, is_met, said_text}
+use Rattle.tc_text.specs.Prelude.{EndsNumber}
+use Rattle.tc_rules.specs.declared.awaited.Awaited.{Awaited}
+use Rattle.tc_blocks.specs.declared.line.Line.{Line}
+use Rattle.tc_blocks.specs.declared.line.Line.TheVariants as L
+use Rattle.tc_blocks.specs.Prelude.{entries_of, is_met, said_text}
 use Rattle.tc_serve.specs.declared.order.Order.{Order}
 use Rattle.tc_serve.specs.declared.order.Order.TheVariants as O
 use Rattle.tc_serve.specs.declared.order.TheConstants.{LINE_BYTES}
@@ -33,11 +28,11 @@ pub record Played : Type 0 where
   pub lines : List Line
 
 -- its entries, the newest first
-abbrev pub past_of : Played → List Entry
-past_of p = entries_of p.lines
+abbrev pub played_past : Played → List Entry
+played_past p = entries_of p.lines
 
 -- the state of the service: the test cases that were closed, the newest first, and the one that is open
-pub record Stand : Type 0 where
+pub record ServiceState : Type 0 where
   pub closed : List Played
   pub current : Option Played
 
@@ -46,11 +41,6 @@ pub record Stand : Type 0 where
 -- the entry of a call, with the component table's reply
 abbrev pub called : ℕ → List Line → Run → Op → Entry
 called n lines caller op = record { caller = caller; op = op; reply = answer n (entries_of lines) caller.0 op }
-
--- the reply says that the caller sleeps
-abbrev pub is_parked : Reply → Bool
-is_parked R.Parked = true
-is_parked _ = false
 
 -- the call asks again for what a wait was for
 abbrev pub wake_op : Awaited → Op
@@ -71,14 +61,9 @@ woken n lines (suc k) = woken_from n (woken n lines k) k (waiting (entries_of (w
 
 -- ---- what may be asked of the test case that is open, and what that adds, or why it is refused
 
--- the call is a wake
-abbrev pub is_wake : Op → Bool
-is_wake (Ops.Wake k t) = true
-is_wake _ = false
-
 -- what run b waits for, if it is one of the test case and sleeps
 abbrev pub sleep_of : Played → ℕ → Option Awaited
-sleep_of p b = if nat_lt b p.behaviours then waiting (past_of p) b else None
+sleep_of p b = if nat_lt b p.behaviours then waiting (played_past p) b else None
 
 -- the test case after the call: its entry is added, and the wakes of all runs that can continue
 abbrev pub moved : Played → Run → Op → Played
@@ -89,42 +74,42 @@ abbrev pub made : Run → Op → Played → Result Played Refusal
 made caller op p = if is_wake op then Err W.Wake else if is_some (sleep_of p caller.0) then Err W.Waiting else Ok (moved p caller op)
 
 -- the line of this run is added, if the run is one of the test case
-abbrev pub added : Run → Line → Played → Result Played Refusal
-added run l p = if nat_lt run.0 p.behaviours then Ok (record p { lines = l ∷ p.lines }) else Err W.NoRun
+abbrev pub with_added_line : Run → Line → Played → Result Played Refusal
+with_added_line run l p = if nat_lt run.0 p.behaviours then Ok (record p { lines = l ∷ p.lines }) else Err W.NoRun
 
 -- so is the name of its behaviour, if no line is about the run
-abbrev pub named : Run → List ℕ → Played → Result Played Refusal
-named run name p = if nat_lt run.0 p.behaviours && is_met run.0 p.lines then Err W.LateName else added run (L.Named run name) p
+abbrev pub with_name : Run → List ℕ → Played → Result Played Refusal
+with_name run name p = if nat_lt run.0 p.behaviours && is_met run.0 p.lines then Err W.LateName else with_added_line run (L.Named run name) p
 
 -- ---- what a line does
 
 -- the test case that is open is this one now
-abbrev pub with_current : Stand → Played → Stand
+abbrev pub with_current : ServiceState → Played → ServiceState
 with_current s p = record { closed = s.closed; current = Some p }
 
 -- the test case that is open becomes another, if one is open and this may be
-abbrev pub with_open : Stand → (Played → Result Played Refusal) → Result Stand Refusal
+abbrev pub with_open : ServiceState → (Played → Result Played Refusal) → Result ServiceState Refusal
 with_open s change = result_map_both (with_current s) (λ why. why) (option_map_or change s.current (Err W.NoCase))
 
 -- what is asked is done, or refused
-abbrev pub taken : Stand → Order → Result Stand Refusal
-taken s (O.Case name n) = if is_some s.current then Err W.CaseOpen else Ok (with_current s (record { name = name; behaviours = n; lines = [] }))
-taken s (O.Named run name) = with_open s (named run name)
-taken s (O.Move caller op) = with_open s (made caller op)
-taken s (O.Remark run sentence) = with_open s (added run (L.Remark run sentence))
-taken s O.End = option_map_or (λ p. Ok (record { closed = p ∷ s.closed; current = None })) s.current (Err W.NoCase)
+abbrev pub after_order : ServiceState → Order → Result ServiceState Refusal
+after_order s (O.Case name n) = if is_some s.current then Err W.CaseOpen else Ok (with_current s (record { name = name; behaviours = n; lines = [] }))
+after_order s (O.Named run name) = with_open s (with_name run name)
+after_order s (O.Move caller op) = with_open s (made caller op)
+after_order s (O.Remark run sentence) = with_open s (with_added_line run (L.Remark run sentence))
+after_order s O.End = option_map_or (λ p. Ok (record { closed = p ∷ s.closed; current = None })) s.current (Err W.NoCase)
 
 -- a refused line changes nothing else: the run that sent it gets that, if it is one of a test case that is open
-abbrev pub refused : Stand → Run → Refusal → Result Stand Refusal
-refused s run why = with_open s (added run (L.Refused run (why_text why)))
+abbrev pub refused : ServiceState → Run → Refusal → Result ServiceState Refusal
+refused s run why = with_open s (with_added_line run (L.Refused run (why_text why)))
 
 -- the line is of this run: it begins with its number
 abbrev pub IsOf : List ℕ → ℕ → Type 0
 IsOf line run = (rest : List ℕ) × EndsNumber rest × (line ≡ decimal run ++ rest)
 
 -- the line asks for this; one that no LF ends asks for nothing
-abbrev pub Asks : Bool → List ℕ → Order → Type 0
-Asks ended line o = (ended ≡ true) × IsOrder o × (line ≡ order_text o)
+abbrev pub IsOrderOf : Bool → List ℕ → Order → Type 0
+IsOrderOf ended line o = (ended ≡ true) × IsOrder o × (line ≡ order_text o)
 
 -- the line begins as a remark of some run does
 abbrev pub BeginsRemark : List ℕ → Type 0
@@ -139,11 +124,11 @@ IsWhyNothing W.BadLine ended line = (ended ≡ true) × (length line < LINE_BYTE
 IsWhyNothing _ ended line = ⊥
 
 -- the line is refused for this: it asks for what may not be asked here, or for nothing
-abbrev pub Refuses : Refusal → Bool → List ℕ → Stand → Type 0
-Refuses why ended line s = ((o : Order) × Asks ended line o × (taken s o ≡ Err why)) ⊎ (((o : Order) → Asks ended line o → ⊥) × IsWhyNothing why ended line)
+abbrev pub Refuses : Refusal → Bool → List ℕ → ServiceState → Type 0
+Refuses why ended line s = ((o : Order) × IsOrderOf ended line o × (after_order s o ≡ Err why)) ⊎ (((o : Order) → IsOrderOf ended line o → ⊥) × IsWhyNothing why ended line)
 
 -- no run gets the refusal of the line
-abbrev pub IsNobodys : List ℕ → Stand → Type 0
+abbrev pub IsNobodys : List ℕ → ServiceState → Type 0
 IsNobodys line s = (run : Run) (why : Refusal) → run.0 < 2 ^ 16 → IsOf line run.0 → is_err (refused s run why) ≡ true
 
 -- what comes of a line: what it asks for is done; or it is refused, and its run gets that; or no run does
@@ -153,8 +138,8 @@ pub data Came : Type 0 where
   was_lost : Refusal → Came
 
 -- this comes of a line in a state, and that is the state after it; outside a test case no line may be lost
-abbrev pub Comes : Came → Bool → List ℕ → Stand → Stand → Type 0
-Comes (was_done o) ended line s t = Asks ended line o × (taken s o ≡ Ok t)
+abbrev pub Comes : Came → Bool → List ℕ → ServiceState → ServiceState → Type 0
+Comes (was_done o) ended line s t = IsOrderOf ended line o × (after_order s o ≡ Ok t)
 Comes (was_refused run why) ended line s t = Refuses why ended line s × IsOf line run.0 × (refused s run why ≡ Ok t)
 Comes (was_lost why) ended line s t = Refuses why ended line s × IsNobodys line s × (is_some s.current ≡ true) × (t ≡ s)
 
@@ -184,10 +169,10 @@ abbrev pub AllEnded : List Sent → Type 0
 AllEnded lines = list_all (λ l. l.ended) lines ≡ true
 
 -- these lines came, the newest first in the list, and this is the state after them; only the last may lack its LF
-abbrev pub AreServed : List Sent → Stand → Type 0
+abbrev pub AreServed : List Sent → ServiceState → Type 0
 AreServed [] s = s ≡ record { closed = []; current = None }
-AreServed (l ∷ before) t = (s : Stand) × AreServed before s × AllEnded before × NoLf l.bytes × Comes l.came l.ended (seen l.bytes) s t
+AreServed (l ∷ before) t = (s : ServiceState) × AreServed before s × AllEnded before × NoLf l.bytes × Comes l.came l.ended (seen l.bytes) s t
 
 -- the state after the end of the input: the test case that is open is closed, if one is
-abbrev pub finished : Stand → Stand
-finished s = result_unwrap_or (taken s O.End) s
+abbrev pub finished_state : ServiceState → ServiceState
+finished_state s = result_unwrap_or (after_order s O.End) s

@@ -2,14 +2,14 @@
 use Rattle.std.specs.Prelude.{ℕ, ◌≡◌, ◌≢◌, ◌+◌, ◌-◌, ◌≤◌, ◌^◌, ◌⊎◌, Bool, true, false, is_some, is_none, Option, Result, Ok, Err, List, [], ◌∷◌, ◌++◌, length}
 use Rattle.std.specs.List.{list_any}
 use Rattle.std.specs.Io.KnownBytes.{Appends, Consumes, IsAtEnd}
-use Rattle.tc_stream.specs.Output.{AppendsPrefix}
+use Rattle.tc_stream.specs.Prelude.{AppendsPrefix}
 use Rattle.tc_serve.specs.declared.fault.ServeFault.{ServeFault}
 use Rattle.tc_serve.specs.declared.fault.ServeFault.TheVariants as F
 use Rattle.tc_serve.specs.declared.refusal.Refusal.{Refusal}
 use Rattle.tc_serve.specs.declared.service.Ending.{Ending}
 use Rattle.tc_serve.specs.declared.service.Served.{Served}
-use Rattle.tc_serve.specs.Protocol.{AllEnded, AreServed, NoLf, Refuses, Sent, Stand, done_of, finished, seen}
-use Rattle.tc_serve.specs.Text.{bytes_of, end_told, stand_text, told_of, worst_of}
+use Rattle.tc_serve.specs.Protocol.{AllEnded, AreServed, NoLf, Refuses, Sent, ServiceState, done_of, finished_state, seen}
+use Rattle.tc_serve.specs.Text.{bytes_of, end_told, stand_text, lines_messages, worst_case}
 
 -- what is left of the input, and what the output and standard error took, if they are known
 pub record Devices : Type 0 where
@@ -22,13 +22,13 @@ abbrev pub devices : Option (List ℕ) → Option (List ℕ) → Option (List �
 devices input output errors = record { input = input; output = output; errors = errors }
 
 -- the next line is refused for this; if no LF ends it, the input ends with it
-abbrev pub IsBadNext : Refusal → Stand → List ℕ → Option (List ℕ) → Type 0
+abbrev pub IsBadNext : Refusal → ServiceState → List ℕ → Option (List ℕ) → Type 0
 IsBadNext why s rest input = (line more : List ℕ) × NoLf line
     × (((rest ≡ line ++ 10 ∷ more) × Refuses why true (seen line) s) ⊎ ((rest ≡ line) × (line ≢ []) × IsAtEnd input × Refuses why false (seen line) s))
 
 -- why no further line was served: the next is refused outside a test case, or 2^64 - 1 bytes came, or a read failed,
 -- before which each line that had ended was served
-abbrev pub IsWhy : ServeFault → List Sent → Stand → List ℕ → Option (List ℕ) → Type 0
+abbrev pub IsWhy : ServeFault → List Sent → ServiceState → List ℕ → Option (List ℕ) → Type 0
 IsWhy (F.Line n why) lines s rest input = (n ≡ length lines + 1) × (is_some s.current ≡ false) × IsBadNext why s rest input
 IsWhy F.TooLong lines s rest input = 2 ^ 64 - 1 ≤ length (bytes_of lines ++ rest)
 IsWhy F.Read lines s rest input = NoLf rest
@@ -37,13 +37,13 @@ IsWhy _ lines s rest input = Unit {0}
 -- how a service ends that read these bytes, and the text and the reports that it owes then
 pub data HasEnded (bytes : List ℕ) (input : Option (List ℕ)) (text reports : List ℕ) : Result Served ServeFault → Type 0 where
   -- the input ended: its lines were served, and the test case that was open was closed
-  served : (lines : List Sent) (s : Stand) (r : Served) → AreServed lines s → bytes ≡ bytes_of lines → IsAtEnd input
-      → r.worst ≡ worst_of (finished s) → r.refused ≡ list_any (λ l. is_none (done_of l.came)) lines
-      → text ≡ stand_text (finished s) → reports ≡ told_of lines ++ end_told (is_some s.current) → HasEnded bytes input text reports (Ok r)
+  served : (lines : List Sent) (s : ServiceState) (r : Served) → AreServed lines s → bytes ≡ bytes_of lines → IsAtEnd input
+      → r.worst ≡ worst_case (finished_state s) → r.refused ≡ list_any (λ l. is_none (done_of l.came)) lines
+      → text ≡ stand_text (finished_state s) → reports ≡ lines_messages lines ++ end_told (is_some s.current) → HasEnded bytes input text reports (Ok r)
   -- or this fault came: these lines were served, and the rest was not; only a last line of the input may lack its LF
-  stopped : (lines : List Sent) (s : Stand) (rest : List ℕ) (f : ServeFault) → AreServed lines s → bytes ≡ bytes_of lines ++ rest
+  stopped : (lines : List Sent) (s : ServiceState) (rest : List ℕ) (f : ServeFault) → AreServed lines s → bytes ≡ bytes_of lines ++ rest
       → AllEnded lines ⊎ ((rest ≡ []) × IsAtEnd input) → IsWhy f lines s rest input
-      → text ≡ stand_text s → reports ≡ told_of lines → HasEnded bytes input text reports (Err f)
+      → text ≡ stand_text s → reports ≡ lines_messages lines → HasEnded bytes input text reports (Err f)
 
 -- a device took the text, or a prefix of it
 abbrev pub IsTaken : Bool → Option (List ℕ) → Option (List ℕ) → List ℕ → Type 0
@@ -52,7 +52,7 @@ IsTaken false before after text = AppendsPrefix before after text
 
 -- the service ended as was due, and its text was written; or the output failed, and took a prefix of it. Standard error took
 -- the reports, or a prefix of them
-pub record IsEnding (from to : Devices) (e : Ending) : Type 0 where
+pub record IsServiceEnd (from to : Devices) (e : Ending) : Type 0 where
   pub bytes : List ℕ
   pub text : List ℕ
   pub reports : List ℕ

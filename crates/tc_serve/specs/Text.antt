@@ -3,43 +3,38 @@ use Rattle.std.specs.Prelude.{ℕ, ◌+◌, if◌then◌else◌, Bool, List, [],
 use Rattle.std.specs.Option.{option_map_or}
 use Rattle.std.specs.List.{flat_map}
 use Rattle.std.specs.Fmt.{decimal}
-use Rattle.tc_verdict.specs.declared.verdict.Verdict.{Verdict}
+use Rattle.tc_rules.specs.Prelude.{Verdict, worst, is_over, overall}
 use Rattle.tc_verdict.specs.declared.verdict.Verdict.TheVariants as V
-use Rattle.tc_verdict.specs.Verdict.{worst}
-use Rattle.tc_history.specs.Block.{end_text}
-use Rattle.tc_table.specs.History.{is_over}
-use Rattle.tc_table.specs.Local.{overall}
-use Rattle.tc_evidence.specs.declared.header.Header.{Header}
-use Rattle.tc_evidence.specs.declared.header.Kind.TheVariants as K
-use Rattle.tc_evidence.specs.Line.{line_text}
-use Rattle.tc_evidence.specs.Block.{ended, header_text}
-use Rattle.tc_serve.specs.Protocol.{Came, Played, Sent, Stand, past_of, was_lost}
+use Rattle.tc_blocks.specs.Prelude.{end_text, line_text, with_lf, header_text}
+use Rattle.tc_blocks.specs.declared.header.Header.{Header}
+use Rattle.tc_blocks.specs.declared.header.Kind.TheVariants as K
+use Rattle.tc_serve.specs.Protocol.{Came, Played, Sent, ServiceState, played_past, was_lost}
 use Rattle.tc_serve.specs.declared.refusal.Refusal.{Refusal}
 use Rattle.tc_serve.specs.Refusal.{why_text}
 
 -- what the first line of its evidence says
-abbrev pub header_of : Played → Header
-header_of p = record { kind = K.Evidence; name = p.name; behaviours = p.behaviours }
+abbrev pub case_header : Played → Header
+case_header p = record { kind = K.Evidence; name = p.name; behaviours = p.behaviours }
 
 -- the text of a test case that is open
-abbrev pub opening : Played → List ℕ
-opening p = ended (header_text (header_of p)) ++ flat_map (λ l. ended (line_text l)) (reverse p.lines)
+abbrev pub opened_text : Played → List ℕ
+opened_text p = with_lf (header_text (case_header p)) ++ flat_map (λ l. with_lf (line_text l)) (reverse p.lines)
 
 -- the text of a test case that was closed
 abbrev pub block : Played → List ℕ
-block p = opening p ++ ended (end_text (overall (past_of p)))
+block p = opened_text p ++ with_lf (end_text (overall (played_past p)))
 
 -- the text so far
-abbrev pub stand_text : Stand → List ℕ
-stand_text s = flat_map block (reverse s.closed) ++ option_map_or opening s.current []
+abbrev pub stand_text : ServiceState → List ℕ
+stand_text s = flat_map block (reverse s.closed) ++ option_map_or opened_text s.current []
 
 -- the verdict that a test case counts as: error if it is not over
 abbrev pub counted : Played → Verdict
-counted p = if is_over (past_of p) then overall (past_of p) else V.Error
+counted p = if is_over (played_past p) then overall (played_past p) else V.Error
 
 -- the worst of the test cases that were closed
-abbrev pub worst_of : Stand → Verdict
-worst_of s = worst (map counted s.closed)
+abbrev pub worst_case : ServiceState → Verdict
+worst_case s = worst (map counted s.closed)
 
 -- the bytes of lines, the newest first in the list, each with its LF
 abbrev pub bytes_of : List Sent → List ℕ
@@ -47,18 +42,18 @@ bytes_of [] = []
 bytes_of (l ∷ before) = bytes_of before ++ (l.bytes ++ (if l.ended then 10 ∷ [] else []))
 
 -- what is said on standard error of the line of this number, which is refused for this
-abbrev pub refusal_text : ℕ → Refusal → List ℕ
-refusal_text n why = codes "ttrun: line " ++ (decimal n ++ (codes ": " ++ (why_text why ++ (10 ∷ []))))
+abbrev pub refused_line_text : ℕ → Refusal → List ℕ
+refused_line_text n why = codes "ttrun: line " ++ (decimal n ++ (codes ": " ++ (why_text why ++ (10 ∷ []))))
 
 -- what goes there about the line of this number
 abbrev pub lost_text : ℕ → Came → List ℕ
-lost_text n (was_lost why) = refusal_text n why
+lost_text n (was_lost why) = refused_line_text n why
 lost_text n _ = []
 
 -- and about these lines, the newest first
-abbrev pub told_of : List Sent → List ℕ
-told_of [] = []
-told_of (l ∷ before) = told_of before ++ lost_text (length before + 1) l.came
+abbrev pub lines_messages : List Sent → List ℕ
+lines_messages [] = []
+lines_messages (l ∷ before) = lines_messages before ++ lost_text (length before + 1) l.came
 
 -- and about the end of the input, by whether a test case is open
 abbrev pub end_told : Bool → List ℕ

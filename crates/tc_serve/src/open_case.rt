@@ -2,30 +2,25 @@
 ghost use Rattle.std.specs.Prelude.{◌≡◌, ◌<◌, ◌++◌, ◌∷◌, [], nat_lt, true, ℕ, List, length, drop, IfOk, OnOk, None, ◌&&◌, if◌then◌else◌};
 ghost use Rattle.std.specs.Result.{result_err};
 ghost use Rattle.std.specs.Io.{StartsWith};
-ghost use Rattle.tc_entry.specs.Limits.{IsBehaviours};
-ghost use Rattle.tc_entry.specs.declared.op.Op.{Op as AnyOp};
-ghost use Rattle.tc_entry.specs.declared.reply.Reply.{Reply as AnyReply};
-ghost use Rattle.tc_text.specs.Spelling.{move_text};
-ghost use Rattle.tc_history.specs.Block.{outcome_text};
-ghost use Rattle.tc_table.specs.Local as verdicts;
-ghost use Rattle.tc_table.specs.Waiting as waits;
-ghost use Rattle.tc_evidence.specs.declared.line.Line.{Line as AnyLine};
-ghost use Rattle.tc_evidence.specs.declared.line.Line.TheVariants as lines;
-ghost use Rattle.tc_evidence.specs.Block.{ended};
-ghost use Rattle.tc_evidence.specs.Line.{entry_of, is_met, line_text};
-ghost use Rattle.tc_evidence.specs.Met.{AreMet};
+ghost use Rattle.tc_rules.specs.Prelude.{IsBehaviours, Op as AnyOp, Reply as AnyReply, is_parked, is_wake as spec_wake};
+ghost use Rattle.tc_text.specs.Prelude.{move_text};
+ghost use Rattle.tc_blocks.specs.Prelude.{outcome_text, with_lf, entry_in, is_met, line_text, AreMet};
+ghost use Rattle.tc_rules.specs.Local as verdicts;
+ghost use Rattle.tc_rules.specs.Waiting as waits;
+ghost use Rattle.tc_blocks.specs.declared.line.Line.{Line as AnyLine};
+ghost use Rattle.tc_blocks.specs.declared.line.Line.TheVariants as lines;
 ghost use Rattle.tc_serve.specs.declared.sleepers.Sleeper.{Sleeper as AnySleeper};
 ghost use Rattle.tc_serve.specs.Inside.{Becomes, BecomesAwake, Changes, IsCalled, IsOpen, IsPassed, Moves, after_call, entry, started as spec_started, wakes_nobody as spec_wakes_nobody, woken_once};
-ghost use Rattle.tc_serve.specs.Protocol.{Played as AnyPlayed, added, called, is_parked, is_wake as spec_wake, made, named, past_of, sleep_of as spec_sleep, woken};
+ghost use Rattle.tc_serve.specs.Protocol.{Played as AnyPlayed, with_added_line, called, made, with_name, played_past, sleep_of as spec_sleep, woken};
 ghost use Rattle.tc_serve.specs.Refusal.{why_text};
 ghost use Rattle.tc_serve.specs.Text.{counted as spec_counted};
 
 use crate::refusal::Refusal;
 use crate::sleepers::{Sleeper, add, awaited_by};
 use std::alloc::Global;
+use tc_blocks::{Line, MetRuns, append_line, append_said};
 use tc_entry::{Name, NoMemory, Op, Reply, Run, Verdict};
-use tc_evidence::{Line, MetRuns, append_line, append_said};
-use tc_table::{Awaited, CaseState, keeps_phases};
+use tc_rules::{Awaited, CaseState, keeps_phases};
 use tc_text::{append_text, write_move, write_reply};
 
 /// A test case that is open: what is kept of it besides its evidence.
@@ -76,7 +71,7 @@ fn meet(met: &mut MetRuns, caller: Run, started: Option<Run>)
 
 // Appends what follows the move of an entry; if memory runs out, a part of it.
 fn append_outcome(out: &mut Vec<u8>, reply: Reply) -> Result<(), NoMemory>
-    ensures ok { OnOk result (out.new.items ≡ out.old.items ++ ended (outcome_text reply)) }
+    ensures ok { OnOk result (out.new.items ≡ out.old.items ++ with_lf (outcome_text reply)) }
     ensures any { StartsWith out.new.items out.old.items }
 {
     append_text(out, " -> ")?;
@@ -175,7 +170,7 @@ impl OpenCase {
         ensures met { (ls : List AnyLine) → AreMet self.old.met ls → AreMet self.new.met (line.now ∷ ls) }
         ensures state { self.new.state ≡ self.old.state }
         ensures sleepers { self.new.sleepers ≡ self.old.sleepers }
-        ensures ok { OnOk result (out.new.items ≡ out.old.items ++ ended (line_text line.now)) }
+        ensures ok { OnOk result (out.new.items ≡ out.old.items ++ with_lf (line_text line.now)) }
         ensures any { StartsWith out.new.items out.old.items }
     {
         self.met.add_line(line);
@@ -190,8 +185,8 @@ impl OpenCase {
         line: &Line,
         out: &mut Vec<u8>,
     ) -> Result<Option<Refusal>, NoMemory>
-        requires { entry_of line.now ≡ [] }
-        ensures ok { IfOk result (λ why. Changes (added run line.now) why self.old self.new out.old.items out.new.items) }
+        requires { entry_in line.now ≡ [] }
+        ensures ok { IfOk result (λ why. Changes (with_added_line run line.now) why self.old self.new out.old.items out.new.items) }
         ensures any { StartsWith out.new.items out.old.items }
     {
         if !self.has(run) {
@@ -208,7 +203,7 @@ impl OpenCase {
         name: Name,
         out: &mut Vec<u8>,
     ) -> Result<Option<Refusal>, NoMemory>
-        ensures ok { IfOk result (λ why. Changes (named run name) why self.old self.new out.old.items out.new.items) }
+        ensures ok { IfOk result (λ why. Changes (with_name run name) why self.old self.new out.old.items out.new.items) }
         ensures any { StartsWith out.new.items out.old.items }
     {
         if self.has_met(run) {
@@ -224,7 +219,7 @@ impl OpenCase {
         why: Refusal,
         out: &mut Vec<u8>,
     ) -> Result<Option<Refusal>, NoMemory>
-        ensures ok { IfOk result (λ other. Changes (added run (lines.Refused run (why_text why))) other
+        ensures ok { IfOk result (λ other. Changes (with_added_line run (lines.Refused run (why_text why))) other
             self.old self.new out.old.items out.new.items) }
         ensures any { StartsWith out.new.items out.old.items }
     {
@@ -352,7 +347,7 @@ impl OpenCase {
 
     /// The overall verdict.
     pub fn overall(&self) -> Verdict
-        ensures { (p : AnyPlayed) → IsOpen self.now p → result ≡ verdicts.overall (past_of p) }
+        ensures { (p : AnyPlayed) → IsOpen self.now p → result ≡ verdicts.overall (played_past p) }
     {
         self.state.overall()
     }

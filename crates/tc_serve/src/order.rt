@@ -1,10 +1,8 @@
 //! What a line asks for.
 ghost use Rattle.std.specs.Prelude.{◌≡◌, ◌<◌, ◌^◌, ℕ, List, length, false, true, Ok, Some, None, IfSome, IfOk, IfErr, MatchOption};
-ghost use Rattle.tc_entry.specs.Limits.{IsBehaviours};
-ghost use Rattle.tc_entry.specs.Name.{IsName};
-ghost use Rattle.tc_evidence.specs.Line.{naming_text, said_text};
-ghost use Rattle.tc_text.specs.Spelling.{IsOp, move_text};
-ghost use Rattle.tc_text.specs.Reading.{op_of};
+ghost use Rattle.tc_rules.specs.Prelude.{IsBehaviours, IsName};
+ghost use Rattle.tc_blocks.specs.Prelude.{naming_text, said_text};
+ghost use Rattle.tc_text.specs.Prelude.{IsOp, move_text, op_of};
 ghost use Rattle.tc_serve.specs.Order.{order_text, IsOrder};
 ghost use Rattle.tc_serve.specs.Inside.{IsOther, case_text};
 ghost use Rattle.tc_serve.specs.Protocol.{IsWhyNothing};
@@ -12,8 +10,8 @@ ghost use Rattle.tc_serve.specs.declared.order.Order.{Order as AnyOrder};
 
 use crate::refusal::Refusal;
 use std::alloc::Global;
+use tc_blocks::Sentence;
 use tc_entry::{Name, NoMemory, Op, Run};
-use tc_evidence::Sentence;
 use tc_text::{
     ShortOp, after, as_behaviours, read_move, read_number, take_name, take_run, take_short_move,
 };

@@ -1,22 +1,21 @@
 //! What is done with a line.
 ghost use Rattle.std.specs.Prelude.{◌≡◌, ◌<◌, ◌^◌, [], ℕ, List, is_some, true, Some, IfOk, MatchOption};
 ghost use Rattle.std.specs.Io.{StartsWith};
-ghost use Rattle.tc_entry.specs.Limits.{IsBehaviours};
-ghost use Rattle.tc_evidence.specs.declared.line.Line.TheVariants as lines;
+ghost use Rattle.tc_rules.specs.Prelude.{IsBehaviours};
+ghost use Rattle.tc_blocks.specs.declared.line.Line.TheVariants as lines;
 ghost use Rattle.tc_serve.specs.declared.order.Order.TheVariants as orders;
 ghost use Rattle.tc_serve.specs.Inside.{StandsAs, TellsRun, Tries, TriesLine, start as spec_start};
 ghost use Rattle.tc_serve.specs.Order.{IsOrder, order_text};
-ghost use Rattle.tc_text.specs.Spelling.{move_text};
-ghost use Rattle.tc_serve.specs.Protocol.{IsOf, Stand as AnyStand, added, made, named, taken, with_open};
-ghost use Rattle.tc_serve.specs.Text.{worst_of};
+ghost use Rattle.tc_text.specs.Prelude.{move_text};
+ghost use Rattle.tc_serve.specs.Protocol.{IsOf, ServiceState as AnyStand, with_added_line, made, with_name, after_order, with_open};
+ghost use Rattle.tc_serve.specs.Text.{worst_case};
 
 use crate::open_case::OpenCase;
 use crate::order::{Order, read_order, read_short_move};
 use crate::refusal::Refusal;
 use std::alloc::Global;
+use tc_blocks::{Header, Kind, Line, Sentence, append_end, append_first_line};
 use tc_entry::{Name, NoMemory, Op, Run, Verdict};
-use tc_evidence::{Header, Kind, Line, Sentence, append_first_line};
-use tc_history::append_end;
 use tc_text::take_run;
 use tc_verdict::worse_of;
 
@@ -59,7 +58,7 @@ impl Server {
 
     /// The worst verdict of the test cases that were closed; one that was not over counts as error.
     pub fn worst(&self) -> Verdict
-        ensures { (s : AnyStand) (before out : List ℕ) → StandsAs self.now s before out → result ≡ worst_of s }
+        ensures { (s : AnyStand) (before out : List ℕ) → StandsAs self.now s before out → result ≡ worst_case s }
     {
         self.worst
     }
@@ -73,7 +72,7 @@ impl Server {
         out: &mut Vec<u8>,
     ) -> Result<Option<Refusal>, NoMemory>
         requires { IsBehaviours behaviours }
-        ensures ok { IfOk result (λ why. Tries (λ s. taken s (orders.Case name behaviours)) why self.old self.new out.old.items out.new.items) }
+        ensures ok { IfOk result (λ why. Tries (λ s. after_order s (orders.Case name behaviours)) why self.old self.new out.old.items out.new.items) }
         ensures any { StartsWith out.new.items out.old.items }
     {
         if self.current.is_some() {
@@ -91,7 +90,7 @@ impl Server {
 
     // Names the behaviour of the run in the test case that is open; why that is refused, if it is.
     fn name(&mut self, run: Run, name: Name, out: &mut Vec<u8>) -> Result<Option<Refusal>, NoMemory>
-        ensures ok { IfOk result (λ why. Tries (λ s. with_open s (named run name)) why self.old self.new out.old.items out.new.items) }
+        ensures ok { IfOk result (λ why. Tries (λ s. with_open s (with_name run name)) why self.old self.new out.old.items out.new.items) }
         ensures any { StartsWith out.new.items out.old.items }
     {
         match &mut self.current {
@@ -125,7 +124,7 @@ impl Server {
         sentence: Sentence,
         out: &mut Vec<u8>,
     ) -> Result<Option<Refusal>, NoMemory>
-        ensures ok { IfOk result (λ why. Tries (λ s. with_open s (added run (lines.Remark run sentence))) why
+        ensures ok { IfOk result (λ why. Tries (λ s. with_open s (with_added_line run (lines.Remark run sentence))) why
             self.old self.new out.old.items out.new.items) }
         ensures any { StartsWith out.new.items out.old.items }
     {
@@ -137,7 +136,7 @@ impl Server {
 
     /// Closes the test case that is open; why that is refused, if it is.
     pub fn close(&mut self, out: &mut Vec<u8>) -> Result<Option<Refusal>, NoMemory>
-        ensures ok { IfOk result (λ why. Tries (λ s. taken s orders.End) why self.old self.new out.old.items out.new.items) }
+        ensures ok { IfOk result (λ why. Tries (λ s. after_order s orders.End) why self.old self.new out.old.items out.new.items) }
         ensures any { StartsWith out.new.items out.old.items }
     {
         let Some(held) = self.current.take() else {
@@ -159,7 +158,7 @@ impl Server {
     ) -> Result<Option<Refusal>, NoMemory>
         requires fits { IsOrder order }
         requires spelled { line.now ≡ order_text order }
-        ensures ok { IfOk result (λ why. Tries (λ s. taken s order) why self.old self.new out.old.items out.new.items) }
+        ensures ok { IfOk result (λ why. Tries (λ s. after_order s order) why self.old self.new out.old.items out.new.items) }
         ensures any { StartsWith out.new.items out.old.items }
     {
         match order {

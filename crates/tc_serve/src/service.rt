@@ -2,9 +2,9 @@
 ghost use Rattle.std.specs.Prelude.{◌≡◌, ◌+◌, ◌≤◌, ◌<◌, ◌^◌, ◌↔◌, not, true, false, [], ℕ, Bool, List, Option, is_err, length, OnOk, OnErr, IsErrOf};
 ghost use Rattle.std.specs.Borrow.{GName};
 ghost use Rattle.std.specs.Io.KnownBytes.{Appends};
-ghost use Rattle.tc_stream.specs.Output.{AppendsPrefix};
+ghost use Rattle.tc_stream.specs.Prelude.{AppendsPrefix};
 ghost use Rattle.tc_serve.specs.Inside.{Hears, IsAt, IsFed, IsTurn};
-ghost use Rattle.tc_serve.specs.Serve.{Devices as AnyDevices, IsEnding, devices};
+ghost use Rattle.tc_serve.specs.Serve.{Devices as AnyDevices, IsServiceEnd, devices};
 
 use crate::fault::ServeFault;
 use crate::serving::Serving;
@@ -140,7 +140,7 @@ fn turn<R: CountedRead, W: FlushedWrite, E: CountedWrite>(
     ensures turn { (from : AnyDevices) (turns : ℕ)
         → IsAt from (devices (R.remaining reader.old) (W.contents writer.old) (E.contents errors.old)) heard.old turns serving.old
         → IsTurn (IsAt from (devices (R.remaining reader.new) (W.contents writer.new) (E.contents errors.new)) heard.new (turns + 1) serving.new)
-        (λ o. IsEnding from (devices (R.remaining reader.new) (W.contents writer.new) (E.contents errors.new)) (record { outcome = o; told = heard.new })) result }
+        (λ o. IsServiceEnd from (devices (R.remaining reader.new) (W.contents writer.new) (E.contents errors.new)) (record { outcome = o; told = heard.new })) result }
     ensures heard { heard.new ≡ not (E.has_failed errors.new) }
     ensures counted { E.writes errors.new ≤ E.writes errors.old + 2 ^ 64 }
     ensures read { IsErrOf result ServeFault.Read ↔ (R.has_failed reader.new ≡ true) }
@@ -179,7 +179,7 @@ fn serve_lines<R: CountedRead, W: FlushedWrite, E: CountedWrite>(
     requires few { (E.writes errors.old ≡ 0) × (R.reads reader.old ≡ 0) }
     requires read { R.has_failed reader.old ≡ false }
     requires written { W.has_failed writer.old ≡ false }
-    ensures ending { IsEnding (devices (R.remaining reader.old) (W.contents writer.old) (E.contents errors.old))
+    ensures ending { IsServiceEnd (devices (R.remaining reader.old) (W.contents writer.old) (E.contents errors.old))
         (devices (R.remaining reader.new) (W.contents writer.new) (E.contents errors.new)) (record { outcome = result; told = heard.new }) }
     ensures heard { heard.new ≡ not (E.has_failed errors.new) }
     ensures read { IsErrOf result ServeFault.Read ↔ (R.has_failed reader.new ≡ true) }
@@ -207,7 +207,7 @@ pub fn serve<R: Read, W: Write, E: Write>(
     writer: &mut W,
     errors: &mut E,
 ) -> Ending
-    ensures { IsEnding (devices (R.remaining reader.old) (W.contents writer.old) (E.contents errors.old))
+    ensures { IsServiceEnd (devices (R.remaining reader.old) (W.contents writer.old) (E.contents errors.old))
         (devices (R.remaining reader.new) (W.contents writer.new) (E.contents errors.new)) result }
 {
     let mut texts = Texts {

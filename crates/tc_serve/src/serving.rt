@@ -5,7 +5,7 @@ ghost use Rattle.std.specs.Io.KnownBytes.{IsAtEnd};
 ghost use Rattle.tc_serve.specs.Inside.{Closes, Fails, Feeds, IsEnd, IsFed, IsOwn, IsTurn, Serves, StopsIn, TakesPiece};
 ghost use Rattle.tc_serve.specs.Protocol.{NoLf};
 ghost use Rattle.tc_serve.specs.Serve.{HasEnded};
-ghost use Rattle.tc_serve.specs.Text.{end_told, refusal_text};
+ghost use Rattle.tc_serve.specs.Text.{end_told, refused_line_text};
 
 use crate::fault::ServeFault;
 use crate::order::LINE_BYTES;
@@ -31,7 +31,7 @@ pub(crate) struct Serving {
 /// Appends the line on standard error for the line of this number, which is refused for this; if memory runs out, a part
 /// of it.
 pub fn append_refusal(told: &mut Vec<u8>, line: usize, why: Refusal) -> Result<(), NoMemory>
-    ensures ok { OnOk result (told.new.items ≡ told.old.items ++ refusal_text line why) }
+    ensures ok { OnOk result (told.new.items ≡ told.old.items ++ refused_line_text line why) }
     ensures any { StartsWith told.new.items told.old.items }
 {
     append_text(told, "ttrun: line ")?;

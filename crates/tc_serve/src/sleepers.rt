@@ -3,7 +3,7 @@ ghost use Rattle.std.specs.Prelude.{◌≡◌, ◌≤◌, Option, length, take, 
 ghost use Rattle.tc_serve.specs.Inside.{AllBelow, AreInOrder, IsAdded, sleep_in};
 
 use tc_entry::NoMemory;
-use tc_table::Awaited;
+use tc_rules::Awaited;
 
 /// A run that sleeps, and what it waits for.
 #[derive(Clone, Copy)]

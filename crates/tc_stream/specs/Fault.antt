@@ -1,6 +1,6 @@
 -- The texts of faults.
 use Rattle.std.specs.Prelude.{ℕ, List, codes}
-use Rattle.tc_verdict.specs.Words.{memory_text}
+use Rattle.tc_verdict.specs.Prelude.{memory_text}
 use Rattle.tc_stream.specs.declared.input.InputFault.{InputFault}
 use Rattle.tc_stream.specs.declared.input.InputFault.TheVariants as I
 

@@ -1,29 +1,12 @@
-//! The component table of one test case: the reply to each call, and the history of all calls.
+//! The component table and its texts under one name.
 #![tactic(auto)]
 
-mod awaited;
-mod check;
-mod component_state;
-mod component_states;
-mod deciding;
-mod ending;
-mod entries;
-pub mod laws;
-mod locals;
-mod run_state;
-mod state;
-mod step;
-mod table;
-
-pub use awaited::Awaited;
-pub use check::{CheckFault, replay, replay_check};
-pub use deciding::{component_of, deciding_entry, name_of};
-pub use ending::ends_pass;
-pub use entries::{created, ends_case, is_comp, is_halting, keeps_phases, started_on};
-pub use locals::locals_of;
-pub use state::CaseState;
-pub use table::{Table, copied_entries};
-pub use tc_entry::{
-    Args, Comp, Entry, Fault, Group, Name, NoMemory, Op, Phase, Reply, Run, Target, UserVerdict,
-    Verdict,
+pub use tc_blocks::{History as Block, read_history};
+pub use tc_rules::{
+    Args, CheckFault, Comp, Entry, Fault, Group, Name, NoMemory, Op, Phase, Reply, Run, Table,
+    Target, UserVerdict, Verdict, laws, replay_check,
+};
+pub use tc_stream::{InputFault, read_input};
+pub use tc_text::{
+    MoveList, TextFault, TextKind, read_move, read_moves, read_reply, write_move, write_reply,
 };

@@ -3,8 +3,8 @@ use Rattle.std.proofs.Common.{◌≡◌, ◌≢◌, ◌∙◌, ◌+◌, ℕ, Lis
 use Rattle.std.specs.List.{AllByRecursion}
 use Rattle.std.proofs.lemmas.List.{append-nil, length-append}
 use Rattle.tc_text.specs.Lines.{lines_of}
-use Rattle.tc_entry.specs.Limits.{IsBehaviours}
-use Rattle.tc_text.specs.MoveList.{Move, behaviours_line, move_line, list_lines, IsMove, IsMoveList, IsMadeOf, IsBadFirstLine, IsBadMove}
+use Rattle.tc_entry.specs.Prelude.{IsBehaviours}
+use Rattle.tc_text.specs.MoveList.{Move, behaviours_line, move_line, list_lines, IsMove, IsMoveList, IsMadeOfMoves, IsBadFirstLine, IsBadMove}
 use Rattle.tc_text.specs.Inside.{IsNoMove}
 use Rattle.tc_text.proofs.Lemmas.LinesOf.{some_line}
 
@@ -137,7 +137,7 @@ made_more stands text n line rest after value value' m so spelled fits only take
       line_is = omega (arith, here, length-append so.moves (m ∷ []));
     }
 
-pub made_all : {T : Type 0} (stands : ℕ → List Move → T → Type 0) (text : List ℕ) (n line : ℕ) (rest : List ℕ) (value : T) → IsMadeSoFar stands text n line rest value → rest ≡ [] → IsMadeOf stands text value
+pub made_all : {T : Type 0} (stands : ℕ → List Move → T → Type 0) (text : List ℕ) (n line : ℕ) (rest : List ℕ) (value : T) → IsMadeSoFar stands text n line rest value → rest ≡ [] → IsMadeOfMoves stands text value
 made_all stands text n line rest value so none = record { behaviours = n; moves = so.moves; list = is_done text n so.moves rest so.read none; made = so.made }
 
 pub made_only : {T : Type 0} (stands : ℕ → List Move → T → Type 0) (text : List ℕ) (n line : ℕ) (rest : List ℕ) (value : T) → IsMadeSoFar stands text n line rest value → rest ≡ [] →

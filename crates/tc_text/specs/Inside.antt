@@ -4,8 +4,7 @@ use Rattle.std.specs.Borrow.{Bor}
 use Rattle.std.specs.Char.{is_ascii_digit}
 use Rattle.std.specs.Str.{all_ascii_digits}
 use Rattle.std.specs.Fmt.{decimal}
-use Rattle.tc_verdict.specs.UserVerdict.{given}
-use Rattle.tc_verdict.specs.Verdict.{name_of}
+use Rattle.tc_verdict.specs.Prelude.{given, name_of}
 use Rattle.tc_entry.specs.declared.op.Op.{Op}
 use Rattle.tc_entry.specs.declared.op.Target.{Target}
 use Rattle.tc_entry.specs.declared.op.Op.TheVariants as O

@@ -7,3 +7,6 @@ pub mod Reading
 pub mod Shown
 pub mod Said
 pub mod Inside
+pub mod Prelude
+pub use Rattle.tc_verdict.specs.Prelude as OfVerdict
+pub use Rattle.tc_entry.specs.Prelude as OfEntry

@@ -2,7 +2,7 @@
 use Rattle.std.specs.Prelude.{ℕ, ◌≡◌, ◌≢◌, ◌<◌, ◌+◌, ◌^◌, List, [], ◌∷◌, ◌++◌, length, map, codes}
 use Rattle.std.specs.Fmt.{decimal}
 use Rattle.std.specs.List.{AllByRecursion}
-use Rattle.tc_entry.specs.Limits.{IsBehaviours}
+use Rattle.tc_entry.specs.Prelude.{IsBehaviours}
 use Rattle.tc_verdict.specs.declared.run.Run.{Run}
 use Rattle.tc_entry.specs.declared.op.Op.{Op}
 use Rattle.tc_text.specs.declared.fault.TextKind.TheVariants as K
@@ -38,7 +38,7 @@ pub record IsMoveList (text : List ℕ) (n : ℕ) (moves : List Move) : Type 0 w
   pub lines : lines_of text ≡ list_lines n moves
 
 -- the value is what the moves of the text make
-pub record IsMadeOf {T : Type 0} (stands : ℕ → List Move → T → Type 0) (text : List ℕ) (value : T) : Type 0 where
+pub record IsMadeOfMoves {T : Type 0} (stands : ℕ → List Move → T → Type 0) (text : List ℕ) (value : T) : Type 0 where
   pub behaviours : ℕ
   pub moves : List Move
   pub list : IsMoveList text behaviours moves

@@ -2,7 +2,7 @@
 -- around them.
 use Rattle.std.specs.Prelude.{ℕ, ◌≡◌, ◌⊎◌, not, Bool, true, if◌then◌else◌, List, [], ◌∷◌, ◌++◌, map}
 use Rattle.std.specs.Fmt.{decimal}
-use Rattle.tc_entry.specs.Name.{is_name_byte}
+use Rattle.tc_entry.specs.Prelude.{is_name_byte}
 use Rattle.tc_text.specs.Shown.{is_plain}
 use Rattle.tc_text.specs.declared.said.Part.{Part}
 use Rattle.tc_text.specs.declared.said.Part.TheVariants as P
@@ -23,12 +23,12 @@ Holds (word ∷ words) text =
     (front : List ℕ) × (rest : List ℕ) × (text ≡ front ++ (32 ∷ (word ++ rest))) × (ends_word rest ≡ true) × Holds words rest
 
 -- the byte, or a question mark for one that is not printable
-abbrev pub printable : ℕ → ℕ
-printable b = if is_plain b then b else 63
+abbrev pub as_printable : ℕ → ℕ
+as_printable b = if is_plain b then b else 63
 
 -- one line is appended, which begins with a space and holds these words
 unfoldable pub TellsLine : Line → List ℕ → List ℕ → Type 0
-TellsLine words before after = (text : List ℕ) × (after ≡ before ++ (32 ∷ (map printable text ++ 10 ∷ []))) × Holds words text
+TellsLine words before after = (text : List ℕ) × (after ≡ before ++ (32 ∷ (map as_printable text ++ 10 ∷ []))) × Holds words text
 
 -- a line is appended for each of these, in their order
 unfoldable pub Tells : List Line → List ℕ → List ℕ → Type 0
@@ -46,7 +46,7 @@ unfoldable pub TellsAmong : List Line → List ℕ → List ℕ → Type 0
 TellsAmong lines before after = (all : List Line) × AreAmong lines all × Tells all before after
 
 -- what a part of a line holds
-abbrev pub word_of : Part → Line
-word_of (P.Text t) = []
-word_of (P.Number n) = decimal n ∷ []
-word_of (P.Word w) = w.now ∷ []
+abbrev pub part_words : Part → Line
+part_words (P.Text t) = []
+part_words (P.Number n) = decimal n ∷ []
+part_words (P.Word w) = w.now ∷ []

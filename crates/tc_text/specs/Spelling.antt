@@ -4,10 +4,8 @@ use Rattle.std.specs.Fmt.{decimal}
 use Rattle.std.specs.List.{AllByRecursion, flat_map}
 use Rattle.std.specs.Option.{option_map_or}
 use Rattle.tc_entry.specs.declared.limits.TheConstants.{ARGUMENTS}
-use Rattle.tc_entry.specs.Name.{IsName}
-use Rattle.tc_entry.specs.Reply.{fault_name}
-use Rattle.tc_verdict.specs.UserVerdict.{given}
-use Rattle.tc_verdict.specs.Verdict.{name_of}
+use Rattle.tc_entry.specs.Prelude.{IsName, fault_name}
+use Rattle.tc_verdict.specs.Prelude.{given, name_of}
 use Rattle.tc_verdict.specs.declared.run.Run.{Run}
 use Rattle.tc_entry.specs.declared.comp.Comp.{Comp}
 use Rattle.tc_entry.specs.declared.op.Group.{Group}

@@ -1,6 +1,6 @@
 //! What is wrong with a text.
 ghost use Rattle.std.specs.Prelude.{◌≡◌, Some};
-ghost use Rattle.tc_text.specs.TextKind.{fault_text, kind_text};
+ghost use Rattle.tc_text.specs.TextKind.{fault_text, text_kind_text};
 ghost use Rattle.tc_text.specs.declared.fault.TextFault.TheVariants as faults;
 
 use std::fmt;
@@ -23,7 +23,7 @@ pub enum TextKind {
 impl TextKind {
     /// The words that name the fault.
     pub fn text(self) -> &'static str
-        ensures { result.now ≡ kind_text self }
+        ensures { result.now ≡ text_kind_text self }
     {
         match self {
             TextKind::FirstLine => "bad first line",
@@ -35,7 +35,7 @@ impl TextKind {
 }
 
 impl fmt::Display for TextKind {
-    ghost output = { λ k. Some (kind_text k) };
+    ghost output = { λ k. Some (text_kind_text k) };
 
     fn fmt<W: fmt::Write>(&self, f: &mut fmt::Formatter<W>) -> fmt::Result {
         f.write_str(self.text())

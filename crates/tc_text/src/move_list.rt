@@ -3,8 +3,8 @@ ghost use Rattle.std.specs.Prelude.{◌≡◌, ◌<◌, ◌++◌, ℕ, List, [],
 ghost use Rattle.tc_text.specs.Lines.{lines_of};
 ghost use Rattle.tc_text.specs.Spelling.{IsLong};
 ghost use Rattle.tc_text.specs.Reading.{op_of};
-ghost use Rattle.tc_entry.specs.Limits.{IsBehaviours};
-ghost use Rattle.tc_text.specs.MoveList.{Move as AnyMove, behaviours_line, move_line, IsMadeOf, IsMove, IsMoveList, IsListFault};
+ghost use Rattle.tc_entry.specs.Prelude.{IsBehaviours};
+ghost use Rattle.tc_text.specs.MoveList.{Move as AnyMove, behaviours_line, move_line, IsMadeOfMoves, IsMove, IsMoveList, IsListFault};
 ghost use Rattle.tc_text.specs.Inside.{IsMoveTakenBy, IsNoMove, TakesLine};
 
 use crate::cursor::{after, take_line_end};
@@ -140,7 +140,7 @@ fn take_next<'a, T: TakesMoves>(made: &mut T, text: &'a [u8]) -> Result<Option<&
 
 /// What the moves that the text spells make, otherwise the text's first fault; NoMemory may come instead.
 pub fn read_moves_into<T: TakesMoves + Drop>(alloc: Global, text: &[u8]) -> Result<T, TextFault>
-    ensures ok { IfOk result (IsMadeOf T.stands text.now) }
+    ensures ok { IfOk result (IsMadeOfMoves T.stands text.now) }
     ensures fault { IfErr result (λ e. IsListFault text.now e) }
     ensures only { (n : ℕ) (moves : List AnyMove) → IsMoveList text.now n moves
         → MatchResult result (λ made. T.stands n moves made) (λ e. e ≡ TextFault.NoMemory) }

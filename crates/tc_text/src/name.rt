@@ -1,6 +1,6 @@
 //! Names in a text.
 ghost use Rattle.std.specs.Prelude.{◌≡◌, ◌++◌, ℕ, List, IfSome};
-ghost use Rattle.tc_entry.specs.Name.{IsName};
+ghost use Rattle.tc_entry.specs.Prelude.{IsName};
 ghost use Rattle.tc_text.specs.Inside.{NoLow};
 ghost use Rattle.tc_text.specs.Reading.{EndsNumber, Takes};
 

@@ -1,10 +1,9 @@
 //! What operations are about.
 ghost use Rattle.std.specs.Prelude.{◌≡◌, ◌<◌, ◌≤◌, ◌+◌, ◌^◌, ◌++◌, ℕ, Bool, List, codes, length, Some, IfSome, MatchOption};
 ghost use Rattle.tc_entry.specs.declared.limits.TheConstants.{ARGUMENTS};
-ghost use Rattle.tc_verdict.specs.UserVerdict.{given};
-ghost use Rattle.tc_verdict.specs.Verdict.{name_of};
+ghost use Rattle.tc_verdict.specs.Prelude.{given, name_of};
 ghost use Rattle.tc_text.specs.Spelling.{group_text, target_text, args_text, IsGroup, IsTarget, IsOp, AreComps, start_text};
-ghost use Rattle.tc_entry.specs.Name.{IsName};
+ghost use Rattle.tc_entry.specs.Prelude.{IsName};
 ghost use Rattle.tc_text.specs.Inside.{EndsKind, kind_text, named_text, operand_text, verb_of};
 ghost use Rattle.tc_text.specs.Reading.{EndsNumber, EndsMove, Takes};
 ghost use Rattle.std.specs.Fmt.{decimal};

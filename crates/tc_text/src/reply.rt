@@ -2,7 +2,7 @@
 ghost use Rattle.std.specs.Prelude.{◌≡◌, ◌++◌, ℕ, List, Some, IfSome, OnOk, OnErr};
 ghost use Rattle.std.specs.Io.{StartsWith};
 ghost use Rattle.tc_text.specs.Spelling.{reply_text, IsReply};
-ghost use Rattle.tc_entry.specs.Reply.{fault_name};
+ghost use Rattle.tc_entry.specs.Prelude.{fault_name};
 ghost use Rattle.tc_text.specs.Reading.{EndsReply, Takes};
 ghost use Rattle.tc_text.specs.Inside.{BeginsWithE};
 ghost use Rattle.tc_entry.specs.declared.reply.Fault.{Fault as AnyFault};

@@ -1,7 +1,7 @@
 //! Lines for a reader next to an answer, by their parts.
 ghost use Rattle.std.specs.Prelude.{◌≡◌, ◌++◌, [], ◌∷◌, IfOk, OnOk, flat_map, map};
 ghost use Rattle.tc_text.specs.Inside.{part_text, prose_text};
-ghost use Rattle.tc_text.specs.Said.{TellsLine, ends_word as word_ends, printable as printable_byte, word_of};
+ghost use Rattle.tc_text.specs.Said.{TellsLine, ends_word as word_ends, as_printable as printable_byte, part_words};
 
 use crate::append::append_number;
 use crate::shown::is_plain;
@@ -100,7 +100,7 @@ fn append_ended(out: &mut Vec<u8>, text: &[u8]) -> Result<(), NoMemory>
 /// memory runs out, a part of it.
 #[tactic(auto, using(crate::proofs::Lemmas::Saying::parts_said))]
 pub fn append_parts(alloc: Global, out: &mut Vec<u8>, parts: &[Part]) -> Result<(), NoMemory>
-    ensures { OnOk result (TellsLine (flat_map word_of parts.now) out.old.items out.new.items) }
+    ensures { OnOk result (TellsLine (flat_map part_words parts.now) out.old.items out.new.items) }
 {
     let mut text = Vec::new(alloc);
     append_text_of(&mut text, parts)?;

@@ -1,6 +1,6 @@
 //! The names of verdicts in a text.
 ghost use Rattle.std.specs.Prelude.{◌≡◌, ◌++◌, ℕ, List, IfSome};
-ghost use Rattle.tc_verdict.specs.Verdict.{name_of};
+ghost use Rattle.tc_verdict.specs.Prelude.{name_of};
 ghost use Rattle.tc_verdict.specs.declared.verdict.Verdict.{Verdict as AnyVerdict};
 ghost use Rattle.tc_text.specs.Reading.{Takes};
 

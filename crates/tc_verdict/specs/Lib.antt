@@ -2,3 +2,4 @@
 pub mod Verdict
 pub mod UserVerdict
 pub mod Words
+pub mod Prelude

@@ -4,8 +4,7 @@
 use std::io::IsTerminal;
 use std::process::ExitCode;
 use std::{env, io};
-use tc_program::answer::answer;
-use tc_program::terminal::{Announcing, awaited_line};
+use tc_program::{Announcing, answer, awaited_line};
 
 fn words(rt: &HostRuntime) -> io::Result<Vec<String>> {
     Ok(env::args(rt)?.collect(rt.alloc())?)

@@ -4,7 +4,7 @@ use mathlib.Core.Option.{some}
 use lib.ListN.{get_elem?}
 use Rattle.tc_verdict.specs.declared.user_verdict.UserVerdict.{UserVerdict}
 use Rattle.tc_verdict.specs.declared.user_verdict.UserVerdict.TheVariants.{None, Pass, Inconc, Fail}
-use Rattle.tc_verdict.specs.UserVerdict.{given}
+use Rattle.tc_verdict.specs.Prelude.{given}
 use Rattle.atomic_table.specs.Table.{Me, Step}
 use Rattle.tc_board.specs.declared.answer.Answer.{Answer}
 use Rattle.tc_board.specs.declared.answer.Answer.TheVariants.{Met, Taken, Found, Shut}
@@ -12,7 +12,7 @@ use Rattle.tc_board.specs.declared.answer.AnswerList.{AnswerList}
 use Rattle.tc_board.specs.declared.record.Record.{Record}
 use Rattle.tc_board.specs.declared.record.Record.TheVariants.{Open, Closed}
 use Rattle.tc_board.specs.declared.rule.View.{View}
-use Rattle.tc_board.specs.Answers.{worst_of}
+use Rattle.tc_board.specs.Answers.{worst_answer}
 use Rattle.tc_board.specs.Rule.{Fits}
 use Rattle.tc_board.specs.Keeper.{carried_by}
 use Rattle.tc_board.specs.Inside.Seats.{answers_of, keeper_view}
@@ -72,7 +72,7 @@ was_opened st m found m' = m' ≡ (with_record m.0 st.word (Open (verdict_of st.
 
 -- each list in the view that is of this word counts what was taken
 abbrev pub Counts : At → Seated → ℕ → Type 0
-Counts st m found = (p : ℕ) (l : AnswerList) → get_elem? m.0.lists p ≡ some l → l.run ≡ st.word → given (verdict_of found) ≡ worst_of (carried_by m.0.records st.word) l.answers
+Counts st m found = (p : ℕ) (l : AnswerList) → get_elem? m.0.lists p ≡ some l → l.run ≡ st.word → given (verdict_of found) ≡ worst_answer (carried_by m.0.records st.word) l.answers
 
 -- the record becomes closed, with the verdict that was found
 abbrev pub was_closed : At → Seated → ℕ → Seated → Type 0

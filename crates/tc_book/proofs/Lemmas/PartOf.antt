@@ -1,14 +1,9 @@
 -- The part of a history by a run, and what a run left.
 use Rattle.std.proofs.Common.{zero, suc, ◌++◌, slice_index_or, ◌≡◌, ℕ, ◌==◌, if◌then◌else◌, option_map, Bool, true, false, Option, Some, None, List, [], ◌∷◌, refl, sym, ap, ◌∙◌}
-use Rattle.tc_entry.specs.declared.comp.Comp.{Comp}
-use Rattle.tc_entry.specs.declared.entry.Entry.{Entry}
-use Rattle.tc_entry.specs.declared.op.Op.{Op}
+use Rattle.tc_rules.specs.Prelude.{Comp, Entry, Op, is_ok, comp_of, first_some, starts_run, part, is_by}
 use Rattle.tc_entry.specs.declared.op.Op.TheVariants as O
-use Rattle.tc_entry.specs.Reply.{is_ok}
-use Rattle.tc_table.specs.History.{comp_of, first_some, starts_run}
 use Rattle.tc_book.specs.Starts.{starts_with, start_of}
 use Rattle.tc_book.specs.Inside.{comp_by, start_at, KnowsStarts}
-use Rattle.tc_case.specs.Parts.{part, is_by}
 
 with_comp : (op : Op) (b : ℕ) → starts_run op b ≡ option_map (λ s. s.0) (starts_with op b)
 with_comp (O.Start c run args) b = by_test (run.0 == b)

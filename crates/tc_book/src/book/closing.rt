@@ -1,14 +1,10 @@
 //! The close of a case, on the value under the lock.
 ghost use Rattle.std.specs.Prelude.{◌≡◌, ◌≤◌, true, IfOk, IfErr, Err, All, length, map, reverse};
 ghost use Rattle.tc_entry.specs.declared.limits.TheConstants.{BEHAVIOURS};
-ghost use Rattle.tc_table.specs.History.{is_over};
-ghost use Rattle.tc_table.specs.Legal.{IsLegal};
-ghost use Rattle.tc_table.specs.Standing.{StandsFor};
-ghost use Rattle.tc_case.specs.declared.closed.CloseFault.TheVariants as faults;
-ghost use Rattle.tc_case.specs.Merge.{logged};
+ghost use Rattle.tc_rules.specs.Prelude.{is_over, IsLegal, StandsFor, logged, IsOneHistory};
+ghost use Rattle.tc_rules.specs.declared.closed.CloseFault.TheVariants as faults;
 ghost use Rattle.tc_book.specs.Closing.{run_log, merged, IsAgreed, IsMerged, IsOneEach, IsWhole};
 ghost use Rattle.tc_book.specs.Inside.{AreLogs, IsJoined};
-ghost use Rattle.tc_case.specs.Report.{IsOneHistory};
 
 use crate::book::Book;
 use crate::callers::are_calls;
@@ -18,10 +14,9 @@ use crate::parts::logs_by_run;
 use crate::report::report;
 use std::alloc::Global;
 use std::snapshot::Snapshot;
-use tc_case::{CloseFault, Closed, RunLog};
 use tc_entry::{Args, Comp, Entry, Sequence};
 use tc_merge::merge;
-use tc_table::{CaseState, CheckFault, replay};
+use tc_rules::{CaseState, CheckFault, CloseFault, Closed, RunLog, replay};
 use tc_verdict::NoMemory;
 
 /// The log of each run that left.

@@ -2,17 +2,17 @@
 ghost use Rattle.std.specs.Prelude.{◌≡◌, ◌≢◌, ◌&&◌, not, true, false, IfOk, IfSome, OnErr, OnSome, IfNone, IsTrue};
 ghost use Rattle.tc_entry.specs.declared.op.Op.TheVariants as ops;
 ghost use Rattle.tc_entry.specs.declared.reply.Reply.TheVariants as replies;
-ghost use Rattle.tc_table.specs.Laws as laws;
+ghost use Rattle.tc_rules.specs.Laws as laws;
 ghost use Rattle.tc_book.specs.OpenCase.{has_wake, places_after, reply_to, with_entry, without_wake};
 ghost use Rattle.tc_book.specs.Replies.{suits};
 ghost use Rattle.tc_book.specs.Waking.{NobodyWakes, WouldPark};
 ghost use Rattle.tc_book.specs.Inside.{goes_on};
-ghost use Rattle.tc_case.specs.Merge.{is_verdict_call};
+ghost use Rattle.tc_rules.specs.Prelude.{is_verdict_call};
 
 use crate::book::Book;
 use crate::until::Until;
 use tc_entry::{Op, Reply, Target};
-use tc_table::keeps_phases;
+use tc_rules::keeps_phases;
 use tc_verdict::{NoMemory, Run};
 
 /// Whether the caller continues after this reply.

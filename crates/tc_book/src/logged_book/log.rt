@@ -3,7 +3,7 @@ ghost use Rattle.std.specs.Prelude.{◌≡◌, ◌<◌, ◌≤◌, ◌+◌, ◌+
 ghost use Rattle.std.specs.Vec.{vec_len, vec_capacity};
 ghost use Rattle.tc_board.specs.declared.answer.Answer.TheVariants.{Met};
 ghost use Rattle.tc_entry.specs.declared.op.Op.TheVariants as ops;
-ghost use Rattle.tc_case.specs.Merge.{is_verdict_call};
+ghost use Rattle.tc_rules.specs.Prelude.{is_verdict_call};
 ghost use Rattle.tc_book.specs.Hands.{IsHandOf};
 ghost use Rattle.tc_book.specs.Inside.{is_closed, with_own};
 ghost use Rattle.tc_book.specs.Passes.{ended_by};
@@ -13,7 +13,7 @@ use crate::run_hand::RunHand;
 use std::marker::Model;
 use tc_board::Hand;
 use tc_entry::{Comp, Entry, Op, Reply};
-use tc_table::ends_pass;
+use tc_rules::ends_pass;
 use tc_verdict::{NoMemory, Run, UserVerdict};
 
 /// The log of a started run with the run's hand, and whether one of its entries has ended it. The hand's answers are those of

@@ -4,21 +4,19 @@ use Rattle.std.specs.Prelude.{◌⊎◌, IfSome, slice_get}
 use Rattle.std.specs.Vec.{vec_capacity}
 use Rattle.std.proofs.lemmas.List.Elements.{All-nil}
 use Rattle.std.proofs.lemmas.Slice.Zip.{AllZip-long}
-use Rattle.tc_verdict.specs.declared.verdict.Verdict.{Verdict}
-use Rattle.tc_book.specs.Passes.{PassState}
-use Rattle.tc_case.specs.declared.refusal.CaseError.{CaseError}
-use Rattle.tc_case.specs.declared.refusal.CaseError.TheVariants as C
+use Rattle.tc_rules.specs.Prelude.{Verdict}
+use Rattle.tc_book.specs.Prelude.{PassState}
+use Rattle.tc_rules.specs.declared.refusal.CaseError.{CaseError}
+use Rattle.tc_rules.specs.declared.refusal.CaseError.TheVariants as C
 use Rattle.tc_exec.specs.declared.job.Back.{Back}
 use Rattle.tc_report.specs.declared.kept.Kept.{Kept}
 use Rattle.tc_report.specs.declared.results.CampaignEnd.{CampaignEnd}
 use Rattle.tc_report.specs.declared.results.CampaignEnd.TheVariants as E
 use Rattle.tc_report.specs.declared.results.Finished.{Finished}
-use Rattle.tc_report.specs.Kept.{Keeps}
-use Rattle.tc_report.specs.Observers.{AreTaken}
+use Rattle.tc_report.specs.Prelude.{Keeps, AreTaken, IsMet}
 use Rattle.tc_report.specs.Inside.{IsEndedAt}
 use Rattle.tc_report.proofs.Lemmas.Keeping.{are_kept, never_ended}
 use Rattle.tc_campaign.specs.declared.case.Case.{Case}
-use Rattle.tc_report.specs.Stopping.{IsMet}
 use Rattle.tc_campaign.specs.Outline.{Outline, outline_of}
 use Rattle.tc_campaign.specs.Campaign.{AreFinished, IsCalled, IsCutShort, IsEnding, IsObserved, IsRefusal, IsRunTo, IsTornAt}
 use Rattle.tc_campaign.specs.Inside.{HasBehaviours, IsUnrun}

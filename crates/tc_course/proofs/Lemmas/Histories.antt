@@ -1,9 +1,8 @@
 -- A course as a history: it is legal, and one more entry is in front of those before it.
 use Rattle.std.proofs.Common.{ℕ, ◌≡◌, ◌∙◌, ◌+◌, ◌<◌, List, [], ◌∷◌, length, take, get_or, reverse, ap}
 use Rattle.std.proofs.lemmas.List.{take_more, reverse-append}
-use Rattle.tc_entry.specs.declared.entry.Entry.{Entry}
-use Rattle.tc_step.specs.Steps.{ScriptView}
-use Rattle.tc_table.specs.Legal.{IsLegal}
+use Rattle.tc_rules.specs.Prelude.{Entry, IsLegal}
+use Rattle.tc_step.specs.Prelude.{ScriptView}
 use Rattle.tc_course.specs.Course.{IsCourse}
 
 pub course_legal : (scripts : List ScriptView) (past : List Entry) → IsCourse scripts past → IsLegal (length scripts) past

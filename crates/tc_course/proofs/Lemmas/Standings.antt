@@ -1,36 +1,29 @@
 -- What is known of a run along a course.
 use Rattle.std.proofs.Common.{ℕ, ◌≡◌, ◌<◌, ◌≤◌, ◌==◌, if◌then◌else◌, Bool, true, false, Option, Some, None, is_some, List, [], ◌∷◌, slice_get, refl, ap, ◌∙◌, arith}
-use Rattle.tc_entry.specs.declared.comp.Comp.{Comp}
-use Rattle.tc_entry.specs.declared.entry.Entry.{Entry}
-use Rattle.tc_entry.specs.declared.op.Op.{Op}
+use Rattle.tc_rules.specs.Prelude.{Comp, Entry, Op, Reply, is_ok, is_wake, comp_of, started_on, starts_run, first_some, waiting, parks, awaited, IsLegal}
 use Rattle.tc_entry.specs.declared.op.Op.TheVariants as O
-use Rattle.tc_entry.specs.declared.reply.Reply.{Reply}
 use Rattle.tc_entry.specs.declared.reply.Reply.TheVariants as R
-use Rattle.tc_entry.specs.Reply.{is_ok}
 use Rattle.tc_step.specs.declared.step.Step.{Step}
 use Rattle.tc_step.specs.declared.step.Step.TheVariants as S
 use Rattle.tc_step.specs.declared.step.Status.TheVariants as Q
-use Rattle.tc_step.specs.Steps.{ScriptView}
-use Rattle.tc_table.specs.declared.awaited.Awaited.{Awaited}
-use Rattle.tc_table.specs.History.{comp_of, started_on, starts_run, first_some}
-use Rattle.tc_table.specs.Waiting.{waiting, parks, awaited}
-use Rattle.tc_table.specs.Legal.{IsLegal}
-use Rattle.tc_table.proofs.Lemmas.Deciding.{self_equal, equal_if}
-use Rattle.tc_table.proofs.Lemmas.Sound.{runs_on}
+use Rattle.tc_step.specs.Prelude.{ScriptView}
+use Rattle.tc_rules.specs.declared.awaited.Awaited.{Awaited}
+use Rattle.tc_rules.proofs.Lemmas.Deciding.{self_equal, equal_if}
+use Rattle.tc_rules.proofs.Lemmas.Sound.{runs_on}
 use Rattle.std.specs.Option.{unwrap_or}
-use Rattle.tc_course.specs.Course.{Stand, stand, after_own, after_other_by, is_wake, turn, turn_on, steps_of, IsTurn, IsCourse}
+use Rattle.tc_course.specs.Course.{CourseState, stand, after_own, after_other_by, turn, turn_on, steps_of, IsTurn, IsCourse}
 use Rattle.tc_course.specs.Inside.Standing.{wake_for, wake_if, call_of}
 
 -- ---- turns
 
 -- a run that has a turn is on a component, and its pass has not ended
-pub record HasTurn (steps : List Step) (s : Stand) (op : Op) : Type 0 where
+pub record HasTurn (steps : List Step) (s : CourseState) (op : Op) : Type 0 where
   pub me : Comp
   pub on : s.comp ≡ Some me
   pub stays : s.left ≡ false
   pub calls : unwrap_or s.wake (call_of me s.bound (slice_get steps s.called)) ≡ op
 
-turn_by : (o : Option Comp) (l : Bool) (steps : List Step) (s : Stand) (op : Op) → s.comp ≡ o → s.left ≡ l → turn_on o steps s ≡ Some op → HasTurn steps s op
+turn_by : (o : Option Comp) (l : Bool) (steps : List Step) (s : CourseState) (op : Op) → s.comp ≡ o → s.left ≡ l → turn_on o steps s ≡ Some op → HasTurn steps s op
 turn_by None l steps s op on left h = absurd cc
 turn_by (Some me) true steps s op on left h = let e : None ≡ Some op = rw left at h in absurd cc
 turn_by (Some me) false steps s op on left h =
@@ -65,14 +58,14 @@ never_wake me bound (Some S.GetVerdict) = refl
 pub stand_own : (past : List Entry) (e : Entry) (b : ℕ) → e.caller.0 ≡ b → stand (e ∷ past) b ≡ after_own e (stand past b)
 stand_own past e b own = rw (own, self_equal b) refl
 
-others_leave : (o : Option Comp) (e : Entry) (b : ℕ) (s : Stand) (c : Comp) → o ≡ Some c → after_other_by o e b s ≡ s
+others_leave : (o : Option Comp) (e : Entry) (b : ℕ) (s : CourseState) (c : Comp) → o ≡ Some c → after_other_by o e b s ≡ s
 others_leave (Some d) e b s c h = refl
 others_leave None e b s c h = absurd cc
 
 pub stand_other : (past : List Entry) (e : Entry) (b : ℕ) (c : Comp) → (e.caller.0 == b) ≡ false → (stand past b).comp ≡ Some c → stand (e ∷ past) b ≡ stand past b
 stand_other past e b c other on = rw other (others_leave (stand past b).comp e b (stand past b) c on)
 
-comp_after : (t : Bool) (o w : Option Comp) (e : Entry) (b : ℕ) (s : Stand) → s.comp ≡ o → started_on e b ≡ w → (t ≡ true → is_some o ≡ true) →
+comp_after : (t : Bool) (o w : Option Comp) (e : Entry) (b : ℕ) (s : CourseState) → s.comp ≡ o → started_on e b ≡ w → (t ≡ true → is_some o ≡ true) →
     (if t then after_own e s else after_other_by o e b s).comp ≡ first_some o w
 comp_after true (Some c) w e b s on st f = on
 comp_after true None w e b s on st f = let h = f refl in absurd cc
@@ -92,7 +85,7 @@ stand_comp scripts (e ∷ past) b h =
     ∙ ap (λ o. first_some o (started_on e b)) (stand_comp scripts past b h.1)
 
 -- a run that was not started
-abbrev pub unstarted : Stand
+abbrev pub unstarted : CourseState
 unstarted = record { comp = None; bound = []; called = 0; left = false; wake = None }
 
 first_nones : {A : Type 0} (o p : Option A) → first_some o p ≡ None → (o ≡ None) × (p ≡ None)
@@ -116,18 +109,18 @@ stand_unstarted scripts (e ∷ past) b h none =
     not_caller false k s = refl
     not_caller true k s =
         let on : is_some (stand past b).comp ≡ true = caller_on scripts past e b h.0 (equal_if e.caller.0 b k) in
-        let off : is_some (stand past b).comp ≡ false = ap (λ (x : Stand). is_some x.comp) s in
+        let off : is_some (stand past b).comp ≡ false = ap (λ (x : CourseState). is_some x.comp) s in
         absurd cc
 
 -- ---- waiting
 
-pub wake_after_other : (o w : Option Comp) (e : Entry) (b : ℕ) (s : Stand) → started_on e b ≡ w → (after_other_by o e b s).wake ≡ s.wake
+pub wake_after_other : (o w : Option Comp) (e : Entry) (b : ℕ) (s : CourseState) → started_on e b ≡ w → (after_other_by o e b s).wake ≡ s.wake
 wake_after_other (Some c) w e b s st = refl
 wake_after_other None (Some c) e b s st = rw st refl
 wake_after_other None None e b s st = rw st refl
 
 -- the Wake to come is for what the run waits for
-pub record IsAwaitedBy (s : Stand) (a : Awaited) : Type 0 where
+pub record IsAwaitedBy (s : CourseState) (a : Awaited) : Type 0 where
   pub wake : Op
   pub to_come : s.wake ≡ Some wake
   pub for_it : awaited wake ≡ Some a
@@ -149,11 +142,11 @@ waiting_wake (e ∷ past) b a h = by_test (waiting_wake past b a) (e.caller.0 ==
     by_test before true k p =
         let w = reply_wake e.op e.reply a p in
         let own : stand (e ∷ past) b ≡ after_own e (stand past b) = rw k refl in
-        record { wake = w.0; to_come = ap (λ (x : Stand). x.wake) own ∙ w.1; for_it = w.2 }
+        record { wake = w.0; to_come = ap (λ (x : CourseState). x.wake) own ∙ w.1; for_it = w.2 }
     by_test before false k p =
         let w = before p in
         let other : stand (e ∷ past) b ≡ after_other_by (stand past b).comp e b (stand past b) = rw k refl in
-        record { wake = w.wake; to_come = ap (λ (x : Stand). x.wake) other ∙ (wake_after_other (stand past b).comp (started_on e b) e b (stand past b) refl ∙ w.to_come); for_it = w.for_it }
+        record { wake = w.wake; to_come = ap (λ (x : CourseState). x.wake) other ∙ (wake_after_other (stand past b).comp (started_on e b) e b (stand past b) refl ∙ w.to_come); for_it = w.for_it }
 
 -- ---- the numbers of runs
 

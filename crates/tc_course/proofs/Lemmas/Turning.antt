@@ -1,18 +1,13 @@
 -- Turns of runs.
 use Rattle.std.proofs.Common.{ℕ, ◌≡◌, true, false, Some, None, List, [], ◌∷◌, length, refl, ap, sym, ◌∙◌, subst}
-use Rattle.tc_verdict.specs.declared.run.Run.{Run}
-use Rattle.tc_entry.specs.declared.entry.Entry.{Entry}
-use Rattle.tc_entry.specs.declared.op.Op.{Op}
-use Rattle.tc_entry.specs.declared.reply.Reply.{Reply}
+use Rattle.tc_rules.specs.Prelude.{Run, Entry, Op, Reply, answer, Case, past_of, is_wake}
 use Rattle.tc_entry.specs.declared.reply.Reply.TheVariants as R
-use Rattle.tc_step.specs.Steps.{ScriptView}
-use Rattle.tc_table.specs.Answers.{answer}
-use Rattle.tc_table.specs.Case.{Case, past_of}
-use Rattle.tc_course.specs.Course.{turn, is_wake, is_idle, IsTurn, IsCourse}
-use Rattle.tc_course.specs.Cases.{taken, IsOn, CannotGo}
+use Rattle.tc_step.specs.Prelude.{ScriptView}
+use Rattle.tc_course.specs.Course.{turn, is_idle, IsTurn, IsCourse}
+use Rattle.tc_course.specs.Cases.{entry_made, IsOn, CannotGo}
 
 -- a call that is the run's next, and no idle Wake, is its turn
-pub turn_taken : (scripts : List ScriptView) (past : List Entry) (n : ℕ) (run : Run) (op : Op) → n ≡ length scripts → turn scripts past run.0 ≡ Some op → is_idle op (answer n past run.0 op) ≡ false → IsTurn scripts past (taken n past run op)
+pub turn_taken : (scripts : List ScriptView) (past : List Entry) (n : ℕ) (run : Run) (op : Op) → n ≡ length scripts → turn scripts past run.0 ≡ Some op → is_idle op (answer n past run.0 op) ≡ false → IsTurn scripts past (entry_made n past run op)
 turn_taken scripts past n run op h t i = record { turn = t; reply = ap (λ m. answer m past run.0 op) h; not_idle = i }
 
 -- a run without a call cannot continue

@@ -1,15 +1,11 @@
 -- Parts of what is known of a run, each by a name of its own.
 use Rattle.std.specs.Prelude.{ℕ, ◌+◌, ◌&&◌, if◌then◌else◌, Bool, false, Option, List}
 use Rattle.std.specs.Option.{option_map_or}
-use Rattle.tc_entry.specs.declared.comp.Comp.{Comp}
-use Rattle.tc_entry.specs.declared.entry.Entry.{Entry}
-use Rattle.tc_entry.specs.declared.op.Op.{Op}
+use Rattle.tc_rules.specs.Prelude.{Comp, Entry, Op, Reply, ends_pass}
 use Rattle.tc_entry.specs.declared.op.Op.TheVariants as O
-use Rattle.tc_entry.specs.declared.reply.Reply.{Reply}
 use Rattle.tc_entry.specs.declared.reply.Reply.TheVariants as R
 use Rattle.tc_step.specs.declared.step.Step.{Step}
-use Rattle.tc_step.specs.Operation.{operation}
-use Rattle.tc_table.specs.History.{ends_pass}
+use Rattle.tc_step.specs.Prelude.{operation}
 use Rattle.tc_course.specs.Course.{goes_on, wake_after}
 
 -- the Wake that follows a parked call

@@ -3,23 +3,19 @@ use Rattle.std.proofs.Common.{ℕ, zero, suc, ◌≡◌, ◌≢◌, ◌<◌, ◌
 use Rattle.std.proofs.lemmas.Bool.Decides.{nat_tests}
 use Rattle.std.proofs.lemmas.List.{append-nil}
 use Rattle.std.proofs.lemmas.List.Elements.{All-get_or}
-use Rattle.tc_entry.specs.declared.entry.Entry.{Entry}
-use Rattle.tc_table.specs.History.{comp_of}
-use Rattle.tc_case.specs.declared.closed.Closed.{Closed}
-use Rattle.tc_book.specs.Closing.{IsFitting, IsWhole}
-use Rattle.tc_book.specs.Starts.{start_of}
+use Rattle.tc_rules.specs.Prelude.{Entry, comp_of, Run}
+use Rattle.tc_rules.specs.declared.closed.Closed.{Closed}
+use Rattle.tc_book.specs.Prelude.{IsFitting, IsWhole, start_of, PassState, LeftState}
 use Rattle.tc_book.specs.Inside.{comp_by}
 use Rattle.tc_book.proofs.Lemmas.PartOf.{comp_is}
-use Rattle.tc_verdict.specs.declared.run.Run.{Run}
-use Rattle.tc_book.specs.Passes.{PassState, LeftState}
 use Rattle.tc_exec.specs.declared.handed.Handed.{Handed}
 use Rattle.tc_exec.specs.declared.job.Back.{Back}
-use Rattle.tc_case.specs.declared.refusal.CaseError.{CaseError}
-use Rattle.tc_case.specs.declared.refusal.CaseError.TheVariants.{NoMemory, Torn}
+use Rattle.tc_rules.specs.declared.refusal.CaseError.{CaseError}
+use Rattle.tc_rules.specs.declared.refusal.CaseError.TheVariants.{NoMemory, Torn}
 use Rattle.tc_exec.specs.declared.job.Ending.{Ending}
 use Rattle.tc_exec.specs.declared.job.Ending.TheVariants as E
 use Rattle.tc_exec.specs.Case.{AreCalled, IsHandedBack, IsMadeOf}
-use Rattle.tc_exec.specs.Workers.{IsWorked, WasCalled, WasCalledFor, IsLeftBy, opening}
+use Rattle.tc_exec.specs.Workers.{IsWorked, WasCalled, WasCalledFor, IsLeftBy, opening_pass}
 use Rattle.tc_exec.specs.Inside.{AreLeftBy, is_starved}
 
 -- memory ran out neither before nor now
@@ -140,7 +136,7 @@ module _ {B : Type 0} (outcome : B → PassState → Back → Type 0) where
           (All-get_or (IsFitting c.history) made.handed.lefts (suc k) nothing (omega (arith, below, made.handed.as_many)) made.whole.fitting) started
 
   -- what the main behaviour left, as the first of all
-  pub main_left : (p : PassState) (b : B) (h : Handed) → p ≡ opening → WasCalled (outcome b p) h →
+  pub main_left : (p : PassState) (b : B) (h : Handed) → p ≡ opening_pass → WasCalled (outcome b p) h →
       is_starved h.ending ≡ false → AreLeftBy outcome (record { 0 = 0 } ∷ []) (b ∷ []) (h.left ∷ [])
   main_left p b h is called none =
       let own : p.run ≡ record { 0 = 0 } = ap (λ q. q.run) is in

@@ -1,16 +1,9 @@
 -- The logs of a report are those of the behaviours' passes.
 use Rattle.std.proofs.Common.{ℕ, zero, suc, ◌≡◌, ◌≢◌, ◌∙◌, ◌<◌, ◌≤◌, inl, inr, Option, Some, None, List, [], All, length, get_or, reverse, refl, sym, ap, subst, arith}
 use Rattle.std.proofs.lemmas.List.Elements.{All-append, All-cons, All-nil, All-get_or}
-use Rattle.tc_verdict.specs.declared.run.Run.{Run}
-use Rattle.tc_entry.specs.declared.comp.Comp.{Comp}
-use Rattle.tc_entry.specs.declared.entry.Entry.{Entry}
-use Rattle.tc_table.specs.History.{comp_of}
-use Rattle.tc_case.specs.declared.closed.Closed.{Closed}
-use Rattle.tc_book.specs.Closing.{IsFitting}
-use Rattle.tc_case.specs.Parts.{part, log_if, logs_below}
-use Rattle.tc_book.specs.Passes.{PassState, LeftState}
-use Rattle.tc_book.specs.Starts.{start_of}
-use Rattle.tc_case.specs.Report.{IsOneHistory}
+use Rattle.tc_rules.specs.Prelude.{Run, Comp, Entry, comp_of, part, log_if, logs_below, IsOneHistory}
+use Rattle.tc_rules.specs.declared.closed.Closed.{Closed}
+use Rattle.tc_book.specs.Prelude.{IsFitting, PassState, LeftState, start_of}
 use Rattle.tc_book.proofs.Lemmas.PartOf.{comp_is}
 use Rattle.tc_exec.specs.declared.job.Back.{Back}
 use Rattle.tc_exec.specs.Workers.{IsLeftBy}

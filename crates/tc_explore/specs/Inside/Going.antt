@@ -1,13 +1,9 @@
 -- What only the code of the search needs: no public clause rests on a word of this file.
 use Rattle.std.specs.Prelude.{ℕ, ◌⊎◌, List, ◌∷◌, ◌≡◌, true, false, ◌<◌, length, slice_index_or}
-use Rattle.tc_entry.specs.declared.entry.Entry.{Entry}
-use Rattle.tc_step.specs.Steps.{ScriptView}
-use Rattle.tc_table.specs.Local.{local_if_any}
-use Rattle.tc_table.specs.Answers.{is_active}
+use Rattle.tc_rules.specs.Prelude.{Entry, local_if_any, is_active}
+use Rattle.tc_step.specs.Prelude.{ScriptView}
 use Rattle.tc_course.specs.declared.witness.Witness.{Witness}
-use Rattle.tc_course.specs.Course.{carried, IsTurn, IsCourse}
-use Rattle.tc_course.specs.Cases.{CannotGo}
-use Rattle.tc_course.specs.Witnesses.{AreWitnesses}
+use Rattle.tc_course.specs.Prelude.{carried_on, IsTurn, IsCourse, CannotGo, AreWitnesses}
 
 -- the next call of run b is made, if it can continue
 abbrev pub IsStepped : List ScriptView → List Entry → List Entry → ℕ → Type 0
@@ -22,7 +18,7 @@ IsSteppedIfActive scripts before after b =
 
 -- in some course run b carries out that many calls
 abbrev pub Reaches : List ScriptView → ℕ → ℕ → Type 0
-Reaches scripts b k = (past : List Entry) × IsCourse scripts past × (carried past b ≡ k)
+Reaches scripts b k = (past : List Entry) × IsCourse scripts past × (carried_on past b ≡ k)
 
 -- no verdict has two witnesses
 abbrev pub IsOnce : List Witness → Type 0

@@ -1,17 +1,9 @@
 -- The keys of states: all that what can still come depends on, as numbers.
 use Rattle.std.specs.Prelude.{ℕ, ◌+◌, ◌∷◌, ◌++◌, if◌then◌else◌, Bool, true, false, Option, Some, None, List, [], length, map}
 use Rattle.std.specs.List.{flat_map, range_with_len}
-use Rattle.tc_verdict.specs.Verdict.{level_of}
-use Rattle.tc_entry.specs.declared.comp.Comp.{Comp}
-use Rattle.tc_entry.specs.declared.entry.Entry.{Entry}
-use Rattle.tc_entry.specs.declared.phase.Phase.{Phase}
+use Rattle.tc_rules.specs.Prelude.{level_of, Comp, Entry, Phase, is_alive_type, phase_if_any, overall, components, is_active}
 use Rattle.tc_entry.specs.declared.phase.Phase.TheVariants as P
-use Rattle.tc_table.specs.History.{is_alive_type}
-use Rattle.tc_table.specs.Phases.{phase_if_any}
-use Rattle.tc_table.specs.Local.{overall}
-use Rattle.tc_table.specs.Faults.{components}
-use Rattle.tc_table.specs.Answers.{is_active}
-use Rattle.tc_course.specs.Course.{Stand, stand}
+use Rattle.tc_course.specs.Prelude.{CourseState, stand}
 
 -- what a component is doing, as a number
 abbrev pub phase_code : Option Phase → ℕ
@@ -31,7 +23,7 @@ abbrev pub number_of : Comp → ℕ
 number_of c = c.0
 
 -- what a run can still call depends on this: its component, and if it continues what it has called and what is bound
-abbrev pub run_key : Bool → Stand → List ℕ
+abbrev pub run_key : Bool → CourseState → List ℕ
 run_key true s = comp_code s.comp ∷ 1 ∷ s.called ∷ length s.bound ∷ map number_of s.bound
 run_key false s = comp_code s.comp ∷ 0 ∷ []
 

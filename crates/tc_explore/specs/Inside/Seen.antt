@@ -1,24 +1,13 @@
 -- The states that a search has seen.
 use Rattle.std.specs.Prelude.{ℕ, ◌≡◌, ◌<◌, ◌≤◌, ◌⊎◌, ◌&&◌, nat_le, if◌then◌else◌, Bool, true, Option, None, Some, List, [], ◌∷◌, ◌++◌, false, length, map, slice_get, slice_index_or, All}
-use Rattle.tc_verdict.specs.declared.run.Run.{Run}
-use Rattle.tc_verdict.specs.declared.verdict.Verdict.{Verdict}
+use Rattle.tc_rules.specs.Prelude.{Run, Verdict, level_of, Entry, Op, is_fault, Case, past_of, is_over, overall, answer, is_active}
 use Rattle.tc_verdict.specs.declared.verdict.Verdict.TheVariants as V
-use Rattle.tc_verdict.specs.Verdict.{level_of}
-use Rattle.tc_entry.specs.declared.entry.Entry.{Entry}
-use Rattle.tc_entry.specs.declared.op.Op.{Op}
-use Rattle.tc_entry.specs.Reply.{is_fault}
-use Rattle.tc_step.specs.Steps.{ScriptView}
-use Rattle.tc_table.specs.Case.{Case, past_of}
-use Rattle.tc_table.specs.History.{is_over}
-use Rattle.tc_table.specs.Local.{overall}
-use Rattle.tc_table.specs.Answers.{answer, is_active}
+use Rattle.tc_step.specs.Prelude.{ScriptView}
 use Rattle.tc_course.specs.declared.witness.Witness.{Witness}
 use Rattle.tc_explore.specs.declared.findings.Findings.{Findings}
 use Rattle.tc_explore.specs.declared.search.Met.{Met}
 use Rattle.tc_explore.specs.Found.{AreReached, AreCovered, Covers}
-use Rattle.tc_course.specs.Witnesses.{IsWitness, is_found}
-use Rattle.tc_course.specs.Course.{carried, stand, goes_on, IsTurn, IsCourse}
-use Rattle.tc_course.specs.Cases.{taken, IsOn}
+use Rattle.tc_course.specs.Prelude.{IsWitness, is_found, carried_on, stand, goes_on, IsTurn, IsCourse, entry_made, IsOn}
 use Rattle.tc_explore.specs.Inside.Going.{AreNoted}
 use Rattle.tc_explore.specs.Inside.Keys.{key_of}
 use Rattle.tc_explore.specs.Inside.Simulation.{IsAlike, is_spent, IsWithin, IsFor, IsCovered, IsClosedFor, IsClosed}
@@ -90,7 +79,7 @@ pub record IsNoLess (before after : List ℕ) : Type 0 where
 pub record IsCountedTo (scripts : List ScriptView) (before after : List ℕ) (past : List Entry) (n : ℕ) : Type 0 where
   pub reached : AreReached scripts after
   pub more : IsNoLess before after
-  pub covers : (b : ℕ) → b < n → carried past b ≤ slice_index_or after b 0
+  pub covers : (b : ℕ) → b < n → carried_on past b ≤ slice_index_or after b 0
 
 -- the next call of run b, if it continues, is an error
 abbrev pub IsStillAt : List ScriptView → List Entry → ℕ → Type 0
@@ -133,7 +122,7 @@ IsRunClosed aim scripts states found q b = (e : Entry) → e.caller.0 ≡ b → 
 -- after this call the verdict is found, or the state is seen
 abbrev pub IsCallClosed : Verdict → List ScriptView → Met → Findings → Case → Run → Op → Type 0
 IsCallClosed aim scripts met found t run op =
-    IsAfter aim scripts met.states.items found.witnesses.items (past_of t) (taken t.behaviours (past_of t) run op)
+    IsAfter aim scripts met.states.items found.witnesses.items (past_of t) (entry_made t.behaviours (past_of t) run op)
 
 -- so it is after each call of n runs of a case
 abbrev pub AreRunsClosed : Verdict → List ScriptView → Met → Findings → Case → ℕ → Type 0

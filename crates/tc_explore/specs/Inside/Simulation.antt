@@ -1,31 +1,16 @@
 -- A history represents others that differ from it only in calls that nobody can see were made: those that change
 -- nothing but their caller's place, and the ends of runs.
 use Rattle.std.specs.Prelude.{ℕ, suc, ◌≡◌, ◌==◌, ◌<◌, ◌≤◌, ◌-◌, ◌⊎◌, ◌&&◌, ◌||◌, not, nat_le, nat_lt, Bool, true, false, Option, Some, None, List, ◌∷◌, MatchOption, length, slice_get}
-use Rattle.tc_verdict.specs.declared.run.Run.{Run}
-use Rattle.tc_verdict.specs.declared.verdict.Verdict.{Verdict}
+use Rattle.tc_rules.specs.Prelude.{Run, Verdict, level_of, given, Comp, Entry, Op, Target, Phase, is_fault, comps, comp_of, is_alive_type, is_over, phase, phase_if_any, overall, fault, is_active}
 use Rattle.tc_verdict.specs.declared.verdict.Verdict.TheVariants as V
-use Rattle.tc_verdict.specs.Verdict.{level_of}
-use Rattle.tc_verdict.specs.UserVerdict.{given}
-use Rattle.tc_entry.specs.declared.comp.Comp.{Comp}
-use Rattle.tc_entry.specs.declared.entry.Entry.{Entry}
-use Rattle.tc_entry.specs.declared.op.Op.{Op}
 use Rattle.tc_entry.specs.declared.op.Op.TheVariants as O
 use Rattle.tc_entry.specs.declared.op.Group.TheVariants as G
-use Rattle.tc_entry.specs.declared.op.Target.{Target}
 use Rattle.tc_entry.specs.declared.op.Target.TheVariants as T
-use Rattle.tc_entry.specs.declared.phase.Phase.{Phase}
 use Rattle.tc_entry.specs.declared.phase.Phase.TheVariants as P
-use Rattle.tc_entry.specs.Reply.{is_fault}
-use Rattle.tc_step.specs.Steps.{ScriptView}
-use Rattle.tc_table.specs.History.{comps, comp_of, is_alive_type, is_over}
-use Rattle.tc_table.specs.Phases.{phase, phase_if_any}
-use Rattle.tc_table.specs.Local.{overall}
-use Rattle.tc_table.specs.Faults.{fault}
-use Rattle.tc_table.specs.Answers.{is_active}
+use Rattle.tc_step.specs.Prelude.{ScriptView}
 use Rattle.tc_course.specs.declared.witness.Witness.{Witness}
-use Rattle.tc_course.specs.Course.{Stand, stand, goes_on, steps_of, turn, IsTurn, IsCourse}
+use Rattle.tc_course.specs.Prelude.{CourseState, stand, goes_on, steps_of, turn, IsTurn, IsCourse, is_found}
 use Rattle.tc_course.specs.Inside.Standing.{call_of}
-use Rattle.tc_course.specs.Witnesses.{is_found}
 
 -- the same components in the same phases, the same runs on them
 pub record IsAlike (p q : List Entry) : Type 0 where
@@ -70,7 +55,7 @@ pub record IsQuietAt (n : ℕ) (q : List Entry) (b : ℕ) (op : Op) : Type 0 whe
   pub no_fault : fault n q b op ≡ None
 
 -- what a run that is known so calls at its k-th step
-abbrev pub call_at : List ScriptView → ℕ → Stand → Option Comp → ℕ → Op
+abbrev pub call_at : List ScriptView → ℕ → CourseState → Option Comp → ℕ → Op
 call_at scripts b s (Some me) k = call_of me s.bound (slice_get (steps_of scripts b) k)
 call_at scripts b s None k = O.Finish
 
@@ -82,12 +67,12 @@ pub record IsWakeOf (wait wake : Op) : Type 0 where
   pub wakes : wake ≡ O.Wake killed target
 
 -- run b has called as many steps as the other, or less, and those between are quiet
-pub record IsBefore (scripts : List ScriptView) (q : List Entry) (b : ℕ) (s t : Stand) : Type 0 where
+pub record IsBefore (scripts : List ScriptView) (q : List Entry) (b : ℕ) (s t : CourseState) : Type 0 where
   pub fewer : s.called ≤ t.called
   pub between : (k : ℕ) → s.called ≤ k → k < t.called → IsQuietAt (length scripts) q b (call_at scripts b t t.comp k)
 
 -- run b was parked at a Wait that the other calls next, or has called, and what it called from that on is quiet
-pub record IsParkedAt (scripts : List ScriptView) (q : List Entry) (b : ℕ) (s t : Stand) (wake : Op) : Type 0 where
+pub record IsParkedAt (scripts : List ScriptView) (q : List Entry) (b : ℕ) (s t : CourseState) (wake : Op) : Type 0 where
   pub place : ℕ
   pub one_more : s.called ≡ suc place
   pub fewer : place ≤ t.called
@@ -95,7 +80,7 @@ pub record IsParkedAt (scripts : List ScriptView) (q : List Entry) (b : ℕ) (s 
   pub between : (k : ℕ) → place ≤ k → k < t.called → IsQuietAt (length scripts) q b (call_at scripts b t t.comp k)
 
 -- what is known of run b is followed by what is known of it after q
-pub record IsFollowed (scripts : List ScriptView) (q : List Entry) (b : ℕ) (s t : Stand) : Type 0 where
+pub record IsFollowed (scripts : List ScriptView) (q : List Entry) (b : ℕ) (s t : CourseState) : Type 0 where
   pub comp : s.comp ≡ t.comp
   pub bound : s.bound ≡ t.bound
   pub left : s.left ≡ t.left
@@ -107,7 +92,7 @@ abbrev pub IsLastAt : ℕ → List Entry → ℕ → Op → Type 0
 IsLastAt n q b op = IsQuietAt n q b op ⊎ (op ≡ O.Finish)
 
 -- a run that is known so was parked at this Wait, which is quiet
-pub record WasParked (scripts : List ScriptView) (q : List Entry) (b : ℕ) (s : Stand) (wake : Op) : Type 0 where
+pub record WasParked (scripts : List ScriptView) (q : List Entry) (b : ℕ) (s : CourseState) (wake : Op) : Type 0 where
   pub place : ℕ
   pub one_more : s.called ≡ suc place
   pub wake_of : IsWakeOf (call_at scripts b s s.comp place) wake
@@ -119,14 +104,14 @@ is_barred aim (O.SetVerdict v) = nat_lt (level_of aim) (level_of (given v))
 is_barred aim op = false
 
 -- run b, which is known so, sets a verdict worse than this one before its k-th call or by it
-pub record IsBarredBefore (aim : Verdict) (scripts : List ScriptView) (b : ℕ) (s : Stand) (k : ℕ) : Type 0 where
+pub record IsBarredBefore (aim : Verdict) (scripts : List ScriptView) (b : ℕ) (s : CourseState) (k : ℕ) : Type 0 where
   pub place : ℕ
   pub later : s.called ≤ place
   pub before : place ≤ k
   pub bars : is_barred aim (call_at scripts b s s.comp place) ≡ true
 
 -- a run that is known so has only quiet calls left, and its end or a setting that is worse than is looked for
-pub record IsLeaving (aim : Verdict) (scripts : List ScriptView) (q : List Entry) (b : ℕ) (s : Stand) : Type 0 where
+pub record IsLeaving (aim : Verdict) (scripts : List ScriptView) (q : List Entry) (b : ℕ) (s : CourseState) : Type 0 where
   pub parked : MatchOption s.wake (Unit {0}) (λ wake. WasParked scripts q b s wake)
   pub calls : (k : ℕ) → s.called ≤ k → IsLastAt (length scripts) q b (call_at scripts b s s.comp k) ⊎ IsBarredBefore aim scripts b s k
 
@@ -154,11 +139,11 @@ abbrev pub place_by : Option Op → ℕ → ℕ
 place_by None called = called
 place_by (Some wake) called = called - 1
 
-abbrev pub place_of : Stand → ℕ
+abbrev pub place_of : CourseState → ℕ
 place_of s = place_by s.wake s.called
 
 -- run b on component c waits from now on for components only that are killed after q, and that come before c by rank
-abbrev pub IsOrdered : List ScriptView → (ℕ → ℕ) → List Entry → ℕ → ℕ → Stand → Type 0
+abbrev pub IsOrdered : List ScriptView → (ℕ → ℕ) → List Entry → ℕ → ℕ → CourseState → Type 0
 IsOrdered scripts rank q c b s =
     (k : ℕ) (killed : Bool) (t : Comp) → place_of s ≤ k → call_at scripts b s s.comp k ≡ O.Wait killed (T.One t) → (rank t.0 < rank c) × (is_gone (phase_if_any q t.0) ≡ true)
 

@@ -1,23 +1,13 @@
 -- Courses of which the same is known, local verdicts and waits included, and what a search for local verdicts keeps.
 use Rattle.std.specs.Prelude.{ℕ, ◌≡◌, ◌==◌, ◌<◌, ◌≤◌, ◌+◌, ◌++◌, ◌∷◌, if◌then◌else◌, Bool, true, false, Option, Some, None, List, [], All, length, map, slice_get, slice_index_or}
 use Rattle.std.specs.List.{flat_map, range_with_len}
-use Rattle.tc_verdict.specs.declared.verdict.Verdict.{Verdict}
-use Rattle.tc_verdict.specs.Verdict.{level_of}
-use Rattle.tc_entry.specs.declared.entry.Entry.{Entry}
-use Rattle.tc_entry.specs.declared.op.Op.{Op}
+use Rattle.tc_rules.specs.Prelude.{Verdict, level_of, Entry, Op, Target, Case, past_of, is_over, local, local_if_any, components, is_active}
 use Rattle.tc_entry.specs.declared.op.Op.TheVariants as O
-use Rattle.tc_entry.specs.declared.op.Target.{Target}
 use Rattle.tc_entry.specs.declared.op.Target.TheVariants as T
-use Rattle.tc_step.specs.Steps.{ScriptView}
-use Rattle.tc_table.specs.Case.{Case, past_of}
-use Rattle.tc_table.specs.History.{is_over}
-use Rattle.tc_table.specs.Local.{local, local_if_any}
-use Rattle.tc_table.specs.Faults.{components}
-use Rattle.tc_table.specs.Answers.{is_active}
+use Rattle.tc_step.specs.Prelude.{ScriptView}
 use Rattle.tc_explore.specs.declared.search.Met.{Met}
-use Rattle.tc_course.specs.Course.{stand, IsTurn}
+use Rattle.tc_course.specs.Prelude.{stand, IsTurn, IsOn}
 use Rattle.tc_explore.specs.Locals.{is_local}
-use Rattle.tc_course.specs.Cases.{IsOn}
 use Rattle.tc_explore.specs.Inside.Keys.{key_of}
 use Rattle.tc_explore.specs.Inside.Simulation.{IsAlike}
 

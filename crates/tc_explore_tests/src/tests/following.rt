@@ -12,8 +12,8 @@ use std::test::Fail;
 use std::thread::Threads;
 use tc_course::is_course;
 use tc_entry::Entry;
+use tc_rules::copied_entries;
 use tc_step::Script;
-use tc_table::copied_entries;
 use tc_verdict::Verdict;
 
 /// How many cases are run.

@@ -4,8 +4,8 @@ ghost use Rattle.tc_entry.specs.declared.limits.TheConstants.{BEHAVIOURS};
 
 use std::alloc::Global;
 use tc_entry::{Args, Comp, Entry, Group, Name, Op, Reply, Target};
+use tc_rules::{CaseState, ends_pass};
 use tc_step::{GroupPlace, Place, Places, Script, Status, Step, TargetPlace};
-use tc_table::{CaseState, ends_pass};
 use tc_verdict::{NoMemory, Run, Verdict};
 
 fn component(me: Comp, bound: &[Comp], place: Place) -> Comp {

@@ -9,9 +9,9 @@ use std::process::Abort;
 use std::sync::Wait;
 use std::test::Fail;
 use std::thread::Threads;
-use tc_behaviour::ScriptJob;
 use tc_entry::{Entry, Reply};
 use tc_exec::{CaseReport, Everyone, run_case_with};
+use tc_script::ScriptJob;
 use tc_step::Script;
 use tc_verdict::Verdict;
 

@@ -2,11 +2,8 @@
 use Rattle.std.proofs.Common.{◌≡◌, ℕ, zero, suc, ◌&&◌, not, if◌then◌else◌, Bool, true, false, Option, Some, None, List, [], ◌∷◌, ◌++◌, filter, reverse, refl, sym, ap, ◌∙◌}
 use Rattle.std.proofs.lemmas.List.{append-nil, reverse-append, reverse-reverse}
 use Rattle.std.proofs.lemmas.List.Elements.{filter-append}
-use Rattle.tc_verdict.specs.declared.run.Run.{Run}
-use Rattle.tc_entry.specs.declared.entry.Entry.{Entry}
-use Rattle.tc_entry.specs.Reply.{is_ended}
-use Rattle.tc_case.specs.declared.run_log.RunLog.{RunLog}
-use Rattle.tc_case.specs.Merge.{is_other, is_late, is_verdict_call, verdict_calls_after, calls_of, started, in_place, late, log_of, end_of, merge}
+use Rattle.tc_rules.specs.Prelude.{Run, Entry, is_ended, is_other, is_late, is_verdict_call, verdict_calls_after, calls_of, started, in_place, late, log_of, runs_end, merge}
+use Rattle.tc_rules.specs.declared.run_log.RunLog.{RunLog}
 use Rattle.tc_merge.specs.Inside.{head_at_start}
 
 abbrev others : List Entry → List Entry
@@ -68,7 +65,7 @@ others-in_place log (e ∷ past) =
 pub others-merge : (history : List Entry) (logs : List RunLog) → filter is_other (merge history logs) ≡ filter is_other history
 unfolding merge
 others-merge history logs =
-    others-append (in_place (log_of logs) (reverse history)) (late (log_of logs) (end_of logs))
-    ∙ (ap (λ l. others (in_place (log_of logs) (reverse history)) ++ l) (others-lates (log_of logs) (end_of logs))
+    others-append (in_place (log_of logs) (reverse history)) (late (log_of logs) (runs_end logs))
+    ∙ (ap (λ l. others (in_place (log_of logs) (reverse history)) ++ l) (others-lates (log_of logs) (runs_end logs))
     ∙ (append-nil (others (in_place (log_of logs) (reverse history)))
     ∙ (others-in_place (log_of logs) (reverse history) ∙ ap others (reverse-reverse history))))

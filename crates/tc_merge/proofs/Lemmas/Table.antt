@@ -3,9 +3,8 @@ use Rattle.std.proofs.Common.{◌≡◌, ◌≢◌, ◌==◌, ℕ, ◌+◌, ◌<
 use Rattle.std.specs.Borrow.{Bor}
 use Rattle.std.proofs.lemmas.Bool.{ne_eqb, cases_eq, cases_lt}
 use Rattle.std.proofs.lemmas.List.{get_or-set_same, get_or-set_other, get_or-replicate, length-set, length-replicate}
-use Rattle.tc_entry.specs.declared.entry.Entry.{Entry}
-use Rattle.tc_case.specs.declared.run_log.RunLog.{RunLog}
-use Rattle.tc_case.specs.Merge.{log_of, end_of}
+use Rattle.tc_rules.specs.Prelude.{Entry, log_of, runs_end}
+use Rattle.tc_rules.specs.declared.run_log.RunLog.{RunLog}
 use Rattle.tc_merge.specs.Inside.{Has}
 
 -- the log of run b, otherwise other entries
@@ -29,12 +28,12 @@ log_or-last [] l b other = refl
 log_or-last (m ∷ ms) l b other = ap (λ x. if m.run.0 == b then m.entries else x) (log_or-last ms l b other)
 
 -- the end, of one log more at the end
-pub end_of-last : (logs : List RunLog) (l : RunLog) → end_of (logs ++ l ∷ []) ≡ max (end_of logs) (l.run.0 + 1)
+pub end_of-last : (logs : List RunLog) (l : RunLog) → runs_end (logs ++ l ∷ []) ≡ max (runs_end logs) (l.run.0 + 1)
 end_of-last [] l = omega arith
 end_of-last (m ∷ ms) l = let e = end_of-last ms l in omega arith
 
 -- no run from the end on has a log
-pub log_of-beyond : (logs : List RunLog) (b : ℕ) → end_of logs ≤ b → log_of logs b ≡ []
+pub log_of-beyond : (logs : List RunLog) (b : ℕ) → runs_end logs ≤ b → log_of logs b ≡ []
 log_of-beyond [] b h = refl
 log_of-beyond (l ∷ ls) b h =
     let other : l.run.0 ≢ b = omega arith in
@@ -67,7 +66,7 @@ has-last table before l entries log is within has b d below =
     ]
 
 -- all logs are put in
-pub has-all : (table : List (Bor (List Entry))) (rest logs : List RunLog) → length rest ≡ 0 → length table ≡ end_of logs → HasAfter table rest (log_of logs) → Has table (log_of logs)
+pub has-all : (table : List (Bor (List Entry))) (rest logs : List RunLog) → length rest ≡ 0 → length table ≡ runs_end logs → HasAfter table rest (log_of logs) → Has table (log_of logs)
 has-all table [] logs none len has = record { each = has; none = λ b beyond. log_of-beyond logs b (omega arith) }
 has-all table (l ∷ ls) logs none len has = absurd (omega arith)
 

@@ -4,8 +4,8 @@ use Rattle.std.proofs.lemmas.List.{append-nil}
 use Rattle.std.specs.Prelude.{IsSomeAnd}
 use Rattle.std.specs.Io.KnownBytes.{Appends}
 use Rattle.tc_verdict.specs.declared.verdict.Verdict.TheVariants as V
-use Rattle.tc_verdict.specs.Verdict.{worse}
-use Rattle.tc_stream.specs.Output.{AppendsPrefix}
+use Rattle.tc_rules.specs.Prelude.{worse}
+use Rattle.tc_stream.specs.Prelude.{AppendsPrefix}
 use Rattle.tc_report.specs.declared.fault.OutFault.{OutFault}
 use Rattle.tc_report.specs.declared.live_form.LiveForm.{LiveForm}
 use Rattle.tc_report.specs.declared.results.CampaignEnd.{CampaignEnd}

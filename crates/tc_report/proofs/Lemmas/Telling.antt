@@ -3,15 +3,15 @@ use Rattle.std.proofs.Common.{ℕ, ◌≡◌, ◌∙◌, nat_lt, Bool, true, fal
 use Rattle.std.proofs.lemmas.List.{append-nil}
 use Rattle.std.proofs.lemmas.List.Elements.{filter-append}
 use Rattle.std.specs.Io.KnownBytes.{Appends, Keeps}
-use Rattle.tc_entry.specs.Name.{is_name_byte}
-use Rattle.tc_text.specs.Said.{ends_word}
+use Rattle.tc_rules.specs.Prelude.{is_name_byte}
+use Rattle.tc_text.specs.Prelude.{ends_word}
 use Rattle.tc_report.specs.declared.fault.OutFault.{OutFault}
 use Rattle.tc_report.specs.declared.progress.Progress.{Progress}
 use Rattle.tc_report.specs.declared.results.Finished.{Finished}
 use Rattle.tc_report.specs.Inside.{Adds, AddsWords, IsEndedAt, IsSoFar}
 use Rattle.tc_report.specs.Observers.{AreTaken}
 use Rattle.tc_report.specs.Output.{LeavesPrefix}
-use Rattle.tc_report.specs.Progress.{HasTold, IsToldBy, Names, Prints, Tells, failed, told}
+use Rattle.tc_report.specs.Progress.{HasTold, IsToldBy, Names, Prints, TellsProgress, failed, told}
 use Rattle.tc_report.specs.Status.{verdict_status}
 use Rattle.tc_report.proofs.Writing.{appends_both, left_is_prefix}
 
@@ -123,7 +123,7 @@ module _ {O E C : Type 0} (contents : E → Option (List ℕ)) (takes : O → Fi
   -- what a test case does to a `Progress`, and to the observer that it passes it on to
   abbrev pub Takes : Progress O E C → Finished → Progress O E C → Bool → Type 0
   Takes before f after goes_on =
-      takes before.observer.now f after.observer.now goes_on × Tells contents before f after
+      takes before.observer.now f after.observer.now goes_on × TellsProgress contents before f after
       × (after.observer.ghost_name ≡ before.observer.ghost_name) × (after.writer.ghost_name ≡ before.writer.ghost_name)
       × (after.failed.ghost_name ≡ before.failed.ghost_name)
 

@@ -4,33 +4,22 @@ use Rattle.std.proofs.lemmas.List.{append-nil, reverse-append, reverse-reverse}
 use Rattle.std.proofs.lemmas.List.Elements.{filter-append}
 use Rattle.std.proofs.lemmas.Option.{slice_get-get_or}
 use Rattle.std.proofs.lemmas.Bool.Decides.{nat_tests}
-use Rattle.tc_entry.specs.declared.comp.Comp.{Comp}
-use Rattle.tc_entry.specs.declared.entry.Entry.{Entry}
-use Rattle.tc_entry.specs.declared.op.Op.{Op}
+use Rattle.tc_rules.specs.Prelude.{Comp, Entry, Op, is_ok, comp_of, first_some, starts_run, IsLegal, part, is_by}
 use Rattle.tc_entry.specs.declared.op.Op.TheVariants as O
-use Rattle.tc_entry.specs.Reply.{is_ok}
 use Rattle.tc_step.specs.declared.step.Step.{Step}
-use Rattle.tc_step.specs.Steps.{ScriptView}
-use Rattle.tc_table.specs.History.{comp_of, first_some, starts_run}
-use Rattle.tc_table.specs.Legal.{IsLegal}
-use Rattle.tc_table.proofs.Lemmas.Deciding.{self_equal, equal_if}
-use Rattle.tc_case.specs.declared.closed.Closed.{Closed}
-use Rattle.tc_book.specs.Closing.{all_started}
-use Rattle.tc_case.specs.Parts.{part, is_by}
-use Rattle.tc_book.specs.Passes.{PassState, LeftState}
-use Rattle.tc_book.specs.Starts.{start_in, start_of, starts_with}
-use Rattle.tc_table.proofs.Lemmas.Differing.{later_legal}
+use Rattle.tc_step.specs.Prelude.{ScriptView}
+use Rattle.tc_rules.proofs.Lemmas.Deciding.{self_equal, equal_if}
+use Rattle.tc_rules.specs.declared.closed.Closed.{Closed}
+use Rattle.tc_book.specs.Prelude.{all_started, PassState, LeftState, started_with, start_of, starts_with}
+use Rattle.tc_rules.proofs.Lemmas.Differing.{later_legal}
 use Rattle.tc_book.proofs.Lemmas.PartOf.{comp_is, part_end}
 use Rattle.tc_exec.specs.declared.job.Back.{Back}
-use Rattle.tc_exec.specs.Case.{IsCaseReport, IsMadeOf}
-use Rattle.tc_exec.specs.Logs.{IsLogBy}
-use Rattle.tc_exec.specs.Workers.{opening}
+use Rattle.tc_exec.specs.Prelude.{IsCaseReport, IsMadeOf, IsLogBy, opening_pass}
 use Rattle.tc_exec.proofs.Lemmas.Logs.{log_of_run}
-use Rattle.tc_behaviour.specs.Acts.{MakesItsCalls}
-use Rattle.tc_behaviour.proofs.Lemmas.Running.{run_grown}
+use Rattle.tc_script.specs.Prelude.{MakesItsCalls}
+use Rattle.tc_script.proofs.Lemmas.Running.{run_grown}
 use Rattle.std.specs.Option.{option_map_or}
-use Rattle.tc_course.specs.Course.{Stand, after_own, after_other_by, arguments, stand, steps_of, turn, turn_on, IsTurn, IsCourse}
-use Rattle.tc_course.specs.Witnesses.{IsWitness}
+use Rattle.tc_course.specs.Prelude.{CourseState, after_own, after_other_by, arguments, stand, steps_of, turn, turn_on, IsTurn, IsCourse, IsWitness}
 use Rattle.tc_scripted.specs.Reports.{ReportIsCourse, ReportIsFound}
 use Rattle.tc_scripted.proofs.Logging.{AreTurns, IsLogOf, IsOwnTurn, after_all, after_append, after_comp, fresh, log_left, turn_at}
 use Rattle.tc_course.proofs.Lemmas.Standings.{run_in_range, stand_other, stand_own, unstarted}
@@ -38,7 +27,7 @@ use Rattle.tc_course.proofs.Lemmas.Standings.{run_in_range, stand_other, stand_o
 -- ---- what a run was started with
 
 -- started on this component with these arguments, if on any
-abbrev started : Option Comp → List Comp → Stand → Stand
+abbrev started : Option Comp → List Comp → CourseState → CourseState
 started on args s = option_map_or (λ c. record s { comp = Some c; bound = args }) on s
 
 -- run 0 is on the main component from the opening, without arguments
@@ -50,10 +39,10 @@ given_by false start = start
 abbrev given : List Entry → ℕ → Option (Comp × List Comp)
 given past b = given_by (b == 0) (start_of past b)
 
-given_more : (e : Entry) (past : List Entry) (b : ℕ) → given (e ∷ past) b ≡ first_some (given past b) (start_in e.op e.reply b)
+given_more : (e : Entry) (past : List Entry) (b : ℕ) → given (e ∷ past) b ≡ first_some (given past b) (started_with e.op e.reply b)
 given_more e past b = by (b == 0)
   where
-    by : (t : Bool) → given_by t (first_some (start_of past b) (start_in e.op e.reply b)) ≡ first_some (given_by t (start_of past b)) (start_in e.op e.reply b)
+    by : (t : Bool) → given_by t (first_some (start_of past b) (started_with e.op e.reply b)) ≡ first_some (given_by t (start_of past b)) (started_with e.op e.reply b)
     by true = refl
     by false = refl
 
@@ -66,12 +55,12 @@ given_comp past b = comp_is past b ∙ by (b == 0) (start_of past b)
 
 given_later : (later past : List Entry) (b : ℕ) (w : Comp × List Comp) → given past b ≡ Some w → given (later ++ past) b ≡ Some w
 given_later [] past b w is = is
-given_later (e ∷ later) past b w is = given_more e (later ++ past) b ∙ ap (λ o. first_some o (start_in e.op e.reply b)) (given_later later past b w is)
+given_later (e ∷ later) past b w is = given_more e (later ++ past) b ∙ ap (λ o. first_some o (started_with e.op e.reply b)) (given_later later past b w is)
 
 -- ---- what is known of a run
 
 -- by what a run was started with: it has no entry, or what is known of it is what its own entries say
-abbrev IsKnown : Option (Comp × List Comp) → List Entry → Stand → Type 0
+abbrev IsKnown : Option (Comp × List Comp) → List Entry → CourseState → Type 0
 IsKnown None log s = (log ≡ []) × (s ≡ unstarted)
 IsKnown (Some w) log s = s ≡ after_all (fresh w.0 w.1) log
 
@@ -106,7 +95,7 @@ known (e ∷ past) b all =
 
     step : (t : Bool) → (e.caller.0 == b) ≡ t → (o : Option (Comp × List Comp)) → given past b ≡ o → IsKnown o (part (reverse past) b) (stand past b)
         → part (reverse (e ∷ past)) b ≡ part (reverse past) b ++ (if t then e ∷ [] else [])
-        → IsKnown (first_some o (start_in e.op e.reply b)) (part (reverse (e ∷ past)) b) (stand (e ∷ past) b)
+        → IsKnown (first_some o (started_with e.op e.reply b)) (part (reverse (e ∷ past)) b) (stand (e ∷ past) b)
     step true own (Some w) is k m =
         stand_own past e b (equal_if e.caller.0 b own) ∙ (ap (after_own e) k ∙ (sym (after_append (fresh w.0 w.1) (part (reverse past) b) (e ∷ [])) ∙ ap (after_all (fresh w.0 w.1)) (sym m)))
     step true own None is k m =
@@ -115,13 +104,13 @@ known (e ∷ past) b all =
         let was : is_some (comp_of past e.caller.0) ≡ true = so.0 in
         absurd cc
     step false other (Some w) is k m =
-        let on : (stand past b).comp ≡ Some w.0 = ap (λ (s : Stand). s.comp) k ∙ after_comp (fresh w.0 w.1) (part (reverse past) b) in
+        let on : (stand past b).comp ≡ Some w.0 = ap (λ (s : CourseState). s.comp) k ∙ after_comp (fresh w.0 w.1) (part (reverse past) b) in
         stand_other past e b w.0 other on ∙ (k ∙ ap (after_all (fresh w.0 w.1)) (sym (m ∙ append-nil (part (reverse past) b))))
     step false other None is k m =
         let same : stand (e ∷ past) b ≡ after_other_by (stand past b).comp e b (stand past b) = rw other refl in
-        let begins : stand (e ∷ past) b ≡ started (if is_ok e.reply then starts_run e.op b else None) (arguments e.op b) unstarted = same ∙ ap (λ (s : Stand). after_other_by s.comp e b s) k.1 in
+        let begins : stand (e ∷ past) b ≡ started (if is_ok e.reply then starts_run e.op b else None) (arguments e.op b) unstarted = same ∙ ap (λ (s : CourseState). after_other_by s.comp e b s) k.1 in
         let none : part (reverse (e ∷ past)) b ≡ [] = m ∙ ap (λ l. l ++ []) k.0 in
-        subst (IsKnown (start_in e.op e.reply b) (part (reverse (e ∷ past)) b)) (sym begins) (begun_by (is_ok e.reply) e.op b (part (reverse (e ∷ past)) b) none)
+        subst (IsKnown (started_with e.op e.reply b) (part (reverse (e ∷ past)) b)) (sym begins) (begun_by (is_ok e.reply) e.op b (part (reverse (e ∷ past)) b) none)
 
 -- ---- an earlier point of a history
 
@@ -139,7 +128,7 @@ unfolding part
 part_at before e after =
     filter-append (is_by e.caller.0) before (e ∷ after) ∙ ap (λ t. filter (is_by e.caller.0) before ++ cond t (e ∷ filter (is_by e.caller.0) after) (filter (is_by e.caller.0) after)) (self_equal e.caller.0)
 
-no_more_turns : (steps : List Step) (s : Stand) (o : Option Comp) → s.left ≡ true → turn_on o steps s ≡ None
+no_more_turns : (steps : List Step) (s : CourseState) (o : Option Comp) → s.left ≡ true → turn_on o steps s ≡ None
 no_more_turns steps s (Some me) left = rw left refl
 no_more_turns steps s None left = refl
 
@@ -170,7 +159,7 @@ begun_with s history entries b comp w log start = by (b == 0) refl start
     by : (t : Bool) → (b == 0) ≡ t → given_by t (start_of (reverse history) b) ≡ Some w → pair back.pass ≡ w
     by true zero is =
         ap pair (run_grown s.steps log.made.pass back.pass back.ending log.made.called.outcome_of.calls).1
-        ∙ (ap pair (log.made.main (equal_if b 0 zero)) ∙ some_same (pair opening) w is)
+        ∙ (ap pair (log.made.main (equal_if b 0 zero)) ∙ some_same (pair opening_pass) w is)
     by false above is =
         some_same (pair back.pass) w (sym log.made.called.left.started ∙ (log.started (grind (arith, nat_tests)) ∙ is))
 
@@ -257,11 +246,11 @@ module _ (scripts : List ScriptView) (c : Closed) (report : IsCaseReport (length
       by : (o : Option (Comp × List Comp)) → given whole b ≡ o → turn scripts whole b ≡ None
       by None is =
           let never = subst (λ o. IsKnown o (part (reverse whole) b) (stand whole b)) is (known whole b all) in
-          ap (λ (s : Stand). turn_on s.comp (steps_of scripts b) s) never.1
+          ap (λ (s : CourseState). turn_on s.comp (steps_of scripts b) s) never.1
       by (Some w) is =
           let log = log_is b w below is in
           let stands : stand whole b ≡ after_all (fresh w.0 w.1) (part c.history b) = known_at b w whole is all ∙ ap (λ h. after_all (fresh w.0 w.1) (part h b)) (reverse-reverse c.history) in
-          no_more_turns (steps_of scripts b) (stand whole b) (stand whole b).comp (ap (λ (s : Stand). s.left) stands ∙ log.left)
+          no_more_turns (steps_of scripts b) (stand whole b) (stand whole b).comp (ap (λ (s : CourseState). s.left) stands ∙ log.left)
 
   -- the history of the report is a complete course of the scripts, with the verdict of the report
   pub report_is_witness : IsWitness scripts c.history c.verdict

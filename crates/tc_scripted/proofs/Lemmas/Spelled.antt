@@ -7,35 +7,20 @@ use Rattle.std.proofs.lemmas.List.{get_or-map, length-map, reverse-append}
 use Rattle.std.proofs.lemmas.List.Elements.{All-nil, All-cons, All-append, All-tail, All-get_or}
 use Rattle.std.proofs.lemmas.Option.{slice_get-map, slice_get-get_or}
 use Rattle.std.proofs.lemmas.Bool.Decides.{nat_tests}
-use Rattle.tc_verdict.specs.declared.run.Run.{Run}
-use Rattle.tc_entry.specs.declared.comp.Comp.{Comp}
-use Rattle.tc_entry.specs.declared.entry.Entry.{Entry}
-use Rattle.tc_entry.specs.declared.op.Op.{Op}
+use Rattle.tc_rules.specs.Prelude.{Run, Comp, Entry, Op, Reply, is_ok, comp_of, first_some, answer, IsLegal, part, IsOneHistory}
 use Rattle.tc_entry.specs.declared.op.Op.TheVariants as O
-use Rattle.tc_entry.specs.declared.reply.Reply.{Reply}
 use Rattle.tc_entry.specs.declared.reply.Reply.TheVariants as R
-use Rattle.tc_entry.specs.Reply.{is_ok}
-use Rattle.tc_table.specs.History.{comp_of, first_some}
-use Rattle.tc_table.specs.Answers.{answer}
-use Rattle.tc_table.specs.Legal.{IsLegal}
-use Rattle.tc_step.specs.Steps.{ScriptView}
-use Rattle.tc_script.specs.Names.{Word}
-use Rattle.tc_script.specs.Scope.{Head}
-use Rattle.tc_script.specs.Law.{signatures, StartsOne, IsCase}
-use Rattle.tc_case.specs.declared.closed.Closed.{Closed}
-use Rattle.tc_book.specs.Closing.{IsFitting}
-use Rattle.tc_case.specs.Parts.{part}
-use Rattle.tc_book.specs.Passes.{LeftState}
-use Rattle.tc_case.specs.Report.{IsOneHistory}
-use Rattle.tc_book.specs.Starts.{start_of, start_in}
+use Rattle.tc_step.specs.Prelude.{ScriptView}
+use Rattle.tc_reader.specs.Prelude.{Word, Head, signatures, StartsOne, IsCase}
+use Rattle.tc_rules.specs.declared.closed.Closed.{Closed}
+use Rattle.tc_book.specs.Prelude.{IsFitting, LeftState, start_of, started_with}
 use Rattle.tc_book.proofs.Lemmas.PartOf.{comp_is}
 use Rattle.tc_book.proofs.Lemmas.Starting.{starts_below}
 use Rattle.tc_exec.specs.declared.job.Ending.TheVariants as E
-use Rattle.tc_exec.specs.Case.{AreCalled, IsMadeOf}
-use Rattle.tc_exec.specs.Workers.{WasCalled, WasStarted, IsLeftBy}
+use Rattle.tc_exec.specs.Prelude.{AreCalled, IsMadeOf, WasCalled, WasStarted, IsLeftBy}
 use Rattle.tc_exec.proofs.Lemmas.Calls.{all_called, unstarted_comp}
-use Rattle.tc_behaviour.specs.Acts.{Acts, MakesItsCalls}
-use Rattle.tc_behaviour.proofs.Lemmas.Running.{acts_grown}
+use Rattle.tc_script.specs.Prelude.{Acts, MakesItsCalls}
+use Rattle.tc_script.proofs.Lemmas.Running.{acts_grown}
 use Rattle.tc_scripted.proofs.Giving.{GivesAll, GiveAll, worker_gives}
 
 -- ---- a history and its starts
@@ -48,7 +33,7 @@ no_start : (t : Bool) (s : Comp × List Comp) → (if t then None else None) ≡
 no_start true s is = absurd cc
 no_start false s is = absurd cc
 
-entry_gives : (hs : List Head) (op : Op) (r : Reply) (b : ℕ) (s : Comp × List Comp) → GivesAll hs op → start_in op r b ≡ Some s → HasAsMany hs b s.1
+entry_gives : (hs : List Head) (op : Op) (r : Reply) (b : ℕ) (s : Comp × List Comp) → GivesAll hs op → started_with op r b ≡ Some s → HasAsMany hs b s.1
 entry_gives hs (O.Start c run args) r b s gives is = by (is_ok r) (run.0 == b) refl is
   where
     by : (t u : Bool) → (run.0 == b) ≡ u → (if t then (if u then Some (let x : Comp × List Comp = (c, args) in x) else None) else None) ≡ Some s → HasAsMany hs b s.1
@@ -64,11 +49,11 @@ start_gives : (hs : List Head) (past : List Entry) (b : ℕ) (s : Comp × List C
 start_gives hs [] b s all is = absurd cc
 start_gives hs (e ∷ past) b s all is = by (start_of past b) (start_gives hs past b s (All-tail (λ e. GivesAll hs e.op) e past all)) is
   where
-    by : (o : Option (Comp × List Comp)) → (o ≡ Some s → HasAsMany hs b s.1) → first_some o (start_in e.op e.reply b) ≡ Some s → HasAsMany hs b s.1
+    by : (o : Option (Comp × List Comp)) → (o ≡ Some s → HasAsMany hs b s.1) → first_some o (started_with e.op e.reply b) ≡ Some s → HasAsMany hs b s.1
     by (Some x) before found = before found
     by None before found = entry_gives hs e.op e.reply b s (all 0 e (omega arith)) found
 
-entry_below : (n : ℕ) (past : List Entry) (caller : Run) (op : Op) (r : Reply) (b : ℕ) (s : Comp × List Comp) → r ≡ answer n past caller.0 op → start_in op r b ≡ Some s → b < n
+entry_below : (n : ℕ) (past : List Entry) (caller : Run) (op : Op) (r : Reply) (b : ℕ) (s : Comp × List Comp) → r ≡ answer n past caller.0 op → started_with op r b ≡ Some s → b < n
 entry_below n past caller (O.Start c run args) R.Ok b s legal is = by (run.0 == b) refl is
   where
     low : run.0 < n
@@ -85,7 +70,7 @@ start_below : (n : ℕ) (past : List Entry) (b : ℕ) (s : Comp × List Comp) �
 start_below n [] b s legal is = absurd cc
 start_below n (e ∷ past) b s legal is = by (start_of past b) (start_below n past b s legal.1) is
   where
-    by : (o : Option (Comp × List Comp)) → (o ≡ Some s → b < n) → first_some o (start_in e.op e.reply b) ≡ Some s → b < n
+    by : (o : Option (Comp × List Comp)) → (o ≡ Some s → b < n) → first_some o (started_with e.op e.reply b) ≡ Some s → b < n
     by (Some x) before found = before found
     by None before found = entry_below n past e.caller e.op e.reply b s legal.0 found
 

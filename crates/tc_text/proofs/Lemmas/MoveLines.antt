@@ -5,7 +5,7 @@ use Rattle.tc_verdict.specs.declared.run.Run.{Run}
 use Rattle.tc_entry.specs.declared.op.Op.{Op}
 use Rattle.tc_text.specs.Spelling.{move_text, IsOp}
 use Rattle.tc_text.specs.Lines.{lines_of}
-use Rattle.tc_entry.specs.Limits.{IsBehaviours}
+use Rattle.tc_entry.specs.Prelude.{IsBehaviours}
 use Rattle.tc_text.specs.MoveList.{Move, move_line, behaviours_line, IsMove}
 use Rattle.tc_text.specs.Reading.{EndsNumber, EndsMove, EndsReply, EndsLine}
 use Rattle.tc_text.proofs.Operands.{ends_nothing, IsThatNumber}

@@ -3,7 +3,7 @@ use Rattle.std.proofs.Common.{ℕ, ◌≡◌, ◌==◌, ◌+◌, ◌<◌, ◌≤
 use Rattle.std.proofs.lemmas.Bool.Decides.{nat_tests}
 use Rattle.std.proofs.lemmas.List.{take_more}
 use Rattle.std.proofs.lemmas.List.Elements.{All-head, All-tail}
-use Rattle.tc_entry.specs.Name.{IsName, is_name_byte}
+use Rattle.tc_entry.specs.Prelude.{IsName, is_name_byte}
 use Rattle.tc_text.specs.Inside.{NoLow}
 use Rattle.tc_text.specs.Reading.{EndsNumber}
 use Rattle.tc_text.proofs.Lemmas.LinesOf.{NoLf}

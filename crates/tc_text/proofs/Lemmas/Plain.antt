@@ -4,8 +4,7 @@ use Rattle.std.specs.Fmt.{decimal}
 use Rattle.std.specs.Char.{is_ascii_digit}
 use Rattle.std.specs.Str.{all_ascii_digits}
 use Rattle.std.proofs.lemmas.Bool.Decides.{nat_tests}
-use Rattle.tc_verdict.specs.Verdict.{name_of}
-use Rattle.tc_verdict.specs.UserVerdict.{given}
+use Rattle.tc_verdict.specs.Prelude.{name_of, given}
 use Rattle.tc_verdict.specs.declared.user_verdict.UserVerdict.{UserVerdict}
 use Rattle.tc_verdict.specs.declared.user_verdict.UserVerdict.TheVariants as U
 use Rattle.tc_entry.specs.declared.comp.Comp.{Comp}
@@ -16,7 +15,7 @@ use Rattle.tc_entry.specs.declared.op.Target.TheVariants as T
 use Rattle.tc_entry.specs.declared.op.Op.{Op}
 use Rattle.tc_entry.specs.declared.op.Op.TheVariants as O
 use Rattle.tc_text.specs.Spelling.{group_text, target_text, args_text, op_text, move_text, IsGroup, IsTarget, IsOp, AreComps}
-use Rattle.tc_entry.specs.Limits.{IsBehaviours}
+use Rattle.tc_entry.specs.Prelude.{IsBehaviours}
 use Rattle.tc_text.specs.MoveList.{behaviours_line}
 use Rattle.tc_text.proofs.Lemmas.Digits.{both, spelled_digits, digit_first}
 use Rattle.tc_text.proofs.Lemmas.LinesOf.{NoLf, no_lf-append}

@@ -6,7 +6,7 @@ use Rattle.std.proofs.lemmas.List.{append-nil, flat_map_more}
 use Rattle.tc_text.specs.declared.said.Part.{Part}
 use Rattle.tc_text.specs.declared.said.Part.TheVariants as P
 use Rattle.tc_text.specs.Inside.{part_text, prose_text}
-use Rattle.tc_text.specs.Said.{Holds, Line, Tells, TellsLine, ends_word, printable, word_of}
+use Rattle.tc_text.specs.Said.{Holds, Line, Tells, TellsLine, ends_word, as_printable, part_words}
 
 -- ---- what the parts of a line hold
 
@@ -45,7 +45,7 @@ part_ends (P.Text t) = prose_ends t.now
 part_ends (P.Number n) = refl
 part_ends (P.Word w) = refl
 
-part_holds : (p : Part) → Holds (word_of p) (part_text p)
+part_holds : (p : Part) → Holds (part_words p) (part_text p)
 part_holds (P.Text t) = tt
 part_holds (P.Number n) = ([], [], ap (λ l. 32 ∷ l) (sym (append-nil (decimal n))), refl, tt)
 part_holds (P.Word w) = ([], [], ap (λ l. 32 ∷ l) (sym (append-nil w.now)), refl, tt)
@@ -54,17 +54,17 @@ parts_end : (ps : List Part) → ends_word (flat_map part_text ps) ≡ true
 parts_end [] = refl
 parts_end (p ∷ ps) = ends_both (part_text p) (flat_map part_text ps) (part_ends p) (parts_end ps)
 
-parts_hold : (ps : List Part) → Holds (flat_map word_of ps) (flat_map part_text ps)
+parts_hold : (ps : List Part) → Holds (flat_map part_words ps) (flat_map part_text ps)
 parts_hold [] = tt
 parts_hold (p ∷ ps) =
-    holds_both (word_of p) (flat_map word_of ps) (part_text p) (flat_map part_text ps) (part_holds p) (parts_hold ps) (parts_end ps)
+    holds_both (part_words p) (flat_map part_words ps) (part_text p) (flat_map part_text ps) (part_holds p) (parts_hold ps) (parts_end ps)
 
 -- a line of these parts
-pub parts_said : (ps : List Part) (text shown before after : List ℕ) → text ≡ flat_map part_text ps → shown ≡ map printable text →
-    after ≡ before ++ (32 ∷ (shown ++ 10 ∷ [])) → TellsLine (flat_map word_of ps) before after
+pub parts_said : (ps : List Part) (text shown before after : List ℕ) → text ≡ flat_map part_text ps → shown ≡ map as_printable text →
+    after ≡ before ++ (32 ∷ (shown ++ 10 ∷ [])) → TellsLine (flat_map part_words ps) before after
 unfolding TellsLine
 parts_said ps text shown before after is mapped made =
-    (text, made ∙ ap (λ l. before ++ (32 ∷ (l ++ 10 ∷ []))) mapped, subst (λ t. Holds (flat_map word_of ps) t) (sym is) (parts_hold ps))
+    (text, made ∙ ap (λ l. before ++ (32 ∷ (l ++ 10 ∷ []))) mapped, subst (λ t. Holds (flat_map part_words ps) t) (sym is) (parts_hold ps))
 
 -- what follows where a call has not failed
 pub on_ok : {A E P Q : Type 0} (r : Result A E) → (P → Q) → OnOk r P → OnOk r Q
@@ -98,7 +98,7 @@ tells_line words ys a b c h k = (b, h, k)
 
 line_behind : (words : Line) (front a b : List ℕ) → TellsLine words a b → TellsLine words (front ++ a) (front ++ b)
 unfolding TellsLine
-line_behind words front a b h = (h.0, ap (λ l. front ++ l) h.1 ∙ sym (append_assoc front a (32 ∷ (map printable h.0 ++ 10 ∷ []))), h.2)
+line_behind words front a b h = (h.0, ap (λ l. front ++ l) h.1 ∙ sym (append_assoc front a (32 ∷ (map as_printable h.0 ++ 10 ∷ []))), h.2)
 
 tells_behind : (lines : List Line) (front a b : List ℕ) → Tells lines a b → Tells lines (front ++ a) (front ++ b)
 unfolding Tells
@@ -122,11 +122,11 @@ unfolding Tells TellsLine
 tells_some [] a = (a, refl)
 tells_some (words ∷ lines) a =
     let text = holding words in
-    let middle = a ++ (32 ∷ (map printable text.0 ++ 10 ∷ [])) in
+    let middle = a ++ (32 ∷ (map as_printable text.0 ++ 10 ∷ [])) in
     let rest = tells_some lines middle in
     (rest.0, (middle, (text.0, refl, text.2), rest.1))
 
 -- ---- a part more
 
-pub words_push : (ps : List Part) (p : Part) → flat_map word_of (ps ++ p ∷ []) ≡ flat_map word_of ps ++ word_of p
-words_push ps p = sym (flat_map_more word_of [] ps p)
+pub words_push : (ps : List Part) (p : Part) → flat_map part_words (ps ++ p ∷ []) ≡ flat_map part_words ps ++ part_words p
+words_push ps p = sym (flat_map_more part_words [] ps p)

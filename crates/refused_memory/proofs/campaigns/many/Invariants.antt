@@ -1,5 +1,5 @@
 use Rattle.std.specs.Prelude.{All}
-use Rattle.tc_campaign.specs.Outline.{HasNames}
+use Rattle.tc_campaign.specs.Prelude.{HasNames}
 use Rattle.refused_memory.proofs.campaigns.many.Given as goal
 
 -- each test case so far has a name for its behaviour

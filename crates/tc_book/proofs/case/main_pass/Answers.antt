@@ -1,5 +1,5 @@
 use Rattle.std.proofs.Common.{rules, ◌∙◌, ap}
-use Rattle.tc_board.specs.Hand.{HandView}
+use Rattle.tc_board.specs.Prelude.{HandView}
 use Rattle.tc_book.proofs.case.main_pass.Goals as goal
 
 pub new-hand-requires : goal.new-hand-requires

@@ -1,5 +1,5 @@
 use Rattle.std.proofs.Common.{rules, ◌∙◌, ap}
-use Rattle.tc_board.specs.Board.{new_hands}
+use Rattle.tc_board.specs.Prelude.{new_hands}
 use Rattle.tc_book.proofs.case.open_case.Goals as goal
 
 pub open_with-opened-requires-clause-hands : goal.open_with-opened-requires-clause-hands

@@ -1,7 +1,7 @@
 use Rattle.std.proofs.Common.{◌≡◌, ℕ, ◌<◌, ◌+◌, ◌-◌, length, get_or}
 use Rattle.std.specs.Arc.{arc_value}
-use Rattle.tc_verdict.specs.declared.run.Run.{Run}
-use Rattle.tc_board.specs.Board.{new_hands}
+use Rattle.tc_rules.specs.Prelude.{Run}
+use Rattle.tc_board.specs.Prelude.{new_hands}
 use Rattle.tc_book.proofs.case.tickets_of.Given as goal
 
 -- the tickets so far are those of the runs below k, and the hands left are those from k on

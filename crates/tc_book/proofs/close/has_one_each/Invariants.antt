@@ -1,6 +1,6 @@
 use Rattle.std.proofs.Common.{◌≡◌, ℕ, ◌<◌, count_by}
-use Rattle.tc_book.specs.Closing.{is_of_run}
+use Rattle.tc_book.specs.Closing.{is_left_of}
 use Rattle.tc_book.proofs.close.has_one_each.Given as goal
 
 abbrev pub invariant-loop-run : goal.invariant-loop-run
-invariant-loop-run l = (b : ℕ) → b < l.run → count_by (is_of_run b) l.lefts ≡ 1
+invariant-loop-run l = (b : ℕ) → b < l.run → count_by (is_left_of b) l.lefts ≡ 1

@@ -1,5 +1,5 @@
 use Rattle.std.proofs.Common.{◌≡◌, ◌+◌, take}
-use Rattle.tc_case.specs.Merge.{logged}
+use Rattle.tc_rules.specs.Prelude.{logged}
 use Rattle.tc_book.proofs.close.have_together.Given as goal
 
 abbrev pub invariant-loop-log : goal.invariant-loop-log

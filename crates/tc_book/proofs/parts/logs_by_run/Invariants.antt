@@ -1,6 +1,6 @@
 use Rattle.std.proofs.Common.{◌≡◌, ◌<◌, length}
 use Rattle.std.specs.List.{All}
-use Rattle.tc_case.specs.Merge.{log_of}
+use Rattle.tc_rules.specs.Prelude.{log_of}
 use Rattle.tc_book.proofs.ByRun.{HasAfter}
 use Rattle.tc_book.proofs.parts.logs_by_run.Given as goal
 

@@ -1,5 +1,5 @@
 use Rattle.std.proofs.Common.{◌≡◌, All, map, take}
-use Rattle.tc_entry.specs.Pattern.{IsPattern}
+use Rattle.tc_entry.specs.Prelude.{IsPattern}
 use Rattle.tc_command.proofs.word.patterns.Given as goal
 
 -- the patterns so far are the words so far, each of which is a pattern

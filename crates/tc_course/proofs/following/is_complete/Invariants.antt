@@ -1,4 +1,4 @@
-use Rattle.tc_table.specs.Case.{past_of}
+use Rattle.tc_rules.specs.Prelude.{past_of}
 use Rattle.tc_course.proofs.Followed.{AreLeft}
 use Rattle.tc_course.proofs.following.is_complete.Given as goal
 

@@ -1,5 +1,5 @@
 use Rattle.std.proofs.Common.{◌≡◌, take, reverse}
-use Rattle.tc_table.specs.Case.{past_of}
+use Rattle.tc_rules.specs.Prelude.{past_of}
 use Rattle.tc_course.specs.Cases.{IsOn}
 use Rattle.tc_course.proofs.following.is_course.Given as goal
 

@@ -1,5 +1,5 @@
 use Rattle.std.proofs.Common.{[], length}
-use Rattle.tc_text.specs.Said.{TellsAmong}
+use Rattle.tc_text.specs.Prelude.{TellsAmong}
 use Rattle.tc_explain.proofs.append.append_lines.Given as goal
 
 abbrev pub invariant-loop-line : goal.invariant-loop-line

@@ -1,5 +1,5 @@
 use Rattle.std.proofs.Common.{◌≡◌}
-use Rattle.tc_line.specs.Text.{lines}
+use Rattle.tc_reader.specs.Prelude.{lines}
 use Rattle.tc_explain.specs.Scan.{find}
 use Rattle.tc_explain.specs.declared.scan.Opened.TheVariants as O
 use Rattle.tc_explain.proofs.scan.find_line.Given as goal

@@ -1,6 +1,6 @@
 use Rattle.std.proofs.Common.{◌≤◌}
-use Rattle.tc_verdict.specs.Verdict.{level_of}
-use Rattle.tc_explore.specs.Found.{AreMet}
+use Rattle.tc_rules.specs.Prelude.{level_of}
+use Rattle.tc_explore.specs.Found.{AreAllMet}
 use Rattle.tc_explore.specs.Inside.Seen.{IsNoted, AreFoundAbove}
 use Rattle.tc_explore.proofs.aims.search_by_aims.Given as goal
 
@@ -8,7 +8,7 @@ abbrev pub invariant-loop-extent : goal.invariant-loop-extent
 invariant-loop-extent l =
     IsNoted l.scripts l.found
     × AreFoundAbove l.aim l.scripts l.found.witnesses.items
-    × AreMet l.scripts l.found.reached.items l.states
+    × AreAllMet l.scripts l.found.reached.items l.states
     × (l.states ≤ l.limit)
 
 abbrev pub decreases-loop-extent : goal.decreases-loop-extent

@@ -3,7 +3,7 @@ use Rattle.tc_explore.proofs.Keeping.{AreCalmAfter}
 use Rattle.tc_explore.specs.Inside.Seen.{IsOpen, StandsOn}
 use Rattle.tc_explore.proofs.calm.calmed_once.Given as goal
 use Rattle.tc_explore.specs.Inside.Simulation.{IsWithin}
-use Rattle.tc_table.specs.Case.{past_of}
+use Rattle.tc_rules.specs.Prelude.{past_of}
 
 abbrev pub invariant-loop-run : goal.invariant-loop-run
 invariant-loop-run l =

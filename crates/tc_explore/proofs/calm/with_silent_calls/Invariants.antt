@@ -1,5 +1,5 @@
 use Rattle.std.proofs.Common.{◌≡◌, false}
-use Rattle.tc_table.specs.Case.{past_of}
+use Rattle.tc_rules.specs.Prelude.{past_of}
 use Rattle.tc_explore.specs.Inside.Seen.{IsOpen, StandsOn}
 use Rattle.tc_explore.proofs.calm.with_silent_calls.Given as goal
 use Rattle.tc_explore.specs.Inside.Simulation.{IsWithin}

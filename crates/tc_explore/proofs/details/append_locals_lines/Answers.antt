@@ -1,5 +1,5 @@
 use Rattle.std.proofs.Common.{rules, ◌≡◌, ◌<◌, get_or, length, subst, sym}
-use Rattle.tc_text.specs.Said.{TellsAmong}
+use Rattle.tc_text.specs.Prelude.{TellsAmong}
 use Rattle.tc_explore.specs.Details.{locals}
 use Rattle.tc_explore.proofs.Saying.{tells_more}
 use Rattle.tc_explore.proofs.details.append_locals_lines.Goals as goal

@@ -1,7 +1,7 @@
 use Rattle.std.proofs.Common.{take}
 use Rattle.std.specs.List.{flat_map}
 use Rattle.tc_explore.specs.Details.{locals}
-use Rattle.tc_text.specs.Said.{TellsAmong}
+use Rattle.tc_text.specs.Prelude.{TellsAmong}
 use Rattle.tc_explore.proofs.details.append_locals_lines.Given as goal
 
 abbrev pub invariant-loop-witness : goal.invariant-loop-witness

@@ -1,4 +1,4 @@
-use Rattle.tc_table.specs.Case.{past_of}
+use Rattle.tc_rules.specs.Prelude.{past_of}
 use Rattle.tc_explore.specs.Inside.Seen.{IsCountedTo}
 use Rattle.tc_explore.proofs.findings.reach.Given as goal
 

@@ -1,5 +1,5 @@
-use Rattle.tc_table.specs.Case.{past_of}
-use Rattle.tc_course.specs.Cases.{IsOn}
+use Rattle.tc_rules.specs.Prelude.{past_of}
+use Rattle.tc_course.specs.Prelude.{IsOn}
 use Rattle.tc_explore.specs.Inside.Seen.{AreHeld}
 use Rattle.tc_explore.proofs.Parking.{AreParked}
 use Rattle.tc_explore.proofs.noted.with_stuck.Given as goal

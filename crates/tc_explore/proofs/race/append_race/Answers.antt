@@ -1,8 +1,8 @@
 use Rattle.std.proofs.Common.{rules, ◌≡◌, OnOk, ◌∷◌, [], subst}
 use Rattle.std.specs.Fmt.{decimal}
-use Rattle.tc_verdict.specs.Verdict.{name_of}
+use Rattle.tc_rules.specs.Prelude.{name_of}
 use Rattle.tc_explore.specs.Race.{alike_count}
-use Rattle.tc_text.specs.Said.{TellsAmong}
+use Rattle.tc_text.specs.Prelude.{TellsAmong}
 use Rattle.tc_text.proofs.Lemmas.Among.{among_line, among_then}
 use Rattle.tc_text.proofs.Lemmas.Saying.{on_ok}
 use Rattle.tc_explore.proofs.race.append_race.Goals as goal

@@ -1,5 +1,5 @@
 use Rattle.std.proofs.Common.{rules, ◌≡◌, ◌<◌, get_or, length, subst, sym}
-use Rattle.tc_text.specs.Said.{TellsAmong}
+use Rattle.tc_text.specs.Prelude.{TellsAmong}
 use Rattle.tc_explore.specs.Race.{race}
 use Rattle.tc_explore.proofs.Saying.{tells_more}
 use Rattle.tc_explore.proofs.race.append_races.Goals as goal

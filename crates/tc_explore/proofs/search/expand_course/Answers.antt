@@ -1,8 +1,7 @@
 use Rattle.std.proofs.Common.{rules, ◌≡◌, ◌<◌, ◌∙◌, ◌+◌, arith, true, false, reverse, ap, sym, subst}
 use Rattle.tc_verdict.specs.declared.verdict.Verdict.TheVariants as V
-use Rattle.tc_table.specs.Case.{past_of}
-use Rattle.tc_course.specs.Course.{carried}
-use Rattle.tc_course.specs.Witnesses.{is_found}
+use Rattle.tc_rules.specs.Prelude.{past_of}
+use Rattle.tc_course.specs.Prelude.{carried_on, is_found}
 use Rattle.tc_explore.specs.Inside.Seen.{AreHeld}
 use Rattle.tc_explore.proofs.Parking.{held_if, never_held, reached_main}
 use Rattle.tc_explore.proofs.States.{closed_going, closed_stuck, closed_error, closed_better}
@@ -58,10 +57,10 @@ pub returns-then-is_found-clause-stuck : goal.returns-then-is_found-clause-stuck
 returns-then-is_found-clause-stuck c h is held =
     let past : past_of c.in_ok-copied.field-0 ≡ past_of c.args.course.now = ap reverse c.in_ok-copied.ensures.entries in
     let main = c.in_ok-stuck.ensures.main (subst (AreHeld c.args.scripts.now) (sym past) held) in
-    reached_main c.args.scripts.now c.reach.new.reached.items (past_of c.args.course.now) (past_of c.in_ok-stuck.stuck) c.requires.some c.reach.ensures.reached.as_many (main ∙ ap (λ x. carried x 0 + 1) past) c.reach.ensures.covers
+    reached_main c.args.scripts.now c.reach.new.reached.items (past_of c.args.course.now) (past_of c.in_ok-stuck.stuck) c.requires.some c.reach.ensures.reached.as_many (main ∙ ap (λ x. carried_on x 0 + 1) past) c.reach.ensures.covers
 
 pub returns-clause-stuck : goal.returns-clause-stuck
 returns-clause-stuck c h is held =
     let past : past_of c.in_ok-copied.field-0 ≡ past_of c.args.course.now = ap reverse c.in_ok-copied.ensures.entries in
     let main = c.in_ok-stuck.ensures.main (subst (AreHeld c.args.scripts.now) (sym past) held) in
-    reached_main c.args.scripts.now c.note.new.found.reached.items (past_of c.args.course.now) (past_of c.in_ok-stuck.stuck) c.requires.some c.in_ok-note.ensures.found.1.as_many (main ∙ ap (λ x. carried x 0 + 1) past) c.in_ok-note.ensures.covers
+    reached_main c.args.scripts.now c.note.new.found.reached.items (past_of c.args.course.now) (past_of c.in_ok-stuck.stuck) c.requires.some c.in_ok-note.ensures.found.1.as_many (main ∙ ap (λ x. carried_on x 0 + 1) past) c.in_ok-note.ensures.covers

@@ -1,7 +1,7 @@
 use Rattle.std.specs.Cmp.Lexicographic.{pointwise}
 use Rattle.std.specs.List.{list_any}
 use Rattle.std.proofs.Common.{rules, ◌≡◌, true, nat_eq, length}
-use Rattle.tc_table.specs.Case.{past_of}
+use Rattle.tc_rules.specs.Prelude.{past_of}
 use Rattle.tc_explore.specs.Inside.Keys.{key_of}
 use Rattle.tc_explore.proofs.Keeping.{state_self}
 use Rattle.tc_explore.proofs.Keys.{seen_by_key}

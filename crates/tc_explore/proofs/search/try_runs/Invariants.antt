@@ -1,5 +1,5 @@
 use Rattle.std.proofs.Common.{◌≡◌, ◌<◌, ℕ, true, false}
-use Rattle.tc_table.specs.Case.{past_of}
+use Rattle.tc_rules.specs.Prelude.{past_of}
 use Rattle.tc_explore.specs.Inside.Simulation.{GoesOn}
 use Rattle.tc_explore.specs.Inside.Seen.{AreKept, IsLonger, IsNoLess, IsNoted, IsRunClosed, IsFull, AreStill}
 use Rattle.tc_explore.proofs.search.try_runs.Given as goal

@@ -1,7 +1,6 @@
 use Rattle.std.proofs.Common.{rules, ◌≡◌, ◌∷◌, false}
-use Rattle.tc_table.specs.Case.{past_of}
-use Rattle.tc_table.specs.History.{is_over}
-use Rattle.tc_course.specs.Cases.{taken}
+use Rattle.tc_rules.specs.Prelude.{past_of, is_over}
+use Rattle.tc_course.specs.Prelude.{entry_made}
 use Rattle.tc_explore.proofs.Kept.{longer_with}
 use Rattle.tc_explore.proofs.LocalsClosed.{going_next, going_with, locals_seen}
 use Rattle.tc_explore.proofs.search_locals.after_call.Goals as goal
@@ -10,7 +9,7 @@ pub returns-clause-closed : goal.returns-clause-closed
 returns-clause-closed c h =
     let t = c.args.course.now in
     let going : is_over (past_of c.in_ok-next.next) ≡ false = search rules in
-    locals_seen c.place.new.met.states.items c.args.marks.now.found.items (taken t.behaviours (past_of t) c.args.run c.args.op ∷ past_of t) c.in_ok-next.next c.in_ok-next.ensures.added going (c.in_ok-is_seen.ensures.seen h)
+    locals_seen c.place.new.met.states.items c.args.marks.now.found.items (entry_made t.behaviours (past_of t) c.args.run c.args.op ∷ past_of t) c.in_ok-next.next c.in_ok-next.ensures.added going (c.in_ok-is_seen.ensures.seen h)
 
 pub returns-clause-kept : goal.returns-clause-kept
 returns-clause-kept c =

@@ -1,5 +1,5 @@
 use Rattle.std.proofs.Common.{rules, ◌∙◌, ◌≡◌, ◌+◌, true, false}
-use Rattle.tc_table.specs.Case.{past_of}
+use Rattle.tc_rules.specs.Prelude.{past_of}
 use Rattle.tc_explore.specs.Inside.Seen.{IsFull}
 use Rattle.tc_explore.specs.Inside.Twins.{AreLocalsRuns}
 use Rattle.tc_explore.proofs.Closed.{full_longer, longer_then}

@@ -1,5 +1,5 @@
 use Rattle.std.proofs.Common.{◌≡◌, true, false}
-use Rattle.tc_table.specs.Case.{past_of}
+use Rattle.tc_rules.specs.Prelude.{past_of}
 use Rattle.tc_explore.specs.Locals.{AreLocals}
 use Rattle.tc_explore.specs.Inside.Seen.{IsLonger, IsFull}
 use Rattle.tc_explore.specs.Inside.Twins.{AreGoing, AreLocalsRuns, IsMore}

@@ -1,5 +1,5 @@
 use Rattle.std.proofs.Common.{◌≡◌, take, reverse}
-use Rattle.tc_course.specs.Course.{stand}
+use Rattle.tc_course.specs.Prelude.{stand}
 use Rattle.tc_explore.proofs.state.standing_after.Given as goal
 
 abbrev pub invariant-loop-entry : goal.invariant-loop-entry

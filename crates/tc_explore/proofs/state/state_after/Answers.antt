@@ -1,5 +1,5 @@
 use Rattle.std.proofs.Common.{refl}
-use Rattle.tc_table.proofs.Lemmas.Differing.{not_merged}
+use Rattle.tc_rules.proofs.Lemmas.Differing.{not_merged}
 use Rattle.tc_explore.proofs.state.state_after.Goals as goal
 
 pub unreachable-requires : goal.unreachable-requires

@@ -1,9 +1,7 @@
 use Rattle.std.proofs.Common.{rules, ◌≡◌, ◌∙◌, ◌∷◌, ◌++◌, [], if◌then◌else◌, refl, ap, sym, append_assoc}
 use Rattle.std.specs.List.{flat_map, range_with_len}
 use Rattle.std.proofs.lemmas.List.{flat_map_more}
-use Rattle.tc_table.specs.Case.{past_of}
-use Rattle.tc_table.specs.History.{is_alive_type}
-use Rattle.tc_table.specs.Phases.{phase_if_any}
+use Rattle.tc_rules.specs.Prelude.{past_of, is_alive_type, phase_if_any}
 use Rattle.tc_explore.specs.Inside.Keys.{phase_code, comp_key}
 use Rattle.tc_explore.proofs.Numbers.{range_next}
 use Rattle.tc_explore.proofs.state_keys.add_components.Goals as goal

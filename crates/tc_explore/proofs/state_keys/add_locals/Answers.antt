@@ -1,8 +1,7 @@
 use Rattle.std.proofs.Common.{◌≡◌, ◌∙◌, ◌++◌, refl, ap, sym}
 use Rattle.std.specs.List.{flat_map, range_with_len}
 use Rattle.std.proofs.lemmas.List.{flat_map_more}
-use Rattle.tc_table.specs.Case.{past_of}
-use Rattle.tc_table.specs.Local.{local_if_any}
+use Rattle.tc_rules.specs.Prelude.{past_of, local_if_any}
 use Rattle.tc_explore.specs.Inside.Twins.{local_code, local_key}
 use Rattle.tc_explore.proofs.Numbers.{range_next}
 use Rattle.tc_explore.proofs.state_keys.add_locals.Goals as goal

@@ -1,9 +1,8 @@
 use Rattle.std.proofs.Common.{rules, ◌≡◌, ◌∙◌, ◌++◌, refl, ap, sym}
 use Rattle.std.specs.List.{flat_map, range_with_len}
 use Rattle.std.proofs.lemmas.List.{flat_map_more}
-use Rattle.tc_table.specs.Case.{past_of}
-use Rattle.tc_table.specs.Answers.{is_active}
-use Rattle.tc_course.specs.Course.{stand}
+use Rattle.tc_rules.specs.Prelude.{past_of, is_active}
+use Rattle.tc_course.specs.Prelude.{stand}
 use Rattle.tc_explore.specs.Inside.Twins.{wake_key_of}
 use Rattle.tc_explore.proofs.Numbers.{range_next}
 use Rattle.tc_explore.proofs.state_keys.add_wakes.Goals as goal

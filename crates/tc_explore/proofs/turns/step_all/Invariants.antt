@@ -1,4 +1,4 @@
-use Rattle.tc_course.specs.Cases.{IsOn}
+use Rattle.tc_course.specs.Prelude.{IsOn}
 use Rattle.tc_explore.proofs.LastCalls.{AreOver}
 use Rattle.tc_explore.proofs.turns.step_all.Given as goal
 

@@ -1,7 +1,7 @@
 use Rattle.std.specs.Prelude.{slice_index_or}
 use Rattle.std.specs.List.{flat_map, range_with_len}
-use Rattle.tc_text.specs.Said.{TellsAmong}
-use Rattle.tc_course.specs.Course.{steps_of}
+use Rattle.tc_text.specs.Prelude.{TellsAmong}
+use Rattle.tc_course.specs.Prelude.{steps_of}
 use Rattle.tc_explore.specs.Details.{unseen_among}
 use Rattle.tc_explore.proofs.unseen.append_unseen.Given as goal
 

@@ -1,12 +1,12 @@
 use Rattle.std.proofs.Common.{◌≡◌, ◌∙◌, ◌∷◌, [], ◌++◌, length, arith, ap, refl}
 use Rattle.std.proofs.lemmas.List.{length-set}
-use Rattle.tc_case.specs.Merge.{end_of}
+use Rattle.tc_rules.specs.Prelude.{runs_end}
 use Rattle.tc_merge.proofs.Lemmas.Table.{end_of-last, has-none, has-last, has-all}
 use Rattle.tc_merge.proofs.by_run.logs_by_run.Goals as goal
 
 pub loop-log-init : goal.loop-log-init
 loop-log-init c =
-    let len : length c.in_ok-by_run.by_run.items ≡ end_of c.args.logs.now =
+    let len : length c.in_ok-by_run.by_run.items ≡ runs_end c.args.logs.now =
     omega (arith, c.in_ok-by_run.ensures.len, c.end_of.ensures, c.in_ok-by_run.by_run.ok.0) in
     record {
       len = len;
@@ -17,7 +17,7 @@ loop-log-init c =
 pub index_mut-requires : goal.index_mut-requires
 index_mut-requires c =
     let split : c.loop-log.rest.now ≡ c.in-Some.before.now ++ c.in-Some.log.now ∷ [] = c.in-Some.ensures.cases.0 in
-    omega (arith, ap end_of split, end_of-last c.in-Some.before.now c.in-Some.log.now, c.loop-log.invariant.within, c.from.ensures)
+    omega (arith, ap runs_end split, end_of-last c.in-Some.before.now c.in-Some.log.now, c.loop-log.invariant.within, c.from.ensures)
 
 pub loop-log-preserved : goal.loop-log-preserved
 loop-log-preserved c =
@@ -26,9 +26,9 @@ loop-log-preserved c =
     let len = length-set c.loop-log.by_run.items c.from.result c.as_slice.result in
     record {
       len = len ∙ c.loop-log.invariant.len;
-      within = omega (arith, ap end_of split, end, len, c.loop-log.invariant.within);
+      within = omega (arith, ap runs_end split, end, len, c.loop-log.invariant.within);
       has = rw c.from.ensures (has-last c.loop-log.by_run.items c.in-Some.before.now c.in-Some.log.now c.as_slice.result _ c.as_slice.ensures
-          (omega (arith, ap end_of split, end, c.loop-log.invariant.within)) (rw split at c.loop-log.invariant.has));
+          (omega (arith, ap runs_end split, end, c.loop-log.invariant.within)) (rw split at c.loop-log.invariant.has));
     }
 
 pub returns-clause-each : goal.returns-clause-each

@@ -1,5 +1,5 @@
 use Rattle.std.proofs.Common.{◌≡◌, ◌++◌, length, filter}
-use Rattle.tc_case.specs.Merge.{is_late}
+use Rattle.tc_rules.specs.Prelude.{is_late}
 use Rattle.tc_merge.proofs.heads.add_late.Given as goal
 
 abbrev pub invariant-loop-entry : goal.invariant-loop-entry

@@ -1,5 +1,5 @@
 use Rattle.std.proofs.Common.{◌≡◌, ℕ, suc, length}
-use Rattle.tc_case.specs.Merge.{verdict_calls_after}
+use Rattle.tc_rules.specs.Prelude.{verdict_calls_after}
 use Rattle.tc_merge.proofs.heads.after_other.Given as goal
 
 abbrev pub invariant-loop-entry : goal.invariant-loop-entry

@@ -1,6 +1,5 @@
 use Rattle.std.proofs.Common.{◌≡◌, ◌++◌, ℕ, List}
-use Rattle.tc_entry.specs.declared.entry.Entry.{Entry}
-use Rattle.tc_case.specs.Merge.{late}
+use Rattle.tc_rules.specs.Prelude.{Entry, late}
 use Rattle.tc_merge.specs.Inside.{Has}
 use Rattle.tc_merge.proofs.merging.add_all_late.Given as goal
 

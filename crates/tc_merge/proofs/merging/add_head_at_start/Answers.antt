@@ -1,6 +1,5 @@
 use Rattle.std.proofs.Common.{◌≡◌, ◌∙◌, ◌++◌, ap, sym, subst, List, Some, OnOk}
-use Rattle.tc_entry.specs.declared.entry.Entry.{Entry}
-use Rattle.tc_case.specs.Merge.{verdict_calls_after, started}
+use Rattle.tc_rules.specs.Prelude.{Entry, verdict_calls_after, started}
 use Rattle.tc_merge.specs.Inside.{head_at_start}
 use Rattle.tc_merge.proofs.Lemmas.Table.{at-run}
 use Rattle.tc_merge.proofs.merging.add_head_at_start.Goals as goal

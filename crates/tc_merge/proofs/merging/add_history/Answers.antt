@@ -1,6 +1,5 @@
 use Rattle.std.proofs.Common.{◌≡◌, ◌∷◌, [], ◌++◌, List, take, reverse, sym, ◌+◌}
-use Rattle.tc_entry.specs.declared.entry.Entry.{Entry}
-use Rattle.tc_case.specs.Merge.{calls_of, verdict_calls_after}
+use Rattle.tc_rules.specs.Prelude.{Entry, calls_of, verdict_calls_after}
 use Rattle.tc_merge.proofs.Lemmas.Table.{at-run}
 use Rattle.tc_merge.proofs.InPlace.{past_more, has_none, has_more, calls_after, in_place_more}
 use Rattle.tc_merge.proofs.merging.add_history.Goals as goal

@@ -1,6 +1,5 @@
 use Rattle.std.proofs.Common.{◌≡◌, ◌++◌, ℕ, List, take, reverse}
-use Rattle.tc_entry.specs.declared.entry.Entry.{Entry}
-use Rattle.tc_case.specs.Merge.{calls_of, in_place}
+use Rattle.tc_rules.specs.Prelude.{Entry, calls_of, in_place}
 use Rattle.tc_merge.specs.Inside.{Has, HasRests}
 use Rattle.tc_merge.proofs.merging.add_history.Given as goal
 

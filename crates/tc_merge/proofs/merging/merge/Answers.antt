@@ -1,8 +1,6 @@
 use Rattle.std.proofs.Common.{◌≡◌, ◌++◌, ◌∙◌, ap, sym, filter, reverse, length, List, ℕ}
-use Rattle.tc_entry.specs.declared.entry.Entry.{Entry}
+use Rattle.tc_rules.specs.Prelude.{Entry, is_other, in_place, late, log_of, runs_end, part}
 use Rattle.tc_merge.specs.Inside.{Has}
-use Rattle.tc_case.specs.Merge.{is_other, in_place, late, log_of, end_of}
-use Rattle.tc_case.specs.Parts.{part}
 use Rattle.tc_merge.proofs.PartOfMerge.{merge-is, part-merge}
 use Rattle.tc_merge.proofs.Lemmas.Kept.{others-merge}
 use Rattle.tc_merge.proofs.Length.{length-merge}
@@ -17,7 +15,7 @@ returns-clause-merged c =
     let logs_again : Has c.deref-2.result.now log = rw c.deref-2.ensures.value has in
     let put : c.add_history.new.all.items ≡ in_place log (reverse history) =
     c.in_ok-add_history.ensures log logs c.in_ok-rests.ensures.each ∙ ap (λ l. l ++ in_place log (reverse history)) c.in_ok-all.ensures.items in
-    let len : length c.deref-2.result.now ≡ end_of c.args.logs.now = ap length c.deref-2.ensures.value ∙ c.in_ok-by_run.ensures.len in
+    let len : length c.deref-2.result.now ≡ runs_end c.args.logs.now = ap length c.deref-2.ensures.value ∙ c.in_ok-by_run.ensures.len in
     c.in_ok-add_all_late.ensures log logs_again
     ∙ (ap (λ l. l ++ late log (length c.deref-2.result.now)) put
     ∙ (ap (λ k. in_place log (reverse history) ++ late log k) len ∙ sym (merge-is history c.args.logs.now)))

@@ -1,5 +1,5 @@
 use Rattle.std.proofs.Common.{Ok, false, map, string_bytes, subst}
-use Rattle.tc_command.specs.Asked.{IsReading}
+use Rattle.tc_command.specs.Prelude.{IsReading}
 use Rattle.tc_program.proofs.OwnCases.{alone_answered, of_value}
 use Rattle.tc_program.proofs.alone.answer_alone.Goals as goal
 

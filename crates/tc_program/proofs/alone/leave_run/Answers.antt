@@ -2,7 +2,7 @@ use Rattle.std.proofs.Common.{inl, inr, subst, sym}
 use Rattle.tc_program.specs.Alone.{IsNotBegun}
 use Rattle.tc_program.specs.Inside.{Refuses}
 use Rattle.tc_program.specs.Program.{IsDoneBy}
-use Rattle.tc_program.specs.Streams.{held}
+use Rattle.tc_program.specs.Streams.{held_streams}
 use Rattle.tc_program.proofs.Doing.{keeps_same}
 use Rattle.tc_program.proofs.alone.leave_run.Goals as goal
 
@@ -15,5 +15,5 @@ pub returns : goal.returns
 returns g c =
     let are = c.in-Ok.ensures.are in
     inr (subst (λ task. IsNotBegun task c.args.text.now
-    (held g.W.Write.contents c.args.writer.now c.args.writer.now g.E.Write.contents c.args.errors.now c.refuse_words.new.errors) c.refuse_words.result)
+    (held_streams g.W.Write.contents c.args.writer.now c.args.writer.now g.E.Write.contents c.args.errors.now c.refuse_words.new.errors) c.refuse_words.result)
     (sym c.requires) ((are.cases, are.chosen), keeps_same (g.W.Write.contents c.args.writer.now), c.refuse_words.ensures))

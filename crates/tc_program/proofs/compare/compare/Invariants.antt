@@ -1,6 +1,6 @@
 use Rattle.std.proofs.Common.{reverse, take}
 use Rattle.std.specs.List.{AllZip}
-use Rattle.tc_script.specs.Campaign.{CampaignView}
+use Rattle.tc_reader.specs.Prelude.{CampaignView}
 use Rattle.tc_program.specs.Compared.{AreJudged}
 use Rattle.tc_program.specs.Inside.{IsCaseOf, IsWhole, StandsBeside}
 use Rattle.tc_program.proofs.compare.compare.Given as goal

@@ -1,5 +1,5 @@
 use Rattle.std.proofs.Common.{rules, ◌≡◌, ◌<◌, false, length, get_or, subst, sym}
-use Rattle.tc_script.specs.Names.{among}
+use Rattle.tc_reader.specs.Prelude.{among}
 use Rattle.tc_program.proofs.Beside.{new_name}
 use Rattle.tc_program.proofs.compare.names_of.Goals as goal
 

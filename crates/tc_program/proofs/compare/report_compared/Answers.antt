@@ -1,6 +1,6 @@
 use Rattle.std.proofs.Common.{rules, ◌≡◌, ◌∙◌, List, reverse, subst, sym}
-use Rattle.tc_evidence.specs.Text.{AreEvidence}
-use Rattle.tc_evidence.specs.declared.block.Block.{Block}
+use Rattle.tc_blocks.specs.Prelude.{AreEvidence}
+use Rattle.tc_blocks.specs.declared.block.Block.{Block}
 use Rattle.tc_program.specs.Compared.{blocks_part, missing}
 use Rattle.tc_program.specs.Inside.{Reports}
 use Rattle.tc_program.specs.Report.{IsReport}

@@ -1,5 +1,5 @@
 use Rattle.std.proofs.Common.{rules, ◌≡◌, ◌++◌}
-use Rattle.tc_explain.specs.Explanation.{explanation}
+use Rattle.tc_explain.specs.Prelude.{explanation}
 use Rattle.tc_text.proofs.Lemmas.Among.{among_after}
 use Rattle.tc_program.proofs.explained.append_notes.Goals as goal
 

@@ -2,7 +2,7 @@ use Rattle.std.proofs.Common.{subst}
 use Rattle.std.specs.Option.{option_map}
 use Rattle.tc_text.proofs.Lemmas.Among.{among_more}
 use Rattle.tc_text.proofs.Lemmas.Saying.{on_ok}
-use Rattle.tc_text.specs.Said.{TellsAmong}
+use Rattle.tc_text.specs.Prelude.{TellsAmong}
 use Rattle.tc_program.specs.Explained.{number_of, part_of}
 use Rattle.tc_program.specs.Inside.{notes_of}
 use Rattle.tc_program.specs.Limits.{has_blocks}

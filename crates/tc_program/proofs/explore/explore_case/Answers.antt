@@ -1,9 +1,8 @@
 use Rattle.std.proofs.Common.{◌≡◌, ◌≤◌, ◌∙◌, List, length, ap, subst, sym}
 use Rattle.std.proofs.lemmas.List.{length-map}
-use Rattle.tc_step.specs.Steps.{ScriptView}
-use Rattle.tc_explore.specs.Limits.{most_states}
-use Rattle.tc_course.specs.Witnesses.{AllFound, AreWitnesses}
-use Rattle.tc_explore.specs.Found.{AreLegal, AreMet, AreReached}
+use Rattle.tc_step.specs.Prelude.{ScriptView}
+use Rattle.tc_explore.specs.Prelude.{most_states, AreLegal, AreAllMet, AreReached}
+use Rattle.tc_course.specs.Prelude.{AllFound, AreWitnesses}
 use Rattle.tc_explore.specs.declared.explored.Ending.TheVariants as E
 use Rattle.tc_program.specs.Explore.{TellsAfter}
 use Rattle.tc_program.specs.Scripted.{scripts_of}
@@ -22,7 +21,7 @@ returns c v of =
       ordered = so.ordered;
       complete = subst (λ (s : List ScriptView). e.ending ≡ E.Complete → AllFound s e.found) same so.complete;
       reached = subst (λ (s : List ScriptView). AreReached s e.reached) same so.reached;
-      met = subst (λ (s : List ScriptView). AreMet s e.reached e.states) same so.met;
+      met = subst (λ (s : List ScriptView). AreAllMet s e.reached e.states) same so.met;
       most = subst (λ (s : List ScriptView). e.states ≤ most_states s c.args.options.now.states) same so.most;
       undecided = subst (λ (s : List ScriptView). e.ending ≡ E.Undecided → 1 ≤ length s → e.states ≡ most_states s c.args.options.now.states) same so.undecided;
       details_are = subst (λ (s : List ScriptView). TellsAfter c.args.options.now s e c.new.result) same

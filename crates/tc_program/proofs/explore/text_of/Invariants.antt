@@ -1,7 +1,7 @@
 use Rattle.std.proofs.Common.{◌≡◌, take}
 use Rattle.std.specs.List.{flat_map}
-use Rattle.tc_program.specs.Explore.{told_of}
+use Rattle.tc_program.specs.Explore.{explored_text}
 use Rattle.tc_program.proofs.explore.text_of.Given as goal
 
 abbrev pub invariant-loop-case : goal.invariant-loop-case
-invariant-loop-case l = l.out.items ≡ flat_map (told_of l.histories) (take l.case-index l.explored)
+invariant-loop-case l = l.out.items ≡ flat_map (explored_text l.histories) (take l.case-index l.explored)

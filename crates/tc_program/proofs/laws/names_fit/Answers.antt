@@ -1,7 +1,7 @@
 use Rattle.std.proofs.Common.{All, subst}
 use Rattle.std.proofs.lemmas.List.{take_all}
 use Rattle.std.proofs.lemmas.List.Elements.{All-more}
-use Rattle.tc_entry.specs.Name.{IsName}
+use Rattle.tc_rules.specs.Prelude.{IsName}
 use Rattle.tc_program.proofs.laws.names_fit.Goals as goal
 
 pub loop-name-preserved : goal.loop-name-preserved

@@ -1,5 +1,5 @@
 use Rattle.std.proofs.Common.{All, take}
-use Rattle.tc_entry.specs.Name.{IsName}
+use Rattle.tc_rules.specs.Prelude.{IsName}
 use Rattle.tc_program.proofs.laws.names_fit.Given as goal
 
 -- those so far are names

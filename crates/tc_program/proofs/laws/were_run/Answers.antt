@@ -1,5 +1,5 @@
 use Rattle.std.proofs.Common.{All, subst}
-use Rattle.tc_evidence.specs.declared.header.Kind.TheVariants as K
+use Rattle.tc_blocks.specs.declared.header.Kind.TheVariants as K
 use Rattle.tc_program.specs.Inside.{FitsItsTypes}
 use Rattle.tc_program.proofs.WrittenHistories.{reported_were_run}
 use Rattle.tc_program.proofs.laws.were_run.Goals as goal

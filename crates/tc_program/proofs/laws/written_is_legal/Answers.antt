@@ -1,4 +1,4 @@
-use Rattle.tc_evidence.specs.declared.header.Kind.TheVariants as K
+use Rattle.tc_blocks.specs.declared.header.Kind.TheVariants as K
 use Rattle.tc_program.proofs.Reporting.{found_so}
 use Rattle.tc_program.proofs.laws.written_is_legal.Goals as goal
 

@@ -1,5 +1,5 @@
 use Rattle.std.proofs.Common.{◌∙◌, [], ap}
-use Rattle.tc_campaign.specs.Choosing.{case_name}
+use Rattle.tc_campaign.specs.Prelude.{case_name}
 use Rattle.tc_program.specs.Inside.{list_text}
 use Rattle.tc_program.proofs.Chosen.{same_lines}
 use Rattle.tc_program.proofs.Doing.{answer_of}

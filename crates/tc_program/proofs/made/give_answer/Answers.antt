@@ -1,8 +1,8 @@
 use Rattle.std.proofs.Common.{inl, inr, refl, subst}
 use Rattle.std.specs.Io.KnownBytes.{Appends}
-use Rattle.tc_stream.specs.Output.{AppendsPrefix}
-use Rattle.tc_program.specs.Fault.{line_of}
-use Rattle.tc_program.specs.Stderr.{IsRefusal, IsTold}
+use Rattle.tc_stream.specs.Prelude.{AppendsPrefix}
+use Rattle.tc_program.specs.Fault.{run_fault_line}
+use Rattle.tc_program.specs.Stderr.{IsPrintedRefusal, IsTold}
 use Rattle.tc_program.proofs.made.give_answer.Goals as goal
 
 pub returns-in-Ok : goal.returns-in-Ok
@@ -17,5 +17,5 @@ pub returns-in-Err : goal.returns-in-Err
 returns-in-Err g c =
     inr (
       subst (AppendsPrefix (g.W.Write.contents c.args.writer.now) (g.W.Write.contents c.write_whole.new.writer)) c.as_slice.ensures c.in-Err.ensures.part,
-      subst (λ f. IsRefusal (g.E.Write.contents c.args.errors.now) (g.E.Write.contents c.refuse.new.errors) (line_of f) c.refuse.result) c.from.ensures c.refuse.ensures,
+      subst (λ f. IsPrintedRefusal (g.E.Write.contents c.args.errors.now) (g.E.Write.contents c.refuse.new.errors) (run_fault_line f) c.refuse.result) c.from.ensures c.refuse.ensures,
     )

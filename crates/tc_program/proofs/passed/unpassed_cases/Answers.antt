@@ -1,5 +1,5 @@
 use Rattle.std.proofs.Common.{rules, ◌≡◌, reverse, subst, sym}
-use Rattle.tc_evidence.specs.Text.{AreEvidence}
+use Rattle.tc_blocks.specs.Prelude.{AreEvidence}
 use Rattle.tc_program.specs.Compared.{blocks_part}
 use Rattle.tc_program.specs.Inside.{HasSeen}
 use Rattle.tc_program.proofs.Passing.{ready_unpassed}

@@ -1,7 +1,7 @@
 use Rattle.tc_program.specs.Choosing.{is_chosen}
 use Rattle.tc_program.specs.Made.{IsMadeOfBlocks}
 use Rattle.tc_program.specs.Report.{IsReported}
-use Rattle.tc_program.proofs.Checking.{history_refused, names_refused, passed_up}
+use Rattle.tc_program.proofs.Checks.{history_refused, names_refused, passed_up}
 use Rattle.tc_program.proofs.Reporting.{judged_at, reported_names}
 use Rattle.tc_program.proofs.report.report_text.Goals as goal
 

@@ -1,9 +1,7 @@
 use Rattle.std.proofs.Common.{◌≤◌, length, arith, subst, sym}
 use Rattle.std.specs.Vec.{vec_capacity}
-use Rattle.tc_report.specs.Kept.{Keeps}
-use Rattle.tc_report.specs.Progress.{IsToldBy}
-use Rattle.tc_campaign.specs.Campaign.{IsCalled, IsRunTo}
-use Rattle.tc_campaign.specs.Outline.{outline_of}
+use Rattle.tc_report.specs.Prelude.{Keeps, IsToldBy}
+use Rattle.tc_campaign.specs.Prelude.{IsCalled, IsRunTo, outline_of}
 use Rattle.tc_campaign.proofs.Lemmas.Keeping.{all_are_kept, not_ended}
 use Rattle.tc_program.specs.Inside.{AreGiven, worker_limit}
 use Rattle.tc_program.proofs.run.run_kept.Goals as goal

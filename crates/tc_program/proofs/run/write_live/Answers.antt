@@ -1,5 +1,5 @@
 use Rattle.std.proofs.Common.{◌∙◌, refl}
-use Rattle.tc_program.specs.Streams.{held}
+use Rattle.tc_program.specs.Streams.{held_streams}
 use Rattle.tc_program.proofs.Running.{at_opening, live_done, live_left, named_still, writes_nothing}
 use Rattle.tc_program.proofs.run.write_live.Goals as goal
 
@@ -24,7 +24,7 @@ returns-in-Err-close-clause-refused g c =
 
 pub returns-in-Ok-clause-same : goal.returns-in-Ok-clause-same
 returns-in-Ok-clause-same g c =
-    let streams = held g.W.Write.contents c.args.live.now.writer.now c.args.live.now.writer.now g.E.Write.contents c.args.errors.now c.args.errors.now in
+    let streams = held_streams g.W.Write.contents c.args.live.now.writer.now c.args.live.now.writer.now g.E.Write.contents c.args.errors.now c.args.errors.now in
     let at = c.in_default.ensures in
     let was = c.run_told-ending.ensures in
     c.in-Ok.ensures.same ∙ named_still g.B.Callable.outcome c.args.cases.items c.args.options.now streams _ c.requires.form g.W.Write.contents c.begin.new.self c.run_told-ending.new.observer
@@ -32,7 +32,7 @@ returns-in-Ok-clause-same g c =
 
 pub returns-in-Err-close-clause-same : goal.returns-in-Err-close-clause-same
 returns-in-Err-close-clause-same g c =
-    let streams = held g.W.Write.contents c.args.live.now.writer.now c.args.live.now.writer.now g.E.Write.contents c.args.errors.now c.args.errors.now in
+    let streams = held_streams g.W.Write.contents c.args.live.now.writer.now c.args.live.now.writer.now g.E.Write.contents c.args.errors.now c.args.errors.now in
     let at = c.in_default.ensures in
     let was = c.run_told-ending.ensures in
     c.in-Err-close.ensures.same ∙ named_still g.B.Callable.outcome c.args.cases.items c.args.options.now streams _ c.requires.form g.W.Write.contents c.begin.new.self c.run_told-ending.new.observer

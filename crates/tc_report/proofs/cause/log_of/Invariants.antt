@@ -1,5 +1,5 @@
 use Rattle.std.proofs.Common.{◌≡◌, filter, take}
-use Rattle.tc_case.specs.Parts.{is_by}
+use Rattle.tc_rules.specs.Prelude.{is_by}
 use Rattle.tc_report.proofs.cause.log_of.Given as goal
 
 abbrev pub invariant-loop-entry : goal.invariant-loop-entry

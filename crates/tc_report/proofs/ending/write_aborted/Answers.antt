@@ -1,6 +1,6 @@
 use Rattle.std.proofs.Common.{◌∙◌, ◌++◌, codes, subst}
 use Rattle.std.specs.Io.KnownBytes.{Appends}
-use Rattle.tc_stream.specs.Output.{AppendsPrefix}
+use Rattle.tc_stream.specs.Prelude.{AppendsPrefix}
 use Rattle.tc_report.proofs.Aborts.{all_out, first_left, last_left, second_left, when_err}
 use Rattle.tc_report.proofs.ending.write_aborted.Goals as goal
 

@@ -1,5 +1,5 @@
 use Rattle.std.proofs.Common.{◌≡◌, ◌∙◌, [], ◌∷◌, subst}
-use Rattle.tc_verdict.specs.Verdict.{name_of}
+use Rattle.tc_rules.specs.Prelude.{name_of}
 use Rattle.tc_report.specs.Inside.{AddsWords, member_text}
 use Rattle.tc_report.proofs.Wording.{adds_pair}
 use Rattle.tc_report.proofs.summary_text.append_first.Goals as goal

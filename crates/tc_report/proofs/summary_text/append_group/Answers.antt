@@ -1,6 +1,6 @@
 use Rattle.std.proofs.Common.{map}
 use Rattle.tc_text.proofs.Lemmas.Saying.{on_ok}
-use Rattle.tc_verdict.specs.Verdict.{name_of}
+use Rattle.tc_rules.specs.Prelude.{name_of}
 use Rattle.tc_report.specs.Inside.{member_text}
 use Rattle.tc_report.proofs.Wording.{adds_group}
 use Rattle.tc_report.proofs.summary_text.append_group.Goals as goal

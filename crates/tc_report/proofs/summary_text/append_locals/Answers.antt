@@ -1,6 +1,6 @@
 use Rattle.tc_text.proofs.Lemmas.Saying.{on_ok}
-use Rattle.tc_text.specs.Said.{Line}
-use Rattle.tc_verdict.specs.declared.verdict.Verdict.{Verdict}
+use Rattle.tc_text.specs.Prelude.{Line}
+use Rattle.tc_rules.specs.Prelude.{Verdict}
 use Rattle.tc_verdict.specs.declared.verdict.Verdict.TheVariants as V
 use Rattle.tc_report.specs.SummaryText.{after_verdict, members}
 use Rattle.tc_report.proofs.Wording.{adds_five}

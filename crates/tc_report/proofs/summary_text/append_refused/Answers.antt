@@ -1,5 +1,5 @@
 use Rattle.std.proofs.Common.{◌≡◌, [], ◌∷◌, subst}
-use Rattle.tc_case.specs.Refusals.{refusal_text}
+use Rattle.tc_rules.specs.Prelude.{refusal_text}
 use Rattle.tc_text.proofs.Lemmas.Saying.{on_ok}
 use Rattle.tc_report.specs.Inside.{AddsWords}
 use Rattle.tc_report.proofs.Wording.{word_in_prose}

@@ -1,5 +1,5 @@
 use Rattle.std.proofs.Common.{◌∙◌, [], ◌∷◌, sym}
-use Rattle.tc_evidence.specs.declared.line.Line.TheVariants as L
+use Rattle.tc_blocks.specs.declared.line.Line.TheVariants as L
 use Rattle.tc_serve.proofs.Calling.{met_none, met_some}
 use Rattle.tc_serve.proofs.open_case.meet.Goals as goal
 

@@ -1,9 +1,9 @@
 use Rattle.std.specs.Prelude.{slice_get}
 use Rattle.std.proofs.Common.{◌≡◌, ◌<◌, ℕ, sym, ap, subst, ◌∙◌, Contains}
 use Rattle.atomic_table.specs.Seated.{TableId}
-use Rattle.tc_verdict.specs.UserVerdict.{given}
+use Rattle.tc_verdict.specs.Prelude.{given}
 use Rattle.tc_board.specs.declared.answer.AnswerList.{AnswerList}
-use Rattle.tc_board.specs.Answers.{worst_of}
+use Rattle.tc_board.specs.Answers.{worst_answer}
 use Rattle.tc_board.specs.Keeper.{KeeperView, carried_by}
 use Rattle.tc_board.specs.Inside.Steps.{verdict_of}
 use Rattle.tc_board.proofs.Lookup.{at_length, got_elem}
@@ -26,5 +26,5 @@ unreachable-requires c = let read = read_some c.fetch_or-found.result c.of_rank.
 pub returns-clause-counts : goal.returns-clause-counts
 returns-clause-counts c =
     let is = sym (verdict_of-rank c.in-Some.counted) ∙ ap verdict_of c.in-Some.ensures.ranked in
-    subst (λ (k : KeeperView). (l : AnswerList) → Contains k.gathered l → l.run ≡ c.args.run.0 → given c.in-Some.counted ≡ worst_of (carried_by k.records c.args.run.0) l.answers) c.self.view_is
+    subst (λ (k : KeeperView). (l : AnswerList) → Contains k.gathered l → l.run ≡ c.args.run.0 → given c.in-Some.counted ≡ worst_answer (carried_by k.records c.args.run.0) l.answers) c.self.view_is
     (counts_gathered c.board.inside.table.shared.table_id.slots c.args.run.0 c.fetch_or-found.result c.self.inside.seat.me c.in-Some.counted is c.fetch_or-found.ensures.2.2)

@@ -3,7 +3,7 @@ use Rattle.std.proofs.Common.{◌≡◌, ◌<◌, ℕ, List, [], ◌++◌, sym, 
 use Rattle.atomic_table.specs.Seated.{TableId}
 use Rattle.tc_board.specs.declared.answer.Answer.{Answer}
 use Rattle.tc_board.specs.declared.record.Record.{Record}
-use Rattle.tc_board.specs.Rule.{Agrees}
+use Rattle.tc_board.specs.Rule.{AnswersAgree}
 use Rattle.tc_board.specs.Hand.{HandView}
 use Rattle.tc_board.specs.Keeper.{KeeperView}
 use Rattle.tc_board.specs.Inside.Seats.{keeper_view, taken_back}
@@ -34,5 +34,5 @@ pub returns-clause-agrees : goal.returns-clause-agrees
 returns-clause-agrees c =
     let is = c.join_seat.ensures.2 ∙ ap (λ (m : Seated). (taken_back m.0 c.hand.inside.seat.me.0, m.1)) c.self.invariant.0
     ∙ ap (λ (m : Seated). (keeper_view c.self.inside.seat.me.0.records (c.self.inside.seat.me.0.lists ++ m.0.lists), [])) c.hand.invariant.0 in
-    subst (λ (z : List Record × ℕ × List Answer). (r : Record) × (slice_get z.0 z.1 ≡ Some r) × Agrees r z.2) (λ i. ((c.self.view_is i).records, (c.hand.view_is i).run, (c.hand.view_is i).answers))
+    subst (λ (z : List Record × ℕ × List Answer). (r : Record) × (slice_get z.0 z.1 ≡ Some r) × AnswersAgree r z.2) (λ i. ((c.self.view_is i).records, (c.hand.view_is i).run, (c.hand.view_is i).answers))
     (seen_agrees c.board.inside.table.shared.table_id.slots c.hand.inside.run.0 c.load.result _ _ _ _ _ is c.load.ensures.2)

@@ -1,5 +1,5 @@
 use Rattle.std.proofs.Common.{◌≡◌, ◌&&◌, not, ap, ◌∙◌, Bool}
-use Rattle.tc_table.specs.Laws.{keeps_phases, lets_go_on}
+use Rattle.tc_rules.specs.Prelude.{keeps_phases, lets_go_on}
 use Rattle.tc_book.proofs.Waking.{silent}
 use Rattle.tc_book.proofs.book.Book.call.Goals as goal
 

@@ -1,5 +1,5 @@
 use Rattle.std.proofs.Common.{rules, ◌≡◌, false, true, map}
-use Rattle.tc_case.specs.Merge.{merge}
+use Rattle.tc_rules.specs.Prelude.{merge}
 use Rattle.tc_book.specs.Closing.{run_log}
 use Rattle.tc_book.specs.Inside.{ArePlaced}
 use Rattle.tc_book.proofs.Merging.{joined_by}

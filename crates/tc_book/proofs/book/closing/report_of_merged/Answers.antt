@@ -1,5 +1,5 @@
 use Rattle.std.proofs.Common.{rules}
-use Rattle.tc_table.proofs.Lemmas.Differing.{not_merged}
+use Rattle.tc_rules.proofs.Lemmas.Differing.{not_merged}
 use Rattle.tc_book.proofs.book.closing.report_of_merged.Goals as goal
 
 pub returns-in-Err-Differs-clause-torn : goal.returns-in-Err-Differs-clause-torn

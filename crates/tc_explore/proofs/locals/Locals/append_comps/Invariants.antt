@@ -1,5 +1,5 @@
 use Rattle.std.specs.List.{flat_map, range_with_len}
-use Rattle.tc_text.specs.Said.{TellsAmong}
+use Rattle.tc_text.specs.Prelude.{TellsAmong}
 use Rattle.tc_explore.specs.Locals.{local_line}
 use Rattle.tc_explore.proofs.locals.Locals.append_comps.Given as goal
 

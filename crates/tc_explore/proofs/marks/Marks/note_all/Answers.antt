@@ -1,6 +1,5 @@
 use Rattle.std.proofs.Common.{◌≤◌, arith}
-use Rattle.tc_table.specs.Case.{past_of}
-use Rattle.tc_table.specs.Faults.{components}
+use Rattle.tc_rules.specs.Prelude.{past_of, components}
 use Rattle.tc_explore.proofs.Marking.{locals_all}
 use Rattle.tc_explore.proofs.marks.Marks.note_all.Goals as goal
 

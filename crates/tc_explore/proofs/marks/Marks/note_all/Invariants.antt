@@ -1,4 +1,4 @@
-use Rattle.tc_table.specs.Case.{past_of}
+use Rattle.tc_rules.specs.Prelude.{past_of}
 use Rattle.tc_explore.specs.Locals.{AreLocals}
 use Rattle.tc_explore.specs.Inside.Twins.{IsMore}
 use Rattle.tc_explore.proofs.Marking.{HasLocalsTo}

@@ -1,6 +1,6 @@
 use Rattle.std.proofs.Common.{rules, ◌≡◌, ◌∙◌, ◌<◌, ◌≤◌, ◌+◌, length, get_or, Some, None, true, false, slice_index_or, refl, sym, subst}
 use Rattle.std.proofs.lemmas.List.{get_or_default}
-use Rattle.tc_program.specs.Compared.{IsCourseOf, IsJudged, place}
+use Rattle.tc_program.specs.Compared.{IsCourseOf, IsJudged, place_in}
 use Rattle.tc_program.specs.Scripted.{scripts_of}
 use Rattle.tc_program.proofs.Beside.{beside_late, beside_next, beside_twice, beside_unknown, not_met, placed, scripts_at}
 use Rattle.tc_program.proofs.compare.Comparing.take.Goals as goal
@@ -9,7 +9,7 @@ pub returns-in_default-clause-judged : goal.returns-in_default-clause-judged
 returns-in_default-clause-judged c cases before distinct s =
     let b = c.args.block.now in
     let gone : c.place_of.result ≡ None = search rules in
-    let none : place cases b.header.name ≡ None = sym (c.place_of.ensures.is cases s.names) ∙ gone in
+    let none : place_in cases b.header.name ≡ None = sym (c.place_of.ensures.is cases s.names) ∙ gone in
     (beside_unknown cases before b c.args.self.now none s, IsJudged.unknown none)
 
 pub returns-then-index-clause-judged : goal.returns-then-index-clause-judged
@@ -17,7 +17,7 @@ returns-then-index-clause-judged c cases before distinct s =
     let b = c.args.block.now in
     let p = c.in-Some.place in
     let known : c.place_of.result ≡ Some p = search rules in
-    let at : place cases b.header.name ≡ Some p = sym (c.place_of.ensures.is cases s.names) ∙ known in
+    let at : place_in cases b.header.name ≡ Some p = sym (c.place_of.ensures.is cases s.names) ∙ known in
     let in_list : p < length c.args.self.now.met.items = search rules in
     let here : get_or c.args.self.now.met.items p c.index.result.now ≡ true = search rules in
     let was : slice_index_or c.args.self.now.met.items p false ≡ true = get_or_default c.args.self.now.met.items p false c.index.result.now in_list ∙ here in
@@ -29,7 +29,7 @@ returns-then-place-self-clause-judged c cases before distinct s =
     let b = c.args.block.now in
     let p = c.in-Some.place in
     let known : c.place_of.result ≡ Some p = search rules in
-    let at : place cases b.header.name ≡ Some p = sym (c.place_of.ensures.is cases s.names) ∙ known in
+    let at : place_in cases b.header.name ≡ Some p = sym (c.place_of.ensures.is cases s.names) ∙ known in
     let in_list : p < length c.args.self.now.met.items = search rules in
     let here : get_or c.args.self.now.met.items p c.index.result.now ≡ false = search rules in
     let was : slice_index_or c.args.self.now.met.items p false ≡ false = get_or_default c.args.self.now.met.items p false c.index.result.now in_list ∙ here in
@@ -42,7 +42,7 @@ returns-then-branch-clause-judged c cases before distinct s =
     let b = c.args.block.now in
     let p = c.in-Some.place in
     let known : c.place_of.result ≡ Some p = search rules in
-    let at : place cases b.header.name ≡ Some p = sym (c.place_of.ensures.is cases s.names) ∙ known in
+    let at : place_in cases b.header.name ≡ Some p = sym (c.place_of.ensures.is cases s.names) ∙ known in
     let in_list : p < length c.args.self.now.met.items = search rules in
     let here : get_or c.args.self.now.met.items p c.index.result.now ≡ false = search rules in
     let was : slice_index_or c.args.self.now.met.items p false ≡ false = get_or_default c.args.self.now.met.items p false c.index.result.now in_list ∙ here in
@@ -60,7 +60,7 @@ returns-else-branch-clause-judged c cases before distinct s =
     let b = c.args.block.now in
     let p = c.in-Some.place in
     let known : c.place_of.result ≡ Some p = search rules in
-    let at : place cases b.header.name ≡ Some p = sym (c.place_of.ensures.is cases s.names) ∙ known in
+    let at : place_in cases b.header.name ≡ Some p = sym (c.place_of.ensures.is cases s.names) ∙ known in
     let in_list : p < length c.args.self.now.met.items = search rules in
     let here : get_or c.args.self.now.met.items p c.index.result.now ≡ false = search rules in
     let was : slice_index_or c.args.self.now.met.items p false ≡ false = get_or_default c.args.self.now.met.items p false c.index.result.now in_list ∙ here in

@@ -1,6 +1,6 @@
 use Rattle.std.proofs.Common.{◌≡◌, true, false, arith}
 use Rattle.std.specs.Prelude.{is_some}
-use Rattle.tc_evidence.specs.declared.line.Line.TheVariants as L
+use Rattle.tc_blocks.specs.declared.line.Line.TheVariants as L
 use Rattle.tc_program.proofs.Playing.{entry_played, passed_played}
 use Rattle.tc_program.proofs.judge.Playing.play.Goals as goal
 

@@ -1,9 +1,9 @@
 use Rattle.std.proofs.Common.{◌≡◌, true, false, arith, subst}
 use Rattle.std.specs.Prelude.{is_some}
-use Rattle.tc_text.specs.Reading.{op_of}
-use Rattle.tc_history.specs.Text.{short_entry}
-use Rattle.tc_table.specs.Standing.{IsReply, TakesIn}
-use Rattle.tc_evidence.specs.declared.line.Line.TheVariants as L
+use Rattle.tc_text.specs.Prelude.{op_of}
+use Rattle.tc_blocks.specs.Prelude.{short_entry}
+use Rattle.tc_rules.specs.Prelude.{IsReplyOf, TakesIn}
+use Rattle.tc_blocks.specs.declared.line.Line.TheVariants as L
 use Rattle.tc_program.proofs.Playing.{entry_played, passed_played}
 use Rattle.tc_program.proofs.judge.Playing.play_short.Goals as goal
 
@@ -25,7 +25,7 @@ returns-then-same c first_line h lines here played =
     let fits = c.ranges.line.fits in (
       played.0,
       entry_played h.behaviours first_line lines (short_entry c.args.caller c.args.op c.args.given) p.state c.play_short.new.state p.entries c.saturating_add-self.result c.args.line p.difference none played.1
-          (subst (λ r. IsReply p.state c.args.caller (op_of c.args.op) r) same c.in_ok-reply.ensures.reply)
+          (subst (λ r. IsReplyOf p.state c.args.caller (op_of c.args.op) r) same c.in_ok-reply.ensures.reply)
           (subst (λ r. TakesIn p.state (short_entry c.args.caller c.args.op r) c.play_short.new.state) same c.in_ok-reply.ensures.stands)
           c.in_ok-reply.ensures.behaviours c.saturating_add-self.ensures here (omega (arith, fits)),
     )

@@ -1,5 +1,5 @@
 use Rattle.std.proofs.Common.{◌∙◌, [], ◌∷◌, ◌++◌, ap, sym}
-use Rattle.tc_evidence.specs.declared.line.Line.TheVariants as L
+use Rattle.tc_blocks.specs.declared.line.Line.TheVariants as L
 use Rattle.tc_program.proofs.Playing.{entries_last}
 use Rattle.tc_program.proofs.report.ReportingTakesEvidence.take_entry.Goals as goal
 

@@ -1,5 +1,5 @@
 use Rattle.std.proofs.Common.{◌∙◌, Ok, refl, sym}
-use Rattle.tc_evidence.specs.declared.line.Line.TheVariants as L
+use Rattle.tc_blocks.specs.declared.line.Line.TheVariants as L
 use Rattle.tc_serve.specs.declared.refusal.Refusal.TheVariants as W
 use Rattle.tc_serve.specs.Inside.{with_line}
 use Rattle.tc_serve.specs.Refusal.{why_text}

@@ -1,6 +1,5 @@
 use Rattle.std.proofs.Common.{◌∙◌, ap, sym}
-use Rattle.tc_verdict.specs.declared.verdict.Verdict.{Verdict}
-use Rattle.tc_verdict.specs.Verdict.{worse}
+use Rattle.tc_rules.specs.Prelude.{Verdict, worse}
 use Rattle.tc_serve.proofs.Trying.{closing}
 use Rattle.tc_serve.proofs.server.Server.close.Goals as goal
 

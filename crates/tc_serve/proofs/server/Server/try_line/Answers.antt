@@ -1,6 +1,6 @@
 use Rattle.std.proofs.Common.{Bool, subst, sym}
 use Rattle.std.proofs.lemmas.Result.{IfOk-weaker}
-use Rattle.tc_text.specs.Reading.{op_of}
+use Rattle.tc_text.specs.Prelude.{op_of}
 use Rattle.tc_serve.specs.declared.order.Order.TheVariants as O
 use Rattle.tc_serve.specs.Inside.{TriesLine}
 use Rattle.tc_serve.proofs.Trying.{asked_by}

@@ -1,4 +1,4 @@
-use Rattle.tc_entry.specs.declared.entry.Entry.{Entry}
+use Rattle.tc_rules.specs.Prelude.{Entry}
 use Rattle.tc_book.proofs.Handed.{hand_other}
 use Rattle.tc_book.proofs.logged_book.log.Log.add.Goals as goal
 

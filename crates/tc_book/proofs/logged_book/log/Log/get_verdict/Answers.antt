@@ -1,4 +1,4 @@
-use Rattle.tc_entry.specs.declared.entry.Entry.{Entry}
+use Rattle.tc_rules.specs.Prelude.{Entry}
 use Rattle.tc_entry.specs.declared.op.Op.TheVariants as ops
 use Rattle.tc_book.proofs.Handed.{hand_said}
 use Rattle.tc_book.proofs.logged_book.log.Log.get_verdict.Goals as goal

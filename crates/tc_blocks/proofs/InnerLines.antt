@@ -1,0 +1,195 @@
+-- The lines of entries and the last line of a block.
+use Rattle.std.proofs.Common.{ℕ, ◌≡◌, ◌∙◌, true, false, List, [], ◌∷◌, ◌++◌, codes, ap, sym, refl, append_assoc, arith, rules}
+use Rattle.tc_rules.specs.Prelude.{Run, Verdict, name_of, Entry, Op, Fault, Reply, fault_name}
+use Rattle.tc_verdict.specs.declared.verdict.Verdict.TheVariants as V
+use Rattle.tc_entry.specs.declared.reply.Fault.TheVariants as F
+use Rattle.tc_entry.specs.declared.reply.Reply.TheVariants as R
+use Rattle.tc_text.specs.declared.short.ShortOp.{ShortOp}
+use Rattle.tc_text.specs.declared.short.ShortOp.TheVariants as H
+use Rattle.tc_text.specs.Prelude.{lines_of, EndsMove, EndsLine, op_of, move_text, reply_text, IsReply}
+use Rattle.tc_text.proofs.Lemmas.LinesOf.{NoLf, no_lf-append, line_ended, first_line, same_behind}
+use Rattle.tc_text.proofs.Lemmas.Plain.{number_plain, move_plain, some_move}
+use Rattle.tc_blocks.specs.HistoryBlock.{entry_text, end_text, outcome_text}
+use Rattle.tc_blocks.specs.HistoryText.{IsEntry, IsUnnamed}
+
+pub verdict_plain : (v : Verdict) → NoLf (name_of v)
+verdict_plain V.None = search rules
+verdict_plain V.Pass = search rules
+verdict_plain V.Inconc = search rules
+verdict_plain V.Fail = search rules
+verdict_plain V.Error = search rules
+
+fault_plain : (f : Fault) → NoLf (fault_name f)
+fault_plain F.NoComponent = search rules
+fault_plain F.NotMain = search rules
+fault_plain F.StartMain = search rules
+fault_plain F.AlreadyRunning = search rules
+fault_plain F.NotStartable = search rules
+fault_plain F.NoBehaviour = search rules
+fault_plain F.TooMany = search rules
+fault_plain F.Stuck = search rules
+
+pub reply_plain : (r : Reply) → IsReply r → NoLf (reply_text r)
+reply_plain (R.Made c) fits = no_lf-append (codes "made ") _ (search rules) (number_plain c.0 fits)
+reply_plain R.Ok fits = search rules
+reply_plain (R.Answer true) fits = search rules
+reply_plain (R.Answer false) fits = search rules
+reply_plain (R.Local v) fits = verdict_plain v
+reply_plain R.Matched fits = search rules
+reply_plain R.Parked fits = search rules
+reply_plain R.Ended fits = search rules
+reply_plain (R.Fault f) fits = no_lf-append (codes "error ") (fault_name f) (search rules) (fault_plain f)
+
+-- ---- the last line
+
+end_assoc : (v : Verdict) (rest : List ℕ) → end_text v ++ rest ≡ codes "end " ++ (name_of v ++ rest)
+end_assoc v rest = refl
+
+pub end_spelled : (text r1 r2 behind : List ℕ) (v : Verdict) → text ≡ codes "end " ++ r1 → r1 ≡ name_of v ++ r2 → EndsLine r2 behind → lines_of text ≡ end_text v ∷ lines_of behind
+end_spelled text r1 r2 behind v word named ends =
+    ap lines_of (word ∙ (ap (λ l. codes "end " ++ l) named ∙ sym (end_assoc v r2)))
+    ∙ line_ended (end_text v) r2 behind (λ e. cc) (no_lf-append (codes "end ") (name_of v) (search rules) (verdict_plain v)) ends
+
+-- the text is that of a last line, and the line's end is after it
+pub record BeginsWithEnd (text : List ℕ) (v : Verdict) (others : List (List ℕ)) : Type 0 where
+  pub rest : List ℕ
+  pub behind : List ℕ
+  pub parts : text ≡ codes "end " ++ (name_of v ++ rest)
+  pub ends : EndsLine rest behind
+  pub lines : lines_of behind ≡ others
+
+pub begins_with_end : (text : List ℕ) (v : Verdict) (others : List (List ℕ)) → lines_of text ≡ end_text v ∷ others → BeginsWithEnd text v others
+begins_with_end text v others lines =
+    let begins = first_line text (end_text v) others lines in
+    record { rest = begins.rest; behind = begins.behind; parts = begins.parts ∙ end_assoc v begins.rest; ends = begins.ends; lines = begins.lines }
+
+pub behind_end : (xs ys : List ℕ) → codes "end " ++ xs ≡ codes "end " ++ ys → xs ≡ ys
+behind_end xs ys e = cc
+
+pub ends_at : (x y behind : List ℕ) → x ≡ y → EndsLine y behind → EndsLine x behind
+ends_at x y behind e ends = rw e ends
+
+-- what follows a line's end is one thing
+pub same_lines : (rest tail end behind : List ℕ) (others : List (List ℕ)) → rest ≡ tail → EndsLine rest end → EndsLine tail behind → lines_of behind ≡ others → lines_of end ≡ others
+same_lines rest tail end behind others same here there lines = ap lines_of (same_behind rest end behind here (ends_at rest tail behind same there)) ∙ lines
+
+-- ---- the line of an entry
+
+entry_assoc : (e : Entry) (rest : List ℕ) → entry_text e ++ rest ≡ move_text e.caller.0 e.op ++ (codes " -> " ++ (reply_text e.reply ++ rest))
+entry_assoc e rest = append_assoc (move_text e.caller.0 e.op) (codes " -> " ++ reply_text e.reply) rest
+
+first_part : (xs ys : List ℕ) → xs ++ ys ≡ [] → xs ≡ []
+first_part [] ys e = refl
+first_part (x ∷ xs) ys e = absurd cc
+
+pub entry_spelled : (text r1 r2 r3 behind : List ℕ) (f : ℕ) (e : Entry) → text ≡ move_text e.caller.0 e.op ++ r1 → r1 ≡ codes " -> " ++ r2 → r2 ≡ reply_text e.reply ++ r3 → EndsLine r3 behind → IsEntry f e →
+    lines_of text ≡ entry_text e ∷ lines_of behind
+entry_spelled text r1 r2 r3 behind f e moved arrow replied ends fits =
+    ap lines_of (moved ∙ (ap (λ l. move_text e.caller.0 e.op ++ l) (arrow ∙ ap (λ l. codes " -> " ++ l) replied) ∙ sym (entry_assoc e r3)))
+    ∙ line_ended (entry_text e) r3 behind (λ none. some_move e.caller.0 e.op fits.caller (first_part (move_text e.caller.0 e.op) _ none))
+    (no_lf-append (move_text e.caller.0 e.op) _ (move_plain e.caller.0 e.op fits.caller fits.op) (no_lf-append (codes " -> ") (reply_text e.reply) (search rules) (reply_plain e.reply fits.reply))) ends
+
+-- the text is that of an entry, and the line's end is after it
+pub record BeginsWithEntry (text : List ℕ) (e : Entry) (others : List (List ℕ)) : Type 0 where
+  pub rest : List ℕ
+  pub behind : List ℕ
+  pub parts : text ≡ move_text e.caller.0 e.op ++ (codes " -> " ++ (reply_text e.reply ++ rest))
+  pub ends : EndsLine rest behind
+  pub lines : lines_of behind ≡ others
+
+pub begins_with_entry : (text : List ℕ) (e : Entry) (others : List (List ℕ)) → lines_of text ≡ entry_text e ∷ others → BeginsWithEntry text e others
+begins_with_entry text e others lines =
+    let begins = first_line text (entry_text e) others lines in
+    record { rest = begins.rest; behind = begins.behind; parts = begins.parts ∙ entry_assoc e begins.rest; ends = begins.ends; lines = begins.lines }
+
+first_is : (x y : ℕ) (xs ys : List ℕ) → x ∷ xs ≡ y ∷ ys → x ≡ y
+first_is x y xs ys e = cc
+
+second_is : (x y z : ℕ) (w : ℕ) (xs ys : List ℕ) → x ∷ y ∷ xs ≡ z ∷ w ∷ ys → y ≡ w
+second_is x y z w xs ys e = cc
+
+pub ends_arrow : (rest : List ℕ) → EndsMove (codes " -> " ++ rest)
+ends_arrow rest = record {
+  number = λ b after e. let same : ◌≡◌ {A = ℕ} 32 b = first_is 32 b (45 ∷ 62 ∷ 32 ∷ rest) after e in omega (arith, same);
+  word = λ b after e. let same : ◌≡◌ {A = ℕ} 45 b = second_is 32 45 32 b (62 ∷ 32 ∷ rest) after e in omega (arith, same);
+}
+
+pub behind_arrow : (xs ys : List ℕ) → codes " -> " ++ xs ≡ codes " -> " ++ ys → xs ≡ ys
+behind_arrow xs ys e = cc
+
+-- ---- what follows a move
+
+outcome_plain : (r : Reply) → IsReply r → NoLf (outcome_text r)
+outcome_plain r fits = no_lf-append (codes " -> ") (reply_text r) (search rules) (reply_plain r fits)
+
+pub outcome_spelled : (text r1 r2 behind : List ℕ) (r : Reply) → text ≡ codes " -> " ++ r1 → r1 ≡ reply_text r ++ r2 → EndsLine r2 behind → IsReply r → lines_of text ≡ outcome_text r ∷ lines_of behind
+outcome_spelled text r1 r2 behind r arrow replied ends fits =
+    ap lines_of (arrow ∙ ap (λ l. codes " -> " ++ l) replied) ∙ line_ended (outcome_text r) r2 behind (λ e. cc) (outcome_plain r fits) ends
+
+-- the text begins with what follows a move, and the line's end is after it
+pub record BeginsWithOutcome (text : List ℕ) (r : Reply) (others : List (List ℕ)) : Type 0 where
+  pub rest : List ℕ
+  pub behind : List ℕ
+  pub parts : text ≡ codes " -> " ++ (reply_text r ++ rest)
+  pub ends : EndsLine rest behind
+  pub lines : lines_of behind ≡ others
+
+pub begins_with_outcome : (text : List ℕ) (r : Reply) (others : List (List ℕ)) → lines_of text ≡ outcome_text r ∷ others → BeginsWithOutcome text r others
+begins_with_outcome text r others lines =
+    let begins = first_line text (outcome_text r) others lines in
+    record { rest = begins.rest; behind = begins.behind; parts = begins.parts; ends = begins.ends; lines = begins.lines }
+
+-- the text begins with the move of the entry, and the rest of its line is after it
+pub record BeginsWithMove (text : List ℕ) (e : Entry) (others : List (List ℕ)) : Type 0 where
+  pub rest : List ℕ
+  pub parts : text ≡ move_text e.caller.0 e.op ++ rest
+  pub ends : EndsMove rest
+  pub lines : lines_of rest ≡ outcome_text e.reply ∷ others
+
+pub begins_with_move : (text : List ℕ) (f : ℕ) (e : Entry) (others : List (List ℕ)) → IsEntry f e → lines_of text ≡ entry_text e ∷ others → BeginsWithMove text e others
+begins_with_move text f e others fits lines =
+    let begins = begins_with_entry text e others lines in
+    let behind = reply_text e.reply ++ begins.rest in
+    record {
+      rest = codes " -> " ++ behind;
+      parts = begins.parts;
+      ends = ends_arrow behind;
+      lines = outcome_spelled (codes " -> " ++ behind) behind begins.rest begins.behind e.reply refl refl begins.ends fits.reply ∙ ap (λ l. outcome_text e.reply ∷ l) begins.lines;
+    }
+
+-- a move, and the rest of its line
+pub entry_and_outcome : (text rest after : List ℕ) (f : ℕ) (e : Entry) → text ≡ move_text e.caller.0 e.op ++ rest → lines_of rest ≡ outcome_text e.reply ∷ lines_of after → IsEntry f e → lines_of text ≡ entry_text e ∷ lines_of after
+entry_and_outcome text rest after f e moved lines fits =
+    let begins = begins_with_outcome rest e.reply (lines_of after) lines in
+    entry_spelled text rest (reply_text e.reply ++ begins.rest) begins.rest begins.behind f e moved begins.parts refl begins.ends fits ∙ ap (λ l. entry_text e ∷ l) begins.lines
+
+abbrev make : Run → Op → Reply → Entry
+make run op reply = record { caller = run; op = op; reply = reply }
+
+pub same_entry : (run : Run) (op : Op) (reply : Reply) (e : Entry) → ◌≡◌ {A = Run × Op} (run, op) (e.caller, e.op) → reply ≡ e.reply → ◌≡◌ {A = Entry} (record { caller = run; op = op; reply = reply }) e
+same_entry run op reply e moved replied =
+    let caller : run ≡ e.caller = ap (λ (p : Run × Op). p.0) moved in
+    let operation : op ≡ e.op = ap (λ (p : Run × Op). p.1) moved in
+    ap (λ (x : Run). make x op reply) caller ∙ ap (λ (x : Op). make e.caller x reply) operation ∙ ap (λ (x : Reply). make e.caller e.op x) replied
+
+pub same_parts : (run : Run) (op : Op) (reply : Reply) (e : Entry) → run.0 ≡ e.caller.0 → op ≡ e.op → reply ≡ e.reply → ◌≡◌ {A = Entry} (record { caller = run; op = op; reply = reply }) e
+same_parts run op reply e caller operation replied =
+    ap (λ (n : ℕ). make (record { 0 = n }) op reply) caller ∙ ap (λ (x : Op). make e.caller x reply) operation ∙ ap (λ (x : Reply). make e.caller e.op x) replied
+
+-- a short operation gives no component a name
+pub short_unnamed : (s : ShortOp) → IsUnnamed (op_of s)
+short_unnamed (H.Create alive) = tt
+short_unnamed (H.Stop g) = tt
+short_unnamed (H.Kill g) = tt
+short_unnamed H.StopCase = tt
+short_unnamed (H.Running t) = tt
+short_unnamed (H.Alive t) = tt
+short_unnamed (H.Done t) = tt
+short_unnamed (H.Killed t) = tt
+short_unnamed (H.WaitDone t) = tt
+short_unnamed (H.WaitKilled t) = tt
+short_unnamed (H.WakeDone t) = tt
+short_unnamed (H.WakeKilled t) = tt
+short_unnamed (H.SetVerdict v) = tt
+short_unnamed H.GetVerdict = tt
+short_unnamed H.Finish = tt

@@ -1,0 +1,21 @@
+use Rattle.std.proofs.Common.{List, subst, sym}
+use Rattle.std.proofs.lemmas.Result.{IfOk-weaker}
+use Rattle.std.specs.Result.{IfOk}
+use Rattle.tc_blocks.specs.declared.header.Kind.{Kind}
+use Rattle.tc_blocks.specs.declared.header.Kind.TheVariants as K
+use Rattle.tc_blocks.specs.declared.line.Line.{Line}
+use Rattle.tc_blocks.specs.Met.{AreMet}
+use Rattle.tc_blocks.specs.Text.{IsLine, format_of}
+use Rattle.tc_blocks.specs.Inside.{IsFound, IsNoEntryLine, IsNote}
+use Rattle.tc_blocks.proofs.NextLines.{line_of_note}
+use Rattle.tc_blocks.proofs.read.take_other.Goals as goal
+
+pub returns-in-Evidence : goal.returns-in-Evidence
+returns-in-Evidence c =
+    let n = c.args.behaviours in
+    let text = c.args.text.now in
+    let met = c.args.met.now in
+    subst (λ (k : Kind). IfOk c.take_note.result (λ found. (before : List Line) → AreMet met before → IsFound (IsLine k n before) text found)) (sym c.in-Evidence.is)
+    (IfOk-weaker c.take_note.result (λ found. (before : List Line) → AreMet met before → IsFound (IsNote n before) text found)
+    (λ found. (before : List Line) → AreMet met before → IsFound (IsLine K.Evidence n before) text found)
+    (λ found is before kept. line_of_note n before text (subst (λ (k : Kind). IsNoEntryLine (format_of k) text) c.in-Evidence.is c.requires.no_entry) found (is before kept)) c.take_note.ensures)

@@ -1,0 +1,34 @@
+-- The text of a test case's history; it is this project's own.
+use Rattle.std.specs.Prelude.{ℕ, ◌==◌, if◌then◌else◌, List, [], ◌∷◌, ◌++◌, codes}
+use Rattle.std.specs.List.{flat_map}
+use Rattle.std.specs.Fmt.{decimal}
+use Rattle.tc_rules.specs.Prelude.{Verdict, name_of, Entry, Reply}
+use Rattle.tc_text.specs.Prelude.{move_text, reply_text}
+
+-- the words of a first line, which say its format: 1 or 2
+abbrev pub format_text : ℕ → List ℕ
+format_text f = if f == 1 then codes "history 1 " else codes "history 2 "
+
+-- the first line, without its LF: the format, the name of the case, and how many behaviours it has
+abbrev pub history_header_text : ℕ → List ℕ → ℕ → List ℕ
+history_header_text f name n = format_text f ++ (name ++ (codes " " ++ decimal n))
+
+-- what follows the move of an entry
+abbrev pub outcome_text : Reply → List ℕ
+outcome_text r = codes " -> " ++ reply_text r
+
+-- an entry, without its LF
+abbrev pub entry_text : Entry → List ℕ
+entry_text e = move_text e.caller.0 e.op ++ outcome_text e.reply
+
+-- the last line, without its LF
+abbrev pub end_text : Verdict → List ℕ
+end_text v = codes "end " ++ name_of v
+
+-- the line of an entry
+abbrev pub entry_line : Entry → List ℕ
+entry_line e = entry_text e ++ (10 ∷ [])
+
+-- a first line, a line for each entry, and a last line
+abbrev pub history_text : ℕ → List ℕ → ℕ → List Entry → Verdict → List ℕ
+history_text f name n entries v = history_header_text f name n ++ (10 ∷ (flat_map entry_line entries ++ (end_text v ++ (10 ∷ []))))

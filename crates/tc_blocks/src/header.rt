@@ -1,0 +1,114 @@
+//! The first line of a block.
+ghost use Rattle.std.specs.Prelude.{◌≡◌, ◌≢◌, ◌<◌, ◌↔◌, ◌++◌, ◌∷◌, ℕ, true, List, length, IfSome, IsTrue};
+ghost use Rattle.tc_text.specs.Prelude.{lines_of, Takes};
+ghost use Rattle.tc_text.specs.Inside.{TakesLine};
+ghost use Rattle.tc_blocks.specs.declared.header.Header.{Header as AnyHeader};
+ghost use Rattle.tc_blocks.specs.declared.header.Kind.{Kind as AnyKind};
+ghost use Rattle.tc_blocks.specs.declared.header.Kind.TheVariants as kinds;
+ghost use Rattle.tc_blocks.specs.Block.{header_text, kind_text};
+ghost use Rattle.tc_blocks.specs.Text.{IsHeader, format_of};
+ghost use Rattle.tc_blocks.specs.Inside.{IsFirst};
+
+use crate::take_behaviours;
+use tc_entry::Name;
+use tc_text::{after, take_name};
+
+/// What a block is.
+#[derive(Clone, Copy, PartialEq, Eq, Debug, Drop)]
+pub enum Kind {
+    /// A history of format 1: no component has a name.
+    History1,
+    /// A history of format 2.
+    History2,
+    /// Evidence: next to entries it has names of behaviours, remarks and refused lines.
+    Evidence,
+}
+
+impl Kind {
+    /// The format of the entries; those of evidence are spelled as in format 2.
+    pub(crate) fn format(self) -> u16
+        ensures { result ≡ format_of self }
+    {
+        match self {
+            Kind::History1 => 1,
+            Kind::History2 | Kind::Evidence => 2,
+        }
+    }
+}
+
+/// What the first line of a block says.
+#[derive(Debug, Drop)]
+pub struct Header {
+    /// What the block is.
+    pub kind: Kind,
+    /// The name of the test case.
+    pub name: Name,
+    /// How many behaviours it had.
+    pub behaviours: u16,
+}
+
+// The kind that the text begins with the words of, and what follows them.
+fn take_kind(text: &[u8]) -> Option<(Kind, &[u8])>
+    ensures spelled { IfSome result (λ r. text.now ≡ kind_text r.0 ++ r.1.now) }
+    ensures only { (k : AnyKind) (rest : List ℕ) → text.now ≡ kind_text k ++ rest → Takes result k rest }
+{
+    if let Some(rest) = after(text, b"evidence 1 ") {
+        Some((Kind::Evidence, rest))
+    } else if let Some(rest) = after(text, b"history 2 ") {
+        Some((Kind::History2, rest))
+    } else if let Some(rest) = after(text, b"history 1 ") {
+        Some((Kind::History1, rest))
+    } else {
+        None
+    }
+}
+
+// What the first line says, if it is the first one of a block, and what follows that line.
+fn take_header(text: &[u8]) -> Option<(Header, &[u8])>
+    ensures spelled { IfSome result (λ r. lines_of text.now ≡ header_text r.0 ∷ lines_of r.1.now) }
+    ensures fits { IfSome result (λ r. IsHeader r.0) }
+    ensures less { IfSome result (λ r. length r.1.now < length text.now) }
+    ensures only { (h : AnyHeader) (others : List (List ℕ)) → IsHeader h → lines_of text.now ≡ header_text h ∷ others
+        → TakesLine result h others }
+{
+    let (kind, rest) = take_kind(text)?;
+    let (name, rest) = take_name(rest)?;
+    match take_behaviours(kind.format(), rest) {
+        Some((behaviours, rest)) => {
+            let header = Header {
+                kind,
+                name,
+                behaviours,
+            };
+            Some((header, rest))
+        }
+        None => None,
+    }
+}
+
+// Whether a text may have a block of this kind, if it may have histories only.
+fn may_have(only_histories: bool, kind: Kind) -> bool
+    ensures { IsTrue result ↔ (only_histories ≡ true → kind ≢ kinds.Evidence) }
+{
+    match kind {
+        Kind::Evidence => !only_histories,
+        Kind::History1 | Kind::History2 => true,
+    }
+}
+
+/// What the first line says, if it is the first one of a block that a text may have, which may have histories only, and
+/// what follows that line.
+pub(crate) fn take_first_line(only_histories: bool, text: &[u8]) -> Option<(Header, &[u8])>
+    ensures spelled { IfSome result (λ r. lines_of text.now ≡ header_text r.0 ∷ lines_of r.1.now) }
+    ensures header { IfSome result (λ r. IsHeader r.0) }
+    ensures first { IfSome result (λ r. IsFirst only_histories r.0) }
+    ensures less { IfSome result (λ r. length r.1.now < length text.now) }
+    ensures only { (h : AnyHeader) (others : List (List ℕ)) → IsFirst only_histories h → lines_of text.now ≡ header_text h ∷ others
+        → TakesLine result h others }
+{
+    let (header, rest) = take_header(text)?;
+    if !may_have(only_histories, header.kind) {
+        return None;
+    }
+    Some((header, rest))
+}

@@ -1,0 +1,32 @@
+//! A test case as text: histories, and evidence, which names behaviours and holds what people say.
+#![tactic(auto)]
+
+mod block;
+mod header;
+mod history_block;
+mod history_header;
+mod history_line;
+pub mod laws;
+mod line;
+mod met;
+mod note;
+mod parts;
+mod read;
+mod reading;
+mod sentence;
+mod source;
+mod taking;
+mod write;
+
+pub use block::Block;
+pub use header::{Header, Kind};
+pub use history_block::{History, append_end, append_entries, append_entry, write_block};
+pub use history_header::{FORMAT_1_BEHAVIOURS, take_behaviours};
+pub use history_line::{take_end_line, take_entry_line, take_short_line};
+pub use line::Line;
+pub use met::MetRuns;
+pub use read::{read_evidence, read_evidence_into, read_history};
+pub use sentence::{SENTENCE_BYTES, Sentence};
+pub use source::read_evidence_from;
+pub use taking::{BegunBlock, TakesEvidence};
+pub use write::{append_first_line, append_line, append_said, append_whole_block};

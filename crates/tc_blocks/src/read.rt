@@ -1,0 +1,184 @@
+//! Reading blocks.
+ghost use Rattle.std.specs.Prelude.{◌≡◌, ◌<◌, ◌≤◌, ◌+◌, ℕ, List, length, IfOk, IfErr, OnOk, IfSome, MatchOption, MatchResult};
+ghost use Rattle.tc_blocks.specs.declared.history_block.History.{History as AnyHistory};
+ghost use Rattle.tc_blocks.specs.declared.block.Block.{Block as AnyBlock};
+ghost use Rattle.tc_blocks.specs.declared.header.Header.{Header as AnyHeader};
+ghost use Rattle.tc_blocks.specs.declared.line.Line.{Line as AnyLine};
+ghost use Rattle.tc_blocks.specs.Met.{AreMet};
+ghost use Rattle.tc_blocks.specs.Text.{AreEvidence, IsFault, IsHeader, IsLine, format_of};
+ghost use Rattle.tc_blocks.specs.Histories.{AreHistories, IsHistoryHeader};
+ghost use Rattle.tc_blocks.specs.Inside.{AreTakenBy, IsFirst, IsFound, IsInsideFault, IsLineTakenBy, IsNoEntryLine, IsNoLine, IsOpenTo, IsWholeOf};
+
+use crate::block::{Block, histories_of};
+use crate::header::Kind;
+use crate::line::Line;
+use crate::met::MetRuns;
+use crate::note::take_note;
+use crate::parts::{finish, take_part};
+use crate::reading::Reading;
+use crate::taking::TakesEvidence;
+use crate::{History, take_end_line, take_entry_line, take_short_line};
+use std::alloc::Global;
+use tc_entry::{NoMemory, Sequence, Verdict};
+use tc_text::{TextFault, TextKind};
+
+// The line that is no entry and may come inside such a block after lines that are about these runs, which the first line
+// spells, and what follows that line.
+fn take_other<'a>(
+    alloc: Global,
+    kind: Kind,
+    behaviours: u16,
+    met: &MetRuns,
+    text: &'a [u8],
+) -> Result<Option<(Line, &'a [u8])>, NoMemory>
+    requires few { behaviours ≤ 256 }
+    requires no_entry { IsNoEntryLine (format_of kind) text.now }
+    ensures { IfOk result (λ found. (before : List AnyLine) → AreMet met.now before → IsFound (IsLine kind behaviours before) text.now found) }
+{
+    match kind {
+        Kind::Evidence => take_note(alloc, behaviours, met, text),
+        Kind::History1 | Kind::History2 => Ok(None),
+    }
+}
+
+// Takes the line that the text begins with, which has this number, if it may come inside such a block after lines that
+// are about these runs; gives what follows it.
+#[inline(never)]
+fn take_any_line<'a, H: TakesEvidence>(
+    alloc: Global,
+    kind: Kind,
+    behaviours: u16,
+    met: &mut MetRuns,
+    begun: &mut H::Begun,
+    text: &'a [u8],
+    line: usize,
+) -> Result<Option<&'a [u8]>, NoMemory>
+    requires { behaviours ≤ 256 }
+    ensures { IfOk result (λ found. MatchOption found (IsNoLine kind behaviours met.old text.now)
+        (λ rest. IsLineTakenBy H.opens kind behaviours text.now line met.old met.new begun.old begun.new rest.now)) }
+{
+    if let Some((entry, rest)) = take_entry_line(kind.format(), text) {
+        met.add_entry(&entry);
+        H::take_entry(begun, line, entry)?;
+        return Ok(Some(rest));
+    }
+    let Some((other, rest)) = take_other(alloc, kind, behaviours, met, text)? else {
+        return Ok(None);
+    };
+    met.add_line(&other);
+    H::take(begun, line, other)?;
+    Ok(Some(rest))
+}
+
+// The same: of all lines most are entries with short operations, each of which is made where it is passed on.
+#[inline(always)]
+fn take_line<'a, H: TakesEvidence>(
+    alloc: Global,
+    kind: Kind,
+    behaviours: u16,
+    met: &mut MetRuns,
+    begun: &mut H::Begun,
+    text: &'a [u8],
+    line: usize,
+) -> Result<Option<&'a [u8]>, NoMemory>
+    requires { behaviours ≤ 256 }
+    ensures { IfOk result (λ found. MatchOption found (IsNoLine kind behaviours met.old text.now)
+        (λ rest. IsLineTakenBy H.opens kind behaviours text.now line met.old met.new begun.old begun.new rest.now)) }
+{
+    let Some(((caller, short, reply), rest)) = take_short_line::<H>(text) else {
+        return take_any_line::<H>(alloc, kind, behaviours, met, begun, text, line);
+    };
+    met.add_caller(caller);
+    H::take_short(begun, line, caller, short, reply)?;
+    Ok(Some(rest))
+}
+
+// Takes the lines inside a block with which the text continues, up to the block's last line or the end of the text. Gives
+// the number of the line that it came to, and if that is the last one, its verdict and what follows it.
+pub(crate) fn take_lines<'a, H: TakesEvidence>(
+    alloc: Global,
+    kind: Kind,
+    behaviours: u16,
+    met: &mut MetRuns,
+    begun: &mut H::Begun,
+    text: &'a [u8],
+    first_line: usize,
+) -> Result<(usize, Option<(Verdict, &'a [u8])>), TextFault>
+    requires few { behaviours ≤ 256 }
+    requires room { first_line + length text.now ≤ usize.MAX }
+    requires met { (some : List AnyLine) × AreMet met.old some }
+    ensures met { OnOk result ((some : List AnyLine) × AreMet met.new some) }
+    ensures taken { IfOk result (λ r. AreTakenBy H.opens kind behaviours text.now first_line met.old met.new begun.old begun.new r.0 r.1) }
+    ensures room { IfOk result (λ r. r.0 ≤ first_line + length text.now) }
+    ensures behind { IfOk result (λ r. IfSome r.1 (λ end. r.0 + 1 + length end.1.now ≤ first_line + length text.now)) }
+    ensures less { IfOk result (λ r. IfSome r.1 (λ end. length end.1.now < length text.now)) }
+    ensures fault { IfErr result (λ e. (at : ℕ) (h : AnyHeader) (inside : List AnyLine)
+        → IsOpenTo H.opens kind behaviours at h inside met.old begun.old first_line → IsInsideFault kind behaviours inside at text.now e) }
+{
+    let mut rest = text;
+    let mut line = first_line;
+    while !rest.is_empty() {
+        if let Some(end) = take_end_line(rest) {
+            return Ok((line, Some(end)));
+        }
+        let Some(behind) = take_line::<H>(alloc, kind, behaviours, met, begun, rest, line)? else {
+            return Err(TextFault::at(line, TextKind::Entry));
+        };
+        line += 1;
+        rest = behind;
+    }
+    Ok((line, None))
+}
+
+// What the blocks that the text spells make, otherwise the text's first fault; NoMemory may come instead. The text may
+// have histories only.
+fn read_into<H: TakesEvidence + Drop>(
+    alloc: Global,
+    only_histories: bool,
+    text: &[u8],
+) -> Result<H, TextFault>
+    ensures ok { IfOk result (λ made. IsWholeOf H.stands (IsFirst only_histories) text.now made) }
+    ensures fault { IfErr result (λ e. IsFault (IsFirst only_histories) text.now e) }
+{
+    let mut reading = Reading::new(alloc, only_histories);
+    take_part(alloc, &mut reading, text)?;
+    finish(reading)
+}
+
+/// What the blocks that the text spells make, histories and evidence in any order, otherwise the text's first fault;
+/// NoMemory may come instead.
+#[tactic(auto, using(crate::proofs::PartByPart::fault_only))]
+pub fn read_evidence_into<H: TakesEvidence + Drop>(
+    alloc: Global,
+    text: &[u8],
+) -> Result<H, TextFault>
+    ensures ok { IfOk result (λ made. (blocks : List AnyBlock) × AreEvidence text.now blocks × H.stands blocks made) }
+    ensures fault { IfErr result (λ e. IsFault IsHeader text.now e) }
+    ensures only { (all : List AnyBlock) → AreEvidence text.now all
+        → MatchResult result (λ made. H.stands all made) (λ e. e ≡ TextFault.NoMemory) }
+{
+    read_into(alloc, false, text)
+}
+
+/// The blocks that the text spells, histories and evidence in any order, otherwise its first fault; NoMemory may come
+/// instead.
+pub fn read_evidence(alloc: Global, text: &[u8]) -> Result<Sequence<Block>, TextFault>
+    ensures ok { IfOk result (λ blocks. AreEvidence text.now blocks) }
+    ensures fault { IfErr result (λ e. IsFault IsHeader text.now e) }
+    ensures only { (all : List AnyBlock) → AreEvidence text.now all
+        → MatchResult result (λ blocks. blocks ≡ all) (λ e. e ≡ TextFault.NoMemory) }
+{
+    read_evidence_into(alloc, text)
+}
+
+/// The histories that the text spells, otherwise its first fault; the first line of evidence is one too. NoMemory may come
+/// instead.
+pub fn read_history(alloc: Global, text: &[u8]) -> Result<Vec<History>, TextFault>
+    ensures ok { IfOk result (λ found. AreHistories text.now found.items) }
+    ensures fault { IfErr result (λ e. IsFault IsHistoryHeader text.now e) }
+    ensures only { (all : List AnyHistory) → AreHistories text.now all
+        → MatchResult result (λ found. found.items ≡ all) (λ e. e ≡ TextFault.NoMemory) }
+{
+    let blocks: Sequence<Block> = read_into(alloc, true, text)?;
+    Ok(histories_of(alloc, blocks.as_slice())?)
+}

@@ -1,0 +1,118 @@
+//! What is made of blocks as they are read.
+ghost use Rattle.std.specs.Prelude.{◌≡◌, ◌+◌, ◌++◌, ◌∷◌, ℕ, List, [], length, IfOk, OnOk};
+ghost use Rattle.tc_blocks.specs.declared.block.Block.{Block as AnyBlock};
+ghost use Rattle.tc_blocks.specs.declared.header.Header.{Header as AnyHeader};
+ghost use Rattle.tc_blocks.specs.declared.line.Line.{Line as AnyLine};
+ghost use Rattle.tc_blocks.specs.declared.line.Line.TheVariants as lines;
+ghost use Rattle.tc_blocks.specs.Text.{IsHeader};
+ghost use Rattle.tc_blocks.specs.HistoryText.{short_entry};
+
+use crate::block::Block;
+use crate::header::Header;
+use crate::line::Line;
+use std::alloc::Global;
+use tc_entry::{Entry, NoMemory, Reply, Run, Sequence, Verdict};
+use tc_text::ShortOp;
+
+/// What is made of blocks, line by line.
+pub trait TakesEvidence: Sized {
+    /// What is made of a block that is not read to its end.
+    type Begun: Drop;
+
+    /// The value is what a first line with this number and these lines below it make.
+    ghost opens: { ℕ → AnyHeader → List AnyLine → Self.Begun → Type 0 };
+    /// The value is what these blocks make.
+    ghost stands: { List AnyBlock → Self → Type 0 };
+
+    /// What no block makes.
+    fn begin(alloc: Global) -> Self
+        ensures { stands [] result };
+
+    /// What a first line with this number makes.
+    fn start(alloc: Global, first_line: usize, header: Header) -> Result<Self::Begun, NoMemory>
+        requires { IsHeader header }
+        ensures { IfOk result (opens first_line header []) };
+
+    /// Takes the next line of the block, which has this number.
+    fn take(begun: &mut Self::Begun, line: usize, taken: Line) -> Result<(), NoMemory>
+        ensures { OnOk result ((first_line : ℕ) (h : AnyHeader) (before : List AnyLine) → line ≡ first_line + length before + 1
+            → opens first_line h before begun.old → opens first_line h (before ++ taken ∷ []) begun.new) };
+
+    /// Takes the next line of the block, which has this number, if it is an entry.
+    fn take_entry(begun: &mut Self::Begun, line: usize, entry: Entry) -> Result<(), NoMemory>
+        ensures { OnOk result ((first_line : ℕ) (h : AnyHeader) (before : List AnyLine) → line ≡ first_line + length before + 1
+            → opens first_line h before begun.old → opens first_line h (before ++ lines.Entry entry ∷ []) begun.new) }
+    {
+        Self::take(begun, line, Line::Entry(entry))
+    }
+
+    /// Takes the next line of the block, which has this number, if it is an entry with a short operation.
+    fn take_short(
+        begun: &mut Self::Begun,
+        line: usize,
+        caller: Run,
+        op: ShortOp,
+        reply: Reply,
+    ) -> Result<(), NoMemory>
+        ensures { OnOk result ((first_line : ℕ) (h : AnyHeader) (before : List AnyLine) → line ≡ first_line + length before + 1
+            → opens first_line h before begun.old → opens first_line h (before ++ lines.Entry (short_entry caller op reply) ∷ []) begun.new) }
+    {
+        let entry = Entry {
+            caller,
+            op: op.op(),
+            reply,
+        };
+        Self::take_entry(begun, line, entry)
+    }
+
+    /// Takes the block, whose last line has this number and this verdict.
+    fn close(&mut self, begun: Self::Begun, line: usize, verdict: Verdict) -> Result<(), NoMemory>
+        ensures { OnOk result ((blocks : List AnyBlock) (b : AnyBlock) → line ≡ b.first_line + length b.lines + 1 → verdict ≡ b.verdict
+            → opens b.first_line b.header b.lines begun → stands blocks self.old → stands (blocks ++ b ∷ []) self.new) };
+}
+
+/// A block that is not read to its end.
+#[derive(Drop)]
+pub struct BegunBlock {
+    header: Header,
+    first_line: usize,
+    lines: Sequence<Line>,
+}
+
+impl TakesEvidence for Sequence<Block> {
+    type Begun = BegunBlock;
+
+    ghost opens = { λ first_line h lines o. (o.first_line ≡ first_line) × (o.header ≡ h) × (o.lines ≡ lines) };
+
+    ghost stands = { λ blocks s. s ≡ blocks };
+
+    fn begin(alloc: Global) -> Sequence<Block> {
+        Sequence::new(Vec::new(alloc))
+    }
+
+    fn start(alloc: Global, first_line: usize, header: Header) -> Result<BegunBlock, NoMemory> {
+        Ok(BegunBlock {
+            header,
+            first_line,
+            lines: Sequence::new(Vec::new(alloc)),
+        })
+    }
+
+    fn take(begun: &mut BegunBlock, _line: usize, taken: Line) -> Result<(), NoMemory> {
+        begun.lines.push(taken)
+    }
+
+    fn close(&mut self, begun: BegunBlock, _line: usize, verdict: Verdict) -> Result<(), NoMemory> {
+        let BegunBlock {
+            header,
+            first_line,
+            lines,
+        } = begun;
+        self.push(Block {
+            header,
+            first_line,
+            lines,
+            verdict,
+        })
+    }
+}

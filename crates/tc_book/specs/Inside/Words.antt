@@ -1,0 +1,43 @@
+-- What only the way the words are settled needs: no public clause names a word of this file.
+use Rattle.std.specs.Prelude.{ℕ, ◌≡◌, ◌<◌, Bool, true, false, Some, List, length, set}
+use Rattle.tc_rules.specs.Prelude.{Run, UserVerdict, Entry, Op, Reply, comp_of, is_active}
+use Rattle.tc_verdict.specs.declared.user_verdict.UserVerdict.TheVariants as U
+use Rattle.tc_entry.specs.declared.op.Op.TheVariants as O
+use Rattle.tc_entry.specs.declared.reply.Reply.TheVariants as R
+use Rattle.tc_board.specs.declared.record.Record.{Record}
+use Rattle.tc_board.specs.declared.record.Record.TheVariants.{Unbegun, Open, Closed}
+use Rattle.tc_book.specs.Words.{IsWordOf, record_at, carried, is_closed, run_before}
+
+-- the word was begun and not closed yet
+abbrev pub is_open : Record → Bool
+is_open (Open carried) = true
+is_open _ = false
+
+-- the verdict that a word was begun with
+abbrev pub opening : Record → UserVerdict
+opening (Open carried) = carried
+opening (Closed carried counted) = carried
+opening Unbegun = U.None
+
+-- the record of a run's word is right, if the word of a run that no longer continues may still be open
+pub record Lags (past : List Entry) (words : List Record) (b : ℕ) : Type 0 where
+  pub was : Bool
+  pub active : is_active past b ≡ true → was ≡ true
+  pub is : IsWordOf (comp_of past b) was (carried words past b) (record_at words b)
+
+-- the words of the runs below i follow from the history, the others may lag
+pub record WordsLag (n : ℕ) (past : List Entry) (words : List Record) (i : ℕ) : Type 0 where
+  pub as_many : length words ≡ n
+  pub each : (b : ℕ) → b < n → Lags past words b
+  pub before : (b : ℕ) (a : Run) → run_before past b ≡ Some a → is_closed (record_at words a.0) ≡ true
+  pub settled : (b : ℕ) → b < i → is_open (record_at words b) ≡ true → is_active past b ≡ true
+
+-- the word of a run that is started by this call is unbegun
+abbrev pub CanBegin : Op → Reply → List Record → Type 0
+CanBegin (O.Start c run args) R.Ok words = (run.0 < length words) × (record_at words run.0 ≡ Unbegun)
+CanBegin _ _ words = Unit {0}
+
+-- the words once that of the run that this call starts is begun
+abbrev pub with_start : Op → Reply → UserVerdict → List Record → List Record
+with_start (O.Start c run args) R.Ok u words = set words run.0 (Open u)
+with_start _ _ u words = words

@@ -1,0 +1,69 @@
+-- The words of the verdict board next to a history without verdict entries: what was done with the word of each run.
+-- `past` lists the entries so far, the newest first, and `words` has the record of each run's word, by its number.
+use Rattle.std.specs.Prelude.{ℕ, ◌≡◌, ◌<◌, if◌then◌else◌, Bool, true, false, Option, Some, None, is_some, List, [], ◌∷◌, length, slice_index_or}
+use Rattle.tc_rules.specs.Prelude.{Run, UserVerdict, Comp, Entry, Op, comp_of, started_on, last_run, is_active}
+use Rattle.tc_verdict.specs.declared.user_verdict.UserVerdict.TheVariants as U
+use Rattle.tc_entry.specs.declared.op.Op.TheVariants as O
+use Rattle.tc_board.specs.declared.record.Record.{Record}
+use Rattle.tc_board.specs.declared.record.Record.TheVariants.{Unbegun, Open, Closed}
+
+-- the word was begun and closed
+abbrev pub is_closed : Record → Bool
+is_closed (Closed carried counted) = true
+is_closed _ = false
+
+-- the verdict that the close of a word gave
+abbrev pub closing : Record → UserVerdict
+closing (Closed carried counted) = counted
+closing _ = U.None
+
+-- what was done with the word of run b
+abbrev pub record_at : List Record → ℕ → Record
+record_at words b = slice_index_or words b Unbegun
+
+-- what the close of this run's word gave: none if there is no run
+abbrev pub left_by : List Record → Option Run → UserVerdict
+left_by words (Some run) = closing (record_at words run.0)
+left_by words None = U.None
+
+-- the last run on this component, if there is one
+abbrev pub last_on : List Entry → Option Comp → Option Run
+last_on past (Some c) = last_run past c.0
+last_on past None = None
+
+-- the run before run b on its component: the last on it as run b was started
+abbrev pub run_before : List Entry → ℕ → Option Run
+run_before [] b = None
+run_before (e ∷ past) b = if is_some (comp_of past b) then run_before past b else last_on past (started_on e b)
+
+-- what the component of run b carried as the run was started: what the close of the word of the run before it gave
+abbrev pub carried : List Record → List Entry → ℕ → UserVerdict
+carried words past b = left_by words (run_before past b)
+
+-- The word of a run, by its component, whether it is active, and what it began with. It is unbegun if the run was never
+-- started, open if it is active, and closed if it was halted.
+abbrev pub IsWordOf : Option Comp → Bool → UserVerdict → Record → Type 0
+IsWordOf None active u word = word ≡ Unbegun
+IsWordOf (Some c) true u word = word ≡ Open u
+IsWordOf (Some c) false u word = (v : UserVerdict) × (word ≡ Closed u v)
+
+-- the word of each run is as the history says, and was begun with what its component carried
+pub record WordsAgree (n : ℕ) (past : List Entry) (words : List Record) : Type 0 where
+  pub as_many : length words ≡ n
+  pub each : (b : ℕ) → b < n → IsWordOf (comp_of past b) (is_active past b) (carried words past b) (record_at words b)
+  -- the word of the run before another on its component is closed
+  pub before : (b : ℕ) (a : Run) → run_before past b ≡ Some a → is_closed (record_at words a.0) ≡ true
+
+-- a word that was closed stays as it was
+abbrev pub StayClosed : List Record → List Record → Type 0
+StayClosed before after = (b : ℕ) → is_closed (record_at before b) ≡ true → record_at after b ≡ record_at before b
+
+-- what the component carries on which this call would start a run
+abbrev pub carried_to : List Record → List Entry → Op → UserVerdict
+carried_to words past (O.Start c run args) = left_by words (last_run past c.0)
+carried_to words past _ = U.None
+
+-- what the component carried on which the newest entry would start a run
+abbrev pub carried_to_newest : List Record → List Entry → UserVerdict
+carried_to_newest words [] = U.None
+carried_to_newest words (e ∷ past) = carried_to words past e.op

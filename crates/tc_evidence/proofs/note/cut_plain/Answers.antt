@@ -1,6 +1,0 @@
-use Rattle.std.proofs.Common.{◌∙◌, sym}
-use Rattle.tc_evidence.proofs.Notes.{plain_take}
-use Rattle.tc_evidence.proofs.note.cut_plain.Goals as goal
-
-pub loop-place-preserved : goal.loop-place-preserved
-loop-place-preserved c = plain_take c.args.text.now c.loop-place.place 0 c.loop-place-test.true c.loop-place.invariant (sym c.is_plain.ensures ∙ c.if-not-is_plain.false)

@@ -1,9 +1,0 @@
-use Rattle.tc_evidence.proofs.Unfinished.{IsReadSoFar}
-use Rattle.tc_evidence.proofs.source.read_evidence_from.Given as goal
-
-abbrev pub invariant-loop-pending : goal.invariant-loop-pending
-invariant-loop-pending g l =
-    IsReadSoFar g.H.TakesEvidence.stands g.H.TakesEvidence.opens (g.R.Read.remaining l.fn.reader) (g.R.Read.remaining l.reader) l.limit l.left l.pending.reading l.pending.unfinished.items
-
-abbrev pub decreases-loop-pending : goal.decreases-loop-pending
-decreases-loop-pending g l = l.left

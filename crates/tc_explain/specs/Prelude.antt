@@ -1,0 +1,2 @@
+-- What other crates cite of these definitions.
+unfoldable pub use Rattle.tc_explain.specs.Explanation.{explanation}

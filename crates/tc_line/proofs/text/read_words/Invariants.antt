@@ -1,7 +1,0 @@
-use Rattle.std.proofs.Common.{◌≡◌, map}
-use Rattle.std.specs.Prelude.{filter}
-use Rattle.tc_line.specs.Inside.Indented.{is_some_text}
-use Rattle.tc_line.proofs.text.read_words.Given as goal
-
-abbrev pub invariant-loop-part : goal.invariant-loop-part
-invariant-loop-part l = map (λ w. w.now) l.list.items ≡ filter is_some_text (map (λ w. w.now) l.yielded)

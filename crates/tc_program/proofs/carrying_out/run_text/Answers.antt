@@ -1,0 +1,33 @@
+use Rattle.std.proofs.Common.{subst, sym}
+use Rattle.tc_program.specs.Fault.{run_fault_line}
+use Rattle.tc_program.specs.Inside.{Refuses}
+use Rattle.tc_program.specs.Program.{IsDoneBy}
+use Rattle.tc_program.specs.Streams.{held_streams}
+use Rattle.tc_program.specs.Stderr.{IsPrintedRefusal}
+use Rattle.tc_program.proofs.Doing.{keeps_same}
+use Rattle.tc_program.proofs.Scripted.{even, run_done, run_left}
+use Rattle.tc_program.proofs.carrying_out.run_text.Goals as goal
+
+pub returns-in-Err : goal.returns-in-Err
+returns-in-Err g c =
+    IsDoneBy.refused c.in-Err.fault (subst (λ task. Refuses task c.args.text.now c.in-Err.fault) (sym c.requires) c.in-Err.ensures.refused)
+    (keeps_same (g.W.Write.contents c.args.writer.now)) c.refuse_text.ensures
+
+pub run_cases-requires-clause-names : goal.run_cases-requires-clause-names
+run_cases-requires-clause-names g c κs within = even c.in-Ok.ensures.chosen.cases c.in-Ok.cases.items c.in-Ok.ensures.chosen.each
+
+pub returns-in-Ok-run_cases : goal.returns-in-Ok-run_cases
+returns-in-Ok-run_cases g c =
+    let are = c.in-Ok.ensures.chosen in
+    IsDoneBy.run c.args.options.now c.requires
+    (run_done c.args.options.now c.args.text.now are.cases c.in-Ok.cases.items are.chosen are.lawful are.each
+    (held_streams g.W.Write.contents c.args.writer.now c.run_cases.new.writer g.E.Write.contents c.args.errors.now c.run_cases.new.errors) c.in-Ok-run_cases.outcome c.in-Ok-run_cases.ensures.done)
+
+pub returns-in-Err-run_cases : goal.returns-in-Err-run_cases
+returns-in-Err-run_cases g c =
+    let are = c.in-Ok.ensures.chosen in
+    IsDoneBy.run c.args.options.now c.requires
+    (run_left c.args.options.now c.args.text.now are.cases c.in-Ok.cases.items are.chosen are.lawful are.each
+    (held_streams g.W.Write.contents c.args.writer.now c.run_cases.new.writer g.E.Write.contents c.args.errors.now c.run_cases.new.errors) c.in-Err-run_cases.fault
+    (g.E.Write.contents c.refuse.new.errors) c.refuse.result c.in-Err-run_cases.ensures.refused
+    (subst (λ f. IsPrintedRefusal (g.E.Write.contents c.run_cases.new.errors) (g.E.Write.contents c.refuse.new.errors) (run_fault_line f) c.refuse.result) c.from.ensures c.refuse.ensures))

@@ -1,8 +1,0 @@
-use Rattle.tc_text.specs.Reading.{op_of}
-use Rattle.tc_program.proofs.Replaying.{played_more}
-use Rattle.tc_program.proofs.replay.ReplayingTakesMoves.take_short.Goals as goal
-
-pub returns : goal.returns
-returns c n moves before =
-    let played = c.in_ok-reply.ensures in
-    played_more n moves c.args.self.now _ (c.args.caller, op_of c.args.op) c.in_ok-reply.reply before played.behaviours played.stands c.in_ok-append_reply.ensures

@@ -1,5 +1,0 @@
-use Rattle.std.proofs.Common.{append_assoc, rules}
-use Rattle.tc_program.proofs.replay.append_any_reply.Goals as goal
-
-pub returns : goal.returns
-returns c = search (rules, append_assoc)

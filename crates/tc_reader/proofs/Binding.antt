@@ -1,0 +1,170 @@
+-- If the references of a behaviour are bound, each place of its steps is.
+use Rattle.std.proofs.Common.{ℕ, suc, ◌≡◌, ◌∙◌, ◌+◌, ◌<◌, Bool, true, false, Option, Some, None, List, [], ◌∷◌, ◌++◌, length, map, All, nat_eq, refl, sym, ap, arith, rules, cond}
+use Rattle.std.specs.Prelude.{◌||◌, not, if◌then◌else◌}
+use Rattle.std.specs.List.{list_any, position_or_len}
+use Rattle.std.specs.Option.{option_map, option_or}
+use Rattle.std.specs.Cmp.Lexicographic.{pointwise, bytes_decides}
+use Rattle.std.proofs.lemmas.List.{length-append}
+use Rattle.std.proofs.lemmas.List.Elements.{All-cons}
+use Rattle.std.proofs.lemmas.List.Folds.{list_any-append}
+use Rattle.tc_reader.specs.declared.kind.ScriptKind.{ScriptKind}
+use Rattle.tc_reader.specs.declared.kind.ScriptKind.TheVariants as F
+use Rattle.tc_reader.specs.declared.line.Call.TheVariants as C
+use Rattle.tc_reader.specs.declared.line.Line.{Line}
+use Rattle.tc_reader.specs.declared.line.Line.TheVariants as L
+use Rattle.tc_reader.specs.Words.{is_text}
+use Rattle.tc_step.specs.declared.place.Place.{Place}
+use Rattle.tc_step.specs.declared.place.Place.TheVariants as P
+use Rattle.tc_step.specs.declared.place.GroupPlace.{GroupPlace}
+use Rattle.tc_step.specs.declared.place.GroupPlace.TheVariants as G
+use Rattle.tc_step.specs.declared.place.TargetPlace.{TargetPlace}
+use Rattle.tc_step.specs.declared.place.TargetPlace.TheVariants as T
+use Rattle.tc_step.specs.Prelude.{group_map, target_map, IsBound, AreBound, of_group, of_target}
+use Rattle.tc_reader.specs.Names.{among, index_of, add, all_of, has_twice}
+use Rattle.tc_reader.specs.Scope.{Head, scope_of, bound}
+use Rattle.tc_reader.specs.Campaign.{steps, step_of, place}
+use Rattle.tc_reader.specs.FirstPass.{at_next}
+use Rattle.tc_reader.specs.SecondPass.{misnamed, name_fault, is_unbound}
+
+pub named_next : (past : List Line) (l : Line) (rest : List Line) → misnamed past (l ∷ rest) ≡ None → (name_fault (scope_of past (l ∷ rest)) l ≡ None) × (misnamed (l ∷ past) rest ≡ None)
+named_next past l rest is = by (name_fault (scope_of past (l ∷ rest)) l) is
+  where
+    by : (o : Option ScriptKind) → option_or (option_map (at_next past) o) (misnamed (l ∷ past) rest) ≡ None → (o ≡ None) × (misnamed (l ∷ past) rest ≡ None)
+    by (Some kind) e = absurd cc
+    by None e = (refl, e)
+
+pub neither : (a b : Bool) → (a || b) ≡ false → (a ≡ false) × (b ≡ false)
+neither false false e = (refl, refl)
+neither false true e = absurd cc
+neither true b e = absurd cc
+
+-- ---- places
+
+found_below : {X : Type 0} (p : X → Bool) (xs : List X) → list_any p xs ≡ true → position_or_len p xs < length xs
+found_below p [] e = absurd cc
+found_below p (x ∷ xs) e = by (p x) (found_below p xs) e
+  where
+    by : (b : Bool) → (list_any p xs ≡ true → position_or_len p xs < length xs) → (b || list_any p xs) ≡ true → cond (not b) (1 + position_or_len p xs) 0 < suc (length xs)
+    by true low e = omega arith
+    by false low e = let less = low e in omega (arith, less)
+
+known : (b : Bool) → not b ≡ false → b ≡ true
+known true e = refl
+known false e = absurd cc
+
+place_bound : (ns : List (List ℕ)) (r : Place (List ℕ)) → is_unbound ns r ≡ false → IsBound (length ns) (place ns r)
+unfolding among index_of
+place_bound ns P.Main e = tt
+place_bound ns P.Own e = tt
+place_bound ns (P.Bound n) e = found_below (is_text n) ns (known (among n ns) e)
+
+all_bound : (ns : List (List ℕ)) (rs : List (Place (List ℕ))) → list_any (is_unbound ns) rs ≡ false → All (IsBound (length ns)) (map (place ns) rs)
+all_bound ns [] e = search rules
+all_bound ns (r ∷ rs) e =
+    let two = neither (is_unbound ns r) (list_any (is_unbound ns) rs) e in
+    All-cons (IsBound (length ns)) (place ns r) (map (place ns) rs) (place_bound ns r two.0) (all_bound ns rs two.1)
+
+group_bound : (ns : List (List ℕ)) (g : GroupPlace (Place (List ℕ))) → list_any (is_unbound ns) (of_group g) ≡ false → All (IsBound (length ns)) (of_group (group_map (place ns) g))
+group_bound ns (G.One r) e = all_bound ns (r ∷ []) e
+group_bound ns G.All e = search rules
+
+target_bound : (ns : List (List ℕ)) (t : TargetPlace (Place (List ℕ))) → list_any (is_unbound ns) (of_target t) ≡ false → All (IsBound (length ns)) (of_target (target_map (place ns) t))
+target_bound ns (T.One r) e = all_bound ns (r ∷ []) e
+target_bound ns T.Any e = search rules
+target_bound ns T.All e = search rules
+
+-- ---- what the lack of a fault says
+
+-- neither the first nor another
+pub no_first : (b : Bool) (kind : ScriptKind) (others : Option ScriptKind) → (if b then Some kind else others) ≡ None → (b ≡ false) × (others ≡ None)
+no_first true kind others e = absurd cc
+no_first false kind others e = (refl, e)
+
+pub no_fault : (b : Bool) (kind : ScriptKind) → (if b then Some kind else None) ≡ None → b ≡ false
+no_fault b kind e = (no_first b kind None e).0
+
+-- ---- names that are bound once each
+
+pub add_new : (n : List ℕ) (ns : List (List ℕ)) → among n ns ≡ false → add n ns ≡ ns ++ n ∷ []
+add_new n ns e = rw e refl
+
+one_longer : (n : List ℕ) (ns : List (List ℕ)) → length (ns ++ n ∷ []) ≡ length ns + 1
+one_longer n ns = length-append ns (n ∷ [])
+
+-- none of these is among the others
+abbrev AreNew : List (List ℕ) → List (List ℕ) → Type 0
+AreNew ns [] = Unit {0}
+AreNew ns (m ∷ ms) = (among m ns ≡ false) × AreNew ns ms
+
+pub differ : (n m : List ℕ) → is_text n m ≡ false → is_text m n ≡ false
+unfolding is_text
+differ n m e = by (pointwise nat_eq m n) (bytes_decides m n).0
+  where
+    by : (b : Bool) → (b ≡ true → m ≡ n) → b ≡ false
+    by true f = let yes : pointwise nat_eq n m ≡ true = (bytes_decides n m).1 (sym (f refl)) in absurd cc
+    by false f = refl
+
+pub either : (a b : Bool) → a ≡ false → b ≡ false → (a || b) ≡ false
+either a b p q = rw (p, q) refl
+
+new_behind : (ns : List (List ℕ)) (n : List ℕ) (ms : List (List ℕ)) → AreNew ns ms → among n ms ≡ false → AreNew (ns ++ n ∷ []) ms
+unfolding among
+new_behind ns n [] are e = tt
+new_behind ns n (m ∷ ms) are e =
+    let two = neither (is_text n m) (list_any (is_text n) ms) e in
+    (list_any-append (is_text m) ns (n ∷ []) ∙ either _ _ are.0 (either _ _ (differ n m two.0) refl), new_behind ns n ms are.1 two.1)
+
+all_length : (ns ps : List (List ℕ)) → has_twice ps ≡ false → AreNew ns ps → length (all_of ns ps) ≡ length ns + length ps
+all_length ns [] e are = omega arith
+all_length ns (m ∷ ms) e are =
+    let two = neither (among m ms) (has_twice ms) e in
+    let next = all_length (ns ++ m ∷ []) ms two.1 (new_behind ns m ms are.1 two.0) in
+    let here : length (all_of (add m ns) ms) ≡ length (all_of (ns ++ m ∷ []) ms) = ap (λ xs. length (all_of xs ms)) (add_new m ns are.0) in
+    let long = one_longer m ns in
+    here ∙ grind (arith, next, long)
+
+new_to_none : (ps : List (List ℕ)) → AreNew [] ps
+unfolding among
+new_to_none [] = tt
+new_to_none (m ∷ ms) = (refl, new_to_none ms)
+
+-- ---- the steps of a behaviour
+
+are_bound : (hs : List Head) (past rest : List Line) → misnamed past rest ≡ None → AreBound (length (bound past)) (steps hs (bound past) rest)
+unfolding step_of
+are_bound hs past [] named = tt
+are_bound hs past (L.TestCase n ∷ rest) named = tt
+are_bound hs past (L.Behaviour n ps ∷ rest) named = tt
+are_bound hs past (L.End ∷ rest) named = tt
+are_bound hs past (L.Skipped ∷ rest) named = are_bound hs (L.Skipped ∷ past) rest (named_next past L.Skipped rest named).1
+are_bound hs past (L.Step (C.Create n alive given_name) ∷ rest) named =
+    let two = named_next past (L.Step (C.Create n alive given_name)) rest named in
+    let new : add n (bound past) ≡ bound past ++ n ∷ [] = add_new n (bound past) (no_fault _ F.Twice two.0) in
+    let long : length (add n (bound past)) ≡ length (bound past) + 1 = ap length new ∙ one_longer n (bound past) in
+    (search rules, rw (← long) (are_bound hs (L.Step (C.Create n alive given_name) ∷ past) rest two.1))
+are_bound hs past (L.Step (C.Start on b args) ∷ rest) named =
+    let two = named_next past (L.Step (C.Start on b args)) rest named in
+    (all_bound (bound past) (on ∷ args) ((no_first _ F.NoReference _ two.0).0), are_bound hs (L.Step (C.Start on b args) ∷ past) rest two.1)
+are_bound hs past (L.Step (C.Stop g) ∷ rest) named =
+    let two = named_next past (L.Step (C.Stop g)) rest named in
+    (group_bound (bound past) g (no_fault _ F.NoReference two.0), are_bound hs (L.Step (C.Stop g) ∷ past) rest two.1)
+are_bound hs past (L.Step (C.Kill g) ∷ rest) named =
+    let two = named_next past (L.Step (C.Kill g)) rest named in
+    (group_bound (bound past) g (no_fault _ F.NoReference two.0), are_bound hs (L.Step (C.Kill g) ∷ past) rest two.1)
+are_bound hs past (L.Step (C.Ask s t) ∷ rest) named =
+    let two = named_next past (L.Step (C.Ask s t)) rest named in
+    (target_bound (bound past) t (no_fault _ F.NoReference two.0), are_bound hs (L.Step (C.Ask s t) ∷ past) rest two.1)
+are_bound hs past (L.Step (C.Wait killed t) ∷ rest) named =
+    let two = named_next past (L.Step (C.Wait killed t)) rest named in
+    (target_bound (bound past) t (no_fault _ F.NoReference two.0), are_bound hs (L.Step (C.Wait killed t) ∷ past) rest two.1)
+are_bound hs past (L.Step (C.SetVerdict v) ∷ rest) named = (search rules, are_bound hs (L.Step (C.SetVerdict v) ∷ past) rest (named_next past (L.Step (C.SetVerdict v)) rest named).1)
+are_bound hs past (L.Step C.StopCase ∷ rest) named = (search rules, are_bound hs (L.Step C.StopCase ∷ past) rest (named_next past (L.Step C.StopCase) rest named).1)
+are_bound hs past (L.Step C.GetVerdict ∷ rest) named = (search rules, are_bound hs (L.Step C.GetVerdict ∷ past) rest (named_next past (L.Step C.GetVerdict) rest named).1)
+
+-- those of a behaviour with these parameters
+pub places_bound : (hs : List Head) (past : List Line) (n : List ℕ) (ps : List (List ℕ)) (rest : List Line) → name_fault (scope_of past (L.Behaviour n ps ∷ rest)) (L.Behaviour n ps) ≡ None
+    → misnamed (L.Behaviour n ps ∷ past) rest ≡ None → AreBound (length ps) (steps hs (all_of [] ps) rest)
+places_bound hs past n ps rest here named =
+    let once = neither (among n (scope_of past (L.Behaviour n ps ∷ rest)).behaviours) (has_twice ps) (no_first _ F.Twice _ here).0 in
+    let long : length (all_of [] ps) ≡ length ps = all_length [] ps once.1 (new_to_none ps) ∙ omega arith in
+    rw (← long) (are_bound hs (L.Behaviour n ps ∷ past) rest named)

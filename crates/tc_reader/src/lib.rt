@@ -1,0 +1,36 @@
+//! Scripts as text: lines, and the campaign that they spell.
+#![tactic(auto)]
+
+mod campaign;
+mod counts;
+mod fault;
+mod first_pass;
+mod heads;
+mod kept_lines;
+mod kind;
+mod limits;
+mod line;
+mod line_reading;
+mod names;
+mod open;
+mod plain;
+mod reading;
+mod scope;
+mod second_pass;
+mod spelling;
+mod steps;
+mod text;
+mod word;
+
+pub use campaign::{Campaign, CaseScript};
+pub use fault::{ReadFault, ScriptFault};
+pub use kind::{LineFault, ScriptKind};
+pub use limits::TEST_CASES;
+pub use line::{Call, Keyword, Line};
+pub use line_reading::{is_comment, read_line, read_reference};
+pub use reading::read_campaign;
+pub use spelling::{is_word, read_keyword};
+pub use tc_entry::{Name, Sequence, UserVerdict};
+pub use tc_step::{GroupPlace, Place, Places, STEPS, Script, Status, Step, TargetPlace};
+pub use text::{Lines, Part, read_words};
+pub use word::read_name;

@@ -1,0 +1,87 @@
+//! Distinct names, in their order.
+ghost use Rattle.std.specs.Prelude.{◌≡◌, ◌==◌, ◌≤◌, length, [], OnOk, OnErr, IfOk, not};
+ghost use Rattle.tc_reader.specs.Words.{is_text};
+ghost use Rattle.tc_reader.specs.Names.{among, index_of, add};
+
+use crate::Name;
+use indexmap::IndexSet;
+use std::alloc::{AllocFailed, Global};
+use std::marker::Model;
+
+/// Distinct names, in the order in which they came.
+#[derive(Drop)]
+pub(crate) struct Names {
+    set: IndexSet<Name>,
+}
+
+impl Model for Names {
+    ghost use Rattle.std.specs.Prelude.{List, ℕ};
+
+    ghost Value = { List (List ℕ) };
+
+    ghost view = { λ n. n.set.keys };
+}
+
+/// Whether both are the same name.
+#[tactic(auto, unfolding(crate::specs::Words::is_text))]
+fn is_same(name: &Name, other: &Name) -> bool
+    ensures { result ≡ is_text name.now other.now }
+{
+    name.bytes() == other.bytes()
+}
+
+/// Whether the name is one of these.
+#[tactic(auto, unfolding(crate::specs::Names::among))]
+pub(crate) fn is_one_of(name: &Name, names: &[Name]) -> bool
+    ensures { result ≡ among name.now names.now }
+{
+    names.iter().any(|other| is_same(name, other))
+}
+
+impl Names {
+    /// No name.
+    pub(crate) fn new(alloc: Global) -> Names
+        ensures { result ≡ [] }
+    {
+        Names {
+            set: IndexSet::new(alloc),
+        }
+    }
+
+    /// Whether the name is one of them.
+    #[tactic(auto, unfolding(crate::specs::Words::is_text, crate::specs::Names::among))]
+    pub(crate) fn contains(&self, name: &Name) -> bool
+        ensures { result ≡ among name.now self.now }
+    {
+        self.set.contains(name)
+    }
+
+    /// Whether there is no name.
+    pub(crate) fn is_empty(&self) -> bool
+        ensures { result ≡ (length self.now == 0) }
+    {
+        self.set.is_empty()
+    }
+
+    /// The place of the name; the number of names if it is none of them.
+    #[tactic(auto, unfolding(crate::specs::Words::is_text, crate::specs::Names::index_of))]
+    pub(crate) fn place_of(&self, name: &Name) -> usize
+        ensures place { result ≡ index_of name.now self.now }
+        ensures within { result ≤ length self.now }
+    {
+        match self.set.get_index_of(name) {
+            Some(index) => index,
+            None => self.set.len(),
+        }
+    }
+
+    /// Adds the name after the others, if it is none of them.
+    #[tactic(auto, unfolding(crate::specs::Words::is_text, crate::specs::Names::among))]
+    pub(crate) fn add(&mut self, name: Name) -> Result<bool, AllocFailed<Name>>
+        ensures new { IfOk result (λ is_new. is_new ≡ not (among name self.old)) }
+        ensures added { OnOk result (self.new ≡ add name self.old) }
+        ensures same { OnErr result (self.new ≡ self.old) }
+    {
+        self.set.insert(name)
+    }
+}

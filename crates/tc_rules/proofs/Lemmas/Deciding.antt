@@ -1,0 +1,72 @@
+-- Small facts on tests, options and operations, which several files need.
+use Rattle.std.proofs.Common.{ℕ, ◌≡◌, ◌==◌, ◌&&◌, ◌<◌, ◌≤◌, if◌then◌else◌, Bool, true, false, Option, Some, None, is_some, refl, arith}
+use Rattle.std.proofs.lemmas.Bool.Decides.{nat_tests}
+use Rattle.tc_entry.specs.declared.comp.Comp.{Comp}
+use Rattle.tc_entry.specs.declared.op.Op.{Op}
+use Rattle.tc_entry.specs.declared.op.Op.TheVariants as O
+use Rattle.tc_entry.specs.declared.reply.Reply.{Reply}
+use Rattle.tc_entry.specs.declared.reply.Reply.TheVariants as R
+use Rattle.tc_entry.specs.Prelude.{is_ok}
+use Rattle.tc_rules.specs.History.{first_some, is_comp, is_finish, is_kill_of, is_stop_case, is_stop_of}
+use Rattle.tc_rules.specs.Inside.Laws.{halting_op}
+
+pub self_equal : (m : ℕ) → (m == m) ≡ true
+self_equal m = grind (arith, nat_tests)
+
+pub equal_if : (m n : ℕ) → (m == n) ≡ true → m ≡ n
+equal_if m n h = grind (arith, nat_tests)
+
+pub if_same : {A : Type 0} (t : Bool) (x : A) → (if t then x else x) ≡ x
+if_same true x = refl
+if_same false x = refl
+
+pub test_by : {A : Type 0} (t : Bool) (d' d : A) → (if t then Some d' else None) ≡ Some d → (t ≡ true) × (d' ≡ d)
+test_by true d' d h = (refl, cc)
+test_by false d' d h = absurd cc
+
+pub and_no : (b : Bool) → (b && false) ≡ false
+and_no true = refl
+and_no false = refl
+
+pub and_left : (a b : Bool) → (a && b) ≡ true → a ≡ true
+and_left true b h = refl
+and_left false b h = absurd cc
+
+pub and_right : (a b : Bool) → (a && b) ≡ true → b ≡ true
+and_right true b h = h
+and_right false b h = absurd cc
+
+pub none_if : {A : Type 0} (o : Option A) → is_some o ≡ false → o ≡ None
+none_if (Some x) h = absurd cc
+none_if None h = refl
+
+pub first_alone : {A : Type 0} (o : Option A) → first_some o None ≡ o
+first_alone (Some x) = refl
+first_alone None = refl
+
+pub ok_is : (reply : Reply) → is_ok reply ≡ true → reply ≡ R.Ok
+ok_is R.Ok h = refl
+ok_is _ h = absurd cc
+
+-- a component is none that is beyond it
+pub other_comp : (o : Option Comp) (c : ℕ) (n : ℕ) → ((d : Comp) → o ≡ Some d → d.0 < n) → n ≤ c → is_comp o c ≡ false
+other_comp None c n h out = refl
+other_comp (Some d) c n h out = let k : d.0 < n = h d refl in grind (arith, nat_tests)
+
+-- what an operation that halts nothing is not
+
+pub no_stop : (op : Op) (c : ℕ) → halting_op op ≡ false → is_stop_of op c ≡ false
+no_stop (O.Stop group) c h = absurd cc
+no_stop _ c h = refl
+
+pub no_kill : (op : Op) (c : ℕ) → halting_op op ≡ false → is_kill_of op c ≡ false
+no_kill (O.Kill group) c h = absurd cc
+no_kill _ c h = refl
+
+pub no_stop_case : (op : Op) → halting_op op ≡ false → is_stop_case op ≡ false
+no_stop_case O.StopCase h = absurd cc
+no_stop_case _ h = refl
+
+pub no_finish : (op : Op) → halting_op op ≡ false → is_finish op ≡ false
+no_finish O.Finish h = absurd cc
+no_finish _ h = refl

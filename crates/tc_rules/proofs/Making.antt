@@ -1,0 +1,178 @@
+-- What the table keeps is right after an entry that makes a component.
+use Rattle.std.proofs.Common.{ℕ, ◌≡◌, ◌+◌, ◌<◌, ◌==◌, ◌&&◌, ◌||◌, if◌then◌else◌, Bool, true, false, Option, Some, None, List, [], ◌∷◌, ◌++◌, length, get_or, refl, ap, subst, sym, ◌∙◌, arith, length-append, below_more, suc}
+use Rattle.std.proofs.lemmas.Bool.Decides.{nat_tests}
+use Rattle.std.proofs.lemmas.List.{get_or_append_left}
+use Rattle.std.proofs.Math.Seq.{get_or-append_seam}
+use Rattle.tc_entry.specs.declared.limits.TheConstants.{COMPONENTS}
+use Rattle.tc_entry.specs.declared.comp.Comp.{Comp}
+use Rattle.std.specs.List.{list_all}
+use Rattle.tc_verdict.specs.declared.run.Run.{Run}
+use Rattle.tc_rules.specs.declared.awaited.Awaited.{Awaited}
+use Rattle.tc_entry.specs.declared.op.Op.{Op}
+use Rattle.tc_entry.specs.declared.op.Op.TheVariants as O
+use Rattle.tc_entry.specs.declared.reply.Reply.{Reply}
+use Rattle.tc_entry.specs.declared.entry.Entry.{Entry}
+use Rattle.tc_entry.specs.declared.reply.Reply.TheVariants as R
+use Rattle.tc_rules.specs.declared.component_state.ComponentState.{ComponentState}
+use Rattle.tc_rules.specs.declared.run_state.RunState.{RunState}
+use Rattle.tc_rules.specs.History.{exists, comps, comp_of, created, add_new, is_comp, is_in, first_some, is_alive_create}
+use Rattle.tc_rules.specs.Phases.{was_killed, was_halted}
+use Rattle.tc_rules.specs.Status.{is_running}
+use Rattle.tc_rules.specs.Answers.{answer}
+use Rattle.tc_rules.specs.Faults.{all_exist, target_names, components}
+use Rattle.tc_rules.specs.Waiting.{waiting}
+use Rattle.tc_rules.specs.Standing.{Kept, StandsFor}
+use Rattle.tc_rules.specs.Inside.Kept.{IsKept, state_of, numbers_from}
+use Rattle.tc_rules.specs.Inside.Step.{next_state, next_run, next_local}
+use Rattle.tc_rules.proofs.Lemmas.Kept.{exists_if, exists_unless, components_kept}
+use Rattle.tc_rules.proofs.Lemmas.Keeping.{stands_by}
+use Rattle.tc_rules.proofs.Lemmas.Numbers.{numbers_from-more}
+use Rattle.tc_rules.proofs.Lemmas.Steps.{state_step, run_step}
+use Rattle.tc_rules.proofs.Settled.{running_not_excused}
+use Rattle.tc_rules.proofs.Lemmas.Fresh.{fresh_step}
+use Rattle.tc_rules.specs.Inside.Counts.{made_state}
+use Rattle.tc_rules.proofs.Lemmas.Sound.{next}
+use Rattle.tc_rules.proofs.Lemmas.Deciding.{other_comp}
+
+abbrev create : Run → Bool → Option (List ℕ) → Comp → Entry
+create caller alive name d = record { caller = caller; op = O.Create alive name; reply = R.Made d }
+
+-- such an entry changes no state
+quiet : (caller : Run) (alive : Bool) (name : Option (List ℕ)) (d : Comp) (own : Option Comp) (c : ℕ) (s : ComponentState) → (is_running s.phase ≡ true → s.excused ≡ false) → next_state own (create caller alive name d) c s ≡ s
+unfolding next_state
+quiet caller alive name d own c s h = same (is_comp own c) (is_running s.phase) s h
+  where
+    same : (t r : Bool) (s : ComponentState) → (r ≡ true → s.excused ≡ false) → record s { excused = if r then false else s.excused; local = next_local (if t then [] else []) s.local } ≡ s
+    same true true s h = let e = sym (h refl) in ap (λ x. record s { excused = x }) e
+    same false true s h = let e = sym (h refl) in ap (λ x. record s { excused = x }) e
+    same true false s h = refl
+    same false false s h = refl
+
+no_more : {A : Type 0} (o : Option A) → first_some o None ≡ o
+no_more (Some x) = refl
+no_more None = refl
+
+add_one : (d : Comp) (ns : List ℕ) → is_in d.0 ns ≡ false → add_new (Some d) ns ≡ ns ++ d.0 ∷ []
+add_one d ns h = rw h
+
+if_none : {A : Type 0} (t : Bool) (x : Option A) → x ≡ None → (if t then None else x) ≡ None
+if_none true x h = refl
+if_none false x h = h
+
+exist_more : (past : List Entry) (e : Entry) (cs : List Comp) (more : (c : ℕ) → exists past c ≡ true → exists (e ∷ past) c ≡ true) → all_exist past cs ≡ true → all_exist (e ∷ past) cs ≡ true
+unfolding all_exist
+exist_more past e [] more h = refl
+exist_more past e (c ∷ cs) more h = both (exists past c.0) (list_all (λ x. exists past x.0) cs) (exists (e ∷ past) c.0) (list_all (λ x. exists (e ∷ past) x.0) cs) (more c.0) (exist_more past e cs more) h
+  where
+    both : (a b a' b' : Bool) → (a ≡ true → a' ≡ true) → (b ≡ true → b' ≡ true) → (a && b) ≡ true → (a' && b') ≡ true
+    both true true a' b' f g h = rw (f refl, g refl)
+    both true false a' b' f g h = absurd cc
+    both false b a' b' f g h = absurd cc
+
+in_more : (c : ℕ) (ns : List ℕ) (d : ℕ) → is_in c ns ≡ true → is_in c (ns ++ d ∷ []) ≡ true
+in_more c [] d h = absurd cc
+in_more c (n ∷ ns) d h = either (c == n) (is_in c ns) (is_in c (ns ++ d ∷ [])) (in_more c ns d) h
+  where
+    either : (a b b' : Bool) → (b ≡ true → b' ≡ true) → (a || b) ≡ true → (a || b') ≡ true
+    either true b b' f h = refl
+    either false b b' f h = f h
+
+not_in : (past : List Entry) (c : ℕ) → exists past c ≡ false → is_in c (comps past) ≡ false
+unfolding exists
+not_in past c h = h
+
+exists_more : (past : List Entry) (e : Entry) (d : ℕ) → comps (e ∷ past) ≡ comps past ++ d ∷ [] → (c : ℕ) → exists past c ≡ true → exists (e ∷ past) c ≡ true
+unfolding exists
+exists_more past e d grown c h = rw grown (in_more c (comps past) d h)
+
+numbered_more : (k m d : ℕ) (ns : List ℕ) → ns ≡ numbers_from 0 k → d ≡ k → m ≡ k + 1 → ns ++ d ∷ [] ≡ numbers_from 0 m
+numbered_more k m d ns a b c =
+    let p : m ≡ suc k = omega arith in
+    let q : d ≡ 0 + k = omega arith in
+    rw (a, p) (ap (λ x. numbers_from 0 k ++ x ∷ []) q ∙ sym (numbers_from-more 0 k))
+
+killed_same : (a w h : Bool) → (w ≡ true → h ≡ true) → ((a && false) || w) ≡ true → h ≡ true
+killed_same true w h f g = f g
+killed_same false w h f g = f g
+
+same_number : (a b : ℕ) → a ≡ b → (a == b) ≡ true
+same_number a b h = grind (arith, nat_tests)
+
+other_number : (a b : ℕ) → a < b → (a == b) ≡ false
+other_number a b h = grind (arith, nat_tests)
+
+waits_if : (t : Bool) (x : Option Awaited) (a : Awaited) → (if t then None else x) ≡ Some a → x ≡ Some a
+waits_if true x a h = absurd cc
+waits_if false x a h = h
+
+abbrev entry : Run → Op → Reply → Entry
+entry caller op r = record { caller = caller; op = op; reply = r }
+
+entry_ext : {op op' : Op} {r r' : Reply} (caller : Run) → op ≡ op' → r ≡ r' → entry caller op r ≡ entry caller op' r'
+entry_ext caller a b = cc
+
+module _ {n : ℕ} {past : List Entry} {states : List ComponentState} {runs : List RunState} {over : Bool} where
+  created_lit : (caller : Run) (alive : Bool) (name : Option (List ℕ)) (d : Comp) (runs' : List RunState) → IsKept n past states runs over → R.Made d ≡ answer n past caller.0 (O.Create alive name) → d.0 ≡ length states → length states < COMPONENTS →
+      length runs' ≡ length runs → ((b : ℕ) (v : RunState) → b < n → get_or runs' b v ≡ next_run (create caller alive name d) b (get_or runs b v)) →
+      IsKept n (create caller alive name d ∷ past) (states ++ made_state alive ∷ []) runs' over
+  created_lit caller alive name d runs' kept legal number few as_many_runs changed_runs =
+      let e : Entry = create caller alive name d in
+      let out : exists past d.0 ≡ false = exists_unless d.0 kept (omega arith) in
+      let grown : comps (e ∷ past) ≡ comps past ++ d.0 ∷ [] = add_one d (comps past) (not_in past d.0 out) in
+      let more : (c : ℕ) → exists past c ≡ true → exists (e ∷ past) c ≡ true = exists_more past e d.0 grown in
+      let len : length (states ++ made_state alive ∷ []) ≡ length states + 1 = length-append states (made_state alive ∷ []) in
+      record {
+        behaviours = kept.behaviours;
+        as_many_runs = as_many_runs ∙ kept.as_many_runs;
+        numbered = grown ∙ numbered_more (length states) (length (states ++ made_state alive ∷ [])) d.0 (comps past) kept.numbered number len;
+        some_state = omega arith;
+        not_too_many = omega arith;
+        each_state = λ c v h.
+            below_more (λ k. (w : ComponentState) → get_or (states ++ made_state alive ∷ []) k w ≡ state_of (e ∷ past) k) (length states)
+            (λ k less w.
+            get_or_append_left states (made_state alive ∷ []) w k less
+            ∙ (kept.each_state k w less
+            ∙ (sym (quiet caller alive name d (comp_of past caller.0) k (state_of past k) (running_not_excused past k))
+            ∙ sym (state_step past e k (exists_if k kept less) (kept.halted_if_killed k) (λ s. absurd cc)))))
+            (λ w.
+            get_or-append_seam states (made_state alive) [] w
+            ∙ sym (fresh_step past e (length states) (exists_unless (length states) kept (omega arith)) refl
+            (other_comp (comp_of past caller.0) (length states) (length states) (λ x. kept.on_existing caller.0 x) (omega arith))
+            (kept.fresh (length states) (omega arith))
+            ∙ ap (λ t. made_state (t && alive)) (same_number d.0 (length states) number)))
+            c (omega arith) v;
+        fresh = λ c h.
+            fresh_step past e c (exists_unless c kept (omega arith)) refl
+            (other_comp (comp_of past caller.0) c (length states) (λ x. kept.on_existing caller.0 x) (omega arith)) (kept.fresh c (omega arith))
+            ∙ ap (λ t. made_state (t && alive)) (other_number d.0 c (omega arith));
+        each_run = λ b v h. changed_runs b v h ∙ (ap (next_run e b) (kept.each_run b v h) ∙ sym (run_step past e b));
+        no_other_run = λ b h. (no_more (comp_of past b) ∙ (kept.no_other_run b h).0, if_none (caller.0 == b) (waiting past b) (kept.no_other_run b h).1);
+        on_existing = λ b v h. let k : v.0 < length states = kept.on_existing b v (sym (no_more (comp_of past b)) ∙ h) in omega arith;
+        halted_if_killed = λ c. killed_same (exists past c) (was_killed past c) (was_halted past c) (kept.halted_if_killed c);
+        waits_for_existing = λ b a w. exist_more past e (target_names a.target) more (kept.waits_for_existing b a (waits_if (caller.0 == b) (waiting past b) a w));
+        on_last = λ c r l. no_more (comp_of past r.0) ∙ kept.on_last c r l;
+        over_is = kept.over_is;
+        legal = (legal, kept.legal);
+      }
+
+-- the same, as a call has it: v is what is kept before the entry
+pub makes_entry : (v k : Kept) (past : List Entry) (e : Entry) (d : Comp) (states' : List ComponentState) (runs' : List RunState) → v ≡ k → StandsFor k past →
+    e.reply ≡ answer k.behaviours past e.caller.0 e.op → created e.op e.reply ≡ Some d →
+    states' ≡ v.states ++ made_state (is_alive_create e.op) ∷ [] →
+    length runs' ≡ length v.runs → ((b : ℕ) (w : RunState) → b < length v.runs → get_or runs' b w ≡ next_run e b (get_or v.runs b w)) →
+    IsKept v.behaviours (e ∷ past) states' runs' v.over
+unfolding StandsFor
+makes_entry v k past e d states' runs' same stands legal made grown as_many_runs changed_runs =
+    let kept : StandsFor v past = stands_by k v past (sym same) stands in
+    let legal' : e.reply ≡ answer v.behaviours past e.caller.0 e.op = legal ∙ ap (λ (w : Kept). answer w.behaviours past e.caller.0 e.op) (sym same) in
+    let f = next v.behaviours past e d legal' made in
+    let l : e ≡ create e.caller (is_alive_create e.op) f.given_name d = entry_ext e.caller f.is_create f.is_made in
+    let made_legal : R.Made d ≡ answer v.behaviours past e.caller.0 (O.Create (is_alive_create e.op) f.given_name) = sym f.is_made ∙ legal' ∙ ap (answer v.behaviours past e.caller.0) f.is_create in
+    let size : components past ≡ length v.states = components_kept kept in
+    let number : d.0 ≡ length v.states = f.number ∙ size in
+    let few : length v.states < COMPONENTS = omega (arith, f.few) in
+    let as_many_kept : length v.runs ≡ v.behaviours = kept.as_many_runs in
+    rw grown
+    (subst (λ (x : Entry). IsKept v.behaviours (x ∷ past) (v.states ++ made_state (is_alive_create e.op) ∷ []) runs' v.over) (sym l)
+    (created_lit e.caller (is_alive_create e.op) f.given_name d runs' kept made_legal number few as_many_runs
+    (λ b w h. changed_runs b w (omega arith) ∙ ap (λ x. next_run x b (get_or v.runs b w)) l)))

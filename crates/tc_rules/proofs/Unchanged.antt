@@ -1,0 +1,180 @@
+-- A Stop of all if none is running, and a Kill of all if each is killed, leave the states as they are.
+use Rattle.std.proofs.Common.{ℕ, zero, suc, ◌≡◌, ◌≢◌, ◌+◌, ◌<◌, ◌≤◌, ◌==◌, ◌&&◌, ◌||◌, not, if◌then◌else◌, Bool, true, false, Option, None, List, [], ◌∷◌, length, drop, get_or, refl, ap, sym, ◌∙◌, arith}
+use Rattle.std.specs.List.{list_all}
+use Rattle.std.proofs.lemmas.Bool.Decides.{nat_tests}
+use Rattle.tc_verdict.specs.declared.verdict.Verdict.{Verdict}
+use Rattle.tc_verdict.specs.declared.run.Run.{Run}
+use Rattle.tc_entry.specs.declared.comp.Comp.{Comp}
+use Rattle.tc_entry.specs.declared.entry.Entry.{Entry}
+use Rattle.tc_entry.specs.declared.op.Group.TheVariants as G
+use Rattle.tc_entry.specs.declared.op.Op.{Op}
+use Rattle.tc_entry.specs.declared.op.Op.TheVariants as O
+use Rattle.tc_entry.specs.declared.phase.Phase.{Phase}
+use Rattle.tc_entry.specs.declared.phase.Phase.TheVariants as P
+use Rattle.tc_entry.specs.declared.reply.Reply.{Reply}
+use Rattle.tc_entry.specs.declared.reply.Reply.TheVariants as R
+use Rattle.tc_rules.specs.declared.component_state.ComponentState.{ComponentState}
+use Rattle.tc_entry.specs.Prelude.{is_ended, is_fault, is_ok}
+use Rattle.tc_rules.specs.History.{is_comp, is_stop_of, is_kill_of, ends_case, first_some, kills, halts}
+use Rattle.tc_rules.specs.Phases.{start_in}
+use Rattle.tc_rules.specs.Status.{is_running, is_killed}
+use Rattle.tc_rules.specs.Local.{gives, setting}
+use Rattle.tc_rules.specs.Inside.States.{none_running, all_killed}
+use Rattle.tc_rules.specs.Inside.Step.{next_state, next_phase, next_excused, next_local, halted, finds_none, finds, IsSettled}
+use Rattle.std.proofs.lemmas.List.{get_or_default}
+use Rattle.tc_rules.proofs.Lists.{mapped_past}
+use Rattle.tc_rules.proofs.Lemmas.Deciding.{if_same, and_no, and_left, and_right}
+
+not_true : (a : Bool) → not a ≡ true → a ≡ false
+not_true true h = absurd cc
+not_true false h = refl
+
+-- what holds of all except the first holds at each place except the first
+all_at : {A : Type 0} (p : A → Bool) (xs : List A) (i : ℕ) (d : A) → list_all p xs ≡ true → i < length xs → p (get_or xs i d) ≡ true
+all_at p [] i d h k = absurd (omega arith)
+all_at p (x ∷ xs) zero d h k = and_left (p x) (list_all p xs) h
+all_at p (x ∷ xs) (suc i) d h k = all_at p xs i d (and_right (p x) (list_all p xs) h) (omega arith)
+
+all_behind : {A : Type 0} (p : A → Bool) (xs : List A) (c : ℕ) (d : A) → list_all p (drop 1 xs) ≡ true → c < length xs → c ≢ 0 → p (get_or xs c d) ≡ true
+all_behind p [] c d h k ne = absurd (omega arith)
+all_behind p (x ∷ xs) zero d h k ne = absurd (ne refl)
+all_behind p (x ∷ xs) (suc i) d h k ne = all_at p xs i d h (omega arith)
+
+none_running_at : (states : List ComponentState) (c : ℕ) (d : ComponentState) → none_running (drop 1 states) ≡ true → c < length states → c ≢ 0 →
+    is_running (get_or states c d).phase ≡ false
+unfolding none_running
+none_running_at states c d h k ne = not_true (is_running (get_or states c d).phase) (all_behind (λ s. not (is_running s.phase)) states c d h k ne)
+
+killed_at : (states : List ComponentState) (c : ℕ) (d : ComponentState) → all_killed (drop 1 states) ≡ true → c < length states → c ≢ 0 →
+    is_killed (get_or states c d).phase ≡ true
+unfolding all_killed
+killed_at states c d h k ne = all_behind (λ s. is_killed s.phase) states c d h k ne
+
+halted_if : (t : Bool) (alive_type : Bool) (p : Phase) → (t ≡ true → is_running p ≡ false) → (if t then halted alive_type p else p) ≡ p
+halted_if false alive_type p h = refl
+halted_if true alive_type (P.Running r) h = let e = h refl in absurd cc
+halted_if true alive_type P.Inactive h = refl
+halted_if true alive_type P.Stopped h = refl
+halted_if true alive_type P.Killed h = refl
+
+killed_if : (t : Bool) (p : Phase) → (t ≡ true → is_killed p ≡ true) → (if t then P.Killed else p) ≡ p
+killed_if false p h = refl
+killed_if true (P.Running r) h = let e = h refl in absurd cc
+killed_if true P.Inactive h = let e = h refl in absurd cc
+killed_if true P.Stopped h = let e = h refl in absurd cc
+killed_if true P.Killed h = refl
+
+killed_is_still : (p : Phase) → is_killed p ≡ true → is_running p ≡ false
+killed_is_still P.Killed h = refl
+killed_is_still (P.Running r) h = absurd cc
+killed_is_still P.Inactive h = refl
+killed_is_still P.Stopped h = refl
+
+gives_none : (op : Op) (reply : Reply) (case fin stop kill : Bool) → setting op ≡ [] → (not (is_ended reply) && (is_fault reply || case || fin || stop || kill)) ≡ false → gives op reply ≡ []
+gives_none op R.Ok case fin stop kill h k = h
+gives_none op (R.Fault f) case fin stop kill h k = absurd cc
+gives_none op _ case fin stop kill h k = refl
+
+-- what is known of an entry that finds component c in no phase that it changes
+record Quiet (own : Option Comp) (e : Entry) (c : ℕ) (p : Phase) : Type 0 where
+  kill : kills e c ≡ true → is_killed p ≡ true
+  halt : halts own e c ≡ true → is_running p ≡ false
+  start : start_in e c ≡ None
+  given : gives e.op e.reply ≡ []
+
+excused_by : (r halt a b excused : Bool) → (halt ≡ true → r ≡ false) → (r ≡ true → excused ≡ false) → (if r then halt && a && b else excused) ≡ excused
+excused_by false halt a b excused h settled = refl
+excused_by true false a b excused h settled = sym (settled refl)
+excused_by true true a b excused h settled = let e = h refl in absurd cc
+
+phase_by : (kill halt alive_type : Bool) (p : Phase) → (kill ≡ true → is_killed p ≡ true) → (halt ≡ true → is_running p ≡ false) → next_phase kill None halt alive_type p ≡ p
+phase_by true halt alive_type p k h = killed_if true p k
+phase_by false halt alive_type p k h = halted_if halt alive_type p h
+
+state_by : (kill halt on off : Bool) (start : Option Run) (vs : List Verdict) (s : ComponentState) → start ≡ None → vs ≡ [] → (kill ≡ true → is_killed s.phase ≡ true) → (halt ≡ true → is_running s.phase ≡ false) →
+    (is_running s.phase ≡ true → s.excused ≡ false) →
+    record { phase = next_phase kill start halt s.alive_type s.phase; alive_type = s.alive_type; last = first_some start s.last; excused = next_excused start (halt && on && off) s.phase s.excused; local = next_local vs s.local } ≡ s
+state_by kill halt on off start vs s a b k h settled =
+    let p : next_phase kill None halt s.alive_type s.phase ≡ s.phase = phase_by kill halt s.alive_type s.phase k h in
+    let x : (if is_running s.phase then halt && on && off else s.excused) ≡ s.excused = excused_by (is_running s.phase) halt on off s.excused h settled in
+    rw (a, b) (ap (λ q. record s { phase = q; excused = if is_running s.phase then halt && on && off else s.excused }) p ∙ ap (λ y. record s { excused = y }) x)
+
+unchanged_if : (own : Option Comp) (e : Entry) (c : ℕ) (s : ComponentState) → Quiet own e c s.phase → (is_running s.phase ≡ true → s.excused ≡ false) → next_state own e c s ≡ s
+unfolding next_state
+unchanged_if own e c s q settled =
+    let g : (if is_comp own c then gives e.op e.reply else []) ≡ [] = rw q.given (if_same (is_comp own c) []) in
+    state_by (kills e c) (halts own e c) (is_stop_of e.op c || is_kill_of e.op c) (not (is_comp own c)) (start_in e c) (if is_comp own c then gives e.op e.reply else []) s q.start g q.kill q.halt settled
+
+quiet : (own : Option Comp) (caller : Run) (op : Op) (reply : Reply) (states : List ComponentState) (c : ℕ) (d : ComponentState) → ends_case (record { caller = caller; op = op; reply = reply }) ≡ false → finds_none op states ≡ true →
+    c < length states → Quiet own (record { caller = caller; op = op; reply = reply }) c (get_or states c d).phase
+quiet own caller (O.Stop G.All) reply states c d ends none within = record {
+  kill = λ k. let e : kills (record { caller = caller; op = O.Stop G.All; reply = reply }) c ≡ false = rw ends (and_no (not (is_ended reply))) in absurd cc;
+  halt = λ h. by_test (c == 0) refl h;
+  start = if_same (is_ok reply) None;
+  given = gives_none (O.Stop G.All) reply false false false false refl ends;
+}
+  where
+    by_test : (t : Bool) → (c == 0) ≡ t → halts own (record { caller = caller; op = O.Stop G.All; reply = reply }) c ≡ true → is_running (get_or states c d).phase ≡ false
+    by_test true z h = let e : halts own (record { caller = caller; op = O.Stop G.All; reply = reply }) c ≡ false = rw (ends, z) (and_no (not (is_ended reply))) in absurd cc
+    by_test false z h = let ne : c ≢ 0 = grind (arith, nat_tests) in none_running_at states c d none within ne
+quiet own caller (O.Kill G.All) reply states c d ends none within = record {
+  kill = λ k. by_kill (c == 0) refl k;
+  halt = λ h. by_halt (c == 0) refl h;
+  start = if_same (is_ok reply) None;
+  given = gives_none (O.Kill G.All) reply false false false false refl ends;
+}
+  where
+    by_kill : (t : Bool) → (c == 0) ≡ t → kills (record { caller = caller; op = O.Kill G.All; reply = reply }) c ≡ true → is_killed (get_or states c d).phase ≡ true
+    by_kill true z h = let e : kills (record { caller = caller; op = O.Kill G.All; reply = reply }) c ≡ false = rw (ends, z) (and_no (not (is_ended reply))) in absurd cc
+    by_kill false z h = let ne : c ≢ 0 = grind (arith, nat_tests) in killed_at states c d none within ne
+
+    by_halt : (t : Bool) → (c == 0) ≡ t → halts own (record { caller = caller; op = O.Kill G.All; reply = reply }) c ≡ true → is_running (get_or states c d).phase ≡ false
+    by_halt true z h = let e : halts own (record { caller = caller; op = O.Kill G.All; reply = reply }) c ≡ false = rw (ends, z) (and_no (not (is_ended reply))) in absurd cc
+    by_halt false z h = let ne : c ≢ 0 = grind (arith, nat_tests) in killed_is_still (get_or states c d).phase (killed_at states c d none within ne)
+quiet own caller (O.Stop (G.One i)) reply states c d ends none within = absurd cc
+quiet own caller (O.Kill (G.One i)) reply states c d ends none within = absurd cc
+quiet own caller _ reply states c d ends none within = absurd cc
+
+pub none_found : (own : Option Comp) (e : Entry) (states : List ComponentState) → IsSettled states → ends_case e ≡ false → finds_none e.op states ≡ true →
+    (c : ℕ) (d : ComponentState) → c < length states → get_or states c d ≡ next_state own e c (get_or states c d)
+none_found own e states settled ends none c d within =
+    sym (unchanged_if own e c (get_or states c d) (quiet own e.caller e.op e.reply states c d ends none within) (settled.not_excused c d within))
+
+not_false : (a : Bool) → not a ≡ false → a ≡ true
+not_false true h = refl
+not_false false h = absurd cc
+
+not_found : (own : Option Comp) (caller : Run) (op : Op) (reply : Reply) (c : ℕ) (p : Phase) → ends_case (record { caller = caller; op = op; reply = reply }) ≡ false → finds op p ≡ false →
+    Quiet own (record { caller = caller; op = op; reply = reply }) c p
+not_found own caller (O.Stop G.All) reply c p ends none = record {
+  kill = λ k. let e : kills (record { caller = caller; op = O.Stop G.All; reply = reply }) c ≡ false = rw ends (and_no (not (is_ended reply))) in absurd cc;
+  halt = λ h. none;
+  start = if_same (is_ok reply) None;
+  given = gives_none (O.Stop G.All) reply false false false false refl ends;
+}
+not_found own caller (O.Kill G.All) reply c p ends none = record {
+  kill = λ k. not_false (is_killed p) none;
+  halt = λ h. killed_is_still p (not_false (is_killed p) none);
+  start = if_same (is_ok reply) None;
+  given = gives_none (O.Kill G.All) reply false false false false refl ends;
+}
+not_found own caller (O.Stop (G.One i)) reply c p ends none = absurd cc
+not_found own caller (O.Kill (G.One i)) reply c p ends none = absurd cc
+not_found own caller _ reply c p ends none = absurd cc
+
+-- a component that is not found stays as it is
+left_as_it_is : (own : Option Comp) (e : Entry) (states : List ComponentState) → IsSettled states → ends_case e ≡ false →
+    (c : ℕ) (d : ComponentState) → c < length states → finds e.op (get_or states c d).phase ≡ false → next_state own e c (get_or states c d) ≡ get_or states c d
+left_as_it_is own e states settled ends c d within none =
+    unchanged_if own e c (get_or states c d) (not_found own e.caller e.op e.reply c (get_or states c d).phase ends none) (settled.not_excused c d within)
+
+-- a pass depends on a component that is not found
+pub passed_by : (own : Option Comp) (e : Entry) (old xs : List ComponentState) (i : ℕ) (s : ComponentState) → IsSettled old → ends_case e ≡ false → length xs ≡ length old → i < length old →
+    ((k : ℕ) (d : ComponentState) → k < i → get_or xs k d ≡ next_state own e k (get_or old k d)) →
+    ((k : ℕ) (d : ComponentState) → i ≤ k → get_or xs k d ≡ get_or old k d) →
+    s ≡ get_or xs i s → finds e.op s.phase ≡ false →
+    (length xs ≡ length old) × ((k : ℕ) (d : ComponentState) → k < i + 1 → get_or xs k d ≡ next_state own e k (get_or old k d)) × ((k : ℕ) (d : ComponentState) → i + 1 ≤ k → get_or xs k d ≡ get_or old k d)
+passed_by own e old xs i s settled ends as_many within below above read none =
+    mapped_past (next_state own e) old xs i as_many below above (λ d.
+    let r : s ≡ get_or old i d = read ∙ (above i s (omega arith) ∙ get_or_default old i s d within) in
+    left_as_it_is own e old settled ends i d within (ap (λ (t : ComponentState). finds e.op t.phase) (sym r) ∙ none))

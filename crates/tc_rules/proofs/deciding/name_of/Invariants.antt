@@ -1,0 +1,6 @@
+use Rattle.std.proofs.Common.{◌≡◌, take, reverse}
+use Rattle.tc_rules.specs.Deciding.{component_name}
+use Rattle.tc_rules.proofs.deciding.name_of.Given as goal
+
+abbrev pub invariant-loop-entry : goal.invariant-loop-entry
+invariant-loop-entry l = l.name ≡ component_name (reverse (take l.entry-index l.history)) l.comp.0

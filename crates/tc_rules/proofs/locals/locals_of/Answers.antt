@@ -1,0 +1,23 @@
+use Rattle.std.proofs.Common.{◌≡◌, ◌<◌, ◌∙◌, ap, sym, map, arith, rules}
+use Rattle.std.proofs.lemmas.Grind.{common_steps}
+use Rattle.std.specs.List.{range_with_len}
+use Rattle.tc_rules.specs.Faults.{components}
+use Rattle.tc_rules.specs.Local.{local}
+use Rattle.tc_rules.proofs.Lemmas.Standing.{stands_legal}
+use Rattle.tc_rules.proofs.Lemmas.Numbered.{comps_numbered, local_more}
+use Rattle.tc_rules.proofs.locals.locals_of.Goals as goal
+
+pub loop-comp-preserved : goal.loop-comp-preserved
+loop-comp-preserved c = λ past stands.
+    let end = c.components-comp-end.ensures past stands in
+    let below : c.loop-comp.comp < components past = omega (arith, end, c.loop-comp-test.true) in
+    let next = c.local_of.ensures past stands below in
+    let before = c.loop-comp.invariant past stands in
+    let more = local_more past c.loop-comp.comp in
+    first_of (grind (arith, common_steps, next, before, more), search (rules, next, before, more))
+
+pub returns : goal.returns
+returns c = λ past stands.
+    let end = c.components-comp-end.ensures past stands in
+    let all : c.loop-comp.comp ≡ components past = omega (arith, end, c.loop-comp-test.false, c.loop-comp.auto.comp-end) in
+    c.loop-comp.invariant past stands ∙ (ap (λ m. map (local past) (range_with_len 0 m)) all ∙ ap (map (local past)) (sym (comps_numbered c.args.state.now.behaviours past (stands_legal c.args.state.now past stands))))

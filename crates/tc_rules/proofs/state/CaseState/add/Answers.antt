@@ -1,0 +1,28 @@
+use Rattle.tc_rules.proofs.Lemmas.Keeping.{keeps_entry, stands_by}
+use Rattle.tc_rules.proofs.Settled.{settled_kept}
+use Rattle.tc_rules.specs.Standing.{StandsFor}
+use Rattle.tc_rules.proofs.state.CaseState.add.Goals as goal
+use Rattle.std.proofs.Common.{◌∷◌}
+
+pub take_in-requires : goal.take_in-requires
+take_in-requires c = record { settled = settled_kept c.self.invariant.1 }
+
+pub invariant_of-self : goal.invariant_of-self
+unfolding StandsFor
+invariant_of-self c =
+    let past = c.self.invariant.0 in
+    let stands = stands_by _ c.args.self.now past c.self.view_is c.self.invariant.1 in (
+      c.args.entry.now ∷ past,
+      keeps_entry _ c.args.self.now past c.args.entry.now c.take_in.new.states c.take_in_runs.new.runs.items c.args.own c.either-self-inside.result c.self.view_is stands
+          (c.requires.legal past stands) (c.requires.on past stands) c.requires.makes_none
+          c.take_in.ensures.as_many c.take_in.ensures.each c.take_in_runs.ensures.as_many c.take_in_runs.ensures.each
+          (rw c.ends_case.ensures at c.either-self-inside.ensures),
+    )
+
+pub returns-clause-stands : goal.returns-clause-stands
+unfolding StandsFor
+returns-clause-stands c past stands =
+    keeps_entry _ c.args.self.now past c.args.entry.now c.take_in.new.states c.take_in_runs.new.runs.items c.args.own c.either-self-inside.result c.self.view_is stands
+    (c.requires.legal past stands) (c.requires.on past stands) c.requires.makes_none
+    c.take_in.ensures.as_many c.take_in.ensures.each c.take_in_runs.ensures.as_many c.take_in_runs.ensures.each
+    (rw c.ends_case.ensures at c.either-self-inside.ensures)

@@ -1,0 +1,16 @@
+use Rattle.std.proofs.Common.{◌≡◌, length, arith, ap}
+use Rattle.tc_rules.specs.Inside.Step.{next_state}
+use Rattle.tc_rules.proofs.Lists.{mapped_step}
+use Rattle.tc_rules.proofs.Elsewhere.{no_better_at}
+use Rattle.tc_rules.proofs.step.take_in_all.Goals as goal
+
+pub loop-i-preserved : goal.loop-i-preserved
+loop-i-preserved c =
+    let n : length c.as_slice-count.result.now ≡ length c.args.states.now = ap length c.as_slice-count.ensures.same in
+    mapped_step (next_state c.args.own c.args.entry.now) c.args.states.now c.loop-i.states c.set.new.self c.loop-i.i _ _ _ c.set.ensures c.loop-i.invariant.0 (omega arith) c.loop-i.invariant.1 c.loop-i.invariant.2 c.get-state.ensures c.next_state.ensures
+
+pub set-requires-clause-no_better : goal.set-requires-clause-no_better
+set-requires-clause-no_better c =
+    let n : length c.as_slice-count.result.now ≡ length c.args.states.now = ap length c.as_slice-count.ensures.same in
+    let m : length c.loop-i.states ≡ length c.args.states.now = c.loop-i.invariant.0 in
+    no_better_at c.args.own c.args.entry.now c.loop-i.states c.loop-i.i c.next_state.result _ _ (omega arith) c.get-state.ensures c.next_state.ensures

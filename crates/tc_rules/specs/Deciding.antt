@@ -1,0 +1,41 @@
+-- Which entry decided the verdict of a test case, and who made it.
+use Rattle.std.specs.Prelude.{ℕ, ◌≡◌, ◌<◌, ◌↔◌, nat_lt, if◌then◌else◌, Option, Some, None, MatchOption, List, [], ◌∷◌, ◌++◌, length}
+use Rattle.std.specs.List.{flat_map}
+use Rattle.tc_verdict.specs.declared.verdict.Verdict.{Verdict}
+use Rattle.tc_verdict.specs.declared.verdict.Verdict.TheVariants as V
+use Rattle.tc_verdict.specs.Prelude.{level_of, worst}
+use Rattle.tc_entry.specs.declared.entry.Entry.{Entry}
+use Rattle.tc_entry.specs.declared.op.Op.{Op}
+use Rattle.tc_entry.specs.declared.op.Op.TheVariants as O
+use Rattle.tc_rules.specs.History.{created, first_some, is_comp}
+use Rattle.tc_rules.specs.Local.{gives, overall}
+use Rattle.tc_rules.specs.Legal.{IsLegal}
+
+-- the entry at this place, counted from 0, decides: the overall verdict is the reported one from this entry on, and not before
+abbrev pub IsDeciding : List Entry → ℕ → Type 0
+IsDeciding past at =
+    (later earlier : List Entry) → past ≡ later ++ earlier → (overall earlier ≡ overall past) ↔ (at < length earlier)
+
+-- the worst of the verdicts that entries gave
+unfoldable pub worst_given : List Entry → Verdict
+worst_given past = worst (flat_map (λ e. gives e.op e.reply) past)
+
+-- the place of the last entry that gave a verdict worse than all before it
+abbrev pub deciding : List Entry → Option ℕ
+deciding [] = None
+deciding (e ∷ past) =
+    if nat_lt (level_of (worst_given past)) (level_of (worst_given (e ∷ past))) then Some (length past) else deciding past
+
+-- in a legal history that entry decides; there is none exactly if the overall verdict is none
+abbrev pub DecidesIfLegal : List Entry → Option ℕ → Type 0
+DecidesIfLegal past at = (n : ℕ) → IsLegal n past → MatchOption at (overall past ≡ V.None) (IsDeciding past)
+
+-- the name that an operation gives
+abbrev pub name_in : Op → Option (List ℕ)
+name_in (O.Create alive name) = name
+name_in _ = None
+
+-- the name of component c, if its creation gave it one
+abbrev pub component_name : List Entry → ℕ → Option (List ℕ)
+component_name [] c = None
+component_name (e ∷ past) c = first_some (component_name past c) (if is_comp (created e.op e.reply) c then name_in e.op else None)

@@ -1,0 +1,130 @@
+-- What the past entries of a test case say of its components and runs.
+-- Here and in the files next to it, `past` lists the entries so far, the newest first, and components and runs are
+-- numbers.
+use Rattle.std.specs.Prelude.{ℕ, ◌==◌, ◌&&◌, ◌||◌, not, if◌then◌else◌, Bool, true, false, Option, Some, None, List, [], ◌∷◌, ◌++◌, drop}
+use Rattle.tc_verdict.specs.declared.run.Run.{Run}
+use Rattle.tc_entry.specs.declared.comp.Comp.{Comp}
+use Rattle.tc_entry.specs.declared.entry.Entry.{Entry}
+use Rattle.tc_entry.specs.declared.op.Op.{Op}
+use Rattle.tc_entry.specs.declared.op.Op.TheVariants as O
+use Rattle.tc_entry.specs.declared.reply.Reply.{Reply}
+use Rattle.tc_entry.specs.declared.reply.Reply.TheVariants as R
+use Rattle.tc_entry.specs.Prelude.{is_of, is_ended, is_fault, is_ok}
+
+-- a number is in a list
+abbrev pub is_in : ℕ → List ℕ → Bool
+is_in x [] = false
+is_in x (y ∷ ys) = (x == y) || is_in x ys
+
+-- the first of two that is there
+abbrev pub first_some : {A : Type 0} → Option A → Option A → Option A
+first_some (Some x) o = Some x
+first_some None o = o
+
+-- this is component c
+abbrev pub is_comp : Option Comp → ℕ → Bool
+is_comp (Some d) c = d.0 == c
+is_comp None c = false
+
+-- the component that a Create made
+abbrev pub created : Op → Reply → Option Comp
+created (O.Create alive name) (R.Made c) = Some c
+created _ _ = None
+
+-- the operation is a Create
+abbrev pub is_create : Op → Bool
+is_create (O.Create alive name) = true
+is_create _ = false
+
+-- the operation is a Create of an alive-type component
+abbrev pub is_alive_create : Op → Bool
+is_alive_create (O.Create alive name) = alive
+is_alive_create _ = false
+
+-- the component on which this operation starts run b
+abbrev pub starts_run : Op → ℕ → Option Comp
+starts_run (O.Start c run args) b = if run.0 == b then Some c else None
+starts_run _ b = None
+
+-- the component on which the entry starts run b: a Start that was carried out
+abbrev pub started_on : Entry → ℕ → Option Comp
+started_on e b = if is_ok e.reply then starts_run e.op b else None
+
+-- the run that this operation starts on component c
+abbrev pub starts_on : Op → ℕ → Option Run
+starts_on (O.Start d run args) c = if d.0 == c then Some run else None
+starts_on _ c = None
+
+-- the operation is the end of a behaviour
+abbrev pub is_finish : Op → Bool
+is_finish O.Finish = true
+is_finish _ = false
+
+-- the operation stops the test case
+abbrev pub is_stop_case : Op → Bool
+is_stop_case O.StopCase = true
+is_stop_case _ = false
+
+-- the operation is a Stop of component c
+abbrev pub is_stop_of : Op → ℕ → Bool
+is_stop_of (O.Stop group) c = is_of group c
+is_stop_of _ c = false
+
+-- the operation is a Kill of component c
+abbrev pub is_kill_of : Op → ℕ → Bool
+is_kill_of (O.Kill group) c = is_of group c
+is_kill_of _ c = false
+
+-- the components with one more
+abbrev pub add_new : Option Comp → List ℕ → List ℕ
+add_new None cs = cs
+add_new (Some c) cs = if is_in c.0 cs then cs else cs ++ c.0 ∷ []
+
+-- the components that exist, in the order of their creation: the main one, and those that a Create made
+abbrev pub comps : List Entry → List ℕ
+comps [] = 0 ∷ []
+comps (e ∷ past) = add_new (created e.op e.reply) (comps past)
+
+-- the parallel ones among them
+abbrev pub ptcs : List Entry → List ℕ
+ptcs past = drop 1 (comps past)
+
+-- component c exists
+unfoldable pub exists : List Entry → ℕ → Bool
+exists past c = is_in c (comps past)
+
+-- component c is alive-type: its creation, the first Create that made it, says so
+abbrev pub is_alive_type : List Entry → ℕ → Bool
+is_alive_type [] c = false
+is_alive_type (e ∷ past) c =
+    if exists past c then is_alive_type past c else is_comp (created e.op e.reply) c && is_alive_create e.op
+
+-- the component that run b is on: that of the first Start of the run
+abbrev pub comp_of : List Entry → ℕ → Option Comp
+comp_of [] b = if b == 0 then Some (record { 0 = 0 }) else None
+comp_of (e ∷ past) b = first_some (comp_of past b) (started_on e b)
+
+-- the entry ends the test case: a dynamic error, a StopCase, the main component's Finish, its Stop or its Kill
+abbrev pub ends_case : Entry → Bool
+ends_case e =
+    not (is_ended e.reply)
+    && (is_fault e.reply || is_stop_case e.op || (is_finish e.op && (e.caller.0 == 0)) || is_stop_of e.op 0 || is_kill_of e.op 0)
+
+-- the entry, whose caller is on component own, halts component c
+abbrev pub halts : Option Comp → Entry → ℕ → Bool
+halts own e c =
+    ends_case e
+    || (not (is_ended e.reply) && ((is_finish e.op && is_comp own c) || is_stop_of e.op c || is_kill_of e.op c))
+
+-- the entry ends the pass of its caller, on component own: it is replied Ended, or halts that component
+unfoldable pub ends_pass : Comp → Entry → Bool
+ends_pass own e = is_ended e.reply || halts (Some own) e own.0
+
+-- the entry kills component c
+abbrev pub kills : Entry → ℕ → Bool
+kills e c = ends_case e || (not (is_ended e.reply) && is_kill_of e.op c)
+
+-- some entry ended the test case
+abbrev pub is_over : List Entry → Bool
+is_over [] = false
+is_over (e ∷ past) = ends_case e || is_over past

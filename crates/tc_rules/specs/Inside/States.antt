@@ -1,0 +1,49 @@
+-- Tests on what is kept of components.
+use Rattle.std.specs.Prelude.{ℕ, ◌≡◌, ◌&&◌, ◌||◌, not, nat_lt, Bool, true, false, Option, is_some, MatchOption, List, map}
+use Rattle.tc_verdict.specs.declared.verdict.Verdict.{Verdict}
+use Rattle.tc_verdict.specs.Prelude.{worst}
+use Rattle.std.specs.List.{list_any, list_all}
+use Rattle.tc_entry.specs.declared.comp.Comp.{Comp}
+use Rattle.tc_entry.specs.declared.entry.Entry.{Entry}
+use Rattle.tc_rules.specs.declared.component_state.ComponentState.{ComponentState}
+use Rattle.tc_rules.specs.Answers.{is_active}
+use Rattle.tc_rules.specs.Waiting.{waits_in_vain, waiting}
+use Rattle.tc_rules.specs.Status.{is_running, is_killed, is_done}
+
+unfoldable pub any_running : List ComponentState → Bool
+any_running states = list_any (λ s. is_running s.phase) states
+
+unfoldable pub none_running : List ComponentState → Bool
+none_running states = list_all (λ s. not (is_running s.phase)) states
+
+unfoldable pub any_killed : List ComponentState → Bool
+any_killed states = list_any (λ s. is_killed s.phase) states
+
+unfoldable pub all_killed : List ComponentState → Bool
+all_killed states = list_all (λ s. is_killed s.phase) states
+
+unfoldable pub any_alive : List ComponentState → Bool
+any_alive states = list_any (λ s. not (is_killed s.phase)) states
+
+unfoldable pub all_alive : List ComponentState → Bool
+all_alive states = list_all (λ s. not (is_killed s.phase)) states
+
+unfoldable pub any_done : List ComponentState → Bool
+any_done states = list_any (λ s. is_done s.phase) states
+
+unfoldable pub none_lapsed : List ComponentState → Bool
+none_lapsed states = list_all (λ s. not (is_some s.last) || is_running s.phase || s.excused) states
+
+unfoldable pub all_below : List Comp → ℕ → Bool
+all_below cs count = list_all (λ c. nat_lt c.0 count) cs
+
+-- run b is active, and does not wait in vain
+unfoldable pub goes_on : List Entry → ℕ → Bool
+goes_on past b = is_active past b && not (waits_in_vain past (waiting past b))
+
+-- there is a component exactly if run b is active
+abbrev pub IsThereIfActive : List Entry → ℕ → Option Comp → Type 0
+IsThereIfActive past b comp = MatchOption comp (is_active past b ≡ false) (λ c. is_active past b ≡ true)
+
+unfoldable pub worst_local : List ComponentState → Verdict
+worst_local states = worst (map (λ s. s.local) states)

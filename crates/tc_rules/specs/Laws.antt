@@ -1,0 +1,73 @@
+-- What holds of every legal history, and the definitions leave unsaid.
+use Rattle.std.specs.Prelude.{ℕ, ◌≡◌, if◌then◌else◌, ◌↔◌, true, false, Some, None, List, [], ◌∷◌, ◌++◌, map}
+use Rattle.tc_verdict.specs.declared.verdict.Verdict.{Verdict}
+use Rattle.tc_verdict.specs.Prelude.{worst}
+use Rattle.tc_entry.specs.declared.comp.Comp.{Comp}
+use Rattle.tc_entry.specs.declared.entry.Entry.{Entry}
+use Rattle.tc_entry.specs.declared.op.Op.{Op}
+use Rattle.tc_entry.specs.declared.op.Op.TheVariants as O
+use Rattle.tc_entry.specs.declared.phase.Phase.TheVariants as P
+use Rattle.tc_entry.specs.Prelude.{is_ended}
+use Rattle.tc_rules.specs.History.{comp_of, is_comp, is_over}
+use Rattle.tc_rules.specs.Phases.{phase, was_killed, was_halted}
+use Rattle.tc_rules.specs.Local.{gives, local, overall}
+use Rattle.tc_rules.specs.Legal.{IsLegal, IsAllOver}
+use Rattle.tc_rules.specs.Standing.{Kept, StandsFor}
+pub use Rattle.tc_rules.specs.Inside.Laws.{halting_op, is_quiet, keeps_phases, lets_go_on, may_halt}
+
+-- after an entry that ends the case no component is alive, and every call is replied Ended
+abbrev pub OverForAll : Type 0
+OverForAll = (n : ℕ) (past : List Entry) → IsLegal n past → is_over past ≡ true → IsAllOver n past
+
+-- a component that was killed was halted
+abbrev pub KilledWasHalted : Type 0
+KilledWasHalted =
+    (n : ℕ) (past : List Entry) (c : ℕ) → IsLegal n past → was_killed past c ≡ true → was_halted past c ≡ true
+
+-- the caller's component, and that it was running this very run
+abbrev pub RunsNow : List Entry → Entry → Comp → Type 0
+RunsNow past e c = (comp_of past e.caller.0 ≡ Some c) × (phase past c.0 ≡ P.Running (record { 0 = e.caller.0 }))
+
+-- a caller that is not replied Ended is the running run of its component
+abbrev pub AnsweredIsRunning : Type 0
+AnsweredIsRunning =
+    (n : ℕ) (past : List Entry) (e : Entry) → IsLegal n (e ∷ past) → is_ended e.reply ≡ false → (c : Comp) × RunsNow past e c
+
+-- the component of a run is the same at its entries and over the whole history
+abbrev pub SameComponentLater : Type 0
+SameComponentLater =
+    (n : ℕ) (past later : List Entry) (e : Entry) → IsLegal n (e ∷ past) → is_ended e.reply ≡ false → comp_of (later ++ e ∷ past) e.caller.0 ≡ comp_of past e.caller.0
+
+-- the verdicts given to component c by runs that are on it in the whole history
+abbrev pub verdicts_in : List Entry → List Entry → ℕ → List Verdict
+verdicts_in whole [] c = []
+verdicts_in whole (e ∷ past) c =
+    if is_comp (comp_of whole e.caller.0) c then gives e.op e.reply ++ verdicts_in whole past c else verdicts_in whole past c
+
+-- the local verdict is the worst of what the runs on the component were given, over the whole history
+abbrev pub LocalOfWhole : Type 0
+LocalOfWhole =
+    (n : ℕ) (past : List Entry) (c : ℕ) → IsLegal n past → worst (verdicts_in past past c) ≡ local past c
+
+-- a history that a state represents is legal
+abbrev pub StandsForLegal : Type 0
+StandsForLegal = (k : Kept) (past : List Entry) → StandsFor k past → IsLegal k.behaviours past
+
+-- the operation, without the name that a Create may give
+abbrev pub unnamed_op : Op → Op
+unnamed_op (O.Create alive name) = O.Create alive None
+unnamed_op op = op
+
+-- the entry, without the name that it may give
+abbrev pub unnamed : Entry → Entry
+unnamed e = record e { op = unnamed_op e.op }
+
+-- two histories are both legal or neither, and give the same verdicts
+pub record AgreeInVerdicts (n : ℕ) (h g : List Entry) : Type 0 where
+  pub legal : IsLegal n h ↔ IsLegal n g
+  pub locals : (c : ℕ) → local h c ≡ local g c
+  pub overalls : overall h ≡ overall g
+
+-- histories that differ only in the names of components agree in all that
+abbrev pub NamesSayNothing : Type 0
+NamesSayNothing = (n : ℕ) (h g : List Entry) → map unnamed h ≡ map unnamed g → AgreeInVerdicts n h g

@@ -1,0 +1,22 @@
+-- The definitions that the contracts of this crate cite.
+pub mod History
+pub mod Phases
+pub mod Status
+pub mod Local
+pub mod Waiting
+pub mod Faults
+pub mod Answers
+pub mod Legal
+pub mod Laws
+pub mod Check
+pub mod Deciding
+pub mod Case
+pub mod Standing
+pub mod Inside
+pub mod Parts
+pub mod Merge
+pub mod Report
+pub mod Refusals
+pub mod Prelude
+pub use Rattle.tc_verdict.specs.Prelude as OfVerdict
+pub use Rattle.tc_entry.specs.Prelude as OfEntry

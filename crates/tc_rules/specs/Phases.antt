@@ -1,0 +1,56 @@
+-- What a component is doing.
+use Rattle.std.specs.Prelude.{ℕ, ◌==◌, ◌&&◌, ◌||◌, not, if◌then◌else◌, Bool, false, Option, Some, None, is_some, List, [], ◌∷◌}
+use Rattle.tc_verdict.specs.declared.run.Run.{Run}
+use Rattle.tc_entry.specs.declared.comp.Comp.{Comp}
+use Rattle.tc_entry.specs.declared.entry.Entry.{Entry}
+use Rattle.tc_entry.specs.declared.phase.Phase.{Phase}
+use Rattle.tc_entry.specs.declared.phase.Phase.TheVariants as P
+use Rattle.tc_entry.specs.Prelude.{is_ok}
+use Rattle.tc_rules.specs.History.{exists, is_alive_type, comp_of, starts_on, first_some, is_comp, is_stop_of, is_kill_of, halts, kills}
+
+-- an entry after its creation killed component c
+abbrev pub was_killed : List Entry → ℕ → Bool
+was_killed [] c = false
+was_killed (e ∷ past) c = (exists past c && kills e c) || was_killed past c
+
+-- the run that the entry starts on component c
+abbrev pub start_in : Entry → ℕ → Option Run
+start_in e c = if is_ok e.reply then starts_on e.op c else None
+
+-- the run of the last start of component c; the main component runs run 0 from the opening
+abbrev pub last_run : List Entry → ℕ → Option Run
+last_run [] c = if c == 0 then Some (record { 0 = 0 }) else None
+last_run (e ∷ past) c = first_some (start_in e c) (last_run past c)
+
+-- since its last start an entry halted component c
+abbrev pub was_halted : List Entry → ℕ → Bool
+was_halted [] c = false
+was_halted (e ∷ past) c = not (is_some (start_in e c)) && (halts (comp_of past e.caller.0) e c || was_halted past c)
+
+-- the entry halts component c, as a Stop or Kill by a run on another component
+abbrev pub halts_from_outside : Option Comp → Entry → ℕ → Bool
+halts_from_outside own e c = halts own e c && (is_stop_of e.op c || is_kill_of e.op c) && not (is_comp own c)
+
+-- the first entry that halted component c since its last start is a Stop or Kill by a run on another component
+abbrev pub is_excused : List Entry → ℕ → Bool
+is_excused [] c = false
+is_excused (e ∷ past) c =
+    not (is_some (start_in e c))
+    && (if was_halted past c
+    then is_excused past c
+    else halts_from_outside (comp_of past e.caller.0) e c)
+
+-- what a component is doing that no entry killed, by the run of its last start, if it was started
+abbrev pub phase_if_not_killed : Option Run → Bool → Bool → Phase
+phase_if_not_killed None halted alive_type = P.Inactive
+phase_if_not_killed (Some run) halted alive_type =
+    if not halted then P.Running run else if alive_type then P.Stopped else P.Killed
+
+-- what component c is doing
+unfoldable pub phase : List Entry → ℕ → Phase
+phase past c =
+    if was_killed past c then P.Killed else phase_if_not_killed (last_run past c) (was_halted past c) (is_alive_type past c)
+
+-- the same, if the component exists
+unfoldable pub phase_if_any : List Entry → ℕ → Option Phase
+phase_if_any past c = if exists past c then Some (phase past c) else None

@@ -1,0 +1,30 @@
+-- What contracts see of a case's state, and the histories that it represents: a new state represents no entries, a call
+-- adds its entry, and each answer is about the entries. So nothing has to be known of what is kept.
+use Rattle.std.specs.Prelude.{ℕ, ◌≡◌, Bool, List, ◌∷◌}
+use Rattle.tc_verdict.specs.declared.run.Run.{Run}
+use Rattle.tc_entry.specs.declared.entry.Entry.{Entry}
+use Rattle.tc_entry.specs.declared.op.Op.{Op}
+use Rattle.tc_entry.specs.declared.reply.Reply.{Reply}
+use Rattle.tc_rules.specs.declared.component_state.ComponentState.{ComponentState}
+use Rattle.tc_rules.specs.declared.run_state.RunState.{RunState}
+use Rattle.tc_rules.specs.Answers.{answer}
+use Rattle.tc_rules.specs.Inside.Kept.{IsKept}
+
+-- what is kept of a test case next to its history
+pub record Kept : Type 0 where
+  pub behaviours : ℕ
+  pub states : List ComponentState
+  pub runs : List RunState
+  pub over : Bool
+
+-- this is what is kept after these entries, the newest first, each of whose replies is the table's
+unfoldable pub StandsFor : Kept → List Entry → Type 0
+StandsFor k past = IsKept k.behaviours past k.states k.runs k.over
+
+-- the table gives this reply to the call, whatever entries the state represents
+abbrev pub IsReplyOf : Kept → Run → Op → Reply → Type 0
+IsReplyOf k caller op reply = (past : List Entry) → StandsFor k past → reply ≡ answer k.behaviours past caller.0 op
+
+-- the state after this entry represents the entries that the one before it represents, and this one
+abbrev pub TakesIn : Kept → Entry → Kept → Type 0
+TakesIn before e after = (past : List Entry) → StandsFor before past → StandsFor after (e ∷ past)

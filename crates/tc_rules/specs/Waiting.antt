@@ -1,0 +1,49 @@
+-- Waiting for the end or the kill of components, and when a case can no longer continue.
+-- All of it is this project's own: there are no timers, so a case that waits for what cannot come is stuck.
+use Rattle.std.specs.Prelude.{ℕ, ◌==◌, not, if◌then◌else◌, Bool, true, false, Option, Some, None, List, [], ◌∷◌}
+use Rattle.std.specs.List.{list_all}
+use Rattle.tc_rules.specs.declared.awaited.Awaited.{Awaited}
+use Rattle.tc_entry.specs.declared.entry.Entry.{Entry}
+use Rattle.tc_entry.specs.declared.op.Op.{Op}
+use Rattle.tc_entry.specs.declared.op.Op.TheVariants as O
+use Rattle.tc_entry.specs.declared.phase.Phase.{Phase}
+use Rattle.tc_entry.specs.declared.phase.Phase.TheVariants as P
+use Rattle.tc_entry.specs.declared.reply.Reply.{Reply}
+use Rattle.tc_entry.specs.declared.reply.Reply.TheVariants as R
+use Rattle.tc_rules.specs.History.{comps}
+use Rattle.tc_rules.specs.Phases.{phase}
+use Rattle.tc_rules.specs.Status.{done, killed}
+
+-- what a Wait or a Wake is for
+abbrev pub awaited : Op → Option Awaited
+awaited (O.Wait k t) = Some (record { killed = k; target = t })
+awaited (O.Wake k t) = Some (record { killed = k; target = t })
+awaited _ = None
+
+-- what the caller waits for after this call: a Wait or Wake replied Parked
+abbrev pub parks : Op → Reply → Option Awaited
+parks op R.Parked = awaited op
+parks op _ = None
+
+-- what run b waits for: its last entry is a Wait or Wake replied Parked
+abbrev pub waiting : List Entry → ℕ → Option Awaited
+waiting [] b = None
+waiting (e ∷ past) b = if e.caller.0 == b then parks e.op e.reply else waiting past b
+
+-- what is awaited has come
+unfoldable pub holds : List Entry → Awaited → Bool
+holds past a = if a.killed then killed past a.target else done past a.target
+
+-- it waits, and what it waits for has not come
+abbrev pub waits_in_vain : List Entry → Option Awaited → Bool
+waits_in_vain past None = false
+waits_in_vain past (Some a) = not (holds past a)
+
+-- a component in this phase does not keep the case from being stuck
+abbrev pub is_still : List Entry → Phase → Bool
+is_still past (P.Running run) = waits_in_vain past (waiting past run.0)
+is_still past _ = true
+
+-- every run that is running waits, and the target of none of them holds
+unfoldable pub is_stuck : List Entry → Bool
+is_stuck past = list_all (λ c. is_still past (phase past c)) (comps past)

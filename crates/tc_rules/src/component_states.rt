@@ -1,0 +1,245 @@
+//! The states of all components, with what is counted over them.
+ghost use Rattle.std.specs.Prelude.{◌≡◌, ◌≤◌, ◌<◌, ◌+◌, ◌++◌, ◌&&◌, ◌∷◌, [], drop, length, slice_index_or, slice_set, IfOk, OnOk, OnErr};
+ghost use Rattle.tc_entry.specs.declared.limits.TheConstants.{COMPONENTS};
+ghost use Rattle.tc_verdict.specs.Prelude.{level_of};
+ghost use Rattle.tc_rules.specs.Inside.Counts.{bit, is_lapsed as lapsed_state, main_state, made_state};
+ghost use Rattle.tc_rules.specs.Inside.States as tests;
+
+use crate::component_state::{ComponentState, are_same, is_done, is_killed, is_running};
+use std::alloc::{AllocError, Global};
+use std::marker::Model;
+use tc_entry::Phase;
+use tc_verdict::{NoMemory, Run, Verdict, worse_of};
+
+/// The states of all components, the main one first; the counts are over the others.
+#[derive(Drop)]
+pub(crate) struct ComponentStates {
+    states: Vec<ComponentState>,
+    running: u32,
+    done: u32,
+    killed: u32,
+    lapsed: u32,
+    worst: Verdict,
+}
+
+impl Model for ComponentStates {
+    ghost use Rattle.std.specs.Prelude.{List};
+    ghost use Rattle.tc_rules.specs.declared.component_state.ComponentState.{ComponentState};
+    ghost use Rattle.tc_rules.specs.Inside.Counts.{IsCounted};
+
+    ghost Value = { List ComponentState };
+
+    ghost view = { λ s. s.states.items };
+
+    ghost invariant = { λ s. IsCounted s.states.items s.running s.done s.killed s.lapsed s.worst };
+}
+
+/// Whether a component was started, and is neither running nor excused.
+fn is_lapsed(state: ComponentState) -> bool
+    ensures { result ≡ lapsed_state state }
+{
+    state.last.is_some() && !is_running(state.phase) && !state.excused
+}
+
+fn both(a: bool, b: bool) -> bool
+    ensures { result ≡ (a && b) }
+{
+    a && b
+}
+
+/// A count, after one of the things that it is over has changed.
+fn recount(count: u32, was: bool, is: bool) -> u32
+    requires had { bit was ≤ count }
+    requires few { count ≤ COMPONENTS }
+    ensures { result + bit was ≡ count + bit is }
+{
+    if was {
+        if is { count } else { count - 1 }
+    } else if is {
+        count + 1
+    } else {
+        count
+    }
+}
+
+#[tactic(auto, using(crate::proofs::Counting::counted_rules))]
+impl ComponentStates {
+    /// The same states.
+    pub(crate) fn copied(&self, alloc: Global) -> Result<ComponentStates, NoMemory>
+        ensures { IfOk result (λ s. s ≡ self.now) }
+    {
+        let mut states = Vec::with_capacity(alloc, self.states.len())?;
+        states.extend_from_slice(self.states.as_slice())?;
+        Ok(ComponentStates {
+            states,
+            running: self.running,
+            done: self.done,
+            killed: self.killed,
+            lapsed: self.lapsed,
+            worst: self.worst,
+        })
+    }
+
+    /// Only the main component, running run 0.
+    pub(crate) fn new(alloc: Global) -> Result<ComponentStates, AllocError>
+        ensures { IfOk result (λ s. s ≡ main_state ∷ []) }
+    {
+        let mut states = Vec::new(alloc);
+        states
+            .push(ComponentState {
+                phase: Phase::Running(Run(0)),
+                alive_type: false,
+                last: Some(Run(0)),
+                excused: false,
+                local: Verdict::None,
+            })
+            .map_err(AllocError::from)?;
+        Ok(ComponentStates {
+            states,
+            running: 0,
+            done: 0,
+            killed: 0,
+            lapsed: 0,
+            worst: Verdict::None,
+        })
+    }
+
+    pub(crate) fn as_slice(&self) -> &[ComponentState]
+        ensures same { result.now ≡ self.now }
+        ensures some { 1 ≤ length self.now }
+        ensures few { length self.now ≤ COMPONENTS }
+    {
+        self.states.as_slice()
+    }
+
+    #[inline(always)]
+    pub(crate) fn get(&self, i: usize) -> ComponentState
+        requires { i < length self.now }
+        ensures { result ≡ slice_index_or self.now i result }
+    {
+        self.states.as_slice()[i]
+    }
+
+    /// Adds a component that is not yet started.
+    pub(crate) fn add(&mut self, alive_type: bool) -> Result<(), AllocError>
+        requires { length self.old < COMPONENTS }
+        ensures ok { OnOk result (self.new ≡ self.old ++ made_state alive_type ∷ []) }
+        ensures err { OnErr result (self.new ≡ self.old) }
+    {
+        self.states
+            .push(ComponentState {
+                phase: Phase::Inactive,
+                alive_type,
+                last: None,
+                excused: false,
+                local: Verdict::None,
+            })
+            .map_err(AllocError::from)
+    }
+
+    // Replaces the state of component i, whose local verdict gets no better, and counts it again.
+    #[inline(always)]
+    fn replace(&mut self, i: usize, state: ComponentState)
+        requires within { i < length self.old }
+        requires no_better { level_of (slice_index_or self.old i state).local ≤ level_of state.local }
+        ensures { self.new ≡ slice_set self.old i state }
+    {
+        let old = self.states[i];
+        let counts = i > 0;
+        let running = recount(
+            self.running,
+            both(counts, is_running(old.phase)),
+            both(counts, is_running(state.phase)),
+        );
+        let done = recount(
+            self.done,
+            both(counts, is_done(old.phase)),
+            both(counts, is_done(state.phase)),
+        );
+        let killed = recount(
+            self.killed,
+            both(counts, is_killed(old.phase)),
+            both(counts, is_killed(state.phase)),
+        );
+        let lapsed = recount(
+            self.lapsed,
+            both(counts, is_lapsed(old)),
+            both(counts, is_lapsed(state)),
+        );
+        let worst = worse_of(self.worst, state.local);
+        self.states[i] = state;
+        self.running = running;
+        self.done = done;
+        self.killed = killed;
+        self.lapsed = lapsed;
+        self.worst = worst;
+    }
+
+    /// Changes the state of component i, whose local verdict gets no better. Most calls leave it as it was.
+    #[inline(always)]
+    pub(crate) fn set(&mut self, i: usize, state: ComponentState)
+        requires within { i < length self.old }
+        requires no_better { level_of (slice_index_or self.old i state).local ≤ level_of state.local }
+        ensures { self.new ≡ slice_set self.old i state }
+    {
+        if !are_same(self.get(i), state) {
+            self.replace(i, state);
+        }
+    }
+
+    pub(crate) fn any_running(&self) -> bool
+        ensures { result ≡ tests.any_running (drop 1 self.now) }
+    {
+        0 < self.running
+    }
+
+    pub(crate) fn none_running(&self) -> bool
+        ensures { result ≡ tests.none_running (drop 1 self.now) }
+    {
+        self.running == 0
+    }
+
+    pub(crate) fn any_killed(&self) -> bool
+        ensures { result ≡ tests.any_killed (drop 1 self.now) }
+    {
+        0 < self.killed
+    }
+
+    pub(crate) fn all_killed(&self) -> bool
+        ensures { result ≡ tests.all_killed (drop 1 self.now) }
+    {
+        self.killed as usize + 1 == self.states.as_slice().len()
+    }
+
+    pub(crate) fn any_alive(&self) -> bool
+        ensures { result ≡ tests.any_alive (drop 1 self.now) }
+    {
+        self.killed as usize + 1 < self.states.as_slice().len()
+    }
+
+    pub(crate) fn all_alive(&self) -> bool
+        ensures { result ≡ tests.all_alive (drop 1 self.now) }
+    {
+        self.killed == 0
+    }
+
+    pub(crate) fn any_done(&self) -> bool
+        ensures { result ≡ tests.any_done (drop 1 self.now) }
+    {
+        0 < self.done
+    }
+
+    /// Whether each that was ever started is running or excused.
+    pub(crate) fn none_lapsed(&self) -> bool
+        ensures { result ≡ tests.none_lapsed (drop 1 self.now) }
+    {
+        self.lapsed == 0
+    }
+
+    /// The worst of the local verdicts.
+    pub(crate) fn worst(&self) -> Verdict
+        ensures { result ≡ tests.worst_local self.now }
+    {
+        self.worst
+    }
+}

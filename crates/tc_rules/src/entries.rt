@@ -1,0 +1,182 @@
+//! What one entry says of the case, of a component and of a run.
+ghost use Rattle.std.specs.Prelude.{◌≡◌};
+ghost use Rattle.tc_rules.specs.History as history;
+ghost use Rattle.tc_rules.specs.Laws as laws;
+ghost use Rattle.tc_rules.specs.Phases as phases;
+ghost use Rattle.tc_rules.specs.Waiting as waits;
+ghost use Rattle.tc_rules.specs.Inside.Step as step;
+
+use crate::awaited::Awaited;
+use tc_entry::{Comp, Entry, Op, Reply};
+use tc_verdict::Run;
+
+pub(crate) fn is_finish(op: &Op) -> bool
+    ensures { result ≡ history.is_finish op.now }
+{
+    matches!(op, Op::Finish)
+}
+
+pub(crate) fn is_stop_case(op: &Op) -> bool
+    ensures { result ≡ history.is_stop_case op.now }
+{
+    matches!(op, Op::StopCase)
+}
+
+pub(crate) fn is_stop_of(op: &Op, comp: u32) -> bool
+    ensures { result ≡ history.is_stop_of op.now comp }
+{
+    match op {
+        Op::Stop(group) => group.is_of(comp),
+        _ => false,
+    }
+}
+
+pub(crate) fn is_kill_of(op: &Op, comp: u32) -> bool
+    ensures { result ≡ history.is_kill_of op.now comp }
+{
+    match op {
+        Op::Kill(group) => group.is_of(comp),
+        _ => false,
+    }
+}
+
+/// Whether the operation can halt a component's run by its reply Ok: stop, kill, testcase.stop, or the end of a behaviour.
+pub fn is_halting(op: &Op) -> bool
+    ensures { result ≡ laws.halting_op op.now }
+{
+    matches!(op, Op::Stop(_) | Op::Kill(_) | Op::StopCase | Op::Finish)
+}
+
+/// Whether the operation starts, halts and kills nothing.
+pub fn keeps_phases(op: &Op) -> bool
+    ensures { result ≡ laws.keeps_phases op.now }
+{
+    !is_halting(op) && !matches!(op, Op::Start { .. })
+}
+
+/// Whether this is the component.
+pub fn is_comp(own: Option<Comp>, comp: u32) -> bool
+    ensures { result ≡ history.is_comp own comp }
+{
+    match own {
+        Some(c) => c.0 == comp,
+        None => false,
+    }
+}
+
+/// Whether the entry ends the test case.
+pub fn ends_case(entry: &Entry) -> bool
+    ensures { result ≡ history.ends_case entry.now }
+{
+    !entry.reply.is_ended()
+        && (entry.reply.is_fault()
+            || is_stop_case(&entry.op)
+            || (is_finish(&entry.op) && entry.caller.0 == 0)
+            || is_stop_of(&entry.op, 0)
+            || is_kill_of(&entry.op, 0))
+}
+
+pub(crate) fn kills(entry: &Entry, comp: u32) -> bool
+    ensures { result ≡ history.kills entry.now comp }
+{
+    ends_case(entry) || (!entry.reply.is_ended() && is_kill_of(&entry.op, comp))
+}
+
+pub(crate) fn halts(own: Option<Comp>, entry: &Entry, comp: u32) -> bool
+    ensures { result ≡ history.halts own entry.now comp }
+{
+    ends_case(entry)
+        || (!entry.reply.is_ended()
+            && ((is_finish(&entry.op) && is_comp(own, comp))
+                || is_stop_of(&entry.op, comp)
+                || is_kill_of(&entry.op, comp)))
+}
+
+pub(crate) fn halts_from_outside(own: Option<Comp>, entry: &Entry, comp: u32) -> bool
+    ensures { result ≡ phases.halts_from_outside own entry.now comp }
+{
+    halts(own, entry, comp)
+        && (is_stop_of(&entry.op, comp) || is_kill_of(&entry.op, comp))
+        && !is_comp(own, comp)
+}
+
+pub(crate) fn start_in(entry: &Entry, comp: u32) -> Option<Run>
+    ensures { result ≡ phases.start_in entry.now comp }
+{
+    if entry.reply.is_ok() {
+        match &entry.op {
+            Op::Start { comp: c, run, .. } => { if c.0 == comp { Some(*run) } else { None } }
+            _ => None,
+        }
+    } else {
+        None
+    }
+}
+
+pub(crate) fn awaited(op: &Op) -> Option<Awaited>
+    ensures { result ≡ waits.awaited op.now }
+{
+    match op {
+        Op::Wait { killed, target } | Op::Wake { killed, target } => Some(Awaited {
+            killed: *killed,
+            target: *target,
+        }),
+        _ => None,
+    }
+}
+
+pub(crate) fn parks(op: &Op, reply: Reply) -> Option<Awaited>
+    ensures { result ≡ waits.parks op.now reply }
+{
+    match reply {
+        Reply::Parked => awaited(op),
+        _ => None,
+    }
+}
+
+/// The component on which an entry starts the run.
+pub fn started_on(entry: &Entry, run: u16) -> Option<Comp>
+    ensures { result ≡ history.started_on entry.now run }
+{
+    if entry.reply.is_ok() {
+        match &entry.op {
+            Op::Start { comp, run: b, .. } => { if b.0 == run { Some(*comp) } else { None } }
+            _ => None,
+        }
+    } else {
+        None
+    }
+}
+
+/// The run that an operation starts.
+pub(crate) fn started_run(op: &Op) -> Option<Run>
+    ensures { result ≡ step.started_run op.now }
+{
+    match op {
+        Op::Start { run, .. } => Some(*run),
+        _ => None,
+    }
+}
+
+/// The component that a Create made.
+pub fn created(op: &Op, reply: Reply) -> Option<Comp>
+    ensures { result ≡ history.created op.now reply }
+{
+    match op {
+        Op::Create { .. } => match reply {
+            Reply::Made(comp) => Some(comp),
+            _ => None,
+        },
+        _ => None,
+    }
+}
+
+/// Whether a Create makes an alive-type component.
+pub(crate) fn is_alive_create(op: &Op) -> bool
+    ensures { result ≡ history.is_alive_create op.now }
+{
+    match op {
+        Op::Create { alive, .. } => *alive,
+        _ => false,
+    }
+}

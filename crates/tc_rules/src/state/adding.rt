@@ -1,0 +1,170 @@
+//! Taking in an entry, and what it does to all that is kept.
+ghost use Rattle.std.specs.Prelude.{◌≡◌, ◌||◌, true, false, Some, None, List, OnErr, OnOk};
+ghost use Rattle.std.specs.Result.{IsOk};
+ghost use Rattle.tc_entry.specs.declared.entry.Entry.{Entry};
+ghost use Rattle.tc_rules.specs.Standing.{StandsFor, IsReplyOf, TakesIn};
+ghost use Rattle.tc_entry.specs.Prelude.{is_fault};
+ghost use Rattle.tc_entry.specs.declared.op.Op.TheVariants as ops;
+ghost use Rattle.tc_entry.specs.declared.reply.Reply.TheVariants as replies;
+ghost use Rattle.tc_rules.specs.History as history;
+ghost use Rattle.tc_rules.specs.Inside.Step as step;
+
+use crate::entries::{created, ends_case, is_alive_create};
+use crate::state::CaseState;
+use crate::step::{asks, take_in, take_in_caller, take_in_runs};
+use tc_entry::{Comp, Entry, Group, Op, Reply};
+use tc_verdict::{NoMemory, Run, UserVerdict};
+
+#[tactic(auto, using(crate::proofs::Lemmas::Kept::kept_rules, crate::proofs::Settled::settled_rules), unfolding(crate::specs::Standing::StandsFor))]
+impl CaseState {
+    /// Takes in an entry that makes no component, by a run on component own.
+    #[tactic(auto, using(crate::proofs::Lemmas::Kept::kept_rules, crate::proofs::Settled::settled_rules), unfolding(crate::specs::Standing::StandsFor))]
+    #[inline(always)]
+    pub(crate) fn add(&mut self, own: Option<Comp>, entry: &Entry)
+        requires legal { IsReplyOf self.old entry.now.caller entry.now.op entry.now.reply }
+        requires on { (past : List Entry) → StandsFor self.old past → own ≡ history.comp_of past entry.now.caller.0 }
+        requires makes_none { history.created entry.now.op entry.now.reply ≡ None }
+        ensures behaviours { self.new.behaviours ≡ self.old.behaviours }
+        ensures stands { TakesIn self.old entry.now self.new }
+    {
+        take_in(&mut self.states, own, entry);
+        take_in_runs(&mut self.runs, entry);
+        self.over = either(self.over, ends_case(entry));
+    }
+
+    /// Takes in an entry that asks or waits, without an error.
+    #[tactic(auto, using(crate::proofs::Lemmas::Kept::kept_rules, crate::proofs::Settled::settled_rules), unfolding(crate::specs::Standing::StandsFor))]
+    #[inline(always)]
+    pub(crate) fn ask(&mut self, entry: &Entry)
+        requires legal { IsReplyOf self.old entry.now.caller entry.now.op entry.now.reply }
+        requires asks { step.asks entry.now.op ≡ true }
+        requires plain { is_fault entry.now.reply ≡ false }
+        ensures behaviours { self.new.behaviours ≡ self.old.behaviours }
+        ensures stands { TakesIn self.old entry.now self.new }
+    {
+        take_in_caller(&mut self.runs, entry);
+    }
+
+    /// Takes in an entry that makes a component.
+    #[tactic(auto, using(crate::proofs::Lemmas::Kept::kept_rules, crate::proofs::Settled::settled_rules), unfolding(crate::specs::Standing::StandsFor))]
+    pub(crate) fn make(&mut self, entry: &Entry, comp: Comp) -> Result<(), NoMemory>
+        requires legal { IsReplyOf self.old entry.now.caller entry.now.op entry.now.reply }
+        requires makes { history.created entry.now.op entry.now.reply ≡ Some comp }
+        ensures behaviours { self.new.behaviours ≡ self.old.behaviours }
+        ensures stands { OnOk result (TakesIn self.old entry.now self.new) }
+        ensures refused { OnErr result (self.new ≡ self.old) }
+    {
+        self.states.add(is_alive_create(&entry.op))?;
+        take_in_runs(&mut self.runs, entry);
+        Ok(())
+    }
+
+    /// Takes in an entry that makes no component.
+    #[inline(always)]
+    fn add_plain(&mut self, entry: &Entry)
+        requires legal { IsReplyOf self.old entry.now.caller entry.now.op entry.now.reply }
+        requires makes_none { history.created entry.now.op entry.now.reply ≡ None }
+        ensures behaviours { self.new.behaviours ≡ self.old.behaviours }
+        ensures stands { TakesIn self.old entry.now self.new }
+    {
+        let own = self.comp_of(entry.caller);
+        self.add(own, entry);
+    }
+
+    /// Takes in an entry with the reply that is the answer to it, which may change components. If memory runs out, the
+    /// state stays as it was.
+    #[inline(never)]
+    pub(crate) fn change(&mut self, entry: &Entry) -> Result<(), NoMemory>
+        requires legal { IsReplyOf self.old entry.now.caller entry.now.op entry.now.reply }
+        ensures behaviours { self.new.behaviours ≡ self.old.behaviours }
+        ensures stands { OnOk result (TakesIn self.old entry.now self.new) }
+        ensures refused { OnErr result (self.new ≡ self.old) }
+        ensures sure { history.is_create entry.now.op ≡ false → IsOk result }
+    {
+        match created(&entry.op, entry.reply) {
+            None => {
+                self.add_plain(entry);
+                Ok(())
+            }
+            Some(comp) => self.make(entry, comp),
+        }
+    }
+
+    /// Takes in a setting of a verdict that counts.
+    #[inline(never)]
+    fn set_verdict(&mut self, caller: Run, setting: UserVerdict)
+        requires legal { IsReplyOf self.old caller (ops.SetVerdict setting) replies.Ok }
+        ensures behaviours { self.new.behaviours ≡ self.old.behaviours }
+        ensures stands { TakesIn self.old (record { caller = caller; op = ops.SetVerdict setting; reply = replies.Ok }) self.new }
+    {
+        self.add_plain(&Entry {
+            caller,
+            op: Op::SetVerdict(setting),
+            reply: Reply::Ok,
+        });
+    }
+
+    /// Takes in a stop.
+    #[inline(never)]
+    fn stop(&mut self, caller: Run, group: Group)
+        requires legal { IsReplyOf self.old caller (ops.Stop group) replies.Ok }
+        ensures behaviours { self.new.behaviours ≡ self.old.behaviours }
+        ensures stands { TakesIn self.old (record { caller = caller; op = ops.Stop group; reply = replies.Ok }) self.new }
+    {
+        self.add_plain(&Entry {
+            caller,
+            op: Op::Stop(group),
+            reply: Reply::Ok,
+        });
+    }
+
+    /// Takes in a kill.
+    #[inline(never)]
+    fn kill(&mut self, caller: Run, group: Group)
+        requires legal { IsReplyOf self.old caller (ops.Kill group) replies.Ok }
+        ensures behaviours { self.new.behaviours ≡ self.old.behaviours }
+        ensures stands { TakesIn self.old (record { caller = caller; op = ops.Kill group; reply = replies.Ok }) self.new }
+    {
+        self.add_plain(&Entry {
+            caller,
+            op: Op::Kill(group),
+            reply: Reply::Ok,
+        });
+    }
+
+    /// Takes in an entry with the reply that is the answer to it. If memory runs out, the state stays as it was.
+    #[inline(always)]
+    pub(crate) fn take(&mut self, entry: &Entry) -> Result<(), NoMemory>
+        requires legal { IsReplyOf self.old entry.now.caller entry.now.op entry.now.reply }
+        ensures behaviours { self.new.behaviours ≡ self.old.behaviours }
+        ensures stands { OnOk result (TakesIn self.old entry.now self.new) }
+        ensures refused { OnErr result (self.new ≡ self.old) }
+        ensures sure { history.is_create entry.now.op ≡ false → IsOk result }
+    {
+        if asks(&entry.op) && !entry.reply.is_fault() {
+            self.ask(entry);
+            return Ok(());
+        }
+        match (&entry.op, entry.reply) {
+            (Op::SetVerdict(setting), Reply::Ok) => {
+                self.set_verdict(entry.caller, *setting);
+                Ok(())
+            }
+            (Op::Stop(group), Reply::Ok) => {
+                self.stop(entry.caller, *group);
+                Ok(())
+            }
+            (Op::Kill(group), Reply::Ok) => {
+                self.kill(entry.caller, *group);
+                Ok(())
+            }
+            _ => self.change(entry),
+        }
+    }
+}
+
+fn either(a: bool, b: bool) -> bool
+    ensures { result ≡ (a || b) }
+{
+    a || b
+}

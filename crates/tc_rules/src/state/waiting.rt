@@ -1,0 +1,102 @@
+//! Which runs continue, which wait, and whether the case is stuck.
+ghost use Rattle.std.specs.Prelude.{◌≡◌, ◌<◌, true, Some, IfSome, List, length};
+ghost use Rattle.tc_entry.specs.declared.entry.Entry.{Entry};
+ghost use Rattle.tc_rules.specs.Standing.{StandsFor};
+ghost use Rattle.tc_rules.specs.History as history;
+ghost use Rattle.tc_rules.specs.Waiting as waits;
+ghost use Rattle.tc_rules.specs.Faults as faults;
+ghost use Rattle.tc_rules.specs.Answers as answers;
+ghost use Rattle.tc_rules.specs.Inside.States as tests;
+
+use crate::awaited::Awaited;
+use crate::state::CaseState;
+use tc_entry::{Comp, Phase};
+use tc_verdict::Run;
+
+#[tactic(auto, using(crate::proofs::Lemmas::Kept::kept_rules), unfolding(crate::specs::Standing::StandsFor))]
+impl CaseState {
+    /// The component of a run that is active.
+    #[inline(always)]
+    pub(crate) fn active_on(&self, caller: Run) -> Option<Comp>
+        ensures active { (past : List Entry) → StandsFor self.now past → tests.IsThereIfActive past caller.0 result }
+        ensures on { (past : List Entry) → StandsFor self.now past → IfSome result (λ c. history.comp_of past caller.0 ≡ Some c) }
+        ensures within { IfSome result (λ c. c.0 < length self.now.states) }
+    {
+        let comp = self.comp_of(caller)?;
+        let states = self.states.as_slice();
+        if is_run_of(caller, states[comp.0 as usize].phase) {
+            Some(comp)
+        } else {
+            None
+        }
+    }
+
+    /// Whether a run is active.
+    pub fn is_active(&self, run: Run) -> bool
+        ensures { (past : List Entry) → StandsFor self.now past → result ≡ answers.is_active past run.0 }
+    {
+        self.active_on(run).is_some()
+    }
+
+    /// Whether what is awaited has come.
+    #[tactic(auto, using(crate::proofs::Lemmas::Kept::kept_rules, crate::proofs::Lemmas::Kept::wait_rules), unfolding(crate::specs::Waiting::holds, crate::specs::Standing::StandsFor))]
+    #[inline(always)]
+    pub(crate) fn holds(&self, awaited: Awaited) -> bool
+        requires { tests.all_below (faults.target_names awaited.target) (length self.now.states) ≡ true }
+        ensures { (past : List Entry) → StandsFor self.now past → result ≡ waits.holds past awaited }
+    {
+        if awaited.killed {
+            self.killed(awaited.target)
+        } else {
+            self.done(awaited.target)
+        }
+    }
+
+    /// Whether a run waits for what has not come.
+    #[tactic(auto, using(crate::proofs::Lemmas::Kept::kept_rules, crate::proofs::Lemmas::Kept::wait_rules), unfolding(crate::specs::Standing::StandsFor))]
+    pub(crate) fn waits_in_vain(&self, run: Run) -> bool
+        ensures { (past : List Entry) → StandsFor self.now past → result ≡ waits.waits_in_vain past (waits.waiting past run.0) }
+    {
+        let runs = self.runs.as_slice();
+        if (run.0 as usize) < runs.len() {
+            match runs[run.0 as usize].waiting {
+                Some(awaited) => !self.holds(awaited),
+                None => false,
+            }
+        } else {
+            false
+        }
+    }
+
+    /// Whether a run is active, and does not wait in vain.
+    #[tactic(auto, using(crate::proofs::Lemmas::Kept::kept_rules, crate::proofs::Lemmas::Kept::wait_rules), unfolding(crate::specs::Inside::States::goes_on, crate::specs::Standing::StandsFor))]
+    pub(crate) fn goes_on(&self, run: Run) -> bool
+        ensures { (past : List Entry) → StandsFor self.now past → result ≡ tests.goes_on past run.0 }
+    {
+        match self.active_on(run) {
+            Some(_) => !self.waits_in_vain(run),
+            None => false,
+        }
+    }
+
+    /// Whether every run that is active waits in vain.
+    pub(crate) fn is_stuck(&self) -> bool
+        ensures { (past : List Entry) → StandsFor self.now past → result ≡ waits.is_stuck past }
+    {
+        for b in 0..self.behaviours {
+            if self.goes_on(Run(b)) {
+                return false;
+            }
+        }
+        true
+    }
+}
+
+fn is_run_of(run: Run, phase: Phase) -> bool
+    ensures { result ≡ answers.is_run_of run.0 phase }
+{
+    match phase {
+        Phase::Running(b) => b.0 == run.0,
+        _ => false,
+    }
+}

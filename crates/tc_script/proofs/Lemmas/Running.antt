@@ -1,0 +1,74 @@
+-- The pass as the steps of a script are called.
+use Rattle.std.proofs.Common.{ℕ, suc, ◌≡◌, ◌∙◌, ◌+◌, ◌<◌, inl, inr, ◌++◌, ◌==◌, Bool, false, true, refl, List, [], ◌∷◌, length, drop, get_or, drop-cons, arith, sym, ap, subst, append_assoc}
+use Rattle.std.proofs.lemmas.List.{append-nil}
+use Rattle.std.proofs.lemmas.Bool.{false≢true}
+use Rattle.std.proofs.lemmas.Bool.Decides.{nat_tests}
+use Rattle.tc_rules.specs.Prelude.{Comp, Entry, Reply}
+use Rattle.tc_entry.specs.declared.op.Op.TheVariants as O
+use Rattle.tc_entry.specs.declared.reply.Reply.TheVariants as R
+use Rattle.tc_step.specs.declared.step.Step.{Step}
+use Rattle.tc_step.specs.declared.step.Step.TheVariants as S
+use Rattle.tc_step.specs.Prelude.{operation, target, AreBound, ScriptView}
+use Rattle.tc_book.specs.Prelude.{PassState, has_ended, entry_of}
+use Rattle.tc_exec.specs.declared.job.Back.{Back}
+use Rattle.tc_script.specs.Acts.{Acts}
+use Rattle.tc_script.specs.Calls.{Calls, HasCalled, HasRun}
+use Rattle.tc_script.specs.Calls.HasCalled.{none, one_more}
+use Rattle.tc_script.specs.Inside.{HasGrown, IsStepped, IsSoFar}
+
+abbrev with_log : PassState → List Entry → PassState
+with_log p log = record p { log = log }
+
+grown_more : (p q z : PassState) → HasGrown p q → HasGrown q z → HasGrown p z
+grown_more p q z one two =
+    (one.0 ++ two.0, two.1 ∙ ap (λ x. with_log x (x.log ++ two.0)) one.1 ∙ ap (with_log p) (append_assoc p.log one.0 two.0))
+
+calls_grow : (s : Step) (bound : List Comp) (p q : PassState) (r : Reply) → Calls bound s p q r → HasGrown p q
+calls_grow (S.Create alive name) bound p q r is = (entry_of p.run (O.Create alive name) r ∷ [], is)
+calls_grow (S.Start on run args) bound p q r is = (entry_of p.run (operation p.me bound (S.Start on run args)) r ∷ [], is)
+calls_grow (S.Stop g) bound p q r is = (entry_of p.run (operation p.me bound (S.Stop g)) r ∷ [], is)
+calls_grow (S.Kill g) bound p q r is = (entry_of p.run (operation p.me bound (S.Kill g)) r ∷ [], is)
+calls_grow (S.Ask status t) bound p q r is = (entry_of p.run (operation p.me bound (S.Ask status t)) r ∷ [], is)
+calls_grow (S.Wait killed t) bound p q r (inl is, awake) = (entry_of p.run (O.Wait killed (target p.me bound t)) r ∷ [], is)
+calls_grow (S.Wait killed t) bound p q r (inr is, awake) =
+    let wait = entry_of p.run (O.Wait killed (target p.me bound t)) R.Parked in
+    let wake = entry_of p.run (O.Wake killed (target p.me bound t)) r in
+    (wait ∷ wake ∷ [], is ∙ ap (with_log p) (append_assoc p.log (wait ∷ []) (wake ∷ [])))
+calls_grow (S.SetVerdict v) bound p q r is = (entry_of p.run (O.SetVerdict v) r ∷ [], is)
+calls_grow S.StopCase bound p q r is = (entry_of p.run O.StopCase r ∷ [], is)
+calls_grow S.GetVerdict bound p q r is = (entry_of p.run O.GetVerdict r ∷ [], is)
+
+grown_none : (p : PassState) → HasGrown p p
+grown_none p = ([], ap (with_log p) (sym (append-nil p.log)))
+
+grown : (steps : List Step) (start : PassState) (left : List Step) (bound : List Comp) (now : PassState) → HasCalled steps start left bound now → HasGrown start now
+grown steps start _ _ _ none = grown_none start
+grown steps start _ _ _ (one_more s left bound before after reply called on calls) =
+    grown_more start before after (grown steps start (s ∷ left) bound before called) (calls_grow s bound before after reply calls)
+
+pub run_grown : (steps : List Step) (start now : PassState) (how : _) → HasRun steps start now how → HasGrown start now
+run_grown steps start now how run = grown steps start run.left run.bound now run.called
+
+-- whatever a script hands back, the log of the pass has grown
+pub acts_grown : (s : ScriptView) (p : PassState) (b : Back) → Acts s p b → HasGrown p b.pass
+acts_grown s p b acts = by (length p.args == s.parameters) refl
+  where
+    by : (t : Bool) → (length p.args == s.parameters) ≡ t → HasGrown p b.pass
+    by true as_many = run_grown s.steps p b.pass b.ending (acts.calls (grind (arith, nat_tests, as_many)))
+    by false other = subst (HasGrown p) (sym (acts.other_count (λ same. let is : (length p.args == s.parameters) ≡ true = grind (arith, nat_tests, same) in false≢true (sym other ∙ is))).0) (grown_none p)
+
+pub so_far_none : (steps : List Step) (start : PassState) (bound : List Comp) → bound ≡ start.args → AreBound (length start.args) steps → IsSoFar steps start steps bound start
+so_far_none steps start bound is are = rw is (record { called = none; bound = λ on. are })
+
+pub so_far_more : (steps : List Step) (start : PassState) (now left : List Step) (s : Step) (comps comps-new : List Comp) (mid new : PassState) (r : Reply)
+    → IsSoFar steps start now comps mid → now ≡ s ∷ left → has_ended mid ≡ false → IsStepped s comps mid comps-new new r → IsSoFar steps start left comps-new new
+so_far_more steps start now left s comps comps-new mid new r so at on did =
+    let called : HasCalled steps start (s ∷ left) comps mid = subst (λ l. HasCalled steps start l comps mid) at so.called in
+    let are : AreBound (length comps) (s ∷ left) = subst (AreBound (length comps)) at (so.bound on) in
+    record {
+      called = subst (λ b. HasCalled steps start left b new) (sym did.binds) (one_more s left comps mid new r called on did.called);
+      bound = λ on-new. subst (λ n. AreBound n left) (sym (did.counts on-new)) are.1;
+    }
+
+pub step_at : (steps : List Step) (i : ℕ) (d : Step) → i < length steps → drop i steps ≡ get_or steps i d ∷ drop (i + 1) steps
+step_at steps i d lt = let e : i + 1 ≡ suc i = omega arith in rw e (drop-cons steps i d lt)

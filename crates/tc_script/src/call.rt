@@ -1,0 +1,125 @@
+//! The call of one step.
+ghost use Rattle.std.specs.Prelude.{◌≡◌, ◌++◌, All, false, length, is_ok, not};
+ghost use Rattle.tc_entry.specs.declared.op.Op.TheVariants as ops;
+ghost use Rattle.tc_entry.specs.declared.reply.Reply.TheVariants as replies;
+ghost use Rattle.tc_book.specs.Prelude.{has_ended, IsCall, IsWait};
+ghost use Rattle.tc_step.specs.declared.step.Step.TheVariants as steps;
+ghost use Rattle.tc_step.specs.Prelude.{question, IsBound, places};
+ghost use Rattle.tc_script.specs.Inside.{is_refused, IsCarriedOut};
+
+use crate::bound::{arguments, component, group, target};
+use std::sync::Wait;
+use tc_book::{Halt, Pass};
+use tc_entry::{Comp, Name, Target};
+use tc_step::{Status, Step};
+use tc_verdict::NoMemory;
+
+/// Whether a call was carried out; it was, too, if it was replied Ended or by a dynamic error.
+fn carried_out<T: Drop>(answer: Result<T, Halt>) -> Result<(), NoMemory>
+    ensures { is_ok result ≡ not (is_refused answer) }
+{
+    match answer {
+        Err(Halt::NoMemory) => Err(NoMemory),
+        _ => Ok(()),
+    }
+}
+
+/// Creates a component, and gives it a name if there is one.
+fn make<R: Wait>(rt: &R, pass: &mut Pass, alive: bool, name: &Option<Name>) -> Result<Comp, Halt>
+    ensures { IsCall replies.Made (ops.Create alive name.now) pass.old pass.new result }
+{
+    match name {
+        Some(name) => pass.create_named(rt, alive, name.copy()),
+        None => pass.create(rt, alive),
+    }
+}
+
+/// Creates a component, which is bound then. The room for it is made first.
+fn create<R: Wait>(
+    rt: &R,
+    pass: &mut Pass,
+    made: &mut Vec<Comp>,
+    alive: bool,
+    name: &Option<Name>,
+) -> Result<(), NoMemory>
+    requires { has_ended pass.old ≡ false }
+    ensures { IsCarriedOut (steps.Create alive name.now) pass.old made.old.items pass.new made.new.items result }
+{
+    if made.reserve(1).is_err() {
+        return Err(NoMemory);
+    }
+    match make(rt, pass, alive, name) {
+        Ok(comp) => {
+            made.push_reserved(comp);
+            Ok(())
+        }
+        Err(halt) => carried_out::<Comp>(Err(halt)),
+    }
+}
+
+/// Asks a status of components.
+fn ask<R: Wait>(rt: &R, pass: &mut Pass, status: Status, target: Target) -> Result<bool, Halt>
+    ensures { IsCall replies.Answer (question status target) pass.old pass.new result }
+{
+    match status {
+        Status::Running => pass.running(rt, target),
+        Status::Alive => pass.alive(rt, target),
+        Status::Done => pass.done(rt, target),
+        Status::Killed => pass.killed(rt, target),
+    }
+}
+
+/// Waits for components.
+fn wait<R: Wait>(rt: &R, pass: &mut Pass, killed: bool, target: Target) -> Result<(), Halt>
+    ensures { IsWait killed target pass.old pass.new result }
+{
+    if killed {
+        pass.wait_killed(rt, target)
+    } else {
+        pass.wait_done(rt, target)
+    }
+}
+
+#[tactic(auto, using(crate::proofs::Carrying::plain_step, crate::proofs::Carrying::wait_step))]
+/// Makes the call of a step. It returns whether the call was carried out.
+pub(crate) fn call<R: Wait>(
+    rt: &R,
+    pass: &mut Pass,
+    made: &mut Vec<Comp>,
+    step: &Step,
+) -> Result<(), NoMemory>
+    requires not_ended { has_ended pass.old ≡ false }
+    requires bound { All (IsBound (length (pass.old.args ++ made.old.items))) (places step.now) }
+    ensures { IsCarriedOut step.now pass.old made.old.items pass.new made.new.items result }
+{
+    match step {
+        Step::Create { alive, name } => create(rt, pass, made, *alive, name),
+        Step::Start { on, run, args } => {
+            let comp = component(pass, made, *on);
+            let args = arguments(pass, made, args);
+            carried_out(pass.start(rt, comp, *run, &args))
+        }
+        Step::Stop(named) => {
+            let group = group(pass, made, *named);
+            carried_out(pass.stop(rt, group))
+        }
+        Step::Kill(named) => {
+            let group = group(pass, made, *named);
+            carried_out(pass.kill(rt, group))
+        }
+        Step::Ask(status, named) => {
+            let target = target(pass, made, *named);
+            carried_out(ask(rt, pass, *status, target))
+        }
+        Step::Wait {
+            killed,
+            target: named,
+        } => {
+            let target = target(pass, made, *named);
+            carried_out(wait(rt, pass, *killed, target))
+        }
+        Step::StopCase => carried_out(pass.stop_case(rt)),
+        Step::SetVerdict(value) => carried_out(pass.set_verdict(*value)),
+        Step::GetVerdict => carried_out(pass.get_verdict()),
+    }
+}

@@ -1,0 +1,3 @@
+-- What other crates cite of these definitions.
+pub use Rattle.tc_serve.specs.Serve.{IsServiceEnd, devices}
+pub use Rattle.tc_serve.specs.Text.{refused_line_text}

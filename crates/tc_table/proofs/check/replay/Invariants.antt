@@ -1,8 +1,0 @@
-use Rattle.std.proofs.Common.{◌≡◌, take, reverse}
-use Rattle.tc_table.specs.Legal.{IsLegal}
-use Rattle.tc_table.specs.Standing.{StandsFor}
-use Rattle.tc_table.proofs.check.replay.Given as goal
-
-abbrev pub invariant-loop-at : goal.invariant-loop-at
-invariant-loop-at l =
-    (l.state.behaviours ≡ l.behaviours) × StandsFor l.state (reverse (take l.at l.list)) × IsLegal l.behaviours (reverse (take l.at l.list))

@@ -1,8 +1,0 @@
-use Rattle.std.proofs.Common.{◌≡◌, ◌∷◌, [], arith}
-use Rattle.std.proofs.lemmas.Grind.{common_steps}
-use Rattle.tc_table.specs.Inside.Counts.{main_state}
-use Rattle.tc_table.proofs.Counting.{counted_main}
-use Rattle.tc_table.proofs.component_states.ComponentStates.new.Goals as goal
-
-pub invariant_of-result : goal.invariant_of-result
-invariant_of-result c = let made : c.push.new.self.items ≡ main_state ∷ [] = grind (arith, common_steps) in rw made counted_main

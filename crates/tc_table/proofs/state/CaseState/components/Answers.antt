@@ -1,8 +1,0 @@
-use Rattle.std.proofs.Common.{rules}
-use Rattle.tc_table.specs.Standing.{StandsFor}
-use Rattle.tc_table.proofs.Lemmas.Kept.{kept_rules}
-use Rattle.tc_table.proofs.state.CaseState.components.Goals as goal
-
-pub returns : goal.returns
-unfolding StandsFor
-returns c = search (rules, kept_rules)

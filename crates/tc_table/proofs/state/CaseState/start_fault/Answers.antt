@@ -1,9 +1,0 @@
-use Rattle.std.proofs.Common.{rules}
-use Rattle.tc_table.specs.Faults.{start_fault}
-use Rattle.tc_table.specs.Standing.{StandsFor}
-use Rattle.tc_table.proofs.Lemmas.Kept.{kept_rules}
-use Rattle.tc_table.proofs.state.CaseState.start_fault.Goals as goal
-
-pub returns-then-run-eq0 : goal.returns-then-run-eq0
-unfolding start_fault StandsFor
-returns-then-run-eq0 c = search (rules, kept_rules)
