@@ -262,6 +262,33 @@ def cited_inside() -> Iterator[str]:
                         yield f"{path}: {other}.proofs.{module.strip('.')}"
 
 
+def cited_of(crate: str) -> Dict[str, Set[str]]:
+    """What the files of a crate import of the Prelude of each other crate."""
+    found: Dict[str, Set[str]] = {}
+    for path in (it for ending in (".antt", ".rt") for it in files_below(f"crates/{crate}", ending)):
+        if "/out/" not in path and "/must-fail/" not in path:
+            for other, listed in re.findall(r"use Rattle\.(tc_\w+)\.specs\.Prelude\.\{([^}]*)\}", text_of(path)):
+                found.setdefault(other, set()).update(it.strip().split(" as ")[0] for it in listed.split(","))
+    return found
+
+
+def passed_on() -> Iterator[str]:
+    """Names of a Prelude that no other crate cites, and crates whose Lib leaves out a lower one that their definitions name."""
+    cited: Dict[str, Set[str]] = {}
+    for crate in sorted(os.listdir(os.path.join(TOP, "crates"))):
+        for other, names in cited_of(crate).items():
+            cited.setdefault(other, set()).update(names if other != crate else ())
+    for crate in libraries():
+        specs = [it for it in files_below(f"crates/{crate}/specs", ".antt") if "/Inside" not in it and not it.endswith(("/Lib.antt", "/Prelude.antt"))]
+        named = {it for path in specs for it in re.findall(r"use Rattle\.(tc_\w+)\.specs\.Prelude\.", text_of(path))} - {crate}
+        passed = set(re.findall(r"(?m)^pub use Rattle\.(tc_\w+)\.specs\.Prelude as", text_of(f"crates/{crate}/specs/Lib.antt")))
+        yield from (f"crates/{crate}/specs/Lib.antt: it does not pass on {it}" for it in sorted(named - passed))
+        prelude = f"crates/{crate}/specs/Prelude.antt"
+        if os.path.isfile(os.path.join(TOP, prelude)):
+            offered_names = {it.strip() for listed in re.findall(r"\{([^}]*)\}", text_of(prelude)) for it in listed.split(",")}
+            yield from (f"{prelude}: no other crate cites {it}" for it in sorted(offered_names - cited.get(crate, set())))
+
+
 def main() -> int:
     """Prints the table, or what is not used."""
     for line in unused() if "--unused" in sys.argv else table():

@@ -372,6 +372,7 @@ def main() -> int:
         "public clauses rest on each definition of specs/ outside of Inside": believed.unused,
         "each definition outside of Inside has a name of its own": believed.named_twice,
         "what a crate cites of the proofs of another are its lemmas": believed.cited_inside,
+        "each Prelude passes on what others cite and no more, and each Lib what its definitions name": believed.passed_on,
         "each line of crates.txt lists what its crate names, and no more": graph.edges,
         "the drawing of the crates is that of crates.txt": graph.undrawn,
         "what the documents quote of examples/ stands there": lambda: quotations(documents),
