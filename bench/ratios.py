@@ -9,8 +9,6 @@ spread of each row in an earlier run. A ratio that is above it by more than the 
 the rows are written into the file, and none fails. With --instructions the ratios are of instructions, which valgrind counts in one
 round; nothing is compared with the file.
 """
-from __future__ import annotations
-
 import argparse
 import os
 import re
@@ -18,7 +16,7 @@ import statistics
 import subprocess
 import sys
 import tempfile
-from typing import Dict, Iterator, List, NamedTuple, Sequence, Tuple
+from typing import Dict, List, NamedTuple, Sequence, Tuple
 
 HERE = os.path.dirname(os.path.abspath(__file__))
 LANDED = os.path.join(HERE, "ratios.txt")
@@ -44,8 +42,6 @@ ROWS: Dict[str, Row] = {
 
 
 class Spent(NamedTuple):
-    """What a run of a program took."""
-
     milliseconds: float
     mebibytes: float
 
@@ -61,7 +57,6 @@ class Sides(NamedTuple):
 
 
 def built(source: str, work: str) -> str:
-    """The twin of this source, which is compiled once."""
     program = os.path.join(work, source.replace("/", "_"))
     if not os.path.exists(program):
         subprocess.run(["rustc", "--edition", "2024", "-O", os.path.join(HERE, source), "-o", program], check=True)
@@ -69,7 +64,6 @@ def built(source: str, work: str) -> str:
 
 
 def generated(row: Row, work: str) -> str:
-    """The path of the row's input."""
     folder, word = row.made_by
     path = os.path.join(work, f"{folder}_{word}")
     with open(path, "wb") as file:
@@ -90,11 +84,6 @@ def count_once(words: Sequence[str], path: str) -> Spent:
     return Spent(float(re.search(rb"Collected : (\d+)", ran.stderr)[1]) / 1e6, 0)
 
 
-def counted(ours: Sequence[str], theirs: Sequence[str], path: str) -> Sides:
-    """Instructions, of one run of each."""
-    return Sides([count_once(ours, path)], [count_once(theirs, path)])
-
-
 def timed(measure: str, rounds: int, ours: Sequence[str], theirs: Sequence[str], path: str) -> Sides:
     """Both programs in turn, so that other work meets both."""
     ran = subprocess.run([measure, str(rounds), path, *ours, "--", *theirs], stdout=subprocess.PIPE, check=True, text=True)
@@ -111,7 +100,6 @@ def spread_of(ratios: List[float]) -> float:
 
 
 def landed() -> Dict[str, Tuple[float, float]]:
-    """The ratio and the spread of each row in an earlier run."""
     with open(LANDED, encoding="utf-8") as file:
         lines = [it.split("\t") for it in file.read().splitlines() if not it.startswith("#")]
     return {name: (float(ratio), float(spread)) for name, ratio, spread in lines}
@@ -123,18 +111,9 @@ def write_landed(found: Dict[str, Tuple[float, float]]) -> None:
         file.writelines(f"{name}\t{ratio:.3f}\t{spread:.3f}\n" for name, (ratio, spread) in found.items())
 
 
-def is_slower(ratio: float, spread: float, before: Tuple[float, float]) -> bool:
-    """It is above that of the earlier run by more than the spread, which is the larger of the two."""
-    return ratio > before[0] + max(spread, before[1])
-
-
-def cells(sides: Sides, ratio: float, spread: float) -> Iterator[str]:
-    for side in sides:
-        yield f"{statistics.median(it.milliseconds for it in side):.2f}"
-    yield f"{ratio:.2f}"
-    yield f"{spread:.2f}"
-    for side in sides:
-        yield f"{max(it.mebibytes for it in side):.1f}"
+def cells(sides: Sides, ratio: float, spread: float) -> List[str]:
+    medians = [f"{statistics.median(it.milliseconds for it in side):.2f}" for side in sides]
+    return [*medians, f"{ratio:.2f}", f"{spread:.2f}", *(f"{max(it.mebibytes for it in side):.1f}" for side in sides)]
 
 
 def read_words() -> argparse.Namespace:
@@ -151,7 +130,8 @@ def judged(name: str, ratio: float, spread: float, before: Dict[str, Tuple[float
     """The last cell of a row, and whether the row fails."""
     if name not in before:
         return "", False
-    slower = is_slower(ratio, spread, before[name])
+    # It is above that of the earlier run by more than the spread, which is the larger of the two.
+    slower = ratio > before[name][0] + max(spread, before[name][1])
     return f"{before[name][0]:.2f}{', SLOWER' if slower else ''}", slower
 
 
@@ -172,7 +152,10 @@ def main() -> int:
             if output_of(ours, path) != output_of(theirs, path):
                 print(f"ratios: {name}: the twin prints something else", file=sys.stderr)
                 return 1
-            sides = counted(ours, theirs, path) if asked.instructions else timed(measure, asked.rounds, ours, theirs, path)
+            if asked.instructions:
+                sides = Sides([count_once(ours, path)], [count_once(theirs, path)])
+            else:
+                sides = timed(measure, asked.rounds, ours, theirs, path)
             ratio, spread = statistics.median(sides.ratios()), spread_of(sides.ratios())
             found[name] = (ratio, spread)
             told, slower = judged(name, ratio, spread, before)

@@ -1,36 +1,29 @@
 #!/usr/bin/env python3
-"""Joins the sources of the page into one file, and makes the constants of the crate tc_page of it.
+"""Joins the sources of the page into one file, and makes the constants of the crate tc_answer of it.
 
 usage: page/make.py [--check]
 
 It writes page/viewer.html, which is the page with no history in it, and the two parts between which a history text is put:
-crates/tc_page/src/head.rt and crates/tc_page/src/tail.rt. With --check nothing is written: a line for each file that is not
+crates/tc_answer/src/head.rt and crates/tc_answer/src/tail.rt. With --check nothing is written: a line for each file that is not
 what the sources make, and status 1 if there is one.
 """
-from __future__ import annotations
-
 import base64
 import hashlib
 import os
 import re
 import sys
-from typing import Dict, Iterator, List
+from typing import Dict, List
 
 TOP = os.path.dirname(os.path.dirname(os.path.abspath(__file__)))
 # A page is HEAD, a history text as it is, and TAIL. HEAD ends with this mark, which is there once.
 MARK = '<script type="text/plain" id="history">'
-# The crate that has the two parts, once it is there.
-CRATE = "crates/tc_page"
-# The folders of the sources of the pages.
-FOLDERS = ("page", "page/play")
-# The module whose imports are the whole page that shows histories.
-MAIN = "main"
+# The crate that has the two parts, and the folders of the sources of the pages.
+CRATE, FOLDERS = "crates/tc_answer", ("page", "page/play")
 IMPORT = re.compile(r'(?m)^import \{ ([^;]*?) \} from "\.{1,2}/(\w+)\.mjs";\n')
 DEFINED = re.compile(r"(?m)^(?:export )?(?:async )?(?:function|class|const|let) (\w+)")
 
 
 def source(name: str) -> str:
-    """A source of a page."""
     (path,) = [path for path in (os.path.join(TOP, folder, name) for folder in FOLDERS) if os.path.exists(path)]
     with open(path, encoding="ascii") as file:
         return file.read()
@@ -52,7 +45,6 @@ def bare(text: str) -> str:
 
 
 def style(*names: str) -> str:
-    """The style of a page."""
     return "\n" + bare("".join(map(source, names)))
 
 
@@ -68,25 +60,22 @@ def script(main: str) -> str:
 
 def policy(style_text: str, script_text: str) -> str:
     """What a page may load: this style and this script, by their hashes, and nothing else."""
-    def named(text: str) -> str:
-        return "'sha256-" + base64.b64encode(hashlib.sha256(text.encode()).digest()).decode() + "'"
-    return f"style-src {named(style_text)}; script-src {named(script_text)}"
+    sums = [base64.b64encode(hashlib.sha256(it.encode()).digest()).decode() for it in (style_text, script_text)]
+    return "style-src 'sha256-{}'; script-src 'sha256-{}'".format(*sums)
 
 
 def filled(frame: str, parts: Dict[str, str]) -> str:
-    """A frame with its parts."""
     text = bare(re.sub(r"(?s)<!-- .*? -->\n", "", source(frame)))
     return re.sub(r"\{\{(\w+)\}\}", lambda found: parts[found[1]], text)
 
 
 def page() -> str:
-    """The page with no history in it."""
-    parts = {"style": style("page.css"), "script": script(MAIN)}
+    parts = {"style": style("page.css"), "script": script("main")}
     return filled("page.html", {**parts, "policy": policy(parts["style"], parts["script"])})
 
 
 def constant(name: str, says: str, text: str) -> str:
-    """A module of the crate tc_page with one constant."""
+    """A module of the crate tc_answer with one constant."""
     escaped = text.replace("\\", "\\\\").replace('"', '\\"').replace("\n", "\\n")
     return f'//! {says}\n\n/// {says}\npub const {name}: &[u8] =\n    b"{escaped}";\n'
 
@@ -95,29 +84,28 @@ def made() -> Dict[str, str]:
     """Each file that is made, by its path from the top."""
     text = page()
     head, tail = text.split(MARK)
-    files = {"page/viewer.html": text}
-    if os.path.isdir(os.path.join(TOP, CRATE)):
-        files[f"{CRATE}/src/head.rt"] = constant("HEAD", "What a page has before the histories.", head + MARK)
-        files[f"{CRATE}/src/tail.rt"] = constant("TAIL", "What a page has after the histories.", tail)
-    return files
+    return {"page/viewer.html": text,
+            f"{CRATE}/src/head.rt": constant("HEAD", "What a page has before the histories.", head + MARK),
+            f"{CRATE}/src/tail.rt": constant("TAIL", "What a page has after the histories.", tail)}
 
 
-def differing() -> Iterator[str]:
+def is_made(path: str, text: str) -> bool:
+    """Whether a file has this text."""
+    try:
+        with open(os.path.join(TOP, path), encoding="ascii") as file:
+            return file.read() == text
+    except (OSError, UnicodeDecodeError):
+        return False
+
+
+def differing() -> List[str]:
     """The files that are not what the sources make, each with what to do."""
-    for path, text in made().items():
-        try:
-            with open(os.path.join(TOP, path), encoding="ascii") as file:
-                is_made = file.read() == text
-        except (OSError, UnicodeDecodeError):
-            is_made = False
-        if not is_made:
-            yield f"{path} is not what the sources of the page make: python3 page/make.py"
+    return [f"{path} is not what the sources of the page make: python3 page/make.py" for path, text in made().items() if not is_made(path, text)]
 
 
 def main() -> int:
-    """Writes the files, or says which are not made of the sources."""
     if sys.argv[1:] == ["--check"]:
-        lines = list(differing())
+        lines = differing()
         print("".join(f"{line}\n" for line in lines), end="")
         return 1 if lines else 0
     if sys.argv[1:]:

@@ -3,8 +3,7 @@
 
 usage: page/shots.py
 """
-from __future__ import annotations
-
+import base64
 import os
 import sys
 import tempfile
@@ -13,34 +12,29 @@ sys.dont_write_bytecode = True
 TOP = os.path.dirname(os.path.dirname(os.path.abspath(__file__)))
 sys.path += [os.path.join(TOP, "tests", "page")]
 
-import browser
 import make
-from histories import example, examples, kinds
+from browser import Chromium
+from harness import write
+from histories import EXAMPLES, KINDS
 
 # Each picture: its name, the case that it shows, if any, and the size of the window in points.
 SHOTS = (("table", "", (1000, 500)), ("case", "t_supervised", (1080, 660)), ("compare", "t_race", (1000, 640)))
 
 
 def main() -> int:
-    """Makes the pictures."""
-    path = browser.find()
+    path = Chromium.find()
     if path is None:
         print("there is no Chromium", file=sys.stderr)
         return 3
-    race = kinds().split("history 2 t_kinds")[0]
-    text = "".join(map(example, examples())) + race
-    head, tail = make.page().split(make.MARK)
-    with tempfile.TemporaryDirectory(prefix="page-shots-") as room:
-        file = os.path.join(room, "page.html")
-        with open(file, "w", encoding="ascii") as page:
-            page.write(head + make.MARK + text + tail)
-        opened = browser.Browser(path)
+    text = "".join(EXAMPLES.values()) + KINDS.split("history 2 t_kinds")[0]
+    with tempfile.TemporaryDirectory(prefix="page-shots-") as room, Chromium(path) as browser:
+        page = write(os.path.join(room, "page.html"), make.page().replace(make.MARK, make.MARK + text))
         for name, case, (width, height) in SHOTS:
-            opened.open(file, width, height)
-            opened.js(f"goTo(...app.cases.filter(one => one.name === '{case}').map(one => one.id))")
-            with open(os.path.join(TOP, "docs", f"page-{name}.png"), "wb") as picture:
-                picture.write(opened.picture())
-        opened.close()
+            browser.open(page, width, height)
+            browser.js(f"goTo(...app.cases.filter(one => one.name === '{case}').map(one => one.id))")
+            browser.settle()
+            picture = browser.call("Page.captureScreenshot", format="png", optimizeForSpeed=False)["data"]
+            write(os.path.join(TOP, "docs", f"page-{name}.png"), base64.b64decode(picture))
     return 0
 
 

@@ -10,8 +10,6 @@ moved to the checkout. Meanwhile this program holds those locks, as one rt would
 Standard output says how far it is, in lines that begin with 'news: ' where a crate was begun, and else with 'build: ', and all
 that the rt of a crate said once it has ended. The status is 0, or that of the rt that failed, whose words come last.
 """
-from __future__ import annotations
-
 import fcntl
 import os
 import re
@@ -20,6 +18,7 @@ import signal
 import subprocess
 import sys
 import time
+from functools import lru_cache
 from typing import Callable, Dict, List, Optional, Set
 
 # Between two looks at what runs, in seconds.
@@ -58,8 +57,7 @@ def pause() -> None:
 
 def say(text: str) -> None:
     """Prints whole lines at once, since the wrapper reads along."""
-    sys.stdout.write(f"{text}\n")
-    sys.stdout.flush()
+    print(text, flush=True)
 
 
 def number_in(path: str, before: str) -> Optional[int]:
@@ -96,7 +94,6 @@ def free_memory() -> int:
 
 
 def need(jobs: int) -> int:
-    """The memory that a build with that many jobs may take, in bytes."""
     return OF_BUILD + jobs * OF_JOB
 
 
@@ -122,17 +119,11 @@ def with_below(uses: Uses, name: str) -> Set[str]:
 
 
 def chains_of(uses: Uses, size: Callable[[str], int]) -> Dict[str, int]:
-    """The size of the longest chain of crates from each upward."""
-    found: Dict[str, int] = {}
-
+    @lru_cache(None)
     def chain(name: str) -> int:
-        if name not in found:
-            found[name] = size(name) + max((chain(it) for it in uses if name in uses[it]), default=0)
-        return found[name]
+        return size(name) + max((chain(it) for it in uses if name in uses[it]), default=0)
 
-    for it in uses:
-        chain(it)
-    return found
+    return {it: chain(it) for it in uses}
 
 
 def bytes_of(folder: str) -> int:
@@ -159,12 +150,6 @@ def link_or_copy(one: str, other: str) -> None:
         shutil.copy2(one, other)
 
 
-def linked(one: str, other: str) -> None:
-    """The folder again under another name, if it is there."""
-    if os.path.isdir(one):
-        shutil.copytree(one, other, symlinks=True, copy_function=link_or_copy)
-
-
 def remove(folder: str) -> None:
     """Removes a folder; what was just ended may still write there."""
     for _ in range(50):
@@ -185,7 +170,6 @@ class Running:
         self.file = open(log, encoding="utf-8", errors="replace")
 
     def how_far(self) -> str:
-        """The crate, and how many of its functions are checked."""
         for line in self.file:
             found = FUNCTIONS.match(line)
             if found:
@@ -195,7 +179,6 @@ class Running:
         return f"{self.name}{self.told}"
 
     def end(self) -> None:
-        """Ends the rt, which ends all that it started."""
         self.process.terminate()
         try:
             self.process.wait(10)
@@ -268,13 +251,11 @@ class Builder:
             self.begin(name, jobs, ["lib", "--jobs", str(jobs)], f"{self.tree(name)}/crates/{name}", not is_longest)
 
     def begin(self, name: str, jobs: int, words: List[str], folder: str, is_yielding: bool = False) -> None:
-        """Starts an rt."""
         os.makedirs(self.room, exist_ok=True)
         self.has_begun = True
         self.running[name] = Running(name, jobs, words, folder, f"{self.room}/{name}.log", is_yielding)
 
     def tree(self, name: str) -> str:
-        """The tree in which a library is built."""
         return f"{self.room}/{name}"
 
     def make_tree(self, name: str) -> None:
@@ -285,7 +266,8 @@ class Builder:
             one, other = f"{self.top}/crates/{it}", f"{at}/crates/{it}"
             shutil.copytree(one, other, symlinks=True, ignore=lambda at, _, one=one: ["out", "must-fail"] if at == one else [])
             part = "out" if it == name else "out/rlib"
-            linked(f"{one}/{part}", f"{other}/{part}")
+            if os.path.isdir(f"{one}/{part}"):
+                shutil.copytree(f"{one}/{part}", f"{other}/{part}", symlinks=True, copy_function=link_or_copy)
         if os.path.exists(f"{self.top}/HANDLES"):
             shutil.copy(f"{self.top}/HANDLES", at)
         with open(f"{self.top}/crates.txt", encoding="utf-8") as every, open(f"{at}/crates.txt", "w", encoding="utf-8") as some:

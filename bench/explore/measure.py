@@ -47,12 +47,10 @@ def testcase(chance, name, count, steps):
 
 
 def ending(line):
-    """How the line of a test case ends."""
     return next((it for it in ENDINGS if f" {it}" in line), "no line")
 
 
 def processor_seconds():
-    """The seconds that the ended programs have had of a processor."""
     used = resource.getrusage(resource.RUSAGE_CHILDREN)
     return used.ru_utime + used.ru_stime
 

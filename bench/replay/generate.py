@@ -17,48 +17,24 @@ def below(n):
     return (state >> 33) % n
 
 
-def target():
-    return ('any', 'all', str(below(PARALLEL) + 1))[below(3)]
-
-
 def one():
     return str(below(PARALLEL) + 1)
 
 
-def of_main():
-    kind = below(12)
-    if kind < 4:
-        return ('running', 'alive', 'done', 'killed')[kind] + ' ' + target()
-    if kind == 4:
-        return 'wait done ' + one()
-    if kind == 5:
-        return 'wait killed all'
-    if kind == 6:
-        return 'wake killed all'
-    if kind == 7:
-        return 'wake done ' + one()
-    if kind == 8:
-        return 'stop ' + str(700 + below(200))
-    if kind == 9:
-        return 'kill ' + str(900 + below(99))
-    return ('setverdict none', 'getverdict')[kind - 10]
+def target():
+    return ('any', 'all', one())[below(3)]
 
 
-def of_parallel():
-    kind = below(10)
-    if kind < 4:
-        return ('running', 'alive', 'done', 'killed')[kind] + ' ' + one()
-    if kind == 4:
-        return 'setverdict ' + ('none', 'pass', 'inconc', 'fail')[below(4)]
-    if kind == 5:
-        return 'getverdict'
-    if kind == 6:
-        return 'wait killed ' + str(500 + below(100))
-    if kind == 7:
-        return 'wake killed ' + str(500 + below(100))
-    if kind == 8:
-        return 'stop ' + str(700 + below(200))
-    return 'kill ' + str(900 + below(99))
+STATUSES = ('running', 'alive', 'done', 'killed')
+# Each kind of move of the main behaviour, and of another one.
+OF_MAIN = (
+    *(lambda it=it: f'{it} {target()}' for it in STATUSES), lambda: 'wait done ' + one(), lambda: 'wait killed all',
+    lambda: 'wake killed all', lambda: 'wake done ' + one(), lambda: f'stop {700 + below(200)}', lambda: f'kill {900 + below(99)}',
+    lambda: 'setverdict none', lambda: 'getverdict')
+OF_PARALLEL = (
+    *(lambda it=it: f'{it} {one()}' for it in STATUSES), lambda: 'setverdict ' + ('none', 'pass', 'inconc', 'fail')[below(4)],
+    lambda: 'getverdict', lambda: f'wait killed {500 + below(100)}', lambda: f'wake killed {500 + below(100)}',
+    lambda: f'stop {700 + below(200)}', lambda: f'kill {900 + below(99)}')
 
 
 def moves():
@@ -69,7 +45,8 @@ def moves():
     yield '63 finish'
     while True:
         run = below(64)
-        yield f'{run} ' + (of_main() if run == 0 else of_parallel())
+        kinds = OF_PARALLEL if run else OF_MAIN
+        yield f'{run} {kinds[below(len(kinds))]()}'
 
 
 def main():

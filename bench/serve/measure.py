@@ -7,8 +7,6 @@ PROGRAM is the built ttrun, and each figure is the median of ROUNDS, 5 if none i
 a move too, which do not depend on other work. `--server COMMAND` instead of PROGRAM tries the script on another server,
 without the figures of `replay`.
 """
-from __future__ import annotations
-
 import os
 import re
 import shlex
@@ -17,7 +15,6 @@ import statistics
 import subprocess
 import sys
 import tempfile
-import threading
 import time
 from typing import Callable, Iterator, List, Sequence, Tuple
 
@@ -43,12 +40,10 @@ KINDS = ("getverdict", "setverdict pass", "running {0}", "alive all", "done any"
 
 
 def median(rounds: int, figure: Callable[[], float]) -> float:
-    """The median of as many measurements."""
     return statistics.median(figure() for _ in range(rounds))
 
 
 def python_rate(command: Sequence[str], callers: int) -> float:
-    """Calls a second of the Python client."""
     def busy(run: Run) -> None:
         for _ in range(CALLS // callers):
             run.get_verdict()
@@ -69,7 +64,6 @@ def python_rate(command: Sequence[str], callers: int) -> float:
 
 
 def cpp_rate(built: str, command: Sequence[str], callers: int) -> float:
-    """Calls a second of the C++ client."""
     ran = subprocess.run([built, str(callers), str(CPP_CALLS), *command], stdout=subprocess.PIPE, check=True)
     return CPP_CALLS / float(ran.stdout)
 
@@ -108,12 +102,6 @@ def mixed_moves() -> Iterator[str]:
     yield from (f"{run} finish" for run in reversed(range(BEHAVIOURS)))
 
 
-def lone_moves() -> Iterator[str]:
-    """Moves of one behaviour."""
-    yield from ("0 getverdict" for _ in range(ALONE))
-    yield "0 finish"
-
-
 def sleeping_moves() -> Iterator[str]:
     """Moves of one behaviour while all others sleep, each until the next one is done."""
     others = range(1, MOST)
@@ -136,18 +124,15 @@ def processor_time(words: Sequence[str], text: str) -> Tuple[float, str]:
 
 
 def texts_of(moves: Sequence[str], behaviours: int) -> Tuple[str, str]:
-    """The moves for `serve`, and for `replay`."""
     lines = "".join(f"{it}\n" for it in moves)
     return f"case t_moves {behaviours}\n{lines}end\n", f"behaviours {behaviours}\n{lines}"
 
 
 def collected(told: bytes) -> float:
-    """The number of instructions that callgrind prints."""
     return float(re.search(rb"Collected : (\d+)", told)[1])
 
 
 def instructions(words: Sequence[str], text: str) -> float:
-    """How many instructions a program takes for a text, by callgrind."""
     ran = subprocess.run([*CALLGRIND, *words], input=text.encode(), stdout=subprocess.DEVNULL, stderr=subprocess.PIPE, check=False)
     return collected(ran.stderr)
 
@@ -184,20 +169,13 @@ def peak_memory(command: Sequence[str]) -> Tuple[int, int]:
             with open(f"/proc/{served.pid}/status", encoding="ascii") as file:
                 return next(int(it.split()[1]) for it in file if it.startswith("VmHWM:"))
 
-        def feed(count: int) -> None:
-            for _ in range(count // CHUNK):
-                served.stdin.write(b"0 getverdict\n" * CHUNK)
-
-        def drain(count: int) -> None:
-            left = count * len(b"0 getverdict -> none\n")
-            while left > 0:
-                left -= len(os.read(lines.fileno(), min(left, 1 << 20)))
-
         def answered(count: int) -> int:
-            feeder = threading.Thread(target=feed, args=(count,))
-            feeder.start()
-            drain(count)
-            feeder.join()
+            for _ in range(count // CHUNK):
+                # (these lines fit into a pipe)
+                served.stdin.write(b"0 getverdict\n" * CHUNK)
+                left = CHUNK * len(b"0 getverdict -> none\n")
+                while left > 0:
+                    left -= len(os.read(lines.fileno(), left))
             return peak()
 
         served.stdin.write(b"case t_many 1\n")
@@ -226,9 +204,8 @@ def rates(command: Sequence[str], rounds: int) -> None:
 
 
 def times(program: str, rounds: int) -> None:
-    """Prints the processor time a move, and instructions if they can be counted."""
     print("| a move | serve, ns | replay, ns | ratio | serve, instructions | replay, instructions | ratio |\n|---|---|---|---|---|---|---|")
-    lone, mixed, sleeping = list(lone_moves()), list(mixed_moves()), list(sleeping_moves())
+    lone, mixed, sleeping = [*["0 getverdict"] * ALONE, "0 finish"], list(mixed_moves()), list(sleeping_moves())
     for name, moves, behaviours in ((f"{ALONE:,} getverdict of one behaviour", lone, 1),
                                     (f"{MIXED:,} mixed moves of {BEHAVIOURS} behaviours", mixed, BEHAVIOURS),
                                     (f"the same, in a test case of {MOST} behaviours, as the clients open it", mixed, MOST),
@@ -245,7 +222,6 @@ def times(program: str, rounds: int) -> None:
 
 
 def main() -> int:
-    """Makes the figures."""
     words = sys.argv[1:]
     if not words or words[0] == "--server" and len(words) < 2:
         print(__doc__, file=sys.stderr)

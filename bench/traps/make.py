@@ -37,10 +37,6 @@ class Case:
         return self
 
 
-def moves_of(case):
-    return ''.join(f'{move}\n' for move, _ in case.lines)
-
-
 def entries_of(case):
     return ''.join(f'{move} -> {reply}\n' for move, reply in case.lines)
 
@@ -52,7 +48,8 @@ def filled(head, line, tail, limit):
 def one_case(subcommand, case, move, reply='ok', verdict='none', behaviours=64):
     """The case, and then the same move up to the limit."""
     if subcommand == 'replay':
-        return filled(f'behaviours {behaviours}\n' + moves_of(case), f'{move}\n', '', LIMITS['replay'])
+        moves = ''.join(f'{made}\n' for made, _ in case.lines)
+        return filled(f'behaviours {behaviours}\n' + moves, f'{move}\n', '', LIMITS['replay'])
     head = f'history 1 t {behaviours}\n' + entries_of(case)
     return filled(head, f'{move} -> {reply}\n', f'end {verdict}\n', LIMITS['check'])
 
@@ -100,11 +97,6 @@ def test_cases(behaviours):
     return text
 
 
-def two_behaviours():
-    """An ordinary script: test cases of two behaviours, one of which judges."""
-    return test_cases(behaviour('main', ['create p', 'start p w', 'wait done p']) + behaviour('w', ['setverdict pass'] * 60))
-
-
 def idle_behaviours():
     """As many behaviours as a script can have, none of which is started: each has a thread all the same."""
     return test_cases(behaviour('main', []) + ''.join(behaviour(f'b{run}', []) for run in range(63)))
@@ -137,7 +129,8 @@ def padded(line):
 
 
 def scripts():
-    yield 'ordinary', two_behaviours()
+    # test cases of two behaviours, one of which judges
+    yield 'ordinary', test_cases(behaviour('main', ['create p', 'start p w', 'wait done p']) + behaviour('w', ['setverdict pass'] * 60))
     yield 'idle_behaviours', idle_behaviours()
     yield 'started_behaviours', started_behaviours()
     yield 'waiting_while_one_asks', waiting_while(['running mtc'] * 900)

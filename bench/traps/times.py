@@ -21,10 +21,6 @@ def milliseconds(path):
     return (usage.ru_utime + usage.ru_stime) * 1000
 
 
-def least(path):
-    return min(milliseconds(path) for _ in range(rounds))
-
-
 print('| subcommand | input | bytes | ms | times an ordinary one |')
 print('|---|---|---|---|---|')
 for subcommand, ordinary in ORDINARY.items():
@@ -32,7 +28,7 @@ for subcommand, ordinary in ORDINARY.items():
     times = {}
     for path in folder.glob(f'{subcommand}.*'):
         assert path.stat().st_size >= size * 0.9, f'{path.name} is too small'
-        times[path.name] = least(path)
+        times[path.name] = min(milliseconds(path) for _ in range(rounds))
     base = min(times[name] for name in ordinary)
     for name, time in sorted(times.items(), key=lambda row: -row[1]):
         print(f'| {subcommand} | {name.split(".")[1]} | {(folder / name).stat().st_size:,} | {time:.1f} | {time / base:.1f} |')

@@ -12,6 +12,9 @@
 // does not return keeps running; it may still use its `Run`, whose calls throw `Ended`.
 #pragma once
 
+// That of the program which it was tested with.
+#define FILSKEAM_VERSION "0.20.0"
+
 #include <fcntl.h>
 #include <poll.h>
 #include <spawn.h>
@@ -84,7 +87,7 @@ class NoProgram : public std::runtime_error {
 // What is known of a test case: it is there whatever its behaviours did.
 struct Result {
     std::string name;
-    // The overall verdict; error if the server ended before it wrote one.
+    // The overall verdict; error if the test case took longer than it may, or the server ended before it wrote one.
     std::string verdict;
     // The maker of the verdict, its call, and the reason that was given.
     std::string why;
@@ -268,6 +271,32 @@ private:
     std::map<int, std::string> said_;
 };
 
+// A mutex for which a caller can wait that long. ThreadSanitizer does not know the call by which std::timed_mutex waits.
+class TimedMutex {
+public:
+    void lock() {
+        std::unique_lock<std::mutex> hold(mutex_);
+        let_go_.wait(hold, [&] { return !is_held_; });
+        is_held_ = true;
+    }
+    bool try_lock_for(Seconds limit) {
+        std::unique_lock<std::mutex> hold(mutex_);
+        const bool is_free = let_go_.wait_for(hold, limit, [&] { return !is_held_; });
+        is_held_ = true;
+        return is_free;
+    }
+    void unlock() {
+        std::lock_guard<std::mutex> hold(mutex_);
+        is_held_ = false;
+        let_go_.notify_one();
+    }
+
+private:
+    std::mutex mutex_;
+    std::condition_variable let_go_;
+    bool is_held_ = false;
+};
+
 // A server that runs: lines go in, lines come out.
 class Program {
 public:
@@ -425,8 +454,8 @@ class Case;
 
 inline std::string Result::local(const std::string& component) const {
     std::optional<std::string> worst;
-    for (const auto& [number, verdict] : locals)
-        if (names.at(number) == component && (!worst || detail::rank(verdict) > detail::rank(*worst))) worst = verdict;
+    for (const auto& [number, given] : locals)
+        if (names.at(number) == component && (!worst || detail::rank(given) > detail::rank(*worst))) worst = given;
     if (!worst) throw std::out_of_range("test case " + name + " has no component '" + component + "'");
     return *worst;
 }
@@ -552,7 +581,7 @@ private:
 
     // Writes these lines and a call, and waits for its answer.
     std::string ask(const std::string& words, const std::string& before) {
-        std::lock_guard<std::timed_mutex> hold(calling_);
+        std::lock_guard<detail::TimedMutex> hold(calling_);
         return exchange(words, before, std::nullopt);
     }
 
@@ -570,7 +599,7 @@ private:
     std::atomic<bool> is_done_{false};
     std::atomic<bool> is_parked_{false};
     long seen_ = 0;
-    std::timed_mutex calling_;
+    detail::TimedMutex calling_;
     // What it has asked and what is answered, for who holds the news of the test case.
     std::condition_variable answered_;
     std::string asked_;
@@ -624,7 +653,7 @@ public:
 
     // Writes lines, unless the test case is closed.
     void send(const std::string& lines, std::optional<Seconds> limit = std::nullopt) {
-        std::unique_lock<std::timed_mutex> hold(sending_, std::defer_lock);
+        std::unique_lock<TimedMutex> hold(sending_, std::defer_lock);
         if (limit && !hold.try_lock_for(*limit)) return;
         if (!limit) hold.lock();
         if (is_closed_) locked([&] { check_open(); });
@@ -817,21 +846,22 @@ private:
         std::unique_lock<std::mutex> hold(news_);
         if (!read_until(hold, told_, [&] { return is_ended_ || !fault_.empty(); }, grace_)) lose("the server does not answer");
         hold.unlock();
-        std::lock_guard<std::timed_mutex> writing(sending_);  // who still writes or reads is done with the program now
+        std::lock_guard<TimedMutex> writing(sending_);  // who still writes or reads is done with the program now
         await([&] { return !is_read_; }, std::nullopt);
     }
 
     Result result(bool is_timed_out) {
         std::lock_guard<std::mutex> hold(news_);
-        const std::string verdict = is_ended_ ? findings_.overall() : "error";
-        const std::string why = fault_.empty() ? findings_.why : fault_;
+        const std::string told = is_ended_ ? findings_.overall() : "error", late = "the test case took longer than it may";
+        const std::string verdict = is_timed_out ? "error" : told;
+        const std::string why = !fault_.empty() ? fault_ : told == verdict ? findings_.why : late;
         return Result{name_, verdict, why, findings_.locals, findings_.names, evidence_, raised_, hung_, is_timed_out, fault_};
     }
 
     const std::string name_;
     Program* program_;
     const Seconds grace_;
-    std::timed_mutex sending_;
+    TimedMutex sending_;
     // For what follows, and for what the runs have asked. Its holder writes nothing: the server may wait for its reader.
     std::mutex news_;
     // It reports an end, a fault and changes.
@@ -922,7 +952,7 @@ inline bool Run::take(const detail::Line& line) {
 
 // Stops the test case instead of the behaviour, unless it waits or is just making a call.
 inline void Run::stop_case_from_outside(const std::string& reason, Seconds limit) {
-    std::unique_lock<std::timed_mutex> hold(calling_, std::defer_lock);
+    std::unique_lock<detail::TimedMutex> hold(calling_, std::defer_lock);
     if (is_done_ || is_parked_ || !hold.try_lock_for(Seconds(0.05))) return;
     try {
         exchange("stopcase", remark(reason), limit);
@@ -934,13 +964,16 @@ inline void Run::stop_case_from_outside(const std::string& reason, Seconds limit
 // `ttrun serve`, which judges test cases one after the other. If it has ended, the next test case starts it again.
 class Server {
 public:
-    // The program is what FILSKEAM_TTRUN names, or `ttrun` on the path, unless a command is given. A behaviour that does
-    // not return for so long after the end of its test case is abandoned. The evidence of each test case is appended to the
-    // file, if one is named.
+    // The program is what TTRUN or FILSKEAM_TTRUN names, or `ttrun` on the path, unless a command is given. A behaviour that
+    // does not return for so long after the end of its test case is abandoned. The evidence of each test case is appended to
+    // the file, if one is named.
     explicit Server(std::vector<std::string> command = {}, std::string evidence = "", Seconds grace = Seconds(5))
         : command_(std::move(command)), evidence_(std::move(evidence)), grace_(grace) {
-        const char* named = std::getenv("FILSKEAM_TTRUN");
-        if (command_.empty()) command_ = {named != nullptr && *named != 0 ? named : "ttrun", "serve"};
+        for (const char* variable : {"TTRUN", "FILSKEAM_TTRUN"}) {
+            const char* named = std::getenv(variable);
+            if (command_.empty() && named != nullptr && *named != 0) command_ = {named, "serve"};
+        }
+        if (command_.empty()) command_ = {"ttrun", "serve"};
         if (!evidence_.empty()) append(evidence_, "");  // a file that cannot be written is reported before a test case is run
     }
 
@@ -960,6 +993,7 @@ public:
             close();
             status_ = 3;
         }
+        if (result.verdict == "error") status_ = std::max(status_, 2);
         return result;
     }
 

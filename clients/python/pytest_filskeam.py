@@ -1,32 +1,36 @@
-"""The pytest plugin: the fixture `filskeam`, `--filskeam-evidence=FILE`, and what a failed test shows."""
-from __future__ import annotations
-
-from typing import Any, Generator, List, Optional
+"""The pytest plugin: the fixture `filskeam`, its options, and what a failed test shows."""
+import glob
+import os
+from typing import Any, Generator, Optional
 
 import pytest
 
-from filskeam import Behaviour, Result, Server
+from filskeam import Result, Server
+from filskeam.bench import GRACE
+from filskeam.evidence import EvidenceFile
+from filskeam.testing import LIMIT, Bench
 
-RESULTS = "filskeam_results"
-
-
-class Bench:
-    """What the fixture `filskeam` is: it runs test cases on the server of the session, and keeps their results."""
-
-    def __init__(self, server: Server) -> None:
-        self.server = server
-        self.results: List[Result] = []
-
-    def run(self, name: str, main: Behaviour, timeout: Optional[float] = None) -> Result:
-        """Runs a test case. After that many seconds it is stopped, with the verdict error."""
-        self.results.append(self.server.run(name, main, timeout))
-        return self.results[-1]
+BENCH = "_filskeam"
+SECONDS = {"filskeam_limit": (LIMIT, "the seconds that a test case may take if its run says nothing else"),
+           "filskeam_grace": (GRACE, "the seconds that behaviours have to return after the end of their test case")}
 
 
 def pytest_addoption(parser: pytest.Parser) -> None:
-    """Adds the option."""
     group = parser.getgroup("filskeam", "test cases judged by ttrun serve")
     group.addoption("--filskeam-evidence", metavar="FILE", help="writes the evidence of all test cases to FILE")
+    parser.addini("filskeam_program", "the program ttrun; a path is that from the root folder of the tests", default="")
+    for name, (default, text) in SECONDS.items():
+        parser.addini(name, f"{text} ({default:g})", default=str(default))
+
+
+def seconds(config: pytest.Config, name: str) -> float:
+    text = config.getini(name)
+    try:
+        if float(text) > 0:
+            return float(text)
+    except ValueError:
+        pass
+    raise pytest.UsageError(f"{name}: {text!r} is no number of seconds")
 
 
 def evidence_file(config: pytest.Config) -> Optional[str]:
@@ -36,34 +40,62 @@ def evidence_file(config: pytest.Config) -> Optional[str]:
 
 
 def pytest_configure(config: pytest.Config) -> None:
-    """Empties the file, so that no evidence of an earlier session stays in it."""
+    """Empties the file, so that no evidence of an earlier session stays. The one that only starts workers has no file."""
+    for name in SECONDS:
+        seconds(config, name)
     path = evidence_file(config)
     if path:
         try:
-            open(path, "w", encoding="ascii").close()
+            EvidenceFile(path)
+            for it in glob.glob(f"{glob.escape(path)}.gw*"):
+                os.remove(it)
+            if config.getoption("dist", "no") != "no" and not hasattr(config, "workerinput"):
+                os.remove(path)
         except OSError as error:
             raise pytest.UsageError(f"--filskeam-evidence: {error}") from error
 
 
 @pytest.fixture(scope="session")
 def filskeam_server(request: pytest.FixtureRequest) -> Generator[Server, None, None]:
-    """The server of the session."""
-    with Server(evidence=evidence_file(request.config)) as server:
+    config = request.config
+    program = config.getini("filskeam_program")
+    if os.path.dirname(program):
+        program = os.path.join(config.rootpath, program)
+    with Server([program, "serve"] if program else None, evidence_file(config), seconds(config, "filskeam_grace")) as server:
         yield server
 
 
 @pytest.fixture
-def filskeam(request: pytest.FixtureRequest, filskeam_server: Server) -> Bench:
-    """Runs test cases: filskeam.run(name, main, timeout=30) is a `filskeam.Result`."""
-    bench = Bench(filskeam_server)
-    setattr(request.node, RESULTS, bench.results)
-    return bench
+def filskeam(request: pytest.FixtureRequest, filskeam_server: Server) -> Generator[Bench, None, None]:
+    """Runs test cases: filskeam.run(name, main, timeout=30) is a `filskeam.Result`. Without a name it has that of the test."""
+
+    def note(result: Result) -> None:
+        said = {"verdict": result.verdict, "why": result.why, "evidence": result.place}
+        request.node.user_properties.extend((f"{result.name}.{what}", text) for what, text in said.items() if text)
+
+    bench = Bench(filskeam_server, request.node.name, seconds(request.config, "filskeam_limit"), note)
+    setattr(request.node, BENCH, bench)
+    yield bench
+    hold_overlooked(bench)
+
+
+def hold_overlooked(bench: Optional[Bench]) -> None:
+    """Fails a test that has not looked at a bad verdict."""
+    text = bench.overlooked() if bench else ""
+    if text:
+        pytest.fail(text, pytrace=False)
+
+
+@pytest.hookimpl(trylast=True)
+def pytest_runtest_call(item: pytest.Item) -> None:
+    """Comes after the test itself, if that has passed."""
+    hold_overlooked(getattr(item, BENCH, None))
 
 
 @pytest.hookimpl(hookwrapper=True)
 def pytest_runtest_makereport(item: pytest.Item) -> Generator[None, Any, None]:
-    """Shows who, why and the last entries of each test case of a test that failed."""
+    """Shows who, why and the last entries of each test case of a test that failed. So their verdicts need no second failure."""
     outcome = yield
-    report = outcome.get_result()
-    if report.failed:
-        report.sections += [(f"filskeam: {it.name}", it.report()) for it in getattr(item, RESULTS, [])]
+    report, bench = outcome.get_result(), getattr(item, BENCH, None)
+    if report.failed and bench:
+        report.sections += [(f"filskeam: {it.name} ended with {it.verdict}", it.report()) for it in bench.results]

@@ -1,13 +1,11 @@
 #!/usr/bin/env python3
 """Runs a module of modules/ on Eclipse Titan and leaves its logs in a folder.
 
-usage: clients/titan/record.py MODULE FOLDER [--logging full|default|typed|rotated|appended] [--shim] [--set NAME=VALUE]
+usage: clients/titan/record.py MODULE FOLDER [--logging full|default|typed|rotated|each|appended] [--shim] [--set NAME=VALUE]
 
 It needs the package eclipse-titan. The status is 0 if the campaign ran to its end or its main component crashed, 3 if it
 could not be run.
 """
-from __future__ import annotations
-
 import argparse
 import os
 import re
@@ -15,18 +13,19 @@ import shutil
 import subprocess
 import sys
 import time
-from typing import Dict, List, Optional
+from pathlib import Path
+from typing import List, Optional
 
-HERE = os.path.dirname(os.path.abspath(__file__))
+HERE = Path(__file__).resolve().parent
 SECONDS = 120
 LOGGING = {
-    "default": [],
-    "typed": ["LogEventTypes := Yes"],
-    "rotated": ["LogFileSize := 1", "LogFileNumber := 30"],
+    "default": [], "typed": ["LogEventTypes := Yes"], "rotated": ["LogFileSize := 1", "LogFileNumber := 30"], "each": ['LogFile := "%e.%h-%r-%c.%s"'],
     "appended": ["LogEventTypes := Yes", "AppendFile := Yes"],
-    "full": ["FileMask := LOG_ALL | MATCHING", "TimeStampFormat := DateTime", "LogEventTypes := Detailed", "SourceInfoFormat := Stack"],
-}
+    "full": ["FileMask := LOG_ALL | MATCHING", "TimeStampFormat := DateTime", "LogEventTypes := Detailed", "SourceInfoFormat := Stack"]}
 WRAPPED = ("_ZN12TTCN_Runtime17component_runningEi", "_ZN12TTCN_Runtime15component_aliveEi")
+# The folder of Titan in Debian's package.
+ENVIRONMENT = {"TTCN3_DIR": "/usr", "TTCN3_SUBDIR": "/titan", **os.environ}
+NOTHING = subprocess.DEVNULL
 
 
 def why_not() -> str:
@@ -42,52 +41,37 @@ def configuration(module: str, logging: str, parameters: List[str]) -> str:
     return "".join(f"{it}\n" for it in lines)
 
 
-def environment() -> Dict[str, str]:
-    """The folder of Titan in Debian's package."""
-    return {"TTCN3_DIR": "/usr", "TTCN3_SUBDIR": "/titan", **os.environ}
-
-
-def build(module: str, folder: str, is_shimmed: bool) -> None:
-    """Builds the executable of a module in a folder."""
-    shutil.copy(os.path.join(HERE, "modules", f"{module}.ttcn"), folder)
-    sources = [f"{module}.ttcn"]
+def build(module: str, folder: Path, is_shimmed: bool) -> None:
+    sources = [HERE / "modules" / f"{module}.ttcn", *[HERE / "shim" / "shim.cc"] * is_shimmed]
+    for it in sources:
+        shutil.copy(it, folder)
+    subprocess.run(["ttcn3_makefilegen", "-f", "-g", "-e", module, *(it.name for it in sources)], cwd=folder, env=ENVIRONMENT, check=True,
+                   stdout=NOTHING, stderr=NOTHING)
     if is_shimmed:
-        shutil.copy(os.path.join(HERE, "shim", "shim.cc"), folder)
-        sources.append("shim.cc")
-    subprocess.run(["ttcn3_makefilegen", "-f", "-g", "-e", module, *sources], cwd=folder, env=environment(), check=True,
-                   stdout=subprocess.DEVNULL, stderr=subprocess.DEVNULL)
-    if is_shimmed:
-        makefile = os.path.join(folder, "Makefile")
-        with open(makefile, encoding="utf-8") as file:
-            text = file.read()
-        with open(makefile, "w", encoding="utf-8") as file:
-            file.write(re.sub(r"(?m)^LDFLAGS = .*$", "LDFLAGS = -Wl," + ",".join(f"--wrap={it}" for it in WRAPPED), text))
-    with open(os.path.join(folder, "build.txt"), "w", encoding="utf-8") as log:
-        subprocess.run(["make", "CXXFLAGS=-O0"], cwd=folder, env=environment(), check=True, stdout=log, stderr=log)
+        makefile, flags = folder / "Makefile", "LDFLAGS = -Wl," + ",".join(f"--wrap={it}" for it in WRAPPED)
+        makefile.write_text(re.sub(r"(?m)^LDFLAGS = .*$", flags, makefile.read_text(encoding="utf-8")), encoding="utf-8")
+    with open(folder / "build.txt", "w", encoding="utf-8") as log:
+        subprocess.run(["make", "CXXFLAGS=-O0"], cwd=folder, env=ENVIRONMENT, check=True, stdout=log, stderr=log)
 
 
-def port_of(path: str) -> Optional[str]:
+def port_of(output: Path) -> str:
     """The port on which the main controller listens, once it says so."""
     for _ in range(200):
-        with open(path, encoding="utf-8", errors="replace") as file:
-            found = re.search(r"TCP port (\d+)\.", file.read())
+        found = re.search(r"TCP port (\d+)\.", output.read_text(encoding="utf-8", errors="replace"))
         if found:
             return found[1]
         time.sleep(0.02)
-    return None
+    raise OSError(f"the main controller names no port: {output}")
 
 
-def campaign(module: str, folder: str) -> None:
+def campaign(module: str, folder: Path) -> None:
     """Runs the executable with a main controller and one host controller."""
-    output = os.path.join(folder, "controller.txt")
+    output = folder / "controller.txt"
     with open(output, "w", encoding="utf-8") as log:
-        started = [subprocess.Popen(["mctr_cli", "campaign.cfg"], cwd=folder, stdin=subprocess.DEVNULL, stdout=log, stderr=log)]
+        started = [subprocess.Popen(["mctr_cli", "campaign.cfg"], cwd=folder, stdin=NOTHING, stdout=log, stderr=log)]
         try:
-            port = port_of(output)
-            if port is None:
-                raise OSError(f"the main controller names no port: {output}")
-            started.append(subprocess.Popen([os.path.join(folder, module), "127.0.0.1", port], cwd=folder, stdin=subprocess.DEVNULL,
-                                            stdout=subprocess.DEVNULL, stderr=subprocess.DEVNULL))
+            words = [folder / module, "127.0.0.1", port_of(output)]
+            started.append(subprocess.Popen(words, cwd=folder, stdin=NOTHING, stdout=NOTHING, stderr=NOTHING))
             for process in started:
                 process.wait(SECONDS)
         finally:
@@ -97,33 +81,30 @@ def campaign(module: str, folder: str) -> None:
                     process.wait()
 
 
-def record(module: str, folder: str, logging: str = "full", is_shimmed: bool = False, parameters: Optional[List[str]] = None) -> None:
+def record(module: str, where: str, logging: str = "full", is_shimmed: bool = False, parameters: Optional[List[str]] = None) -> None:
     """Builds a module in a folder and runs it there."""
-    os.makedirs(folder, exist_ok=True)
-    folder = os.path.abspath(folder)
-    if not os.path.exists(os.path.join(folder, module)):
+    folder = Path(where).resolve()
+    folder.mkdir(parents=True, exist_ok=True)
+    if not (folder / module).exists():
         build(module, folder, is_shimmed)
-    with open(os.path.join(folder, "campaign.cfg"), "w", encoding="utf-8") as file:
-        file.write(configuration(module, logging, parameters or []))
+    (folder / "campaign.cfg").write_text(configuration(module, logging, parameters or []), encoding="utf-8")
     campaign(module, folder)
     if not any("-mtc" in it for it in os.listdir(folder)):
-        raise OSError(f"no main component ran: {os.path.join(folder, 'controller.txt')} says why")
+        raise OSError(f"no main component ran: {folder / 'controller.txt'} says why")
 
 
 def main() -> int:
-    """Records one campaign."""
     parser = argparse.ArgumentParser(description="runs a module on Eclipse Titan and leaves its logs in a folder")
-    parser.add_argument("module", choices=sorted(it[:-5] for it in os.listdir(os.path.join(HERE, "modules")) if it.endswith(".ttcn")))
+    parser.add_argument("module", choices=sorted(it.stem for it in HERE.glob("modules/*.ttcn")))
     parser.add_argument("folder")
     parser.add_argument("--logging", choices=sorted(LOGGING), default="full")
     parser.add_argument("--shim", action="store_true", help="links shim/shim.cc, which logs running and alive")
     parser.add_argument("--set", action="append", default=[], metavar="NAME=VALUE", help="a module parameter")
     given = parser.parse_args()
-    why = why_not()
-    if why:
-        print(f"record.py: {why}", file=sys.stderr)
-        return 3
     try:
+        why = why_not()
+        if why:
+            raise OSError(why)
         record(given.module, given.folder, given.logging, given.shim, [it.replace("=", " := ", 1) for it in given.set])
     except (OSError, subprocess.SubprocessError) as error:
         print(f"record.py: {error}", file=sys.stderr)

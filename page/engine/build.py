@@ -5,7 +5,6 @@ folder of tools whose clang also keeps the bitcode. The kit's clang and ld.lld l
 helpers.c. Then wasm-opt (of binaryen) gives it the memory of 32 bits that every browser has. Nothing of this is proved. If a kit
 hands over no bitcode, or other bitcode than this takes, nothing is made.
 """
-from __future__ import annotations
 
 import os
 import re

@@ -7,8 +7,6 @@ Without a word it builds the engine of the tree as it is, which is proved first 
 minutes on a proved tree. With --frame the page keeps its engine, and only the rest is made of the sources. With --check nothing
 is written: a line says whether the rest of the page is what the sources make, and the status is 1 if not.
 """
-from __future__ import annotations
-
 import base64
 import gzip
 import hashlib
@@ -18,7 +16,7 @@ import re
 import shutil
 import subprocess
 import sys
-from typing import Dict, List
+from typing import Dict, Iterable, List
 
 HERE = os.path.dirname(os.path.abspath(__file__))
 TOP = os.path.dirname(os.path.dirname(HERE))
@@ -32,25 +30,25 @@ PAGE = os.path.join(TOP, "page", "play.html")
 # The parts that come from the engine, as they are in a page.
 ENGINE = re.compile(r'<script type="text/plain" id="engine">([^<]*)</script>')
 SUMS = re.compile(r"(?s)<b>ttrun ([\w.]+)</b>.*?as SHA-256:</p><pre>([^<]*)</pre>")
+# What makes the engine of the proved program.
+TOOLS = tuple(f"page/engine/{name}" for name in ("build.py", "heap.c", "helpers.c"))
 # The examples that only the page has come first.
 OWN = (("a race", "race.script"), ("a circle of waits", "circle.script"))
 SORTS = (".script", ".history", ".moves")
 
 
 def read(*path: str) -> str:
-    """A file of the repository."""
     with open(os.path.join(TOP, *path), encoding="utf-8") as file:
         return file.read()
 
 
 def examples() -> Dict[str, str]:
-    """The texts to choose from, by their names."""
     names = sorted(name for name in os.listdir(os.path.join(TOP, "examples")) if name.endswith(SORTS))
     names.sort(key=lambda name: SORTS.index(os.path.splitext(name)[1]))
     return {**{title: read("page", "play", name) for title, name in OWN}, **{name: read("examples", name) for name in names}}
 
 
-def sum_of(paths: List[str]) -> str:
+def sum_of(paths: Iterable[str]) -> str:
     """One sum of the names and the content of files."""
     lines = [f"{hashlib.sha256(open(os.path.join(TOP, path), 'rb').read()).hexdigest()}  {path}\n" for path in sorted(paths)]
     return hashlib.sha256("".join(lines).encode()).hexdigest()
@@ -58,49 +56,33 @@ def sum_of(paths: List[str]) -> str:
 
 def sources() -> List[str]:
     """The sources of the proved program, for the engine."""
-    found = ["crates.txt"]
-    for crate in sorted([build.CRATE, *build.below()]):
-        for part in ("src", "specs", "proofs"):
-            for folder, _, names in os.walk(os.path.join(TOP, "crates", crate, part)):
-                found += [os.path.relpath(os.path.join(folder, name), TOP) for name in names]
-    return found
-
-
-def tools() -> List[str]:
-    """What makes the engine of the proved program."""
-    return [f"page/engine/{name}" for name in ("build.py", "heap.c", "helpers.c")]
+    parts = [os.path.join(TOP, "crates", crate, part) for crate in (build.CRATE, *build.below()) for part in ("src", "specs", "proofs")]
+    found = [os.path.join(folder, name) for part in parts for folder, _, names in os.walk(part) for name in names]
+    return ["crates.txt", *(os.path.relpath(it, TOP) for it in found)]
 
 
 def sums(engine: bytes) -> str:
     """What the engine is made of."""
     version = lambda words: subprocess.run(words, capture_output=True, text=True, check=False).stdout.strip()
-    rows = (("sources of the program", sum_of(sources())), ("page/engine", sum_of(tools())), ("engine", hashlib.sha256(engine).hexdigest()))
+    rows = (("sources of the program", sum_of(sources())), ("page/engine", sum_of(TOOLS)), ("engine", hashlib.sha256(engine).hexdigest()))
     return "".join(f"{name:24}{value}\n" for name, value in rows) + f"{'toolchain':24}{version(['rt', 'version'])}, {version(['wasm-opt', '--version'])}"
 
 
-def data(value: object) -> str:
-    """A value as JSON, with no `<` in it."""
-    return json.dumps(value, indent=0).replace("<", "\\u003c")
-
-
 def lines_of(name: str) -> str:
-    """How many lines of C a file has."""
     return str(sum(bool(line.strip()) and not line.startswith("//") for line in read("page", "engine", name).split("\n")))
 
 
 def page(engine: str, version: str, made_of: str) -> str:
-    """The page with this engine, which is packed and spelled in letters."""
     parts = {"style": make.style("page.css", "play.css"), "script": make.script("play"), "engine": engine, "version": version, "sums": made_of}
     parts["policy"] = make.policy(parts["style"], parts["script"] + "").replace("script-src ", "script-src 'wasm-unsafe-eval' ")
     parts["worker"] = "\n" + make.bare(make.source("worker.mjs"))
-    parts.update(examples=data(examples()), heap=lines_of("heap.c"), helpers=lines_of("helpers.c"))
+    parts.update(examples=json.dumps(examples(), indent=0).replace("<", "\\u003c"), heap=lines_of("heap.c"), helpers=lines_of("helpers.c"))
     return make.filled("frame.html", parts)
 
 
 def kept() -> List[str]:
     """The engine of the page that is there, its version, and what it was made of."""
-    with open(PAGE, encoding="ascii") as file:
-        text = file.read()
+    text = read("page", "play.html")
     return [ENGINE.search(text)[1], *SUMS.search(text).groups()]
 
 
@@ -143,7 +125,6 @@ def write(text: str, version: str, is_new: bool) -> None:
 
 
 def main() -> int:
-    """Writes the page, or says whether it is made of the sources."""
     words = sys.argv[1:]
     if words not in ([], ["--frame"], ["--check"]):
         print(__doc__, file=sys.stderr)
@@ -151,7 +132,7 @@ def main() -> int:
     parts = kept() if words else built()
     text = page(*parts)
     if words == ["--check"]:
-        is_made = text == open(PAGE, encoding="ascii").read()
+        is_made = text == read("page", "play.html")
         print("" if is_made else "page/play.html is not what its sources make: python3 page/play/make.py --frame\n", end="")
         return 0 if is_made else 1
     write(text, parts[1], not words)

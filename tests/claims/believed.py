@@ -1,17 +1,15 @@
 """What of specs/ a reader must believe: the definitions that the clauses of public functions rest on.
 
-`python3 tests/claims/believed.py` prints the table that is in docs/architecture.md; with --unused the definitions of specs/,
-without those in Inside, on which no public clause rests.
+`python3 tests/claims/believed.py` prints the table that is in docs/architecture.md.
 """
-from __future__ import annotations
-
 import os
 import re
-import sys
 from functools import lru_cache
 from typing import Dict, Iterator, List, NamedTuple, Set, Tuple
 
-TOP = os.path.dirname(os.path.dirname(os.path.dirname(os.path.abspath(__file__))))
+from memory import offered_by, used
+from sources import TOP, crates, files_below, text_of
+
 # Of these, what a case that was run reports, and the results of a campaign of cases.
 HEADLINE = (("tc_exec", "run_case"), ("tc_exec", "run_case_with"), ("tc_campaign", "run_campaign"), ("tc_campaign", "run_campaign_with"))
 # What a type keeps of the histories that it represents. Clauses only pass it on: a new state represents no entries, each call adds its
@@ -34,16 +32,6 @@ class Definition(NamedTuple):
     lines: int
 
 
-def text_of(path: str) -> str:
-    with open(os.path.join(TOP, path), encoding="utf-8") as file:
-        return file.read()
-
-
-def files_below(folder: str, ending: str) -> Iterator[str]:
-    for at, _folders, names in sorted(os.walk(os.path.join(TOP, folder))):
-        yield from (os.path.relpath(os.path.join(at, it), TOP) for it in sorted(names) if it.endswith(ending))
-
-
 class Imports:
     """What the words of a file mean by its imports."""
 
@@ -57,7 +45,8 @@ class Imports:
             module, listed, last, by, other = found.groups()
             for name in (listed or "").split(","):
                 old, _, new = name.strip().partition(" as ")
-                self.names[(new or old).strip("◌")] = (module, old.strip("◌"))
+                below, _, own = old.rpartition(".")
+                self.names[(new or own).strip("◌")] = (f"{module}.{below}".rstrip("."), own.strip("◌"))
             if by or other:
                 self.modules[by or other] = f"{module}.{last}" if last else module
 
@@ -102,7 +91,6 @@ def blocks_of(text: str) -> Iterator[List[str]]:
 
 
 def constructors(block: List[str]) -> Iterator[str]:
-    """The names of a data type's constructors."""
     if re.match(r"(?:pub )?data\b", block[0]):
         for line in block[1:]:
             found = re.match(r"\s+(?:pub )?([^\W\d]\w*) :", line)
@@ -113,7 +101,7 @@ def constructors(block: List[str]) -> Iterator[str]:
 def defined() -> Dict[Place, Definition]:
     """All definitions of specs/, by module and name; a constructor leads to its type."""
     found: Dict[Place, Definition] = {}
-    for crate in sorted(os.listdir(os.path.join(TOP, "crates"))):
+    for crate in sorted(crates()):
         for path in files_below(f"crates/{crate}/specs", ".antt"):
             text, module = text_of(path), module_of(path)
             imports = Imports(text)
@@ -133,15 +121,6 @@ def defined() -> Dict[Place, Definition]:
                 for key in (own, *constructors(block)):
                     found.setdefault((module, key), it)
     return found
-
-
-def offered(crate: str) -> Tuple[Set[str], Set[str]]:
-    """The names that the root of a crate offers of its modules, and the modules that it opens."""
-    text = text_of(f"crates/{crate}/src/lib.rt")
-    modules = set(re.findall(r"^pub mod (\w+)", text, re.M))
-    text = "\n".join([text, *(text_of(f"crates/{crate}/src/{it}.rt") for it in sorted(modules))])
-    named = re.findall(r"^pub use (?:crate::)?\w+::(?:\{([^}]*)\}|(\w+));", text, re.M)
-    return {it.strip() for pair in named for it in "".join(pair).split(",")} - {""}, modules
 
 
 def items_of(text: str) -> Iterator[Tuple[str, str, bool, str]]:
@@ -176,20 +155,19 @@ def items_of(text: str) -> Iterator[Tuple[str, str, bool, str]]:
 
 def public_clauses(crate: str) -> Iterator[Tuple[str, Set[Place]]]:
     """The functions that a crate offers, each with what its clauses cite."""
-    names, modules = offered(crate)
+    offered, types = offered_by(crate)
+    types |= {name for _, name in used(text_of(f"crates/{crate}/src/lib.rt"))}
     for path in files_below(f"crates/{crate}/src", ".rt"):
         text = text_of(path)
         imports = Imports(text)
-        module = path.split("/src/")[1][:-3].split("/")[0]
         for around, name, is_open, clauses in items_of(text):
-            is_named = module in modules and (not around or re.search(rf"\bpub (?:struct|enum|trait) {around}\b", text))
+            is_offered = around in types if around else {name, "*"} & offered[path]
             # (what a type keeps under its view is proved, and nobody has to believe it)
-            if is_open and name != "invariant" and (is_named or (around or name) in names):
+            if is_open and name != "invariant" and is_offered:
                 yield name, {place for word in WORD.findall(clauses) for place in imports.places(word, "")}
 
 
 def rested_on(places: Set[Place], all_of: Dict[Place, Definition]) -> Set[Place]:
-    """The definitions that these places lead to."""
     found: Set[Place] = set()
     left = list(places)
     while left:
@@ -207,8 +185,7 @@ def lines_of(places: Set[Place], all_of: Dict[Place, Definition]) -> int:
 
 def libraries() -> List[str]:
     """The crates that have definitions, in the order of crates.txt."""
-    named = re.findall(r"^(\w+)[^:\n]*:", text_of("crates.txt"), re.M)
-    return [it for it in named if os.path.isdir(os.path.join(TOP, "crates", it, "specs"))]
+    return [it for it in crates() if os.path.isdir(os.path.join(TOP, "crates", it, "specs"))]
 
 
 @lru_cache(maxsize=None)
@@ -225,7 +202,6 @@ def rested_upon() -> Tuple[Dict[Place, Definition], Set[Place], Set[Place]]:
 
 
 def table() -> Iterator[str]:
-    """The rows of the table: each crate, how many lines of definitions public clauses rest on, and how many the headline; and the sums."""
     all_of, cited, headline = rested_upon()
     for crate in libraries():
         own, of_headline = ({it for it in some if it[0].split(".")[0] == crate} for some in (cited, headline))
@@ -234,7 +210,6 @@ def table() -> Iterator[str]:
 
 
 def unused() -> Iterator[str]:
-    """The definitions outside of Inside on which no public clause rests."""
     all_of, cited, _ = rested_upon()
     for place in sorted({(module_of(it.file), it.name) for it in all_of.values() if it.lines} - cited):
         if ".Inside" not in place[0]:
@@ -252,30 +227,35 @@ def named_twice() -> Iterator[str]:
             yield f"{name}: {', '.join(sorted(files))}"
 
 
+def files_of(crate: str) -> Iterator[str]:
+    """The sources, definitions and proofs of a crate."""
+    for ending in (".antt", ".rt"):
+        yield from (it for it in files_below(f"crates/{crate}", ending) if "/out/" not in it and "/must-fail/" not in it)
+
+
 def cited_inside() -> Iterator[str]:
     """Proofs of a crate that another cites, and that are no lemma made for it."""
-    for crate in sorted(os.listdir(os.path.join(TOP, "crates"))):
-        for ending in (".antt", ".rt"):
-            for path in files_below(f"crates/{crate}", ending):
-                for other, module in re.findall(r"(?m)^\s*(?:ghost )?use Rattle\.(tc_\w+)\.proofs\.([\w.]+)", text_of(path)):
-                    if other != crate and not module.startswith("Lemmas."):
-                        yield f"{path}: {other}.proofs.{module.strip('.')}"
+    for crate in sorted(crates()):
+        for path in files_of(crate):
+            for other, cited in re.findall(r"(?m)^\s*(?:ghost )?use Rattle\.(tc_\w+)\.proofs\.(\{[^}]*\}|[\w.]+)", text_of(path)):
+                for module in cited.strip("{}").split(","):
+                    if other != crate and not module.strip().startswith("Lemmas."):
+                        yield f"{path}: {other}.proofs.{module.strip(' .')}"
 
 
 def cited_of(crate: str) -> Dict[str, Set[str]]:
     """What the files of a crate import of the Prelude of each other crate."""
     found: Dict[str, Set[str]] = {}
-    for path in (it for ending in (".antt", ".rt") for it in files_below(f"crates/{crate}", ending)):
-        if "/out/" not in path and "/must-fail/" not in path:
-            for other, listed in re.findall(r"use Rattle\.(tc_\w+)\.specs\.Prelude\.\{([^}]*)\}", text_of(path)):
-                found.setdefault(other, set()).update(it.strip().split(" as ")[0] for it in listed.split(","))
+    for path in files_of(crate):
+        for other, listed in re.findall(r"use Rattle\.(tc_\w+)\.specs\.Prelude\.\{([^}]*)\}", text_of(path)):
+            found.setdefault(other, set()).update(it.strip().split(" as ")[0] for it in listed.split(","))
     return found
 
 
 def passed_on() -> Iterator[str]:
     """Names of a Prelude that no other crate cites, and crates whose Lib leaves out a lower one that their definitions name."""
     cited: Dict[str, Set[str]] = {}
-    for crate in sorted(os.listdir(os.path.join(TOP, "crates"))):
+    for crate in crates():
         for other, names in cited_of(crate).items():
             cited.setdefault(other, set()).update(names if other != crate else ())
     for crate in libraries():
@@ -285,16 +265,9 @@ def passed_on() -> Iterator[str]:
         yield from (f"crates/{crate}/specs/Lib.antt: it does not pass on {it}" for it in sorted(named - passed))
         prelude = f"crates/{crate}/specs/Prelude.antt"
         if os.path.isfile(os.path.join(TOP, prelude)):
-            offered_names = {it.strip() for listed in re.findall(r"\{([^}]*)\}", text_of(prelude)) for it in listed.split(",")}
+            offered_names = {it.strip().split(".")[-1] for listed in re.findall(r"\{([^}]*)\}", text_of(prelude)) for it in listed.split(",")}
             yield from (f"{prelude}: no other crate cites {it}" for it in sorted(offered_names - cited.get(crate, set())))
 
 
-def main() -> int:
-    """Prints the table, or what is not used."""
-    for line in unused() if "--unused" in sys.argv else table():
-        print(line)
-    return 0
-
-
 if __name__ == "__main__":
-    sys.exit(main())
+    print("\n".join(table()))

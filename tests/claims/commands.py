@@ -1,15 +1,12 @@
 """The commands of the documents: which test runs each block of them, and each in a sentence, and whether each option is one."""
-from __future__ import annotations
-
-import os
 import re
 from typing import Dict, Iterator, List, Tuple
 
-from documents import Block, Document, read
+from documents import Block, Document, cells_of, read
 from script_reader import read_script
+from sources import TOP, files_below, text_of
 from texts import Judged
 
-TOP = os.path.dirname(os.path.dirname(os.path.dirname(os.path.abspath(__file__))))
 # What begins a command.
 BEGINS = re.compile(r"(?m)^(?:\S*\./ttrun|\./gate|\./release|rt |python3 |clients/|cp -r|pip |c\+\+ |git |tar )")
 PIPELINES, GUIDE, LIBRARY = "docs/pipelines.md", "docs/guide.md", "docs/library.md"
@@ -20,13 +17,14 @@ RUN: Tuple[Tuple[str, str, str, str], ...] = (
     (PIPELINES, "", BLOCKS, "every_block_on_a_campaign_that_fails"), (GUIDE, "< examples/", SHOWN, "cases"),
     (GUIDE, "", BLOCKS, "blocks_of_the_guide"), (GUIDE, "printf 'testcase", SHOWN, "shown_cases"),
     (GUIDE, "./ttrun explore --details < race.script", SHOWN, "shown_cases"),
-    (LIBRARY, "cp -r crates/car_window", "tests/documents/tables.py", "the_copy_is_a_crate_as_the_claims_have_it"),
-    (LIBRARY, "> bench.history", "tests/documents/tables.py", "options_of_a_bench_are_taken"),
+    (LIBRARY, "cp -r crates/car_window", BLOCKS, "the_copy_is_a_crate_as_the_claims_have_it"),
+    (LIBRARY, "> bench.history", BLOCKS, "options_of_a_bench_are_taken"),
     ("docs/titan.md", "clients/titan/ttrun-titan", "tests/titan/command_tests.py", "the_commands_of_the_document_run"),
     ("docs/benches.md", "", BLOCKS, "blocks_of_the_bench"),
     ("docs/benches.md", "bash heater.sh", "tests/python/document_tests.py", "the_bench_in_bash"),
     ("docs/benches.md", "< heater.evidence", "tests/documents/released.py", "the_archive_runs_benches"),
     ("clients/cpp/README.md", "c++ -std=c++17", "tests/cpp/run.py", "heater.cpp"),
+    ("clients/cpp/README.md", "cmake -S", "tests/cpp/run.py", "a_project_finds_the_client"),
     ("clients/python/README.md", "pip install clients/python", "tests/python/document_tests.py", "the_package_is_installed_from_its_folder"))
 # The same of commands that a sentence has: those with an input.
 TYPED: Tuple[Tuple[str, str, str, str], ...] = (
@@ -46,52 +44,42 @@ FEWEST_OPTIONS = 25
 NEXT_TO_TTCN, FEWEST_LINES = ("docs/scripts.md", "If you know TTCN-3"), 12
 
 
-def text_of(path: str) -> str:
-    """A file, by its path from the top."""
-    with open(os.path.join(TOP, path), encoding="utf-8") as file:
-        return file.read()
-
-
 def blocks_of_commands(document: Document) -> List[Block]:
-    """The blocks of a document that a reader types into a shell."""
     return [it for it in document.blocks() if it.language == "sh" or (it.language == "" and BEGINS.search(it.text))]
-
-
-def unrun(documents: List[Document]) -> Iterator[str]:
-    """Blocks of commands that no test of the list runs, and tests of the list that are not there, or run no block."""
-    for path, has, file, name in RUN:
-        if not re.search(rf"\b{re.escape(name)}", text_of(file)):
-            yield f"{file} has no {name}"
-        if not any(has in it.text for document in documents if document.path == path for it in blocks_of_commands(document)):
-            yield f"{path}: no block has {has!r}"
-    for document in documents:
-        for block in blocks_of_commands(document):
-            if not any(path == document.path and has in block.text for path, has, _, _ in RUN):
-                yield f"{document.path}:{block.line}: no test runs this block"
 
 
 def typed(document: Document) -> List[Tuple[int, str]]:
     """The commands with an input that the sentences of a document have, with their lines."""
-    lines = [(number, line) for number, line, is_code in marked(document) if not is_code]
+    lines = [(number, line) for number, line, is_code in document.marked() if not is_code]
     return [(number, it) for number, line in lines for it in re.findall(r"`([^`]+)`", line) if INPUT.match(it) and not PATTERN.search(it)]
 
 
-def untyped(documents: List[Document]) -> Iterator[str]:
-    """Commands in sentences that no test of the list runs, and tests of the list that are not there, or run none."""
-    for path, has, file, name in TYPED:
+def unlisted(there: List[Tuple[str, int, str]], table: Tuple[Tuple[str, str, str, str], ...], what: str) -> Iterator[str]:
+    """Commands that no test of the table runs, each by its document and line, and tests of the table that are not there, or run none."""
+    for path, has, file, name in table:
         if not re.search(rf"\b{re.escape(name)}", text_of(file)):
             yield f"{file} has no {name}"
-        if not any(has in it for document in documents if document.path == path for _, it in typed(document)):
-            yield f"{path}: no command has {has!r}"
-    for document in documents:
-        yield from (f"{document.path}:{number}: no test runs {it}" for number, it in typed(document)
-                    if not any(path == document.path and has in it for path, has, _, _ in TYPED))
+        if not any(at == path and has in text for at, _, text in there):
+            yield f"{path}: no {what} has {has!r}"
+    for at, line, text in there:
+        if not any(path == at and has in text for path, has, _, _ in table):
+            yield f"{at}:{line}: no test runs {text if what == 'command' else 'this block'}"
+
+
+def unrun(documents: List[Document]) -> Iterator[str]:
+    """Blocks of commands that no test of the list runs, and tests of the list that are not there, or run no block."""
+    return unlisted([(document.path, it.line, it.text) for document in documents for it in blocks_of_commands(document)], RUN, "block")
+
+
+def untyped(documents: List[Document]) -> Iterator[str]:
+    """The same of commands in sentences."""
+    return unlisted([(document.path, line, it) for document in documents for line, it in typed(document)], TYPED, "command")
 
 
 def unread_lines() -> Iterator[str]:
     """Lines of the table next to TTCN-3 that no script may have."""
     path, section = NEXT_TO_TTCN
-    rows = [line.split("|")[2] for _, line in read(TOP, path).section(section) if line.startswith("|")]
+    rows = [cells_of(line)[1] for _, line in read(TOP, path).section(section) if line.startswith("|")]
     lines = [it for cell in rows for it in re.findall(r"`([^`]+)`", cell)]
     for line in lines:
         before = "" if line.startswith("create ") else "create p\n"
@@ -106,29 +94,18 @@ def own_options() -> List[str]:
     found = [f"--{it}" for it in re.findall(r'OptionRow\(\s*"([a-z-]+)"', text_of("crates/tc_command/src/command.rt"))]
     for path in ("ttrun", "gate", "release", "bench/run.sh"):
         found += OPTION.findall(text_of(path))
-    for folder in ("tests", "tools", "page", "bench", "clients"):
-        for at, _, names in os.walk(os.path.join(TOP, folder)):
-            for text in (text_of(os.path.relpath(os.path.join(at, it), TOP)) for it in names if it.endswith(".py")):
-                found += re.findall(r'(?:add_argument|addoption)\(\s*(?:"-\w", )?"(--[a-z-]+)"|"(--[a-z-]+)" in sys\.argv', text)
-    return sorted({it for one in found for it in ([one] if isinstance(one, str) else one) if it} | {"--help", "--version"})
-
-
-def marked(document: Document) -> Iterator[Tuple[int, str, bool]]:
-    """The numbered lines of a document, and whether each is in a block."""
-    is_code = False
-    for number, line in enumerate(document.lines, 1):
-        is_code ^= line.lstrip().startswith("```")
-        yield number, line, is_code
+    for text in (text_of(path) for folder in ("tests", "tools", "page", "bench", "clients") for path in files_below(folder, ".py")):
+        for pair in re.findall(r'(?:add_argument|addoption)\(\s*(?:"-\w", )?"(--[a-z-]+)"|"(--[a-z-]+)" in sys\.argv', text):
+            found += filter(None, pair)
+    return sorted({*found, "--help", "--version"})
 
 
 def codes(document: Document) -> Iterator[Tuple[int, str]]:
-    """What a document has as code, in backquotes or in a block, line by line."""
-    for number, line, is_code in marked(document):
+    for number, line, is_code in document.marked():
         yield from ((number, it) for it in ([line] if is_code else re.findall(r"`([^`]+)`", line)))
 
 
 def no_options(documents: List[Document]) -> Iterator[str]:
-    """Options that the documents name, and no program has."""
     known = {*own_options(), *(it for some in OTHERS.values() for it in some)}
     seen = set()
     for document in documents:

@@ -3,31 +3,24 @@
 
 `python3 tests/claims/counted.py --write` writes them, and the table of what must be believed.
 """
-from __future__ import annotations
-
 import os
 import re
 import sys
-from typing import Callable, Dict, Iterator, List, Tuple
+from typing import Callable, Dict, Iterator, Tuple
 
 TOP = os.path.dirname(os.path.dirname(os.path.dirname(os.path.abspath(__file__))))
 sys.dont_write_bytecode = True
-sys.path += [os.path.join(TOP, it) for it in ("tests/program", "tests/lies")]
+sys.path += [os.path.join(TOP, it) for it in ("tests/program", "tests/mutants")]
 
 import believed
 import edits
 import plain
 from documents import read
+from sources import crates, files_below, text_of
 
 WORDS = ("none", "one", "two", "three", "four", "five", "six", "seven", "eight", "nine", "ten", "eleven", "twelve")
 FEWEST_ROWS_OF_LIMITS = 13
-FEWEST_NUMBERS = 88
-
-
-def text_of(path: str) -> str:
-    """A file, by its path from the top."""
-    with open(os.path.join(TOP, path), encoding="utf-8") as file:
-        return file.read()
+FEWEST_NUMBERS = 70
 
 
 def constant(path: str, name: str) -> int:
@@ -40,7 +33,6 @@ def constant(path: str, name: str) -> int:
 
 
 def variants(path: str, name: str) -> int:
-    """How many variants an enum has."""
     body = re.search(rf"(?ms)^pub enum {name} {{(.*?)^}}", text_of(path))[1]
     return len(re.findall(r"(?m)^    [A-Z]\w*[,({ ]", body))
 
@@ -59,19 +51,15 @@ def greatest(path: str, name: str) -> int:
 
 
 def found_number(path: str, pattern: str) -> int:
-    """The number that a pattern finds in a file."""
     return int(re.search(pattern, text_of(path))[1].replace("_", ""))
 
 
 ENTRY = ("crates/tc_parts_tests/src/entries.rt", r"size_of::<Entry>\(\), (\d+)")
-LIMITS, INPUTS, WORKER = "crates/tc_entry/src/limits.rt", "crates/tc_program/src/limits.rt", "crates/tc_exec/src/worker.rt"
+LIMITS, INPUTS, WORKER = "crates/tc_entry/src/limits.rt", "crates/tc_answer/src/limits.rt", "crates/tc_exec/src/worker.rt"
 COUNTS: Dict[str, Callable[[], int]] = {
-    "behaviours": lambda: constant(LIMITS, "BEHAVIOURS"),
-    "components": lambda: constant(LIMITS, "COMPONENTS"),
-    "arguments": lambda: constant(LIMITS, "ARGUMENTS"),
-    "name bytes": lambda: constant(LIMITS, "NAME_BYTES"),
-    "stack": lambda: constant(WORKER, "WORKER_STACK"),
-    "stack in MiB": lambda: constant(WORKER, "WORKER_STACK") >> 20,
+    "behaviours": lambda: constant(LIMITS, "BEHAVIOURS"), "components": lambda: constant(LIMITS, "COMPONENTS"),
+    "arguments": lambda: constant(LIMITS, "ARGUMENTS"), "name bytes": lambda: constant(LIMITS, "NAME_BYTES"),
+    "stack": lambda: constant(WORKER, "WORKER_STACK"), "stack in MiB": lambda: constant(WORKER, "WORKER_STACK") >> 20,
     "steps": lambda: constant("crates/tc_step/src/limits.rt", "STEPS"),
     "test cases": lambda: constant("crates/tc_reader/src/limits.rt", "TEST_CASES"),
     "behaviours of format 1": lambda: constant("crates/tc_blocks/src/history_header.rt", "FORMAT_1_BEHAVIOURS"),
@@ -79,32 +67,23 @@ COUNTS: Dict[str, Callable[[], int]] = {
     "most states": lambda: found_number("crates/tc_command/src/word.rt", r"--states takes a number from 1 to (\d+)"),
     "kept": lambda: constant("crates/tc_explore/src/explored.rt", "KEPT"),
     "weight": lambda: constant("crates/tc_explore/src/explored.rt", "SIZE_OF_ONE_MORE"),
-    "bytes of histories": lambda: constant(INPUTS, "HISTORY_LIMIT"),
-    "bytes of moves": lambda: constant(INPUTS, "SCRIPT_LIMIT"),
+    "bytes of histories": lambda: constant(INPUTS, "HISTORY_LIMIT"), "bytes of moves": lambda: constant(INPUTS, "SCRIPT_LIMIT"),
     "bytes of a script": lambda: constant(INPUTS, "SCRIPT_LIMIT"),
     "bytes of a sentence": lambda: constant("crates/tc_blocks/src/sentence.rt", "SENTENCE_BYTES"),
-    "rows": lambda: constant("crates/tc_explore/src/race.rt", "ROWS"),
-    "column": lambda: constant("crates/tc_explore/src/race.rt", "COLUMN"),
-    "shown": lambda: constant("crates/tc_explain/src/quote.rt", "SHOWN"),
-    "errors": lambda: variants("crates/tc_entry/src/reply.rt", "Fault"),
-    "unbegun": lambda: constant("crates/tc_board/src/rule.rt", "UNBEGUN"),
-    "closed": lambda: constant("crates/tc_board/src/rule.rt", "CLOSED"),
-    "headline": lambda: believed_lines(True),
-    "first crates": lambda: believed_lines(False, 12),
-    "in Inside": lambda: believed_lines(inside=True),
-    "headline in Inside": lambda: believed_lines(True, inside=True),
-    "edits": lambda: edits.MOST_IN_THE_GATE,
-    "edits of a crate": lambda: edits.FEWEST_OF_A_CRATE,
-    "starts": lambda: constant(LIMITS, "BEHAVIOURS") - 1,
+    "rows": lambda: constant("crates/tc_explored/src/race.rt", "ROWS"),
+    "column": lambda: len(re.search('const COLUMN: &str = "( *)"', text_of("crates/tc_explored/src/race.rt"))[1]),
+    "shown": lambda: constant("crates/tc_explain/src/quote.rt", "SHOWN"), "errors": lambda: variants("crates/tc_entry/src/reply.rt", "Fault"),
+    "unbegun": lambda: constant("crates/tc_board/src/rule.rt", "UNBEGUN"), "closed": lambda: constant("crates/tc_board/src/rule.rt", "CLOSED"),
+    "headline": lambda: believed_lines(True), "first crates": lambda: believed_lines(False, 12), "in Inside": lambda: believed_lines(inside=True),
+    "headline in Inside": lambda: believed_lines(True, inside=True), "edits": lambda: edits.MOST_IN_THE_GATE,
+    "edits of a crate": lambda: edits.FEWEST_OF_A_CRATE, "starts": lambda: constant(LIMITS, "BEHAVIOURS") - 1,
     "parallel components": lambda: constant(LIMITS, "COMPONENTS") - 1,
-    "states of Titan": lambda: constant("clients/titan/titan_logs/limits.py", "STATES"),
-    "bytes of an entry": lambda: found_number(*ENTRY),
+    "states of Titan": lambda: constant("clients/titan/titan_logs/limits.py", "STATES"), "bytes of an entry": lambda: found_number(*ENTRY),
     "bytes of a recorded call": lambda: 2 * found_number(*ENTRY),
     "states of a plain search": lambda: constant("tests/program/random_courses.py", "MOST"),
     "letters in the editor": lambda: found_number("page/play/given.mjs", r"MOST_SHOWN = (\d+)"),
     "lines in the editor": lambda: found_number("page/play/given.mjs", r"MOST_LINES = (\d+)"),
-    "words of a sentence": lambda: plain.MOST_WORDS_OF_A_SENTENCE,
-    "letters of a line": lambda: constant("tests/claims/check.py", "WIDTH"),
+    "words of a sentence": lambda: plain.MOST_WORDS_OF_A_SENTENCE, "letters of a line": lambda: constant("tests/claims/check.py", "WIDTH"),
     "fewest lines of a README": lambda: found_number("tests/claims/check.py", r"MOST_LINES_OF_A_CRATE = (\d+), \d+"),
     "lines of a README": lambda: found_number("tests/claims/check.py", r"MOST_LINES_OF_A_CRATE = \d+, (\d+)"),
     "remark": lambda: constant("clients/python/filskeam/words.py", "MOST_BYTES_OF_A_REMARK"),
@@ -120,101 +99,59 @@ COUNTS: Dict[str, Callable[[], int]] = {
     "failed cases of car_window": lambda: found_number("crates/car_window/stdout", r" fail (\d+) error"),
     "line of a fail": lambda: text_of("examples/restart.script").split("\n").index("setverdict fail") + 1,
     "cases of verdicts": lambda: text_of("examples/verdicts.script").count("\ntestcase "),
-    "cases of verdicts that are run": lambda: found_number("examples/verdicts.stop-on-fail.report", r"cases (\d+) "),
+    "cases of verdicts that are run": lambda: found_number("examples/verdicts.stop-on-fail.report", r"cases (\d+) ")}
+# By the document, what is said there with # for the number, and what that counts. It is said once, with spaces for line ends.
+NUMBERS: Dict[str, Dict[str, str]] = {
+    "docs/rules.md": {"The # errors and their order": "errors"},
+    "crates/tc_entry/src/reply.rt": {"these #, and their order": "errors"},
+    "docs/texts.md": {"Line 1 is `behaviours N`, N a number from 1 to #.": "behaviours", "with 0 to # arguments |": "arguments",
+        "| `1` | 1 to # |": "behaviours of format 1", "| `2` | 1 to #,": "behaviours",
+        "Inside come lines of these four forms, none or more of each, in any order. N is from 1 to #;": "behaviours",
+        "TEXT has 1 to # bytes": "bytes of a sentence", "at most # entries of each": "rows", "The first column is at least # bytes wide": "column",
+        "If a line or a word has more than # bytes, the first": "shown", "the longest that is taken has # bytes": "longest remark",
+        "| has # bytes or more |": "bytes of a line of serve", "why-a-line-is-refused) has # texts": "refusals",
+        "The word has at most # bytes": "name bytes", "a name has 1 to # letters": "name bytes", "if NAMES are more than # bytes": "shown",
+        "of at most # bytes, is the same in a script": "bytes of a translated line",
+        "The limit is a number from 1 to #, by which": "most states", "bytes, the first # are shown": "shown"},
+    "docs/guide.md": {"at most # entries of both": "rows", "1,000,000; # without `--states`": "states",
+        "1 + B (S + 1) / #, rounded down": "weight", "at most # / (S + 1), with S": "kept",
+        "A recorded call takes # bytes": "bytes of a recorded call", "runs # of its four test cases": "cases of verdicts that are run",
+        "runs three of its # test cases": "cases of verdicts", "A file above # letters": "letters in the editor",
+        "letters or # lines is checked": "lines in the editor", "| #; 100,000 without `--states`": "most states"},
+    "docs/scripts.md": {"A name has 1 to # bytes": "name bytes"},
+    "crates/tc_board/README.md": {"| `Unbegun` | # |": "unbegun", "| # more than the rank of v |": "closed", "| n is 1 to # |": "behaviours",
+        "if the number found is less than #, otherwise Ended": "closed"},
+    "docs/library.md": {"a stack of `WORKER_STACK` bytes, # MiB": "stack in MiB", "measured, # behaviours that each set a verdict": "behaviours",
+        "is a campaign of # test cases": "cases of car_window", "It prints # reports, one of a test case that fails": "cases of car_window",
+        "It prints three reports, # of a test case that fails": "failed cases of car_window"},
+    "docs/architecture.md": {"So # lines of definitions say": "headline", "executor as a library, have #.": "first crates",
+        "Of the first, # are in `Inside`": "in Inside", "the headline rests on # of these": "headline in Inside",
+        "`setverdict fail` is line # of": "line of a fail", "script: line # has the form `setverdict V`": "line of a fail"},
+    "docs/proved.md": {"`TooManyBehaviours` exactly if there are more than #.": "behaviours", "A worker's stack has # bytes": "stack",
+        "It may have 1 to # behaviours": "behaviours", "at most # components, and a start": "components",
+        "and a start at most # arguments": "arguments", "its own jobs and 1 to # behaviours": "behaviours",
+        "If 1 to # jobs need more workers": "behaviours", "A case may have # workers": "behaviours",
+        "ends within # states": "states of a plain search", "its first odd byte or # bytes": "shown", "An entry takes # bytes": "bytes of an entry"},
+    "docs/DECISIONS.md": {"as large as the largest, # bytes": "bytes of an entry", "The gate tries at most # edits": "edits"},
+    "crates/tc_serve/README.md": {"A line of # bytes or more is refused by its first 209": "bytes of a line of serve",
+        "or more is refused by its first #, as too long": "bytes of a line of serve", "pieces of # bytes": "bytes of a piece"},
+    "crates/random_cases/README.md": {"runs CASES test cases, # without arguments": "cases of random_cases"},
+    "crates/car_window/README.md": {"It runs # test cases, one of which fails": "cases of car_window",
+        "It runs three test cases, # of which fails": "failed cases of car_window"},
+    "crates/tc_entry/README.md": {"An entry takes # bytes": "bytes of an entry", "exactly if there are fewer than #. None": "arguments"},
+    "crates/tc_explore/README.md": {"all together have room for # entries": "kept"},
+    "CONTRIBUTING.md": {"its files: # to 60 lines": "fewest lines of a README", "its files: 10 to # lines": "lines of a README",
+        "short true sentences, # letters a line": "letters of a line",
+        "a sentence has # words at most": "words of a sentence", "Give a crate none or at least #:": "edits of a crate"},
+    "docs/titan.md": {"may look at in one test case (# without it)": "states of Titan", "A history holds # starts": "starts",
+        "A behaviour can be handed # components at most": "arguments", "a script holds # behaviours": "behaviours"},
+    "clients/python/README.md": {"Reasons and remarks have at most # letters": "remark"},
+    "crates/tc_reader/README.md": {"A test case has at most # behaviours with distinct names": "behaviours"},
+    "crates/tc_blocks/README.md": {"Format 1 has at most # behaviours": "behaviours of format 1"},
+    "crates/tc_rules/README.md": {"Whether a case is stuck is asked of at most # runs": "behaviours",
+        "only if they change one: at most #, 999 and 1 times": "starts",
+        "only if they change one: at most 255, # and 1 times": "parallel components"},
 }
-# Document, what is said with # for the number, and what it counts. What is said is once in the document, with spaces for line ends.
-NUMBERS: Tuple[Tuple[str, str, str], ...] = (
-    ("docs/rules.md", "The # errors and their order", "errors"),
-    ("crates/tc_entry/src/reply.rt", "these #, and their order", "errors"),
-    ("docs/texts.md", "Line 1 is `behaviours N`, N a number from 1 to #.", "behaviours"),
-    ("docs/texts.md", "with 0 to # arguments |", "arguments"),
-    ("docs/texts.md", "| `1` | 1 to # |", "behaviours of format 1"),
-    ("docs/texts.md", "| `2` | 1 to #,", "behaviours"),
-    ("docs/texts.md", "Inside come lines of these four forms, none or more of each, in any order. N is from 1 to #;", "behaviours"),
-    ("docs/texts.md", "TEXT has 1 to # bytes", "bytes of a sentence"),
-    ("docs/texts.md", "at most # entries of each", "rows"),
-    ("docs/texts.md", "The first column is at least # bytes wide", "column"),
-    ("docs/texts.md", "If a line or a word has more than # bytes, the first", "shown"),
-    ("docs/guide.md", "at most # entries of both", "rows"),
-    ("docs/guide.md", "1,000,000; # without `--states`", "states"),
-    ("docs/guide.md", "1 + B (S + 1) / #, rounded down", "weight"),
-    ("docs/guide.md", "at most # / (S + 1), with S", "kept"),
-    ("docs/scripts.md", "A name has 1 to # bytes", "name bytes"),
-    ("docs/board.md", "| `Unbegun` | # |", "unbegun"),
-    ("docs/board.md", "| # more than the rank of v |", "closed"),
-    ("docs/board.md", "| n is 1 to # |", "behaviours"),
-    ("docs/board.md", "if the number found is less than #, otherwise Ended", "closed"),
-    ("docs/library.md", "a stack of `WORKER_STACK` bytes, # MiB", "stack in MiB"),
-    ("docs/library.md", "measured, # behaviours that each set a verdict", "behaviours"),
-    ("docs/architecture.md", "So # lines of definitions say", "headline"),
-    ("docs/architecture.md", "executor as a library, have #.", "first crates"),
-    ("docs/architecture.md", "Of the first, # are in `Inside`", "in Inside"),
-    ("docs/architecture.md", "the headline rests on # of these", "headline in Inside"),
-    ("docs/proved.md", "`TooManyBehaviours` exactly if there are more than #.", "behaviours"),
-    ("docs/proved.md", "A worker's stack has # bytes", "stack"),
-    ("docs/proved.md", "all together room for # entries", "kept"),
-    ("docs/proved.md", "A case may have 1 to # behaviours", "behaviours"),
-    ("docs/proved.md", "at most # components, and a start", "components"),
-    ("docs/proved.md", "and a start at most # arguments", "arguments"),
-    ("docs/proved.md", "A block of format 1 has at most # behaviours", "behaviours of format 1"),
-    ("docs/proved.md", "The limit is # bytes for a script or a list of moves", "bytes of moves"),
-    ("docs/proved.md", "a list of moves, and # for histories", "bytes of histories"),
-    ("docs/proved.md", "The program allows a test case # workers", "behaviours"),
-    ("docs/proved.md", "in *One test case*, 1 to # behaviours", "behaviours"),
-    ("docs/proved.md", "If 1 to # jobs need more workers", "behaviours"),
-    ("docs/proved.md", "With no jobs, over #, or too few", "behaviours"),
-    ("docs/proved.md", "cases of 64 and of # behaviours have theirs", "behaviours"),
-    ("docs/proved.md", "ends within # states", "states of a plain search"),
-    ("docs/proved.md", "An entry takes # bytes", "bytes of an entry"),
-    ("docs/DECISIONS.md", "as large as the largest, # bytes", "bytes of an entry"),
-    ("docs/guide.md", "A recorded call takes # bytes", "bytes of a recorded call"),
-    ("docs/texts.md", "the longest that is taken has # bytes", "longest remark"),
-    ("docs/texts.md", "| has # bytes or more |", "bytes of a line of serve"),
-    ("docs/texts.md", "why-a-line-is-refused) has # texts", "refusals"),
-    ("docs/texts.md", "The word has at most # bytes", "name bytes"),
-    ("docs/texts.md", "a name has 1 to # letters", "name bytes"),
-    ("docs/texts.md", "if NAMES are more than # bytes", "shown"),
-    ("docs/texts.md", "of at most # bytes, is the same in a script", "bytes of a translated line"),
-    ("crates/tc_serve/README.md", "A line of # bytes or more is refused by its first 209", "bytes of a line of serve"),
-    ("crates/tc_serve/README.md", "or more is refused by its first #, as too long", "bytes of a line of serve"),
-    ("crates/tc_serve/README.md", "pieces of # bytes", "bytes of a piece"),
-    ("crates/random_cases/README.md", "runs CASES test cases, # without arguments", "cases of random_cases"),
-    ("crates/car_window/README.md", "It runs # test cases, one of which fails", "cases of car_window"),
-    ("crates/car_window/README.md", "It runs three test cases, # of which fails", "failed cases of car_window"),
-    ("docs/library.md", "is a campaign of # test cases", "cases of car_window"),
-    ("docs/library.md", "It prints # reports, one of a test case that fails", "cases of car_window"),
-    ("docs/library.md", "It prints three reports, # of a test case that fails", "failed cases of car_window"),
-    ("docs/architecture.md", "`setverdict fail` is line # of", "line of a fail"),
-    ("docs/architecture.md", "script: line # has the form `setverdict V`", "line of a fail"),
-    ("docs/guide.md", "runs # of its four test cases", "cases of verdicts that are run"),
-    ("docs/guide.md", "runs three of its # test cases", "cases of verdicts"),
-    ("docs/guide.md", "A file above # letters", "letters in the editor"),
-    ("docs/guide.md", "letters or # lines is checked", "lines in the editor"),
-    ("docs/texts.md", "The limit is a number from 1 to #, by which", "most states"),
-    ("docs/guide.md", "| #; 100,000 without `--states`", "most states"),
-    ("docs/texts.md", "bytes, the first # are shown", "shown"),
-    ("crates/tc_exec/README.md", "If 1 to # jobs need more workers", "behaviours"),
-    ("crates/tc_entry/README.md", "An entry takes # bytes", "bytes of an entry"),
-    ("crates/tc_explore/README.md", "all together have room for # entries", "kept"),
-    ("CONTRIBUTING.md", "its files: # to 35 lines", "fewest lines of a README"),
-    ("CONTRIBUTING.md", "its files: 20 to # lines", "lines of a README"),
-    ("CONTRIBUTING.md", "short true sentences, # letters a line", "letters of a line"),
-    ("CONTRIBUTING.md", "a sentence has # words at most", "words of a sentence"),
-    ("docs/titan.md", "may look at in one test case (# without it)", "states of Titan"),
-    ("docs/titan.md", "A history holds # starts", "starts"),
-    ("docs/titan.md", "A behaviour can be handed # components at most", "arguments"),
-    ("docs/titan.md", "a script holds # behaviours", "behaviours"),
-    ("docs/DECISIONS.md", "The gate tries at most # edits", "edits"),
-    ("CONTRIBUTING.md", "Give a crate none or at least #:", "edits of a crate"),
-    ("clients/python/README.md", "Reasons and remarks have at most # letters", "remark"),
-    ("crates/tc_entry/README.md", "exactly if there are fewer than #, otherwise", "arguments"),
-    ("crates/tc_reader/README.md", "A test case has at most # behaviours with distinct names", "behaviours"),
-    ("crates/tc_blocks/README.md", "Format 1 has at most # behaviours", "behaviours of format 1"),
-    ("crates/tc_exec/README.md", "`TooManyBehaviours` exactly if there are more than # (", "behaviours"),
-    ("crates/tc_rules/README.md", "Whether a case is stuck is asked of at most # runs", "behaviours"),
-    ("crates/tc_rules/README.md", "only if they change one: at most #, 999 and 1 times", "starts"),
-    ("crates/tc_rules/README.md", "only if they change one: at most 255, # and 1 times", "parallel components"),
-)
 # In the table of limits: what a row begins with, and what it counts.
 ROWS: Tuple[Tuple[str, str], ...] = (
     ("behaviours of a test case, each", "behaviours"), ("bytes of the stack", "stack"), ("components of a test case", "components"),
@@ -234,7 +171,6 @@ FEWEST_TEXTS = 130
 
 
 def number_of(said: str) -> int:
-    """A number that is said in digits or in a word."""
     return WORDS.index(said) if said in WORDS else int(said.replace(",", ""))
 
 
@@ -244,78 +180,51 @@ def pattern_of(said: str) -> str:
     return re.escape(said).replace(r"\#", number).replace(r"\ ", r"\s+")
 
 
-def said_in(text: str, said: str) -> List[int]:
-    """The numbers that are in a text where # is in what is said."""
-    return [number_of(it) for it in re.findall(pattern_of(said), text)]
-
-
 def wrong_in(text: str, path: str, said: str, count: int) -> Iterator[str]:
-    """Why a text does not say this number once."""
-    found = said_in(text, said)
+    """Why a text does not say this number once, where # is in what is said."""
+    found = [number_of(it) for it in re.findall(pattern_of(said), text)]
     if len(found) != 1:
         yield f"{path}: {said!r} is there {len(found)} times"
     yield from (f"{path}: {said!r} says {it}, and the sources have {count}" for it in found if it != count)
 
 
-def limit_rows() -> List[List[str]]:
-    """The cells of the table of limits, row by row."""
-    lines = [line for _, line in read(TOP, "docs/guide.md").section("Limits") if line.startswith("|")][2:]
-    return [[it.strip() for it in line.split("|")[1:-1]] for line in lines]
-
-
 def wrong() -> Iterator[str]:
-    """Numbers that are not those of the sources."""
     counts = {name: count() for name, count in COUNTS.items()}
-    texts = {path: re.sub(r"(?m)^\s*///? ?", "", text_of(path)) if path.endswith(".rt") else text_of(path) for path, _, _ in NUMBERS}
-    for path, said, name in NUMBERS:
-        yield from wrong_in(texts[path], path, said, counts[name])
-    rows = limit_rows()
+    for path, numbers in NUMBERS.items():
+        text = re.sub(r"(?m)^\s*///? ?", "", text_of(path)) if path.endswith(".rt") else text_of(path)
+        for said, name in numbers.items():
+            yield from wrong_in(text, path, said, counts[name])
+    rows = [[cell for _, cell in row] for _, row in read(TOP, "docs/guide.md").rows("Limits")]
     for begun, name in ROWS:
         found = [number_of(re.match(r"[\d,]+", it[1])[0]) for it in rows if it[0].startswith(begun)]
         if found != [counts[name]]:
             yield f"docs/guide.md: Limits: {begun}: {found}, and the sources have {counts[name]}"
-    if len(ROWS) < FEWEST_ROWS_OF_LIMITS or len(NUMBERS) < FEWEST_NUMBERS:
-        yield f"{len(ROWS)} rows and {len(NUMBERS)} numbers are fewer than wanted"
+    count = sum(map(len, NUMBERS.values()))
+    if len(ROWS) < FEWEST_ROWS_OF_LIMITS or count < FEWEST_NUMBERS:
+        yield f"{len(ROWS)} rows and {count} numbers are fewer than wanted"
 
 
 def unseen() -> Iterator[str]:
     """Numbers of the list that nobody misses where another one is said, or none."""
-    for path, said, name in NUMBERS:
+    for path, said, name in ((path, *it) for path, numbers in NUMBERS.items() for it in numbers.items()):
         other = said.replace("#", "7,777")
         if not list(wrong_in(other, path, said, COUNTS[name]())) or not list(wrong_in("", path, said, 0)):
             yield f"{path}: {said}"
 
 
-def contents() -> Iterator[str]:
-    """Whether the list at the head of docs/proved.md names its parts, in their order."""
-    document = read(TOP, "docs/proved.md")
-    listed = [it[1] for it in (re.match(r"\d+\. \[(.*)\]\(#", line) for line in document.lines) if it]
-    parts = [title for _, title, depth in document.headings() if depth == 2]
-    if listed != parts:
-        yield f"docs/proved.md: it lists {listed}, and has {parts}"
-
-
 def literals() -> str:
     """The texts of the sources, one after the other."""
-    found: List[str] = []
-    for crate in sorted(os.listdir(os.path.join(TOP, "crates"))):
-        if not crate.endswith("_tests"):
-            for path in believed.files_below(f"crates/{crate}/src", ".rt"):
-                found += re.findall(r'"((?:[^"\\\n]|\\.)*)"', text_of(path))
-    return "\n".join(found)
+    paths = (path for crate in crates() if not crate.endswith("_tests") for path in files_below(f"crates/{crate}/src", ".rt"))
+    return "\n".join(it for path in paths for it in re.findall(r'"((?:[^"\\\n]|\\.)*)"', text_of(path)))
 
 
 def texts() -> Iterator[Tuple[str, str]]:
     """The texts of the tables, each with its place; what represents something else, and numbers, cut them."""
     for path, section, column, is_whole in TEXTS:
-        head: List[str] = []
-        for _, line in read(TOP, path).section(section):
-            cells = [it.strip() for it in re.split(r"(?<!\\)\|", line)[1:-1]] if line.startswith("|") else []
-            if cells and column in head and not re.fullmatch("[-:| ]+", line):
-                for quoted in re.findall(r"`([^`]+)`", cells[head.index(column)]):
-                    for part in re.split(r"\b[A-Z][A-Z/]*\b|\d+", quoted):
-                        yield from ((f"{path}: {section}", it) for it in ([part.strip(" ,:;")] if is_whole else part.split()) if it)
-            head = head if cells and head else cells
+        cells = [cell for _, row in read(TOP, path).rows(section) for title, cell in row if title == column]
+        for quoted in (it for cell in cells for it in re.findall(r"`([^`]+)`", cell)):
+            for part in re.split(r"\b[A-Z][A-Z/]*\b|\d+", quoted):
+                yield from ((f"{path}: {section}", it) for it in ([part.strip(" ,:;")] if is_whole else part.split()) if it)
 
 
 def unsaid() -> Iterator[str]:
@@ -336,11 +245,10 @@ def written(text: str, said: str, count: int) -> str:
 
 def write() -> None:
     """Writes the numbers of the documents, and the rows of the table of what must be believed."""
-    for path in sorted({path for path, _, _ in NUMBERS if path.endswith(".md")}):
+    for path in sorted(it for it in NUMBERS if it.endswith(".md")):
         text = text_of(path)
-        for at, said, name in NUMBERS:
-            if at == path:
-                text = written(text, said, COUNTS[name]())
+        for said, name in NUMBERS[path].items():
+            text = written(text, said, COUNTS[name]())
         if path == "docs/architecture.md":
             head, _, rest = text.partition("\n## What must be believed\n")
             rows = "\n".join(believed.table())

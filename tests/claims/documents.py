@@ -1,6 +1,4 @@
 """The documents: their sections, tables, fenced blocks, links, and the commands that name a file of examples/."""
-from __future__ import annotations
-
 import os
 import re
 from dataclasses import dataclass, field
@@ -13,8 +11,6 @@ LINK = re.compile(r"\[[^\]\n]*\]\(([^)\s]+)\)")
 
 @dataclass
 class Block:
-    """A fenced block: its language, its text, the line on which the text begins, and what is before it."""
-
     line: int
     language: str
     text: str
@@ -23,23 +19,23 @@ class Block:
 
 @dataclass
 class Document:
-    """A document, by its path from the top."""
-
     path: str
     lines: List[str] = field(default_factory=list)
 
-    def headings(self) -> Iterator[Tuple[int, str, int]]:
-        """The headings: number of the line, text, depth."""
+    def marked(self) -> Iterator[Tuple[int, str, bool]]:
+        """The numbered lines, and whether each is in a block."""
         is_code = False
         for number, line in enumerate(self.lines, 1):
-            if line.startswith("```"):
-                is_code = not is_code
+            is_code ^= line.lstrip().startswith("```")
+            yield number, line, is_code
+
+    def headings(self) -> Iterator[Tuple[int, str, int]]:
+        for number, line, is_code in self.marked():
             found = re.match(r"(#+) (.*)", line)
             if found and not is_code:
                 yield number, found[2], len(found[1])
 
     def anchors(self) -> List[str]:
-        """The anchors of the headings."""
         return [re.sub(r"[^\w\- ]", "", text.lower()).replace(" ", "-") for _, text, _ in self.headings()]
 
     def section(self, title: str) -> List[Tuple[int, str]]:
@@ -52,6 +48,15 @@ class Document:
                 ends = [line for line, _, other in heads[at + 1:] if other <= depth] + [len(self.lines) + 1]
                 return [(line, self.lines[line - 1]) for line in range(number + 1, ends[0])]
         return []
+
+    def rows(self, section: str) -> Iterator[Tuple[int, List[Tuple[str, str]]]]:
+        """The rows of the tables of a section: the number of the line, and each cell after the title of its column."""
+        head: List[str] = []
+        for number, line in self.section(section):
+            cells = cells_of(line)
+            if cells and head and not re.fullmatch("[-:| ]+", line):
+                yield number, list(zip(head, cells))
+            head = (head or cells) if cells else []
 
     def blocks(self) -> Iterator[Block]:
         """The fenced blocks. What is before one reaches back to the block of output or the heading before it."""
@@ -77,16 +82,19 @@ class Document:
                 yield number, tuple(found["words"].split()), found["file"], found["check"] is not None
 
     def links(self) -> Iterator[Tuple[int, str]]:
-        """The links."""
         for number, line in enumerate(self.lines, 1):
             for found in LINK.finditer(line):
                 yield number, found[1]
 
 
 def read(top: str, path: str) -> Document:
-    """The document of a path from the top."""
     with open(os.path.join(top, path), encoding="utf-8") as file:
         return Document(path, file.read().split("\n"))
+
+
+def cells_of(line: str) -> List[str]:
+    """The cells of a line of a table, none of another line."""
+    return [it.strip() for it in re.split(r"(?<!\\)\|", line)[1:-1]] if line.startswith("|") else []
 
 
 def output_of(words: Tuple[str, ...], file: str) -> str:

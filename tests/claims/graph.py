@@ -3,27 +3,18 @@
 
 `python3 tests/claims/graph.py` prints the drawing that is in docs/architecture.md; with --write it is written there.
 """
-from __future__ import annotations
-
 import os
 import re
 import sys
 from typing import Dict, Iterator, List, Set
 
-TOP = os.path.dirname(os.path.dirname(os.path.dirname(os.path.abspath(__file__))))
-PAGE = os.path.join(TOP, "docs", "architecture.md")
+from sources import TOP, crates, files_below, text_of
+
+PAGE = "docs/architecture.md"
 BEGIN, END = "<!-- the graph of the crates, by tests/claims/graph.py -->\n", "<!-- the end of the graph -->\n"
 COMMENT = re.compile(r"(?m)(?://|--).*$")
 # What a file names: a library of Rust, or the definitions and lemmas of one.
 NAMED = re.compile(r"(?<![\w.:])([a-z]\w*)::|\buse ([a-z]\w*)\b|\bRattle\.([a-z]\w*)")
-Uses = Dict[str, List[str]]
-
-
-def uses() -> Uses:
-    """What each crate uses, by crates.txt."""
-    with open(os.path.join(TOP, "crates.txt"), encoding="utf-8") as lines:
-        pairs = [it.partition("#")[0].partition(":") for it in lines]
-    return {name.split()[0]: used.split() for name, colon, used in pairs if colon}
 
 
 def named(crate: str) -> Set[str]:
@@ -31,19 +22,16 @@ def named(crate: str) -> Set[str]:
     found: Set[str] = set()
     own: Set[str] = set()
     for part, ending in (("src", ".rt"), ("specs", ".antt"), ("proofs", ".antt")):
-        for at, _, files in os.walk(os.path.join(TOP, "crates", crate, part)):
-            for name in files:
-                if name.endswith(ending):
-                    with open(os.path.join(at, name), encoding="utf-8") as file:
-                        text = COMMENT.sub("", file.read())
-                    found.update(it for some in NAMED.findall(text) for it in some)
-                    own.update(re.findall(r"(?m)^(?:pub )?mod (\w+)", text) if part == "src" else [])
+        for path in files_below(f"crates/{crate}/{part}", ending):
+            text = COMMENT.sub("", text_of(path))
+            found.update(it for some in NAMED.findall(text) for it in some)
+            own.update(re.findall(r"(?m)^(?:pub )?mod (\w+)", text) if part == "src" else [])
     return found - own
 
 
 def edges() -> Iterator[str]:
     """Libraries that a line of crates.txt lists and no file of its crate names, or that a file names and the line does not list."""
-    lines = uses()
+    lines = crates()
     libraries = {it for used in lines.values() for it in used}
     for crate, used in lines.items():
         there = (named(crate) & libraries) - {crate}
@@ -51,24 +39,18 @@ def edges() -> Iterator[str]:
         yield from (f"crates.txt: {crate} names {it}, and its line does not" for it in sorted(there.difference(used)))
 
 
-def below(crate: str, lines: Uses) -> Set[str]:
-    """All crates that this one is built on."""
+def below(crate: str, lines: Dict[str, List[str]]) -> Set[str]:
     own = [it for it in lines[crate] if it in lines]
     return {*own, *(deep for it in own for deep in below(it, lines))}
 
 
 def title(crate: str) -> str:
-    """What a crate is, by the first line of its README."""
-    path = os.path.join(TOP, "crates", crate, "README.md")
-    if not os.path.isfile(path):
-        return ""
-    with open(path, encoding="utf-8") as file:
-        return file.readline().partition(": ")[2].strip()
+    return text_of(f"crates/{crate}/README.md").partition("\n")[0].partition(": ")[2].strip()
 
 
 def drawing() -> Iterator[str]:
     """The libraries and the program by their layers, lowest first, each with those that it is built on and none of these does."""
-    lines = {name: used for name, used in uses().items() if re.fullmatch(r"tc_(?!\w*_tests$)\w+|ttrun", name)}
+    lines = {name: used for name, used in crates().items() if re.fullmatch(r"tc_(?!\w*_tests$)\w+|ttrun", name)}
     deep = {it: below(it, lines) for it in lines}
     layer: Dict[str, int] = {}
     for it in sorted(lines, key=lambda name: len(deep[name])):
@@ -83,9 +65,8 @@ def drawing() -> Iterator[str]:
         before = layer[it]
 
 
-def page_with_drawing(text: str) -> str:
-    """The document with the drawing between its two marks."""
-    (head, begin, rest), block = text.partition(BEGIN), "\n".join(drawing())
+def page_with_drawing() -> str:
+    (head, begin, rest), block = text_of(PAGE).partition(BEGIN), "\n".join(drawing())
     _, end, tail = rest.partition(END)
     if not begin or not end:
         raise ValueError(f"{PAGE} has not both marks of the graph")
@@ -93,24 +74,14 @@ def page_with_drawing(text: str) -> str:
 
 
 def undrawn() -> Iterator[str]:
-    """Whether the document has another drawing."""
-    with open(PAGE, encoding="utf-8") as file:
-        text = file.read()
-    if page_with_drawing(text) != text:
-        yield "docs/architecture.md: the drawing is not what crates.txt gives; tests/claims/graph.py --write writes it"
-
-
-def main() -> int:
-    """Prints the drawing, or writes it."""
-    if "--write" in sys.argv:
-        with open(PAGE, encoding="utf-8") as file:
-            text = page_with_drawing(file.read())
-        with open(PAGE, "w", encoding="utf-8") as file:
-            file.write(text)
-    else:
-        print("\n".join(drawing()))
-    return 0
+    if page_with_drawing() != text_of(PAGE):
+        yield f"{PAGE}: the drawing is not what crates.txt gives; tests/claims/graph.py --write writes it"
 
 
 if __name__ == "__main__":
-    sys.exit(main())
+    if "--write" in sys.argv:
+        page = page_with_drawing()
+        with open(os.path.join(TOP, PAGE), "w", encoding="utf-8") as file:
+            file.write(page)
+    else:
+        print("\n".join(drawing()))

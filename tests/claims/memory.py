@@ -1,12 +1,10 @@
 """The public calls of the libraries: where each is refused memory, or made with none.
 
 A call that can answer that memory ran out has each of its growths refused in turn, and one that cannot is made with every growth
-refused. `crates/refused_memory` names its calls where a refusal begins. What it does not make is in tests/hostile/whole.py, each with
+refused. `crates/refused_memory` names its calls where a refusal begins. What it does not make is in tests/hostile/exempt.py, each with
 a reason. `python3 tests/claims/memory.py` prints the public calls and where each is made.
 With --plant each is taken out of its list in turn, and must be missed.
 """
-from __future__ import annotations
-
 import os
 import re
 import sys
@@ -14,13 +12,12 @@ from collections import defaultdict
 from typing import Dict, Iterable, Iterator, List, NamedTuple, Set, Tuple
 
 sys.dont_write_bytecode = True
-TOP = os.path.dirname(os.path.dirname(os.path.dirname(os.path.abspath(__file__))))
-sys.path.append(os.path.join(TOP, "tests", "hostile"))
+sys.path.append(os.path.join(os.path.dirname(os.path.dirname(os.path.abspath(__file__))), "hostile"))
 
-from sources import files_below
-from whole import REFUSED_BY_THE_PROGRAM, UNREFUSED, UNTRIED, WITHOUT_ALLOCATOR
+from sources import crates, files_below, text_of
+from exempt import REFUSED_BY_THE_PROGRAM, UNREFUSED, UNTRIED, WITHOUT_ALLOCATOR
 
-PROGRAM = os.path.join("crates", "refused_memory", "src")
+PROGRAM = "crates/refused_memory/src"
 # What the toolchain's library answers if memory runs out, and clap, whose error may be that.
 REFUSALS = {"NoMemory", "AllocError", "AllocFailed", "Error"}
 # What reports a refusal though it is no Result: a campaign that was aborted, a behaviour that was starved, a task that ended so. Only a
@@ -49,23 +46,12 @@ class Call(NamedTuple):
 
     @property
     def path(self) -> str:
-        """As it is named in a list."""
         return f"{self.owner}::{self.name}" if self.owner else self.name
-
-
-def text_of(path: str) -> str:
-    """The text of a file, by its path from the top; none if there is no such file."""
-    whole = os.path.join(TOP, path)
-    if not os.path.isfile(whole):
-        return ""
-    with open(whole, encoding="utf-8") as file:
-        return file.read()
 
 
 def libraries() -> List[str]:
     """The libraries, without the crates of tests."""
-    names = re.findall(r"(?m)^(\w+)(?: staticlib)?:", text_of("crates.txt"))
-    return [it for it in names if not it.endswith("_tests") and text_of(f"crates/{it}/src/lib.rt")]
+    return [it for it in crates() if not it.endswith("_tests") and text_of(f"crates/{it}/src/lib.rt")]
 
 
 def used(text: str) -> Iterator[Tuple[List[str], str]]:
@@ -79,7 +65,6 @@ def used(text: str) -> Iterator[Tuple[List[str], str]]:
 
 
 def file_of(crate: str, modules: List[str]) -> str:
-    """The file of a module of a crate."""
     return f"crates/{crate}/src/{'/'.join(modules) if modules else 'lib'}.rt"
 
 
@@ -129,8 +114,7 @@ def surface() -> List[Call]:
     offers = {crate: offered_by(crate) for crate in libraries()}
     every = {name for _, types in offers.values() for name in types}
     for crate, (offered, types) in offers.items():
-        for path in files_below(os.path.join(TOP, "crates", crate, "src"), ".rt"):
-            file = os.path.relpath(path, TOP)
+        for file in files_below(f"crates/{crate}/src", ".rt"):
             for owner, trait, is_public, name, head in heads(text_of(file)):
                 is_offered = bool({name, "*"} & offered[file]) if not owner else owner in types
                 is_call = is_offered and is_public if not trait else trait in every and owner in every
@@ -139,21 +123,28 @@ def surface() -> List[Call]:
     return list(found)
 
 
-def faults() -> Set[str]:
-    """The types by which a call can answer that memory ran out: that, and each that has one of them in it as a cause."""
-    found, texts = set(REFUSALS), []
-    for crate in libraries():
-        for path in files_below(os.path.join(TOP, "crates", crate, "src"), ".rt"):
-            texts += [(it[2], it[3]) for it in TYPE.findall(text_of(os.path.relpath(path, TOP))) if it[1] == "enum"]
+def types() -> Iterator[Tuple[str, str, str]]:
+    """The types of the libraries: the kind, the name, and the body without comments."""
+    for path in (it for crate in libraries() for it in files_below(f"crates/{crate}/src", ".rt")):
+        yield from ((kind, name, re.sub(r"//.*", "", body)) for _, kind, name, body in TYPE.findall(text_of(path)))
+
+
+def with_those_that_have(found: Set[str], parts: Iterable[Tuple[str, Set[str]]]) -> Set[str]:
+    """These types, and each that has one of them among its parts, or one of those."""
+    left = list(parts)
     while True:
-        more = {name for name, body in texts if set(re.findall(r"\w+", re.sub(r"//.*", "", body))) & found} - found
+        more = {name for name, its in left if its & found} - found
         if not more:
             return found
-        found |= more
+        found = found | more
+
+
+def faults() -> Set[str]:
+    """The types by which a call can answer that memory ran out: that, and each that has one of them in it as a cause."""
+    return with_those_that_have(REFUSALS, ((name, set(re.findall(r"\w+", body))) for kind, name, body in types() if kind == "enum"))
 
 
 def can_be_refused(call: Call, causes: Set[str]) -> bool:
-    """Whether a call can answer that memory ran out."""
     taken, _, answer = call.head.rpartition(") -> ")
     error = answer.partition("Result<")[2]
     tells = set(re.findall(r"\w+", answer)) & TELLING and re.search(r"\b(?:alloc|rt):", taken)
@@ -168,7 +159,7 @@ class Lists:
         self.quiet: Dict[str, List[str]] = defaultdict(list)
         self.makes: Dict[str, Set[str]] = defaultdict(set)
         self.faults: List[str] = []
-        texts = {os.path.basename(it): text_of(os.path.relpath(it, TOP)) for it in files_below(os.path.join(TOP, PROGRAM), ".rt")}
+        texts = {os.path.basename(it): text_of(it) for it in files_below(PROGRAM, ".rt")}
         functions = [(file, *it) for file, text in texts.items() for it in FUNCTION.findall(text)]
         for _, name, body in functions:
             self.makes[name] |= set(CALLED.findall(body))
@@ -208,21 +199,12 @@ def misnamed(names: Iterable[str], calls: List[Call], exempt: bool) -> Iterator[
 
 def held(body: str) -> Set[str]:
     """The types of the fields of a type, by its body: the words of that without the names of its fields and variants."""
-    text = re.sub(r"//.*|#\[.*", "", body)
+    text = re.sub(r"#\[.*", "", body)
     return set(re.findall(r"\w+", re.sub(r"(?m)^\s*(?:pub(?:\(crate\))? )?\w+\b(?!<)", "", text)))
 
 
 def holders() -> Set[str]:
-    """The types that may hold an allocator: that, what the toolchain's library makes of it, and each that has one of them in it."""
-    found, bodies = set(HOLDERS), []
-    for crate in libraries():
-        for path in files_below(os.path.join(TOP, "crates", crate, "src"), ".rt"):
-            bodies += [(it[2], held(it[3])) for it in TYPE.findall(text_of(os.path.relpath(path, TOP))) if it[1] != "trait"]
-    while True:
-        more = {name for name, types in bodies if types & found} - found
-        if not more:
-            return found
-        found |= more
+    return with_those_that_have(HOLDERS, ((name, held(body)) for kind, name, body in types() if kind != "trait"))
 
 
 def holds_allocator(call: Call, holding: Set[str]) -> bool:
@@ -269,7 +251,6 @@ def missed_nowhere() -> Iterator[str]:
 
 
 def main() -> int:
-    """Prints the public calls; with --plant, which calls of the lists nobody misses."""
     if "--plant" in sys.argv:
         found = list(missed_nowhere())
         print("\n".join(found) or "each call is missed where it is taken out of its list")

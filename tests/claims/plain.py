@@ -1,14 +1,11 @@
 """Plain words: how long the sentences and cells of documents and comments are, and the idioms that none of them has."""
-from __future__ import annotations
-
 import io
-import os
 import re
 import tokenize
 from typing import Iterator, List, Tuple
 
-from documents import Document
-from sources import Sources
+from documents import Document, cells_of
+from sources import Sources, text_of
 
 MOST_WORDS_OF_A_SENTENCE, MOST_WORDS_OF_A_CELL = 35, 40
 # Of a document; the history of changes is held only to the words. A list of files has its own marks.
@@ -46,17 +43,14 @@ def without_names(text: str) -> str:
 
 
 def sentences(text: str) -> Iterator[str]:
-    """The sentences of a paragraph."""
     yield from re.split(r"(?<=[.!?])\s+(?=[A-Z`\[(*])", " ".join(text.split()))
 
 
 def count(text: str) -> int:
-    """How many words there are."""
     return sum(bool(re.search(r"\w", it)) for it in text.split())
 
 
 def idioms(text: str) -> Iterator[str]:
-    """The idioms of a text."""
     plain = without_names(text)
     for idiom, instead in IDIOMS:
         found = re.search(rf"\b(?:{idiom})\b", plain, re.IGNORECASE)
@@ -67,7 +61,6 @@ def idioms(text: str) -> Iterator[str]:
 
 
 def faults(text: str) -> Iterator[str]:
-    """What is wrong with a paragraph."""
     yield from idioms(text)
     for sentence in sentences(text):
         if count(sentence) > MOST_WORDS_OF_A_SENTENCE:
@@ -92,16 +85,13 @@ def paragraphs(document: Document) -> Iterator[Tuple[int, str]]:
 
 def cells_and_headings(document: Document) -> Iterator[Tuple[int, str, bool]]:
     """The cells and the headings of a document, with their lines, and whether it is a cell."""
-    is_code = False
-    for number, line in enumerate(document.lines, 1):
-        is_code ^= line.lstrip().startswith("```")
-        if not is_code and line.startswith("#"):
-            yield number, line.lstrip("# "), False
-        if not is_code and line.startswith("|"):
-            yield from ((number, it.strip(), True) for it in re.split(r"(?<!\\)\|", line)[1:-1])
+    for number, line, is_code in document.marked():
+        if not is_code:
+            yield from ((number, it, False) for it in [line.lstrip("# ")] if line.startswith("#"))
+            yield from ((number, it, True) for it in cells_of(line))
 
 
-def crowded(text: str) -> Iterator[str]:
+def overfull(text: str) -> Iterator[str]:
     """Whether a paragraph of a document has too many sentences, or one of them too many parts."""
     parts = list(sentences(text))
     if len(parts) > MOST_SENTENCES_OF_A_PARAGRAPH:
@@ -116,7 +106,7 @@ def in_documents(documents: List[Document]) -> Iterator[str]:
     for document in documents:
         for line, text in paragraphs(document):
             yield from (f"{document.path}:{line}: {it}" for it in faults(text))
-            yield from (f"{document.path}:{line}: {it}" for it in crowded(text) if document.path != "CHANGELOG.md")
+            yield from (f"{document.path}:{line}: {it}" for it in overfull(text) if document.path != "CHANGELOG.md")
         for line, text, is_cell in cells_and_headings(document):
             yield from (f"{document.path}:{line}: {it}" for it in idioms(text))
             if is_cell and count(without_names(text)) > MOST_WORDS_OF_A_CELL:
@@ -136,7 +126,6 @@ def comments(text: str, marks: str) -> Iterator[Tuple[int, str]]:
 
 
 def marks_of(path: str) -> str:
-    """What begins the comments of a source."""
     return "--" if path.endswith(".antt") else "///|//!|//"
 
 
@@ -164,15 +153,14 @@ def comments_of(path: str, text: str) -> Iterator[Tuple[int, str]]:
         yield from comments(text, marks_of(path))
 
 
-def in_comments(top: str, paths: List[str]) -> Iterator[str]:
+def in_comments(paths: List[str]) -> Iterator[str]:
     """The same of the comments of the crates, of Python, of the page and of C++."""
     seen = 0
     for path in paths:
         if path in SCRIPTS or path.endswith((".rt", ".antt", *HELD)):
-            with open(os.path.join(top, path), encoding="utf-8") as file:
-                for line, text in comments_of(path, file.read()):
-                    seen += 1
-                    yield from (f"{path}:{line}: {it}" for it in faults(text))
+            for line, text in comments_of(path, text_of(path)):
+                seen += 1
+                yield from (f"{path}:{line}: {it}" for it in faults(text))
     if seen < FEWEST_COMMENTS:
         yield f"{seen} comments, where there are no fewer than {FEWEST_COMMENTS}"
 
@@ -185,37 +173,33 @@ def messages(text: str) -> Iterator[Tuple[int, str]]:
             yield from ((number, re.sub(r"\$?\{[^}]*\}", "NAME", one or other)) for one, other in found)
 
 
-def in_messages(top: str, paths: List[str]) -> Iterator[str]:
+def in_messages(paths: List[str]) -> Iterator[str]:
     """Idioms in what the clients, the builder, the scripts and the pages print."""
     seen = 0
     for path in paths:
         if path in SCRIPTS or path.startswith(("clients/", "tools/", "page/")) and path.endswith((".py", ".hpp", ".mjs")):
-            with open(os.path.join(top, path), encoding="utf-8") as file:
-                for line, text in messages(file.read()):
-                    seen += 1
-                    yield from (f"{path}:{line}: {it}" for it in idioms(text))
+            for line, text in messages(text_of(path)):
+                seen += 1
+                yield from (f"{path}:{line}: {it}" for it in idioms(text))
     if seen < FEWEST_MESSAGES:
         yield f"{seen} messages, where there are no fewer than {FEWEST_MESSAGES}"
 
 
-def unknown_names(top: str, paths: List[str], sources: Sources) -> Iterator[str]:
+def unknown_names(paths: List[str], sources: Sources) -> Iterator[str]:
     """Names in the comments of the crates that no source has."""
     for path in paths:
         if path.startswith("crates/") and path.endswith((".rt", ".antt")):
-            with open(os.path.join(top, path), encoding="utf-8") as file:
-                for line, text in comments(file.read(), marks_of(path)):
-                    names = {it for it in re.findall(r"`([^`]+)`", text) if re.fullmatch(r"\w+(?:::\w+)*", it)}
-                    names |= set(re.findall(r"\b[a-z]+_[a-z_]+\b|\b(?:[A-Z][a-z]+){2,}\b", without_names(text)))
-                    yield from (f"{path}:{line}: {it} stands nowhere" for it in sorted(names)
-                                if it not in KNOWN and not sources.has(it, ""))
+            for line, text in comments(text_of(path), marks_of(path)):
+                names = {it for it in re.findall(r"`([^`]+)`", text) if re.fullmatch(r"\w+(?:::\w+)*", it)}
+                names |= set(re.findall(r"\b[a-z]+_[a-z_]+\b|\b(?:[A-Z][a-z]+){2,}\b", without_names(text)))
+                yield from (f"{path}:{line}: {it} stands nowhere" for it in sorted(names) if it not in KNOWN and not sources.has(it))
 
 
-def wordless(top: str, paths: List[str]) -> Iterator[str]:
+def wordless(paths: List[str]) -> Iterator[str]:
     """Definitions of specs/ that no line before them says in words; those in Inside may do without."""
     for path in paths:
         if re.match(r"crates/\w+/specs/(?!Inside/).*\.antt$", path) and not path.endswith("/Inside.antt"):
-            with open(os.path.join(top, path), encoding="utf-8") as file:
-                lines = file.read().split("\n")
+            lines = text_of(path).split("\n")
             for before, line in zip(lines, lines[1:]):
                 found = re.match(r"(?:abbrev |unfoldable )*pub (?:(?:record|data) )?(?!use\b|mod\b)(\w+)", line)
                 if found and not before.startswith("--"):

@@ -1,66 +1,71 @@
-"""The names that are in the sources: functions, types, clauses, definitions, tests, edits, and the words of the texts."""
-from __future__ import annotations
-
+"""The files of the repository, and the names in the sources: functions, types, clauses, definitions, edits, mutants, words of texts."""
 import os
 import re
 from collections import defaultdict
 from typing import Dict, Iterator, List, Set
 
+TOP = os.path.dirname(os.path.dirname(os.path.dirname(os.path.abspath(__file__))))
 BLOCK = re.compile(r"(?ms)^(?:pub(?:\([a-z]+\))? )?(impl|trait|mod|struct|enum)\b([^{;]*)\{(.*?)^\}")
 FUNCTION = re.compile(r'(?m)^\s*(?:pub(?:\([a-z]+\))? )?(?:const |unsafe |extern "C" )*fn (\w+)')
 TYPE = re.compile(r"(?m)^\s*(?:pub(?:\([a-z]+\))? )?(?:struct|enum|trait|type|const|static|mod) (\w+)")
 MEMBER = re.compile(r"(?m)^    (?:pub(?:\([a-z]+\))? )?([A-Za-z]\w*)[,({: ]")
 CLAUSE = re.compile(r"\b(?:ensures|requires|ghost invariant) (\w+) \{")
+PROMISE = re.compile(r"\bensures (?:(\w+) )?\{")
+HEAD = re.compile(r"(?m)^(?:pub(?:\([a-z]+\))? )?(?:impl|trait)\b([^{;]*)\{")
 REEXPORT = re.compile(r"(?ms)^pub use ([^;]*);")
 TEXT = re.compile(r'"((?:[^"\\\n]|\\.)*)"')
 DEFINITION = re.compile(r"(?m)^ *(?:(?:abbrev|unfoldable|pub) )*(?:(?:record|data) )?([A-Za-z]\w*)(?: [({].*[)}])? :")
 FIELD = re.compile(r"(?m)^  pub (\w+) :")
 
 
-class Sources:
-    """What is in the crates below this folder."""
+def text_of(path: str) -> str:
+    """A file, by its path from the top; empty if there is none."""
+    whole = os.path.join(TOP, path)
+    if not os.path.isfile(whole):
+        return ""
+    with open(whole, encoding="utf-8") as file:
+        return file.read()
 
-    def __init__(self, top: str) -> None:
-        self.top = top
-        self.crates: Dict[str, List[str]] = {}
+
+def files_below(folder: str, ending: str) -> Iterator[str]:
+    """The files with this ending below a folder, in order. Both are paths from the top."""
+    for at, folders, names in os.walk(os.path.join(TOP, folder)):
+        folders.sort()
+        yield from (os.path.relpath(os.path.join(at, it), TOP) for it in sorted(names) if it.endswith(ending))
+
+
+def crates() -> Dict[str, List[str]]:
+    """The crates in the order of crates.txt, each with the libraries that it uses."""
+    pairs = [line.partition("#")[0].partition(":") for line in text_of("crates.txt").split("\n")]
+    return {name.split()[0]: used.split() for name, colon, used in pairs if colon}
+
+
+class Sources:
+    def __init__(self) -> None:
+        self.crates = crates()
         # For each name the crates that have it, and the types, traits, modules and crates around it.
         self.places: Dict[str, Set[str]] = defaultdict(set)
         self.around: Dict[str, Set[str]] = defaultdict(set)
-        self.words: Set[str] = set()
+        self.words: Set[str] = {it for used in self.crates.values() for it in used}
         self.edits: Set[str] = set()
-        self.read_list()
         for crate in self.crates:
             self.read_crate(crate)
 
-    def read_list(self) -> None:
-        """The crates, and what each is built on."""
-        with open(os.path.join(self.top, "crates.txt"), encoding="utf-8") as lines:
-            for line in lines:
-                name, colon, below = line.partition("#")[0].partition(":")
-                if colon:
-                    self.crates[name.split()[0]] = below.split()
-                    self.words.update(below.split())
-
     def read_crate(self, crate: str) -> None:
-        """All names of one crate."""
-        folder = os.path.join(self.top, "crates", crate)
         self.places[crate].add(crate)
         for part, ending, read in (("src", ".rt", self.read_code), ("specs", ".antt", self.read_definitions),
-                                   ("proofs", ".antt", self.read_definitions), ("must-fail", ".edit", self.read_edit),
-                                   (f"../../tests/lies/edits/{crate}", ".edit", self.read_edit)):
-            for path in files_below(os.path.join(folder, part), ending):
-                modules = os.path.relpath(path, os.path.join(folder, part))[: -len(ending)].split(os.sep)
-                read(crate, modules, path)
+                                   ("proofs", ".antt", self.read_definitions), ("must-fail", ".edit", self.read_edit)):
+            folder = f"crates/{crate}/{part}"
+            for path in files_below(folder, ending):
+                read(crate, os.path.relpath(path, folder)[: -len(ending)].split(os.sep), text_of(path))
+        for name in re.findall(r"(?m)^mutant: (\w+)$", text_of(f"tests/mutants/{crate}.txt")):
+            self.read_edit(crate, [name], "")
 
     def add(self, crate: str, name: str, around: Set[str]) -> None:
-        """One name, with what is around it."""
         self.places[name].add(crate)
         self.around[name] |= around | {crate}
 
-    def read_code(self, crate: str, modules: List[str], path: str) -> None:
-        """The names of a file of code."""
-        with open(path, encoding="utf-8") as file:
-            text = file.read()
+    def read_code(self, crate: str, modules: List[str], text: str) -> None:
         for name in modules:
             self.add(crate, name, set())
         for pattern in (FUNCTION, TYPE, CLAUSE):
@@ -76,60 +81,38 @@ class Sources:
         for literal in TEXT.findall(text):
             self.words.update(literal.replace("\\n", " ").split())
 
-    def read_definitions(self, crate: str, modules: List[str], path: str) -> None:
-        """The names of a file of definitions or proofs."""
-        with open(path, encoding="utf-8") as file:
-            text = file.read()
+    def read_definitions(self, crate: str, modules: List[str], text: str) -> None:
         for pattern in (DEFINITION, FIELD):
             for name in pattern.findall(text):
                 self.add(crate, name, {*modules})
 
-    def read_edit(self, crate: str, modules: List[str], path: str) -> None:
-        """The name of an edit."""
+    def read_edit(self, crate: str, modules: List[str], _: str) -> None:
         self.edits.add(modules[-1])
         self.add(crate, modules[-1], set())
 
-    def stands_in(self, name: str, crate: str) -> bool:
-        """Whether the name is in the crate, or in one that it is built on."""
-        return bool(self.places.get(name, set()) & {crate, *self.crates.get(crate, [])})
-
-    def has_path(self, path: List[str], crate: str) -> bool:
+    def has_path(self, path: List[str]) -> bool:
         """Whether the last name of a path is within the others."""
-        last = path[-1]
-        is_there = self.stands_in(last, crate) if crate else last in self.places
-        return is_there and all(outer in self.around[inner] for outer, inner in zip(path, path[1:]))
-
-    def has_file(self, name: str, crate: str) -> bool:
-        """Whether there is such a file, from the top or in the crate."""
-        folders = [self.top, *([os.path.join(self.top, "crates", crate)] if crate else [])]
-        return any(os.path.exists(os.path.join(folder, name)) for folder in folders)
+        return path[-1] in self.places and all(outer in self.around[inner] for outer, inner in zip(path, path[1:]))
 
     def defines(self, file: str, name: str) -> bool:
-        """Whether a file, by its path from the top, has this definition, or this function or type."""
-        path = os.path.join(self.top, file)
-        if not os.path.isfile(path):
-            return False
-        with open(path, encoding="utf-8") as lines:
-            text = lines.read()
         patterns = (FUNCTION, TYPE) if file.endswith(".rt") else (DEFINITION,)
-        return any(name in it.findall(text) for it in patterns)
+        return any(name.split("::")[-1] in it.findall(text_of(file)) for it in patterns)
 
-    def has(self, name: str, crate: str) -> bool:
-        """Whether what a document names is in the sources; with a crate, in that crate or below it."""
+    def promises(self, file: str, name: str) -> List[Set[str]]:
+        """The clauses that each function of this name in a file ensures, within the types or modules before `::`; one may have no name."""
+        text, (*outer, last) = text_of(file), name.split("::")
+        found, functions = [], [*FUNCTION.finditer(text)]
+        for at, function in enumerate(functions):
+            around = {*re.findall(r"\w+", "".join(HEAD.findall(text, 0, function.start())[-1:])), *re.findall(r"\w+", file)}
+            if function[1] == last and around.issuperset(outer):
+                found.append({*PROMISE.findall(text, function.end(), functions[at + 1].start() if at + 1 < len(functions) else len(text))})
+        return found
+
+    def has(self, name: str) -> bool:
         if "/" in name or name.endswith((".antt", ".rt", ".md")):
-            return self.has_file(name, crate)
+            return os.path.exists(os.path.join(TOP, name))
         if name.endswith(".edit"):
             return name[:-5] in self.edits
         if "::" in name:
-            return self.has_path(name.split("::"), crate)
-        plain = name.lstrip("-")
-        return (self.stands_in(plain, crate) if crate else plain in self.places) or plain in self.words
-
-
-def files_below(folder: str, ending: str) -> Iterator[str]:
-    """The files with this ending, in order."""
-    for at, folders, names in os.walk(folder):
-        folders.sort()
-        for name in sorted(names):
-            if name.endswith(ending):
-                yield os.path.join(at, name)
+            return self.has_path(name.split("::"))
+        return name.lstrip("-") in self.places or name.lstrip("-") in self.words

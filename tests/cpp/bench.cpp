@@ -17,6 +17,7 @@ using filskeam::Result;
 using filskeam::Run;
 using filskeam::Seconds;
 using filskeam::Server;
+using filskeam::Target;
 
 namespace {
 
@@ -76,9 +77,8 @@ void late(Server& server) {
 
 // The main behaviour hangs, and another one ends the test case.
 void ends(Server& server) {
-    const int mtc = 0;
     const std::vector<filskeam::Behaviour> all = {
-        [mtc](Run& it) { it.stop(mtc); }, [mtc](Run& it) { it.kill(mtc); }, [](Run& it) { it.stop_case(); }, [](Run& it) { it.stop(7); }};
+        [](Run& it) { it.stop(Target(0)); }, [](Run& it) { it.kill(Target(0)); }, [](Run& it) { it.stop_case(); }, [](Run& it) { it.stop(7); }};
     for (const auto& end : all)
         show(server.run("t", [end](Run& run) {
             run.start(run.create(), "ends", end);
@@ -179,14 +179,66 @@ void stops(Server& server) {
     }, Seconds(20)));
 }
 
-void words(Server& server) {
+// A worker is asked for, and ends before the answer is looked at: the server holds the answer until it has the end.
+void misses(Server& server) {
     show(server.run("t", [](Run& run) {
-        const std::vector<std::function<void()>> wrong = {
+        run.start(run.create(), "worker", [](Run&) { std::this_thread::sleep_for(std::chrono::milliseconds(800)); });
+        run.log(run.wait_done(1, Seconds(8)) ? "held" : "late");
+    }));
+}
+
+// A worker checks whether it was stopped, and is stopped before the answer is looked at: the server holds the answer until it has the stop.
+void checks(Server& server) {
+    show(server.run("t", [](Run& run) {
+        std::atomic<bool> is_ended{false};
+        run.start(run.create(), "worker", [&is_ended](Run& it) {
+            try {
+                while (true) it.check();
+            } catch (const Ended&) {
+                is_ended = true;
+            }
+        });
+        run.start(run.create(), "news", [](Run&) {});
+        std::this_thread::sleep_for(std::chrono::milliseconds(800));
+        run.stop(1);
+        for (int at = 0; at < 4000 && !is_ended; ++at) std::this_thread::sleep_for(std::chrono::milliseconds(1));
+        run.log(is_ended ? "ended" : "not ended");
+    }));
+}
+
+// The server pauses beyond the limit of the test case, and then says that it passes.
+void stalls(Server& server) {
+    server.run("warm", [](Run&) {});
+    show(server.run("t", [](Run& run) {
+        run.set_verdict("pass");
+        std::ifstream file(std::getenv("SERVER_PROCESS"));
+        std::string process;
+        file >> process;
+        if (std::system(("kill -STOP " + process + "; (sleep 0.6; kill -CONT " + process + ") &").c_str()) != 0) run.stop_case();
+    }, Seconds(0.5)));
+}
+
+// A remark with each byte, as many components as there may be, and as many entries as a report shows whole, and one more.
+void limits(Server& server) {
+    show(server.run("t", [](Run& run) { for (int byte = 0; byte < 256; ++byte) run.log(std::string("x") + static_cast<char>(byte) + "y"); }));
+    show(server.run("t", [](Run& run) { for (int made = 1; made < 1000; ++made) run.create(); }));
+    for (int calls : {16, 17})
+        std::cout << server.run("t", [calls](Run& run) { for (int at = 0; at < calls; ++at) run.get_verdict(); }).report();
+}
+
+void words(Server& server) {
+    int refused_names = 0;
+    for (const char* name : {"self", "mtc", "any", "all"}) try { server.run(name, hang); } catch (const std::invalid_argument&) { ++refused_names; }
+    std::cout << refused_names << " names\n";
+    show(server.run("t", [](Run& run) {
+        std::vector<std::function<void()>> wrong = {
             [&] { run.set_verdict("passed"); }, [&] { run.set_verdict("error"); }, [&] { run.create("9a"); }, [&] { run.create("a b"); },
             [&] { run.create("all"); }, [&] { run.create(std::string(33, 'a')); }, [&] { run.stop("any"); }, [&] { run.kill("every"); },
             [&] { run.running(-1); }, [&] { run.start(1, "a-b", hang); }, [&] { run.start(1, "five", hang, {0, 0, 0, 0, 0}); },
             [&] { run.start(1, "nothing", nullptr); },
         };
+        for (const char* name : {"self", "mtc", "any"}) wrong.push_back([&run, name] { run.create(name); });
+        for (const char* name : {"self", "mtc", "any", "all"}) wrong.push_back([&run, name] { run.start(0, name, hang); });
         int found = 0;
         for (const auto& call : wrong) try { call(); } catch (const std::invalid_argument&) { ++found; }
         run.log(std::to_string(found) + " of " + std::to_string(wrong.size()));
@@ -313,7 +365,7 @@ void speed(Server& server) {
 int main(int count, char** words_given) {
     const std::map<std::string, void (*)(Server&)> cases = {
         {"raises", raises}, {"watchdog", watchdog}, {"late", late}, {"ends", ends}, {"errs", errs}, {"whys", whys}, {"calls", calls}, {"seconds", seconds}, {"waits", waits}, {"stops", stops},
-        {"words", words}, {"loses", loses}, {"random", random_cases}, {"reports", reports}, {"leaves", leaves}, {"meets", meets}, {"speed", speed},
+        {"misses", misses}, {"checks", checks}, {"stalls", stalls}, {"limits", limits}, {"words", words}, {"loses", loses}, {"random", random_cases}, {"reports", reports}, {"leaves", leaves}, {"meets", meets}, {"speed", speed},
     };
     int status = 0;
     {

@@ -3,55 +3,60 @@
 
 usage: tests/cpp/run.py [--server COMMAND] [--only WORD] [--list]
 
-The benches are in tests/cpp/bench.cpp; without a compiler of C++ the tests fail. The last line is 'N passed, M failed'; the
-status is 0 if nothing failed, otherwise 1. With the variable FILSKEAM_CPP the client is taken from that folder.
+The benches are in tests/cpp/bench.cpp; without a compiler of C++ the tests fail, without CMake or GoogleTest some are skipped.
+The last line is 'N passed, M failed', with ', K skipped' after it if there are some; the status is 0 if nothing failed,
+otherwise 1. With the variable FILSKEAM_CPP the client is taken from that folder.
 """
 from __future__ import annotations
 
-import argparse
+import glob
 import os
 import re
-import shlex
 import shutil
 import subprocess
 import sys
 import tempfile
 import time
 from dataclasses import dataclass, field
-from typing import Callable, Dict, List, Sequence, Tuple
+from typing import Dict, List, Sequence, Tuple
 
 sys.dont_write_bytecode = True
 HERE = os.path.dirname(os.path.abspath(__file__))
-TESTS_FOLDER = os.path.dirname(HERE)
-CLIENT = os.environ.get("FILSKEAM_CPP", os.path.join(os.path.dirname(TESTS_FOLDER), "clients", "cpp"))
-sys.path.insert(0, os.path.join(TESTS_FOLDER, "serve"))
+sys.path.insert(0, os.path.join(os.path.dirname(HERE), "serve"))
 
 import evidence
+import holding
+from holding import TESTS, TOP, Fault, ServerRoom, Skipped, blocks_of, hold, same, text_of
 from table import Table
 from texts import read_move
 
-REFERENCE = os.path.join(TESTS_FOLDER, "serve", "reference.py")
+CLIENT = os.environ.get("FILSKEAM_CPP", os.path.join(TOP, "clients", "cpp"))
+README = os.path.join(CLIENT, "README.md")
+COMPILERS = [it for it in ("g++", "clang++") if shutil.which(it)]
 SECONDS = 90
-FLAGS = ("-std=c++17", "-O1", "-Wall", "-Wextra", "-Werror", "-pthread", f"-I{CLIENT}")
-
+BENCH = os.path.join(HERE, "bench.cpp")
+FLAGS = ("-std=c++17", "-O1", "-Wall", "-Wextra", "-Wshadow", "-Werror", "-pthread", f"-I{CLIENT}")
+# A server before the server. It holds the answer to one line back until there is that to another, and writes both at once.
+HOLDER = """
+import subprocess, sys
+first, second, *command = sys.argv[1:]
+server, answers = subprocess.Popen(command, stdin=subprocess.PIPE, stdout=subprocess.PIPE), []
+for line in sys.stdin.buffer:
+    server.stdin.write(line)
+    server.stdin.flush()
+    answers.append(server.stdout.readline())
+    line = line.decode().strip()
+    first = "" if line == second else first
+    if line != first and (len(answers) == 1 or line == second):
+        sys.stdout.buffer.write(b"".join(answers))
+        sys.stdout.flush()
+        answers = []
+"""
 
 # The evidence of a test case that sets one verdict.
 NEXT = "evidence 1 t_next 256\nbehaviour 0 main\n0 setverdict pass -> ok\n0 finish -> ok\nend pass\n"
-
-
-class Fault(Exception):
-    """Why a test has failed."""
-
-
-def hold(is_so: object, text: object) -> None:
-    """Fails the test unless it is so."""
-    if not is_so:
-        raise Fault(str(text))
-
-
-def same(found: object, wanted: object, about: str = "") -> None:
-    """Fails the test unless both are the same."""
-    hold(found == wanted, f"{about} found {found!r}, and {wanted!r} is wanted".strip())
+# What starts a server, and writes the number of its process into a file.
+NAMED = ("sh", "-c", 'echo $$ > "$SERVER_PROCESS"; exec "$@"', "sh")
 
 
 @dataclass
@@ -77,7 +82,6 @@ class Shown:
 
 
 def shown_in(text: str) -> List[Shown]:
-    """All test cases that a bench shows."""
     found = []
     for part in re.findall(r"^verdict .*?^done$", text, re.DOTALL | re.MULTILINE):
         head, _, rest = part.partition("\nevidence\n")
@@ -98,74 +102,94 @@ def shown_in(text: str) -> List[Shown]:
 
 
 @dataclass
-class Place:
-    """A folder, the bench, and the server."""
-
-    room: str
-    command: Sequence[str]
-
+class Place(ServerRoom):
     def bench(self, name: str, command: Sequence[str] = (), **more: str) -> Tuple[List[Shown], str]:
         """Runs a case of the bench: what it shows, and its whole output."""
-        ran = subprocess.run([os.path.join(self.room, "bench"), name, *(command or self.command)], env={**os.environ, **more},
+        ran = subprocess.run([self.path("bench"), name, *(command or self.command)], env={**os.environ, **more},
                              stdout=subprocess.PIPE, stderr=subprocess.PIPE, timeout=SECONDS, check=False)
         same((ran.returncode, ran.stderr), (0, b""), "the bench:")
         return shown_in(ran.stdout.decode()), ran.stdout.decode()
 
-    def build(self, compiler: str, source: str, *flags: str) -> None:
-        """Compiles a program into the folder."""
-        target = os.path.join(self.room, os.path.basename(source).rpartition(".")[0])
-        ran = subprocess.run([compiler, *FLAGS, *flags, source, "-o", target], stdout=subprocess.PIPE, stderr=subprocess.STDOUT, timeout=SECONDS * 3, check=False)
-        hold(ran.returncode == 0, ran.stdout.decode()[:2000])
+    def build(self, compiler: str, source: str, *flags: str) -> str:
+        target = self.path(os.path.basename(source).rpartition(".")[0])
+        printed(compiler, *FLAGS, *flags, source, "-o", target)
+        return target
+
+    def verdicts(self, name: str) -> List[Tuple[str, str]]:
+        """The names and verdicts of the evidence in a file, which must be legal."""
+        blocks = evidence.blocks_of(self.text(name))
+        hold(evidence.is_legal(blocks), f"{name} is not legal")
+        return [(it.name, it.verdict) for it in blocks]
 
 
-Test = Callable[[Place], str]
-TESTS: Dict[str, Test] = {}
+def ran_to(status: int, *words: str, **more: str) -> str:
+    """What a command prints, which must end with this status."""
+    ran = subprocess.run(words, env={**os.environ, **more}, stdout=subprocess.PIPE, stderr=subprocess.STDOUT, timeout=SECONDS * 3, check=False)
+    hold(ran.returncode == status, f"{words} ends with {ran.returncode}: {ran.stdout.decode()[-1500:]}")
+    return ran.stdout.decode()
 
 
-def test(judge: Test) -> Test:
-    """Lists a test under its name. It answers what it reached."""
-    TESTS[judge.__name__] = judge
-    return judge
+def printed(*words: str, **more: str) -> str:
+    return ran_to(0, *words, **more)
 
 
-@test
-def the_example_runs(place: Place) -> str:
-    """clients/cpp/heater.cpp, with each compiler that is there."""
-    program = os.path.join(place.room, "ttrun")
-    with open(program, "w", encoding="ascii") as file:
-        file.write(f'#!/bin/sh\n[ "$*" = serve ] || exit 9\nexec {shlex.join(place.command)}\n')
-    os.chmod(program, 0o755)
-    compilers = [it for it in ("g++", "clang++") if shutil.which(it)]
-    for compiler in compilers:
-        place.build(compiler, os.path.join(CLIENT, "heater.cpp"))
-        ran = subprocess.run([os.path.join(place.room, "heater")], env={**os.environ, "FILSKEAM_TTRUN": program}, cwd=place.room,
-                             stdout=subprocess.PIPE, timeout=SECONDS, check=False)
-        with open(os.path.join(CLIENT, "README.md"), encoding="utf-8") as file:
-            shown = [text for it, text in re.findall(r"^```(.*)\n((?:.*\n)*?)```$", file.read(), re.MULTILINE) if not it]
-        same((ran.returncode, [ran.stdout.decode()]), (1, shown))
-        with open(os.path.join(place.room, "heater.evidence"), encoding="ascii") as file:
-            blocks = evidence.blocks_of(file.read())
-        same(([it.verdict for it in blocks], evidence.is_legal(blocks)), (["fail"] * (compilers.index(compiler) + 1), True))
-    return f"{len(compilers)} compilers"
+def the_examples_run(place: Place) -> str:
+    """That of the README and clients/cpp/heater.cpp, each with another of the compilers that are there."""
+    sources = (place.write("first.cpp", blocks_of(README, "cpp")[0]), os.path.join(CLIENT, "heater.cpp"))
+    for at, (source, variable) in enumerate(zip(sources, ("TTRUN", "FILSKEAM_TTRUN"))):
+        program = place.build(COMPILERS[at % len(COMPILERS)], source)
+        same(ran_to(1, "sh", "-c", f"cd {place.room}; exec {program}", **{variable: place.program()}), blocks_of(README, "")[0])
+        same([verdict for _, verdict in place.verdicts("heater.evidence")], ["fail"] * (at + 1))
+    return f"{len(sources)} examples, {len(COMPILERS)} compilers"
 
 
-@test
+def a_project_finds_the_client(place: Place) -> str:
+    """By pkg-config and CMake, of an installed client and of its folder; and under GoogleTest a wrong verdict fails."""
+    if not shutil.which("cmake") or not shutil.which("pkg-config"):
+        raise Skipped("there is no CMake or no pkg-config")
+    os.mkdir(place.path("clients"))
+    os.symlink(CLIENT, place.path("clients/cpp"))
+    printed("sh", "-ec", f"cd {place.room}\n{next(it for it in blocks_of(README, 'sh') if 'cmake -S' in it)}", HOME=place.room)
+    found = glob.glob(place.path(".local/lib*/pkgconfig/filskeam.pc"))
+    same(printed("pkg-config", "--modversion", *found).split()[:1], holding.version_of_the_program(), "the versions of client and program:")
+    hold(os.path.isfile(os.path.join(re.findall(r"-I(\S+)", printed("pkg-config", "--cflags", *found))[0], "filskeam.hpp")), found)
+    find = "find_package(filskeam REQUIRED)"
+    for name, text, more in (("alone", find, ""), ("folder", f"add_subdirectory({CLIENT} filskeam)", ""),
+                             ("suite", f"{find}\nfind_package(GTest)\nmessage(NOTICE \"GTest=${{GTest_FOUND}}\")", " GTest::gtest_main")):
+        place.write(f"{name}/CMakeLists.txt", f"cmake_minimum_required(VERSION 3.14)\nproject({name} LANGUAGES CXX)\n{text}\n"
+                    f"add_executable({name} {HERE}/suite.cpp)\ntarget_link_libraries({name} filskeam::filskeam{more})\n")
+        words = ["cmake", "-S", place.path(name), "-B", place.path(name), f"-DCMAKE_PREFIX_PATH={place.path('.local')}"]
+        ran = subprocess.run(words, stdout=subprocess.PIPE, stderr=subprocess.STDOUT, timeout=SECONDS, check=False)
+        if more and b"GTest=TRUE" not in ran.stdout and b"GTest=1" not in ran.stdout:
+            raise Skipped("there is no GoogleTest (Debian: libgtest-dev)")
+        same(ran.returncode, 0, ran.stdout.decode()[-1500:])
+    printed("cmake", "--build", place.path("suite"))
+    return suite_of(place, place.path("suite/suite"))
+
+
+def suite_of(place: Place, program: str) -> str:
+    """Runs the suite: a wrong verdict fails and says why; verdicts are in the report, and the evidence is legal."""
+    text = ran_to(1, program, f"--gtest_output=xml:{place.path('suite.xml')}", TTRUN=place.program(), FILSKEAM_EVIDENCE=place.path("suite.evidence"))
+    same(re.findall(r"(?m)^\[  FAILED  \] (\S+) \(", text), ["Heater.fails", "Heater.hangs"])
+    hold("why: run 0 main on mtc: setverdict fail: too hot\n" in text and "\nthe test case took longer than it may\n" in text, text)
+    same(re.findall(r'<property name="verdict" value="(\w+)"', place.text("suite.xml")), ["pass", "fail", "fail", "error", "pass"])
+    found = place.verdicts("suite.evidence")
+    same(found, [("passes", "pass"), ("fails_as_it_should", "fail"), ("fails", "fail"), ("hangs", "error"), ("a_name_of_a_value_1", "pass")])
+    return f"{len(found)} tests of GoogleTest"
+
+
 def without_a_compiler_nothing_passes(place: Place) -> str:
     """These tests, run where no program is found: all fail, and they say why."""
-    ran = subprocess.run([sys.executable, os.path.abspath(__file__)], env={**os.environ, "PATH": place.room}, stdout=subprocess.PIPE,
-                         timeout=SECONDS, check=False)
-    first, last = ran.stdout.decode().splitlines()
-    same((ran.returncode, last), (1, f"0 passed, {len(TESTS)} failed"))
+    first, last = ran_to(1, sys.executable, os.path.abspath(__file__), PATH=place.room).splitlines()
+    same(last, f"0 passed, {len(TESTS)} failed")
     hold("no compiler of C++" in first, first)
     return f"{len(TESTS)} tests"
 
 
-@test
 def what_a_behaviour_throws_stops_the_case(place: Place) -> str:
     """With its text as a remark; an Ended and a stop of its own are no exceptions."""
     shown, text = place.bench("raises")
-    same([it.why for it in shown], [
-        "run 1 worker on component 1 worker: stopcase: no answer of 10.0.0.7",
+    same([it.why for it in shown], ["run 1 worker on component 1 worker: stopcase: no answer of 10.0.0.7",
         "run 1 worker on component 1 worker: stopcase: what it threw is no std::exception",
         "run 0 main on mtc: stop 7 -> error no-component", "run 1 worker on component 1 worker: stopcase: enough"])
     same([len(it.raised) for it in shown], [1, 1, 1, 0])
@@ -174,7 +198,6 @@ def what_a_behaviour_throws_stops_the_case(place: Place) -> str:
     return f"{len(shown)} test cases"
 
 
-@test
 def a_watchdog_kills_who_hangs(place: Place) -> str:
     """The test case continues, and the behaviour that hangs is named."""
     (shown,), _ = place.bench("watchdog")
@@ -184,7 +207,6 @@ def a_watchdog_kills_who_hangs(place: Place) -> str:
     return f"{len(shown.block().entries)} entries"
 
 
-@test
 def a_case_past_its_time_out(place: Place) -> str:
     """It ends in error, and who hangs is named: a worker, the main one; or nobody."""
     began = time.monotonic()
@@ -198,7 +220,6 @@ def a_case_past_its_time_out(place: Place) -> str:
     return f"{len(shown)} test cases"
 
 
-@test
 def a_dynamic_error_ends_who_sleeps(place: Place) -> str:
     """It is news, as a stop is."""
     (shown,), _ = place.bench("errs")
@@ -206,7 +227,6 @@ def a_dynamic_error_ends_who_sleeps(place: Place) -> str:
     return f"{len(shown.block().entries)} entries"
 
 
-@test
 def why_is_the_first_that_made_the_verdict(place: Place) -> str:
     """A reason is of the next call of its run only."""
     shown, _ = place.bench("whys")
@@ -214,21 +234,12 @@ def why_is_the_first_that_made_the_verdict(place: Place) -> str:
     return f"{len(shown)} test cases"
 
 
-@test
 def each_call_has_its_word(place: Place) -> str:
     """Also each status of a component at each of its phases."""
     (shown,), _ = place.bench("calls")
-    told = ((1, "false true false false"), (1, "false true true false"), (1, "false false true true"), (2, "true true false false"), (2, "false false true true"))
-    asked = [[f"0 {status} {it} -> {answer}" for status, answer in zip(("running", "alive", "done", "killed"), answers.split())] for it, answers in told]
-    wanted = ["0 create alive named pump -> made 1", "0 create -> made 2", *asked[0], "0 start 1 1 -> ok", *asked[1], "0 kill 1 -> ok", *asked[2],
-              "0 start 2 2 -> ok", *asked[3], "0 stop 2 -> ok", *asked[4], "0 setverdict pass -> ok", "0 getverdict -> pass", "0 finish -> ok"]
-    entries = [it for it in shown.block().entries if it.startswith("0 ")]
-    same([it for it in entries if not it.startswith(("0 wait", "0 wake"))], wanted)
-    same({" ".join(it.split()[1:4]) for it in entries if it.startswith("0 wait")}, {"wait done 1", "wait killed 2"})
-    return f"{len(entries)} entries"
+    return f"{holding.hold_each_call(shown.block().entries)} entries"
 
 
-@test
 def a_sleep_and_a_time_out_take_their_seconds(place: Place) -> str:
     """Not fewer, and not twice as many."""
     (shown,), _ = place.bench("seconds")
@@ -237,7 +248,6 @@ def a_sleep_and_a_time_out_take_their_seconds(place: Place) -> str:
     return f"{took} thousandths"
 
 
-@test
 def a_status_that_no_server_has(place: Place) -> str:
     """It counts as 3."""
     shown, text = place.bench("waits", ["sh", "-c", '"$@"; exit 9', "sh", *place.command])
@@ -246,7 +256,6 @@ def a_status_that_no_server_has(place: Place) -> str:
     return f"{len(shown)} test cases"
 
 
-@test
 def a_case_that_another_behaviour_ends(place: Place) -> str:
     """A main behaviour that hangs is not waited for, and named."""
     began = time.monotonic()
@@ -258,7 +267,6 @@ def a_case_that_another_behaviour_ends(place: Place) -> str:
     return f"{len(shown)} test cases"
 
 
-@test
 def waits_with_a_time_out(place: Place) -> str:
     """They hold or are late, and nobody waits in the table."""
     (shown,), _ = place.bench("waits")
@@ -267,7 +275,6 @@ def waits_with_a_time_out(place: Place) -> str:
     return "3 waits"
 
 
-@test
 def a_stop_is_learnt_of(place: Place) -> str:
     """In a loop that checks, and by one that catches each std::exception."""
     (shown,), _ = place.bench("stops")
@@ -277,25 +284,50 @@ def a_stop_is_learnt_of(place: Place) -> str:
     return f"{len(shown.block().entries)} entries"
 
 
-@test
 def wrong_words_are_not_sent(place: Place) -> str:
     """Each is an invalid argument; remarks are cut and cleaned."""
     (shown,), text = place.bench("words")
     remarks = [it for _, it in shown.block().remarks]
-    same(remarks[0], "12 of 12")
+    same(remarks[0], "19 of 19")
     same(remarks[1], r"81 \xc2\xb0C " + "x" * 185 + "..")
     same(remarks[2:], ["1 call of another thread"])
     same(shown.block().entries, ["0 finish -> ok"])
-    hold(text.endswith("status 0\n"), text[-100:])
-    return "12 words"
+    hold(text.startswith("4 names\n") and text.endswith("status 0\n"), text[-100:])
+    return "23 words"
+
+
+def each_byte_and_each_limit(place: Place) -> str:
+    """A remark with each byte, as many components as there may be, and reports of 20 and of 21 lines of evidence."""
+    (said, many), text = place.bench("limits")
+    wanted = ["x y" if it == 32 or 9 <= it <= 13 else f"x{chr(it)}y" if 33 <= it <= 126 else f"x\\x{it:02x}y" for it in range(256)]
+    same([it for _, it in said.block().remarks], wanted)
+    same((many.verdict, len(many.locals), many.block().entries[998]), ("none", 1000, "0 create -> made 999"))
+    same(re.findall(r"(?m)^evidence.*:$", text), ["evidence:", "evidence, the last 20 of 21 lines:"])
+    return f"{len(wanted)} remarks"
+
+
+def news_between_a_question_and_its_answer(place: Place) -> str:
+    """An end is not missed by a wait with a limit, nor a stop by a check."""
+    for name, first, second, wanted in (("misses", "0 done 1", "1 finish", "held"), ("checks", "1 getverdict", "0 stop 1", "ended")):
+        (shown,), _ = place.bench(name, [sys.executable, "-c", HOLDER, first, second, *place.command])
+        same(shown.block().remarks, [(0, wanted)], name)
+        answers = [it.partition(" -> ")[0] for it in shown.block().entries]
+        hold(f"{first}|{second}" in "|".join(answers), f"{answers}: nothing was held back")
+    return "2 orders"
+
+
+def a_case_past_its_limit_is_no_pass(place: Place) -> str:
+    """Also if the server says so in the end."""
+    (shown,), text = place.bench("stalls", [*NAMED, *place.command], SERVER_PROCESS=place.path("process"))
+    same((shown.verdict, shown.why, shown.is_timed_out, shown.fault), ("error", "the test case took longer than it may", True, ""))
+    hold(shown.evidence.endswith("end pass\n") and text.endswith("status 2\n"), text)
+    return "error"
 
 
 def stub(script: str) -> List[str]:
-    """A server of a few lines of shell."""
     return ["sh", "-c", script]
 
 
-@test
 def a_server_that_ends_or_writes_nonsense(place: Place) -> str:
     """The verdict is error, and why says how it ended; no signal ends the bench."""
     head = "echo evidence 1 t 256; "
@@ -306,11 +338,9 @@ def a_server_that_ends_or_writes_nonsense(place: Place) -> str:
         head + "exec sleep 1000": "the server does not answer",
         head + "exec 0<&-; sleep 0.2; printf '0 getv'; exit 4": "the server ended with status 4",
         **{head + f"printf '{line}\\n'; exec sleep 1000": f"the server wrote what it may not write here: {shown}" for line, shown in (
-            ("hello", "hello"), ("", ""), ("9 finish -> ok", "9 finish -> ok"), ("0 stopcase -> ok", "0 stopcase -> ok"),
-            ("end none", "end none"))},
+            ("hello", "hello"), ("", ""), ("9 finish -> ok", "9 finish -> ok"), ("0 stopcase -> ok", "0 stopcase -> ok"), ("end none", "end none"))},
         head + "read a; read b; read c; echo '0 create -> banana'; exec sleep 1000": "the server wrote what it may not write here: 0 create -> banana",
-        "echo evidence 1 u 256; exec sleep 1000": "the server wrote what it may not write here: evidence 1 u 256",
-    }
+        "echo evidence 1 u 256; exec sleep 1000": "the server wrote what it may not write here: evidence 1 u 256"}
     for script, why in servers.items():
         shown, text = place.bench("loses", stub(script))
         same([(it.verdict, it.fault) for it in shown][0], ("error", why), script)
@@ -319,7 +349,6 @@ def a_server_that_ends_or_writes_nonsense(place: Place) -> str:
     return f"{len(servers)} servers"
 
 
-@test
 def random_cases_are_legal(place: Place) -> str:
     """Ten cases of up to forty behaviours at once."""
     shown, _ = place.bench("random")
@@ -335,13 +364,10 @@ def random_cases_are_legal(place: Place) -> str:
     return f"{entries} entries, {runs} behaviours"
 
 
-@test
 def a_result_says_who_and_why(place: Place) -> str:
     """Its report, local verdicts by names; the file has the evidence of whole test cases, and one next to it that which was cut."""
-    process, path = os.path.join(place.room, "process"), os.path.join(place.room, "run.evidence")
     began = time.monotonic()
-    _, text = place.bench("reports", ["sh", "-c", 'echo $$ > "$SERVER_PROCESS"; exec "$@"', "sh", *place.command],
-                          SERVER_PROCESS=process, EVIDENCE=path)
+    _, text = place.bench("reports", [*NAMED, *place.command], SERVER_PROCESS=place.path("process"), EVIDENCE=place.path("run.evidence"))
     hold(time.monotonic() - began < 15, "that the server was killed is noticed late")
     lines = text.splitlines()
     same(lines[:2], ["test case t_report: fail", "why: run 2 sets on component 2 pump: setverdict fail: a reason"])
@@ -351,46 +377,57 @@ def a_result_says_who_and_why(place: Place) -> str:
     same(lines[30:32], ["test case t_lost: error", "why: the server ended with signal 9"])
     same(lines[34:], ["== evidence 1 t_lost 25", "test case t_next: pass", "why: run 0 main on mtc: setverdict pass", "local 0 mtc: pass",
                       "evidence:", *(f"  {it}" for it in NEXT.splitlines()), "status 3"])
-    with open(path, encoding="ascii") as file:
-        blocks = evidence.blocks_of(file.read())
-    same(([(it.name, it.verdict) for it in blocks], evidence.is_legal(blocks)), ([("t_report", "fail"), ("t_next", "pass")], True))
-    with open(f"{path}.cut", encoding="ascii") as file:
-        hold(file.read().startswith("evidence 1 t_lost 256\n"), "what was cut is not there")
-    ran = subprocess.run([os.path.join(place.room, "bench"), "waits", *place.command], env={**os.environ, "EVIDENCE": "/nowhere/it"},
+    same(place.verdicts("run.evidence"), [("t_report", "fail"), ("t_next", "pass")])
+    hold(place.text("run.evidence.cut").startswith("evidence 1 t_lost 256\n"), "what was cut is not there")
+    ran = subprocess.run([place.path("bench"), "waits", *place.command], env={**os.environ, "EVIDENCE": "/nowhere/it"},
                          stdout=subprocess.PIPE, stderr=subprocess.PIPE, timeout=SECONDS, check=False)
     hold(b"/nowhere/it cannot be written" in ran.stderr and not ran.stdout, "a file that cannot be written is reported late")
     return f"{len(lines)} lines"
 
 
-@test
 def nothing_is_left_behind(place: Place) -> str:
     """By the sanitizers of addresses, of leaks and of undefined behaviour: twenty test cases leave no memory, and use none wrongly."""
     with tempfile.TemporaryDirectory(prefix="filskeam-cpp-") as room:
         other = Place(room, place.command)
-        other.build("c++", os.path.join(HERE, "bench.cpp"), "-fsanitize=address,undefined", "-fno-sanitize-recover=all")
+        other.build("c++", BENCH, "-fsanitize=address,undefined", "-fno-sanitize-recover=all")
         for name in ("leaves", "raises", "random"):
             other.bench(name)
     return "3 benches"
 
 
-@test
+def no_thread_races_with_another(place: Place) -> str:
+    """By ThreadSanitizer of each compiler that has it."""
+    found = []
+    for compiler in COMPILERS:
+        with tempfile.TemporaryDirectory(prefix="filskeam-cpp-") as room:
+            other = Place(room, place.command)
+            try:
+                printed(other.build(compiler, other.write("none.cpp", "int main() {}\n"), "-fsanitize=thread"))
+            except Fault:
+                continue
+            other.build(compiler, BENCH, "-fsanitize=thread")
+            for name in ("leaves", "raises", "watchdog", "late", "ends", "stops", "waits", "loses", "random", "meets"):
+                other.bench(name, stub("echo evidence 1 t 256; exec sleep 1000") if name == "loses" else (), TSAN_OPTIONS="halt_on_error=1")
+            found.append(compiler)
+    if not found:
+        raise Skipped("no compiler has ThreadSanitizer")
+    return ", ".join(found)
+
+
 def callers_that_wait_for_one_another(place: Place) -> str:
     """Eight at once, of which one reads for all: none waits for an answer that nobody reads, or reads when its own has come."""
-    with open(os.path.join(CLIENT, "filskeam.hpp"), encoding="utf-8") as file:
-        text = file.read()
+    text = text_of(os.path.join(CLIENT, "filskeam.hpp"))
     same(text.count("now_and_then(0.01)"), 1)
     with tempfile.TemporaryDirectory(prefix="filskeam-cpp-") as room:
-        with open(os.path.join(room, "filskeam.hpp"), "w", encoding="utf-8") as file:
-            file.write(text.replace("now_and_then(0.01)", "now_and_then(1)"))  # who helps out when nobody reads comes late here
         other = Place(room, place.command)
-        other.build("c++", os.path.join(HERE, "bench.cpp"), "-iquote", room)
+        other.write("filskeam.hpp", text.replace("now_and_then(0.01)", "now_and_then(1)"))  # who helps out when nobody reads comes late here
+        other.build("c++", BENCH, "-iquote", room)
         _, shown = other.bench("meets")
     rates = re.findall(r"^rate 8 (\d+) none$", shown, re.MULTILINE)
     hold(len(rates) == 1 and int(rates[0]) > 2_000, shown)
     return f"{rates[0]} calls a second"
 
 
-@test
 def calls_in_a_second(place: Place) -> str:
     """One caller, and eight at once."""
     _, text = place.bench("speed")
@@ -399,38 +436,19 @@ def calls_in_a_second(place: Place) -> str:
     return ", ".join(f"{rate} calls a second of {callers}" for callers, rate in rates)
 
 
-def judged(judge: Test, place: Place) -> Tuple[str, str]:
-    """What a test reached, or what is wrong."""
-    try:
-        return judge(place), ""
-    except Exception as error:  # a test that breaks has failed, and the others run on
-        return "", f"{type(error).__name__}: {error}"[:2000]
-
-
 def main() -> int:
-    """Builds the bench, and runs the tests."""
-    parser = argparse.ArgumentParser(description="tests the C++ client of ttrun serve")
-    parser.add_argument("--server", default=shlex.join([sys.executable, REFERENCE]), help="the command of the server")
-    parser.add_argument("--only", default="", help="the tests with this in their names")
-    parser.add_argument("--list", action="store_true", help="prints the names of the tests")
+    holding.load(__name__)
+    parser = holding.parser("tests the C++ client of ttrun serve")
+    holding.add_server(parser)
     given = parser.parse_args()
-    chosen = {name: judge for name, judge in TESTS.items() if given.only in name}
-    if given.list:
-        print("\n".join(chosen))
-        return 0
+    names = holding.chosen(given)
     if not shutil.which("c++"):
-        print(f"there is no compiler of C++: nothing is known of the C++ client\n0 passed, {len(chosen)} failed")
+        print(f"there is no compiler of C++: nothing is known of the C++ client\n0 passed, {len(names)} failed")
         return 1
-    failed = 0
     with tempfile.TemporaryDirectory(prefix="filskeam-cpp-") as room:
-        place = Place(room, [os.path.abspath(it) if os.path.exists(it) else it for it in shlex.split(given.server)])
-        place.build("c++", os.path.join(HERE, "bench.cpp"))
-        for name, judge in chosen.items():
-            reached, fault = judged(judge, place)
-            failed += bool(fault)
-            print(f"FAILED {name}\n  {fault}" if fault else f"{name}: {reached}", flush=True)
-    print(f"{len(chosen) - failed} passed, {failed} failed")
-    return 1 if failed or not chosen else 0
+        place = Place(room, holding.command_of(given))
+        place.build("c++", BENCH)
+        return holding.told(holding.judged(it, place) for it in names)
 
 
 if __name__ == "__main__":

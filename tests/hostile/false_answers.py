@@ -1,6 +1,4 @@
 """False answers, each of which must be judged wrong, and true ones next to them: a test of the judge of the other tests."""
-from __future__ import annotations
-
 from typing import Callable, Iterator, List, Tuple
 
 from outcomes import NO_MEMORY, Task, judged
@@ -52,6 +50,7 @@ AMPLE = {SERVED.words: LINES, PROGRESS.words: WHOLE, LIVE_PROGRESS.words: WHOLE,
 
 def answers() -> Iterator[Tuple[str, Task, Ran]]:
     """A kind, a task and an answer of that kind, by a run that was refused one growth."""
+    both = TOLD[PROGRESS.words]
     wrong: List[Tuple[Task, bytes, bytes, int]] = [
         (PLAIN, b"", b"", -11), (PLAIN, b"", b"", -6), (PLAIN, b"", b"", 0), (PLAIN, WHOLE, b"", 3), (PLAIN, WHOLE, b"", 1),
         (PLAIN, WHOLE[:-9], b"", 0), (PLAIN, FIRST, NO_MEMORY, 3), (PLAIN, WHOLE, NO_MEMORY, 3), (PLAIN, b"", NO_MEMORY, 0),
@@ -69,17 +68,12 @@ def answers() -> Iterator[Tuple[str, Task, Ran]]:
         (SUITE, ABORTED_JUNIT.replace(NOT_B, b""), AT_B, 3), (SUITE, JUNIT.replace(TAIL, b""), b"", 0),
         (SUITE, JUNIT_AT_A.replace(UNRUN_B, b""), AT_A, 3), (SUITE, JUNIT_AT_A.replace(b'skipped="1"', b'skipped="0"'), AT_A, 3),
         (SUITE, ABORTED_JUNIT.replace(TAIL, UNRUN_B + TAIL), AT_B, 3),
-    ]
-    both = TOLD[PROGRESS.words]
-    wrong += [
         (PROGRESS, WHOLE, both[:-1], 0), (PROGRESS, WHOLE, OF_SECOND + OF_FIRST, 0), (PROGRESS, WHOLE, both.replace(b"none", b"fail"), 0),
         (PROGRESS, WHOLE, OF_FIRST + OF_FIRST, 0), (PROGRESS, WHOLE, both.replace(b" 0.041 s", b""), 0),
         (PROGRESS, WHOLE, both + text("failed: b none"), 0), (PROGRESS, WHOLE, both + both, 0), (PROGRESS, FIRST, both, 0),
         (PROGRESS, ABORTED, both + AT_B, 3), (PROGRESS, ABORTED, AT_B + OF_FIRST, 3), (PROGRESS, FIRST, both + NO_MEMORY, 3),
         (PROGRESS, WHOLE, both + NO_MEMORY, 3), (PROGRESS, WHOLE, both, 3), (LIVE_PROGRESS, FIRST[:-1], OF_FIRST + NO_MEMORY, 3),
         (LIVE_PROGRESS, FIRST, OF_FIRST, 3),
-    ]
-    wrong += [
         (SERVED, LINES, NOBODY, 0), (SERVED, LINES[:-1], NOBODY, 3), (SERVED, LINES, NOBODY * 2, 3), (SERVED, LINES[:15], b"", 3),
         (SERVED, LINES[:20], NOBODY + NO_MEMORY, 3), (SERVED, LINES[15:], NOBODY + NO_MEMORY, 3), (SERVED, LINES, NO_MEMORY, 3),
         (SERVED, LINES[:-9], NO_MEMORY + NOBODY, 3), (SERVED, b"", NOBODY + NO_MEMORY, 3), (SERVED, LINES[:-9], NO_MEMORY, 3),
@@ -97,14 +91,10 @@ def answers() -> Iterator[Tuple[str, Task, Ran]]:
         ("aborted", PLAIN, ABORTED, AT_B, 3), ("aborted", TABLE, HEADER + RECORD, AT_B, 3), ("aborted", HISTORIES, one, AT_B, 3),
         ("right", SUITE, JUNIT, b"", 0), ("aborted", SUITE, ABORTED_JUNIT, AT_B, 3), ("aborted", SUITE, JUNIT_AT_A, AT_A, 3), ("refused", SUITE, b"", NO_MEMORY, 3),
         ("refused", LIVE, FIRST, NO_MEMORY, 3), ("refused", LIVE, FIRST + SECOND, NO_MEMORY, 3), ("aborted", LIVE, ABORTED, AT_B, 3),
-    ]
-    true += [
         ("right", PROGRESS, WHOLE, both.replace(b"0.041", b"12.345"), 0), ("refused", PROGRESS, WHOLE, text("1/2 a .."), 0),
         ("aborted", PROGRESS, ABORTED, both[:both.index(b"2/2 b none")] + AT_B, 3), ("refused", PROGRESS, WHOLE, OF_FIRST, 0), ("refused", PROGRESS, WHOLE, b"", 0),
         ("refused", PROGRESS, b"", both + NO_MEMORY, 3), ("refused", PROGRESS, b"", NO_MEMORY, 3), ("aborted", PROGRESS, ABORTED, OF_FIRST + AT_B, 3),
         ("refused", LIVE_PROGRESS, FIRST, both + NO_MEMORY, 3), ("right", LIVE_PROGRESS, WHOLE, both, 0),
-    ]
-    true += [
         ("right", SERVED, LINES, NOBODY, 3), ("served in part", SERVED, b"", NO_MEMORY, 3), ("served in part", SERVED, LINES[:15], NO_MEMORY, 3),
         ("served in part", SERVED, LINES[:15], NOBODY + NO_MEMORY, 3), ("served in part", SERVED, LINES[:-9], NOBODY + NO_MEMORY, 3),
     ]
@@ -113,7 +103,6 @@ def answers() -> Iterator[Tuple[str, Task, Ran]]:
 
 
 def judged_answers() -> Sweep:
-    """Judges each."""
     done = Sweep("false answers")
     for kind, task, ran in answers():
         found = judged(task, Ran(AMPLE[task.words], TOLD.get(task.words, b""), STATUS.get(task.words, 0), refused=0), ran)
@@ -148,5 +137,4 @@ def judged_sweeps() -> Sweep:
 
 
 def jobs() -> List[Callable[[], Sweep]]:
-    """Both tests."""
     return [judged_answers, judged_sweeps]

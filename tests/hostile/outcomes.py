@@ -1,21 +1,18 @@
 """What a run of the program that was refused memory or threads may answer: the right output, or a named refusal."""
 from __future__ import annotations
 
-import os
 import re
-import sys
 from dataclasses import dataclass, replace
+from itertools import accumulate
 from typing import List, Optional, Tuple
 
 import served
-from refusing import TOP, Ran
-
-sys.path.append(os.path.join(TOP, "tests", "program"))
+from refusing import Ran
 
 from case import first_difference, untimed
 from examples import faults_of_history
+from rows import counts_of
 from script_reader import Campaign, read_script
-from table import VERDICTS
 
 NO_MEMORY = b"ttrun: no memory\n"
 CSV, JUNIT, PROGRESS = "--csv", "--junit", "--progress"
@@ -35,27 +32,27 @@ class Task:
 
     @property
     def is_run(self) -> bool:
-        """Whether test cases are run."""
         return self.words[:1] == ("run",)
 
     def has(self, word: str) -> bool:
-        """Whether the words have this one."""
         return word in self.words
 
     @property
     def block(self) -> bytes:
-        """How each block begins, if a run writes blocks."""
         return next((begins for form, begins in BLOCKS.items() if self.is_run and self.has(form)), b"")
 
     def behind(self, option: str) -> List[str]:
         """The words that are after an option."""
         return [word for before, word in zip(self.words, self.words[1:]) if before == option]
 
+    def every_case(self) -> Campaign:
+        """The test cases of the script, which histories may follow."""
+        return read_script(re.split(rb"(?m)^(?=history |evidence )", self.given, maxsplit=1)[0])
+
     def campaign(self) -> Campaign:
         """The test cases that are run: those after `--only`, or all, and of these the shard's."""
         only = self.behind("--only")
-        script = re.split(rb"(?m)^(?=history |evidence )", self.given, maxsplit=1)[0]
-        cases = [it for it in read_script(script) if not only or it.name in only]
+        cases = [it for it in self.every_case() if not only or it.name in only]
         for shard in self.behind("--shard"):
             number, shards = map(int, shard.split("/"))
             cases = cases[number - 1::shards]
@@ -68,6 +65,11 @@ class Outcome:
 
     kind: str
     fault: str = ""
+
+    @classmethod
+    def of(cls, kind: str, faults: List[str]) -> Outcome:
+        """This kind, unless something is wrong."""
+        return cls("wrong", "; ".join(faults)) if faults else cls(kind)
 
 
 def pieces_of(task: Task, text: bytes) -> List[bytes]:
@@ -83,18 +85,7 @@ def pieces_of(task: Task, text: bytes) -> List[bytes]:
 
 
 def header_of(task: Task, text: bytes) -> bytes:
-    """What is before the test cases."""
     return text.splitlines(keepends=True)[0] if task.has(CSV) else b""
-
-
-def verdicts_of(task: Task, pieces: List[bytes]) -> List[str]:
-    """The overall verdict of each piece: its last word."""
-    return [re.split(rb"[ ,\n]", it.strip())[-1].decode() for it in pieces]
-
-
-def tally_of(verdicts: List[str]) -> str:
-    """The line that counts the finished test cases."""
-    return " ".join([f"cases {len(verdicts)}", *(f"{it} {verdicts.count(it)}" for it in VERDICTS)]) + "\n"
 
 
 def bare_element(name: str, end: str) -> bytes:
@@ -121,13 +112,8 @@ def aborted_report(task: Task, ample: bytes, finished: int, name: str, why: str)
     text = b"".join(pieces) or header_of(task, ample)
     if task.has(CSV) or task.block:
         return text
-    return text + (tally_of(verdicts_of(task, pieces)) + f"aborted at {name}: {why}\n").encode()
-
-
-def whole_pieces(task: Task, ample: bytes) -> List[bytes]:
-    """What may be out if memory runs out in a live run: any number of whole test cases."""
-    pieces = pieces_of(task, ample)
-    return [b"", header_of(task, ample), *(b"".join(pieces[: at + 1]) for at in range(len(pieces)))]
+    verdicts = [re.split(rb"\s", it.strip())[-1].decode() for it in pieces]
+    return text + (counts_of(*verdicts) + f"aborted at {name}: {why}\n").encode()
 
 
 def faults_of_histories(task: Task, text: bytes, count: Optional[int]) -> List[str]:
@@ -148,11 +134,8 @@ def differs(task: Task, wanted: bytes, ran: Ran, count: int) -> List[str]:
 
 def judged_right(task: Task, ample: Ran, ran: Ran) -> Outcome:
     """A run that ended with the status of ample memory."""
-    count = len(task.campaign()) if task.block else 0
-    faults = differs(task, ample.output, ran, count)
-    if ran.errors != ample.errors:
-        faults.append(f"standard error: {ran.errors[:200]!r}")
-    return Outcome("wrong", "; ".join(faults)) if faults else Outcome("right")
+    faults = differs(task, ample.output, ran, len(task.campaign()) if task.block else 0)
+    return Outcome.of("right", faults + ([] if ran.errors == ample.errors else [f"standard error: {ran.errors[:200]!r}"]))
 
 
 def judged_aborted(task: Task, ample: Ran, ran: Ran, name: str, why: str) -> Outcome:
@@ -161,9 +144,7 @@ def judged_aborted(task: Task, ample: Ran, ran: Ran, name: str, why: str) -> Out
     if name not in names or why not in ("no memory", "no thread"):
         return Outcome("wrong", f"aborted at {name}: {why}")
     finished = names.index(name)
-    wanted = aborted_report(task, ample.output, finished, name, why)
-    faults = differs(task, wanted, ran, finished)
-    return Outcome("wrong", "; ".join(faults)) if faults else Outcome("aborted")
+    return Outcome.of("aborted", differs(task, aborted_report(task, ample.output, finished, name, why), ran, finished))
 
 
 def judged_refused(task: Task, ample: Ran, ran: Ran) -> Outcome:
@@ -172,9 +153,8 @@ def judged_refused(task: Task, ample: Ran, ran: Ran) -> Outcome:
         return Outcome("refused")
     if task.is_run and task.has("--live"):
         if task.block:
-            faults = faults_of_histories(task, ran.output, None)
-            return Outcome("wrong", "; ".join(faults)) if faults else Outcome("refused")
-        if ran.output in whole_pieces(task, ample.output):
+            return Outcome.of("refused", faults_of_histories(task, ran.output, None))
+        if ran.output in (header_of(task, ample.output), *accumulate(pieces_of(task, ample.output))):
             return Outcome("refused")
     return Outcome("wrong", f"half a report is out: {ran.output[-200:]!r}")
 
@@ -187,15 +167,10 @@ def told_of_first(told: bytes, begun: int, ended: int) -> List[bytes]:
     return each + [it for it in lines if it.startswith(FAILED) and it.split()[1] in names]
 
 
-def parted(errors: bytes) -> Tuple[bytes, bytes]:
-    """What is printed about test cases, and the line of a fault after it."""
-    at = errors.find(b"ttrun: ")
-    return (errors, b"") if at < 0 else (errors[:at], errors[at:])
-
-
 def judged_told(task: Task, ample: Ran, ran: Ran) -> Outcome:
     """A run with `--progress`: what is printed about test cases, whole or cut after a line, and all else as without it."""
-    told, line = parted(untimed(ran.errors))
+    told, *fault = untimed(ran.errors).partition(b"ttrun: ")
+    line = b"".join(fault)
     ample = replace(ample, errors=untimed(ample.errors))
     names = [it.name for it in task.campaign()]
     pairs = [(begun, ended) for ended in range(len(names) + 1) for begun in (ended, ended + 1)]

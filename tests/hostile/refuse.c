@@ -3,14 +3,15 @@
    REFUSE_PLAN=growth:N refuses the Nth growth, a call of malloc, calloc, realloc or an aligned one; thread:N the Nth call of
    pthread_create; read:N the Nth read; write:N the Nth write to standard output. A read or a write fails as one that was
    interrupted where N is odd. With .. behind N each one behind it is refused too. Without a plan nothing is refused. Where
-   REFUSE_NARROW is set each read and each write moves one byte at most.
+   REFUSE_BYTE_BY_BYTE is set each read and each write moves one byte at most.
    REFUSE_COUNTS names a file of 48 bytes, in which six numbers of 8 bytes are kept: growths, threads, reads and writes that were
    asked for, refusals, and how many bytes the growth asks for that was refused last.
 
    A program can say itself what is refused, by asking for MARK bytes and some more, which nothing else asks for. MARK + 1 + N,
    with N below 2^20, refuses the Nth growth from then on, counted from 0; 2^20 more refuses each one from the Nth on; 2^21 more
    in place of that the Nth thread; 3 * 2^20 more each growth that asks for N bytes or more. MARK itself ends this: it is given where
-   nothing was refused since, and else refused. */
+   nothing was refused since, and else refused. MARK + 1 + 2^22 notes how many blocks the program holds, and one byte more is given
+   where it holds as many as were noted. */
 #define _GNU_SOURCE
 #include <dlfcn.h>
 #include <errno.h>
@@ -30,6 +31,7 @@ extern void *__libc_malloc(size_t);
 extern void *__libc_calloc(size_t, size_t);
 extern void *__libc_realloc(void *, size_t);
 extern void *__libc_memalign(size_t, size_t);
+extern void __libc_free(void *);
 
 typedef _Atomic unsigned long count;
 
@@ -51,7 +53,9 @@ static struct plan plans[REFUSED];
 /* From how many bytes on each growth is refused, whatever its number; 0 if none is. */
 static count large;
 static count refused_since;
-static int is_narrow;
+/* How many blocks were given and not yet taken back, and how many it were when that was noted. */
+static count held, noted;
+static int is_byte_by_byte;
 
 static int is_planned(enum kind kind) {
     struct plan *plan = &plans[kind];
@@ -83,6 +87,13 @@ static void set_plan(enum kind kind, unsigned long first, int goes_on) {
     plans[kind].first = first;
 }
 
+/* The block, which is counted if it is one. */
+static void *counted(void *block) {
+    if (block != NULL)
+        atomic_fetch_add(&held, 1);
+    return block;
+}
+
 /* What a program says by the size of a growth. */
 static void *marked(size_t size) {
     size_t behind = size - MARK;
@@ -90,9 +101,13 @@ static void *marked(size_t size) {
     set_plan(THREAD, 0, 0);
     large = 0;
     if (behind == 0)
-        return refused_since ? NULL : __libc_malloc(1);
+        return refused_since ? NULL : counted(__libc_malloc(1));
     refused_since = 0;
     behind -= 1;
+    if (behind == 4 * STEP)
+        noted = held;
+    if (behind >= 4 * STEP)
+        return behind > 4 * STEP && held == noted ? counted(__libc_malloc(1)) : NULL;
     if (behind < 2 * STEP)
         set_plan(GROWTH, behind % STEP + 1, behind >= STEP);
     else if (behind < 3 * STEP)
@@ -103,7 +118,7 @@ static void *marked(size_t size) {
 }
 
 static int is_mark(size_t size) {
-    return size >= MARK && size < MARK + 4 * STEP + 1;
+    return size >= MARK && size < MARK + 4 * STEP + 3;
 }
 
 /* The block, or none where this growth is refused. */
@@ -113,7 +128,7 @@ static int is_mark(size_t size) {
             errno = ENOMEM;          \
             return NULL;             \
         }                            \
-        return (block);              \
+        return counted(block);       \
     } while (0)
 
 void *malloc(size_t size) {
@@ -127,7 +142,19 @@ void *calloc(size_t number, size_t size) {
 }
 
 void *realloc(void *block, size_t size) {
-    GROWN(size, __libc_realloc(block, size));
+    if (block == NULL)
+        return malloc(size);
+    if (refuses_growth(size)) {
+        errno = ENOMEM;
+        return NULL;
+    }
+    return __libc_realloc(block, size);
+}
+
+void free(void *block) {
+    if (block != NULL)
+        atomic_fetch_sub(&held, 1);
+    __libc_free(block);
 }
 
 void *memalign(size_t align, size_t size) {
@@ -139,7 +166,7 @@ void *aligned_alloc(size_t align, size_t size) {
 }
 
 int posix_memalign(void **into, size_t align, size_t size) {
-    void *block = refuses_growth(size) ? NULL : __libc_memalign(align, size);
+    void *block = refuses_growth(size) ? NULL : counted(__libc_memalign(align, size));
     if (block == NULL)
         return ENOMEM;
     *into = block;
@@ -155,8 +182,8 @@ int pthread_create(pthread_t *thread, const pthread_attr_t *attr, void *(*start)
     return created(thread, attr, start, arg);
 }
 
-static size_t narrowed(size_t size) {
-    return is_narrow && size > 1 ? 1 : size;
+static size_t one_byte_of(size_t size) {
+    return is_byte_by_byte && size > 1 ? 1 : size;
 }
 
 ssize_t read(int file, void *into, size_t size) {
@@ -164,7 +191,7 @@ ssize_t read(int file, void *into, size_t size) {
         errno = plans[READ].first % 2 ? EINTR : EIO;
         return -1;
     }
-    return syscall(SYS_read, file, into, narrowed(size));
+    return syscall(SYS_read, file, into, one_byte_of(size));
 }
 
 ssize_t write(int file, const void *from, size_t size) {
@@ -172,7 +199,7 @@ ssize_t write(int file, const void *from, size_t size) {
         errno = plans[WRITE].first % 2 ? EINTR : ENOSPC;
         return -1;
     }
-    return syscall(SYS_write, file, from, narrowed(size));
+    return syscall(SYS_write, file, from, one_byte_of(size));
 }
 
 ssize_t __write(int file, const void *from, size_t size) {
@@ -202,7 +229,7 @@ __attribute__((constructor)) static void begin(void) {
     }
     for (int kind = 0; kind < KINDS; kind++)
         counts[kind] = 0;
-    is_narrow = getenv("REFUSE_NARROW") != NULL;
+    is_byte_by_byte = getenv("REFUSE_BYTE_BY_BYTE") != NULL;
     if (plan != NULL)
         read_plan(plan);
 }

@@ -9,8 +9,6 @@ no compiler of C nothing can be refused by a library: that fails. If the tests a
 those tests are skipped, and said to be. The last line is 'N passed, M failed'; the status is 0 if nothing failed, otherwise 1, and
 3 if there is no program.
 """
-from __future__ import annotations
-
 import argparse
 import contextlib
 import io
@@ -24,29 +22,25 @@ from typing import Callable, List, Optional
 sys.dont_write_bytecode = True
 
 import calls
-import crowds
 import cuts
+import failing_devices
 import false_answers
-import narrow
-import own
+import random_halts
+import refused_car_window
 import sweeps
-import turmoil
+import thread_limits
 from refusing import TOP, Refusing, refusing
 from sweeps import Sweep
 
+from case import below
 from lanes import lanes
 
 # What must be met in the gate, by the tests that refuse something, and by those of texts.
 REFUSING_FLOORS = {"right": 900, "refused": 5000, "aborted": 2000, "served in part": 60}
-OWN_FLOORS = {"right": 150, "refused": 1000, "aborted": 50}
+CAR_WINDOW_FLOORS = {"right": 150, "refused": 1000, "aborted": 50}
 DEVICE_FLOORS = {"reads failed": 300, "writes failed": 200, "right": 100, "long inputs": 3}
 TEXT_FLOORS = {"accepted": 100, "refused text": 4000}
-CROWD_FLOORS = {"right": 145, "aborted": 39}
-
-
-def below(met: Counter, floors: dict) -> List[str]:
-    """What was met too seldom."""
-    return [f"{it}: {met[it]} are fewer than {least}" for it, least in floors.items() if met[it] < least]
+LIMITED_FLOORS = {"right": 145, "aborted": 39}
 
 
 def judged(title: str, work: List[Callable[[], Sweep]], floors: dict, threads: int) -> List[List[str]]:
@@ -70,9 +64,9 @@ def judged(title: str, work: List[Callable[[], Sweep]], floors: dict, threads: i
 def refused(library: Optional[Refusing], program: str, is_whole: bool, threads: int) -> List[List[str]]:
     """Runs the tests that a library refuses something; if there is none they fail."""
     parts = (("calls of the library", calls.jobs(library), {}),
-             ("failing devices", narrow.jobs(library, program, is_whole), DEVICE_FLOORS),
+             ("failing devices", failing_devices.jobs(library, program, is_whole), DEVICE_FLOORS),
              ("refused memory and threads", sweeps.jobs(library, program, is_whole), REFUSING_FLOORS),
-             ("a program with test cases of its own", own.jobs(library, is_whole), OWN_FLOORS))
+             ("a program with test cases of its own", refused_car_window.jobs(library, is_whole), CAR_WINDOW_FLOORS))
     if library is not None:
         return [it for title, work, floors in parts for it in judged(title, work, floors, threads)]
     fault = f"{sum(len(work) for _, work, _ in parts)} tests are not run, since there is no compiler of C to build refuse.c"
@@ -94,33 +88,32 @@ def without_a_compiler(program: str) -> Sweep:
     return done
 
 
-def crowded(program: str, is_whole: bool, threads: int) -> List[List[str]]:
+def limited(program: str, is_whole: bool, threads: int) -> List[List[str]]:
     """Runs the tests that the system refuses threads, or says that they are skipped."""
-    with crowds.crowds(program) as users:
-        work = crowds.jobs(users, is_whole)
-        if users is not None:
-            return judged("threads refused by the system", work, CROWD_FLOORS, threads)
-    print(f"skipped: {len(work)} tests of threads that the system refuses, since {crowds.why_not()}")
+    with thread_limits.for_each_user(program) as copied:
+        work = thread_limits.jobs(copied or program, is_whole)
+        if copied is not None:
+            return judged("threads refused by the system", work, LIMITED_FLOORS, threads)
+    print(f"skipped: {len(work)} tests of threads that the system refuses, since {thread_limits.why_not()}")
     return []
 
 
 def main() -> int:
-    """Runs all parts."""
     parser = argparse.ArgumentParser(description="hostile use of the built ttrun")
     parser.add_argument("--program", default=os.path.join(TOP, "crates", "ttrun", "out", "ttrun"))
     parser.add_argument("--all", action="store_true", help="each growth and each byte")
     parser.add_argument("--jobs", type=int, default=lanes(), help="runs at a time")
     given = parser.parse_args()
     program = os.path.abspath(given.program)
-    for it in (program, calls.PROGRAM, own.PROGRAM):
+    for it in (program, calls.PROGRAM, refused_car_window.PROGRAM):
         if not os.access(it, os.X_OK):
             print(f"there is no program {it}: `rt run` in its crate builds it", file=sys.stderr)
             return 3
     results = judged("judged answers", [*false_answers.jobs(), lambda: without_a_compiler(program)], {}, 1)
     results += judged("texts", cuts.jobs(program, given.all), TEXT_FLOORS, given.jobs)
-    work = turmoil.jobs(program, given.all)
-    results += judged("behaviours that halt one another", work, turmoil.floors(given.all), given.jobs)
-    results += crowded(program, given.all, given.jobs)
+    work = random_halts.jobs(program, given.all)
+    results += judged("behaviours that halt one another", work, random_halts.floors(given.all), given.jobs)
+    results += limited(program, given.all, given.jobs)
     with refusing() as library:
         results += refused(library, program, given.all, given.jobs)
     failed = sum(bool(it) for it in results)

@@ -1,15 +1,9 @@
 """What `serve` writes and prints about the first lines of an input, by the reference server."""
-from __future__ import annotations
-
-import os
-import sys
 from functools import lru_cache
 from typing import List, NamedTuple
 
-from refusing import TOP
-
-sys.path.append(os.path.join(TOP, "tests", "serve"))
-
+import refusing  # it makes the other folders of tests known
+from case import as_lines
 from reference import Server
 
 WORDS = ("serve",)
@@ -30,9 +24,7 @@ def states(given: bytes) -> List[State]:
 
     def add(read: int, output: List[str], errors: List[str]) -> None:
         last = found[-1]
-        written = "".join(f"{it}\n" for it in output).encode()
-        told = "".join(f"ttrun: {it}\n" for it in errors).encode()
-        found.append(State(last.read + read, last.output + written, last.errors + told))
+        found.append(State(last.read + read, last.output + as_lines(*output), last.errors + as_lines(*(f"ttrun: {it}" for it in errors))))
 
     for line in given.decode("latin-1").splitlines():
         add(len(line) + 1, *server.take(line))
@@ -41,7 +33,6 @@ def states(given: bytes) -> List[State]:
 
 
 def after_bytes(given: bytes, count: int) -> State:
-    """When only that many bytes could be read."""
     return [it for it in states(given)[:-1] if it.read <= count][-1]
 
 

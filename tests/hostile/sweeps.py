@@ -1,21 +1,17 @@
 """The program's tasks, each with every growth and every thread refused in turn, and under falling limits of address space."""
-from __future__ import annotations
-
-import os
-import sys
 from collections import Counter
 from dataclasses import dataclass, field
+from functools import partial
+from itertools import chain
 from typing import Callable, Iterator, List, Tuple
 
+from exempt import EACH
 from outcomes import Task, judged
-from refusing import TOP, Ran, Refusing, limited
-
-sys.path.append(os.path.join(TOP, "tests", "program"))
+from refusing import Ran, Refusing, limited
 
 from examples import bytes_of
 from rows import text
 from sizes import many_behaviours
-from whole import EACH
 
 # The forms of `run`: each can be written live but the JUnit report.
 LIVE_FORMS: Tuple[Tuple[str, ...], ...] = ((), ("--csv",), ("--history",), ("--evidence",))
@@ -32,55 +28,53 @@ MOST = 100_000
 FAULTS = 5
 
 
+def with_input(name: str, given: bytes, *lines: str) -> List[Task]:
+    return [Task(name, tuple(line.split()), given) for line in lines]
+
+
+def runs(name: str) -> List[Task]:
+    """The runs of an example in each form, live and not."""
+    given = bytes_of(f"{name}.script")
+    return ([Task(name, ("run", *form), given) for form in FORMS] + [Task(name, ("run", "--live", *form), given) for form in LIVE_FORMS])
+
+
 def tasks() -> List[Task]:
-    """Each mode with examples."""
     found = []
     for name in SCRIPTS:
-        given = bytes_of(f"{name}.script")
-        found += [Task(name, ("run", *form), given) for form in FORMS]
-        found += [Task(name, ("run", "--live", *form), given) for form in LIVE_FORMS]
-        found.append(Task(name, ("run", "--list"), given))
-        found += [Task(name, ("explore", *form), given) for form in ((), ("--history",), ("--details",), ("--locals",))]
-    found.append(Task("verdicts", ("run", "--stop-on", "fail"), bytes_of("verdicts.script")))
-    found += [Task("verdicts", ("run", "--progress", *form), bytes_of("verdicts.script")) for form in ((), ("--live",), ("--junit",))]
-    chosen = ("--only", "t_fail", "--only", "t_pass")
-    found += [Task("verdicts", ("run", *chosen, *form), bytes_of("verdicts.script")) for form in FORMS]
-    found.append(Task("verdicts", ("run", "--only", "t_nowhere"), bytes_of("verdicts.script")))
-    found += [Task("verdicts", (it, "--explain", "--only", "t_fial"), bytes_of("verdicts.script")) for it in ("run", "explore")]
-    found.append(Task("verdicts", ("explore", "--only", "t_*", "--shard", "2/3"), bytes_of("verdicts.script")))
-    found += [Task("verdicts", ("run", "--shard", "2/3", it), bytes_of("verdicts.script")) for it in ("--list", "--junit")]
-    found.append(Task("a_refused_script", ("run",), text("testcase t;behaviour main;alive nobody;end;end")))
-    found.append(Task("a_misspelt_script", ("run", "--explain"), text("testcase t;behaviour main;setverdct pass;end;end")))
-    misspelt = text("testcase t;behaviour main;create p;start p wroker q;end;behaviour worker;end;end")
-    found.append(Task("a_misspelt_name", ("run", "--explain"), misspelt))
-    found.append(Task("a_line_of_ttcn_3", ("run", "--explain"), text("testcase t;behaviour main;p.start(worker(self))")))
-    found.append(Task("sixty_four_behaviours", ("run", "--csv"), many_behaviours(64)))
-    found += [Task(name, ("replay",), bytes_of(f"{name}.moves")) for name in ("groups", "inconc", "restart", "stuck")]
-    found.append(Task("a_refused_list", ("replay",), text("behaviours 1;0 crate")))
-    found.append(Task("a_refused_list", ("replay", "--explain"), text("behaviours 1;0 crate")))
-    found.append(Task("a_refused_history", ("check", "--explain"), text("history 1 t 1;0 finish")))
-    found += [Task(name, ("check",), bytes_of(f"{name}.history")) for name in ("pumps", "restart", "supervisor")]
-    found.append(Task("an_illegal_history", ("check",), text("history 1 t 1;end pass")))
+        found += runs(name) + with_input(name, bytes_of(f"{name}.script"), "run --list", "explore", "explore --history", "explore --details",
+                                         "explore --locals")
+    chosen = "run --only t_fail --only t_pass"
+    found += with_input("verdicts", bytes_of("verdicts.script"), "run --stop-on fail", "run --progress", "run --progress --live",
+                        "run --progress --junit", *(" ".join([chosen, *form]) for form in FORMS), "run --only t_nowhere", "run --explain --only t_fial",
+                        "explore --explain --only t_fial", "explore --only t_* --shard 2/3", "run --shard 2/3 --list", "run --shard 2/3 --junit")
+    found += with_input("a_refused_script", text("testcase t;behaviour main;alive nobody;end;end"), "run")
+    found += with_input("a_misspelt_script", text("testcase t;behaviour main;setverdct pass;end;end"), "run --explain")
+    found += with_input("a_misspelt_name", text("testcase t;behaviour main;create p;start p wroker q;end;behaviour worker;end;end"), "run --explain")
+    found += with_input("a_line_of_ttcn_3", text("testcase t;behaviour main;p.start(worker(self))"), "run --explain")
+    found += with_input("sixty_four_behaviours", many_behaviours(64), "run --csv")
+    for name in ("groups", "inconc", "restart", "stuck"):
+        found += with_input(name, bytes_of(f"{name}.moves"), "replay")
+    found += with_input("a_refused_list", text("behaviours 1;0 crate"), "replay", "replay --explain")
+    found += with_input("a_refused_history", text("history 1 t 1;0 finish"), "check --explain")
+    for name in ("pumps", "restart", "supervisor"):
+        found += with_input(name, bytes_of(f"{name}.history"), "check")
+    found += with_input("an_illegal_history", text("history 1 t 1;end pass"), "check")
     evidence = text("evidence 1 t 2;behaviour 0 main;0 # too hot: <b>;0 setverdict fail -> ok;1 ! bad move;0 finish -> ok;end fail")
-    found += [Task("evidence", words, evidence) for words in (("check",), ("report", "--csv"), ("report", "--html"))]
-    reported = [(name, form) for name in ("pumps", "supervisor") for form in ("--csv", "--junit", "--html", "--summary")]
-    found += [Task(name, ("report", form), bytes_of(f"{name}.history")) for name, form in reported]
+    found += with_input("evidence", evidence, "check", "report --csv", "report --html")
+    for name in ("pumps", "supervisor"):
+        found += with_input(name, bytes_of(f"{name}.history"), "report --csv", "report --junit", "report --html", "report --summary")
     for name, kept in (("supervisor", "supervisor"), ("restart", "pumps")):
-        given = bytes_of(f"{name}.script") + bytes_of(f"{kept}.history")
-        found += [Task(f"{kept}_after_{name}", words, given)
-                  for words in (("check", "--script"), ("report", "--script", "--csv"), ("report", "--script", "--junit"), ("run", "--list", "--failed"))]
-    found += [Task(name, ("report", "--junit", "--suite", "nightly"), bytes_of(f"{name}.history")) for name in ("restart",)]
-    found += [Task("verdicts", (*words, "--failed", "--only", "t_*"), bytes_of("verdicts.history")) for words in (("check",), ("report", "--junit"))]
-    found.append(Task("verdicts", ("check", "--explain", "--only", "t_fial"), bytes_of("verdicts.history")))
-    found.append(Task("a_session", ("serve",), SESSION))
-    words = (("--help",), ("run", "--help"), ("frobnicate",), ("run", "--stop-on", "maybe"))
-    return found + [Task("words_alone", it) for it in words]
+        found += with_input(f"{kept}_after_{name}", bytes_of(f"{name}.script") + bytes_of(f"{kept}.history"), "check --script", "report --script --csv",
+                            "report --script --junit", "run --list --failed")
+    found += with_input("restart", bytes_of("restart.history"), "report --junit --suite nightly")
+    found += with_input("verdicts", bytes_of("verdicts.history"), "check --failed --only t_*", "report --junit --failed --only t_*",
+                        "check --explain --only t_fial")
+    found += with_input("a_session", SESSION, "serve")
+    return found + with_input("words_alone", b"", "--help", "run --help", "frobnicate", "run --stop-on maybe")
 
 
 @dataclass
 class Sweep:
-    """What the runs of a task met."""
-
     name: str
     runs: int = 0
     # How many runs were right, refused, aborted, served in part or wrong.
@@ -89,7 +83,6 @@ class Sweep:
     faults: List[str] = field(default_factory=list)
 
     def add(self, task: Task, ample: Ran, ran: Ran, plan: str) -> None:
-        """Counts a run."""
         outcome = judged(task, ample, ran)
         self.runs += 1
         self.refused += max(ran.refused, 0)
@@ -98,7 +91,6 @@ class Sweep:
             self.faults.append(f"{plan}: {outcome.fault}")
 
     def is_given_up(self) -> bool:
-        """Whether it has met enough faults to end."""
         return len(self.faults) >= FAULTS
 
 
@@ -107,39 +99,30 @@ def numbers(most: int, stride: int) -> Iterator[int]:
     return (it for it in range(1, most + 1) if it % stride == 1 % stride or it > most - BEHIND)
 
 
-def fault_of_the_first_abort(task: Task, ran: Ran) -> List[str]:
-    """Why the first refusal that aborts a campaign is not that of the room for its reports, before any test case is run."""
-    return [] if ran.output.startswith(b"cases 0 ") else [f"{task.name}: the first abort has a finished test case before it"]
-
-
 def sweep(refusing: Refusing, program: str, task: Task, what: str, behind: str, stride: int) -> Sweep:
     """Refuses the growths or threads of a task in turn, until none is refused any more."""
     words = [program, *task.words]
     ample = refusing.run(words, task.given)
     done = Sweep(f"{' '.join(task.words)} < {task.name}, {what} N{behind} refused")
     most = ample.growths if what == "growth" else ample.threads
-    # (every growth is refused in turn, and the report is the text)
+    # The first refusal that aborts a campaign is that of the room for its reports, before any test case is run. It is found if every
+    # growth is refused in turn, and the report is the text.
     is_first = what == "growth" and stride == 1 and task.words == ("run",)
-    for number in numbers(most, stride):
+    spared = 0
+    for number in chain(numbers(most, stride), range(most + 1, MOST)):
         plan = f"{what}:{number}{behind}"
         ran = refusing.run(words, task.given, plan)
         done.add(task, ample, ran, plan)
         if what == "thread" and b"no memory" in ran.output + ran.errors:
             done.faults.append(f"{plan}: memory is told of, and only threads are refused")
         if is_first and b"ttrun: aborted at " in ran.errors:
-            done.faults += fault_of_the_first_abort(task, ran)
             is_first = False
-        if done.is_given_up():
+            if not ran.output.startswith(b"cases 0 "):
+                done.faults.append(f"{task.name}: the first abort has a finished test case before it")
+        spared = spared + 1 if number > most and not ran.refused else 0
+        if spared == BEHIND or done.is_given_up():
             return done
-    spared = 0
-    while spared < BEHIND and most < MOST and not done.is_given_up():
-        most += 1
-        plan = f"{what}:{most}{behind}"
-        ran = refusing.run(words, task.given, plan)
-        done.add(task, ample, ran, plan)
-        spared = 0 if ran.refused else spared + 1
-    if most == MOST:
-        done.faults.append(f"growths are refused up to {MOST}")
+    done.faults.append(f"growths are refused up to {MOST}")
     return done
 
 
@@ -173,11 +156,6 @@ def limits(is_whole: bool) -> Iterator[int]:
     yield from range(6_000, 0, -4 if is_whole else -100)
 
 
-def is_unbegun(ran: Ran) -> bool:
-    """Whether the system could not load the program, which has then not begun: its loader ends with this status."""
-    return ran.status == 127 and not ran.output
-
-
 def falling(program: str, task: Task, is_whole: bool) -> Sweep:
     """Runs a task under falling limits, until the program cannot be loaded."""
     words = [program, *task.words]
@@ -185,7 +163,8 @@ def falling(program: str, task: Task, is_whole: bool) -> Sweep:
     done = Sweep(f"{' '.join(task.words)} < {task.name}, falling limits of address space")
     for limit in limits(is_whole):
         ran = limited(words, task.given, f"-v {limit}")
-        if is_unbegun(ran):
+        # The system could not load the program, which has then not begun: its loader ends with this status.
+        if ran.status == 127 and not ran.output:
             return done
         done.add(task, ample, ran, f"ulimit -v {limit}")
         if done.is_given_up():
@@ -198,11 +177,11 @@ def large_tasks() -> List[Task]:
     """Tasks that want more memory than a program has at its start."""
     moves = b"behaviours 1\n" + b"0 create\n" * 999 + b"0 running all\n" * 20_000
     history = b"history 2 t 1\n" + b"0 getverdict -> none\n" * 100_000 + b"end none\n"
-    found = [Task("many_moves", ("replay",), moves), Task("a_long_history", ("check",), history)]
-    found += [Task("sixty_four_behaviours", ("run", *live, "--csv"), many_behaviours(64)) for live in ((), ("--live",))]
-    found += [Task("all_behaviours", ("run",), many_behaviours(256))]
+    found = with_input("many_moves", moves, "replay") + with_input("a_long_history", history, "check")
+    found += with_input("sixty_four_behaviours", many_behaviours(64), "run --csv", "run --live --csv")
+    found += with_input("all_behaviours", many_behaviours(256), "run")
     found += [Task(name, ("run", *form), bytes_of(f"{name}.script")) for name in ("workers", "verdicts") for form in FORMS]
-    return found + [Task("supervisor", ("explore",), bytes_of("supervisor.script"))]
+    return found + with_input("supervisor", bytes_of("supervisor.script"), "explore")
 
 
 # Tasks of which each growth is refused in the gate too: the first abort of a run is judged, and the witnesses of a search are written.
@@ -212,10 +191,8 @@ WHOLE = (("verdicts", ("run",)), ("restart", ("run",)), ("supervisor", ("explore
 def jobs(refusing: Refusing, program: str, is_whole: bool) -> List[Callable[[], Sweep]]:
     """All sweeps; in the gate only every so manyth growth is refused, except for some tasks."""
     found: List[Callable[[], Sweep]] = []
-    for at, task in enumerate(tasks()):
+    for task in tasks():
         for what, behind, stride in (("growth", "", 5), ("growth", "..", 29), ("thread", "", 1), ("thread", "..", 7)):
             is_each = not behind and ((task.name, task.words) in WHOLE or any(map(task.has, EACH)))
-            step = 1 if is_whole or is_each else stride
-            found.append(lambda task=task, what=what, behind=behind, step=step: sweep(refusing, program, task, what, behind, step))
-    found.append(lambda: room_before_the_first(refusing, program))
-    return found + [lambda task=task: falling(program, task, is_whole) for task in large_tasks()]
+            found.append(partial(sweep, refusing, program, task, what, behind, 1 if is_whole or is_each else stride))
+    return [*found, partial(room_before_the_first, refusing, program), *(partial(falling, program, task, is_whole) for task in large_tasks())]

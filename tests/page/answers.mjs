@@ -16,6 +16,7 @@ function statesOf({ lanes }, count) {
     return [number, [phase === "running" ? `running ${run}` : phase, local, open.map(wait => wait.operation).join()]];
   }));
 }
+const allRows = game => rowsOf(game.list, () => true, true, new Set());
 const plain = cases => cases.map(summary => ({ ...summary, names: Object.fromEntries(summary.names) }));
 const asked = {
   faults: text => { const { cases, fault } = readHistories(text); return { cases: plain(cases), fault: fault && [fault.line, fault.kind] }; },
@@ -25,7 +26,8 @@ const asked = {
       ends: games.map(game => game.overAt), shapes: games.map(game => game.list.map((entry, index) => shapeOf(game, entry, index))),
       alike: games.map(game => alike(games[0], game)), ran: games.map(game => [...game.lanes.keys()].map(number => [number, game.ran(number)])),
       states: games.map(game => Array.from({ length: game.list.length + 1 }, (_, count) => statesOf(game, count))),
-      mermaid: games.map(game => mermaidOf(game, rowsOf(game.list, () => true, true, new Set()), [...game.lanes.keys()])) };
+      rows: games.map(game => allRows(game).map(row => row.last)),
+      mermaid: games.map(game => mermaidOf(game, allRows(game), [...game.lanes.keys()])) };
   },
   rows: text => {
     const list = [...text].map(letter => ({ text: letter, run: letter === "c" ? 1 : 0 })), part = Math.floor(text.length / 2);

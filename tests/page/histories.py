@@ -1,41 +1,28 @@
-"""Histories for the tests: random ones, which hardly any table makes, legal ones of any size, and spoilt ones."""
-from __future__ import annotations
-
+"""Histories for the tests: random ones, which hardly any table makes, legal ones of any size, and spoilt ones; and the table's word on one."""
 import os
 import random
-from typing import List, Tuple
+import sys
+from collections import Counter
+from typing import Dict, Iterator, List, Optional, Sequence, Tuple
 
-from definitions import VERDICTS
+TESTS = os.path.dirname(os.path.dirname(os.path.abspath(__file__)))
+# The rules, the moves and the lines inside evidence, as the tests of the program and of the clients read them.
+sys.path += [TESTS, *(os.path.join(TESTS, it) for it in ("serve", "program"))]
 
-TOP = os.path.dirname(os.path.dirname(os.path.dirname(os.path.abspath(__file__))))
+from harness import TOP, text_of
+from random_moves import MoveList
+from table import VERDICTS, Table
+from texts import Entry, read_entry
+
+# The history texts of examples/, by their names.
+EXAMPLES = {it[:-8]: text_of("examples", it) for it in sorted(os.listdir(os.path.join(TOP, "examples"))) if it.endswith(".history")}
+# Cases of every kind of picture, legal ones and not; cases of evidence, each legal, and a history after them.
+KINDS, KINDS_OF_EVIDENCE = text_of("tests/page/kinds.history"), text_of("tests/page/kinds.evidence")
 MOST_BYTES = 16_777_216
 MOST_COMPONENTS = 1000
 ERRORS = ("no-component", "not-main", "start-main", "already-running", "not-startable", "no-behaviour", "too-many", "stuck")
 STATUS = ("running", "alive", "done", "killed", "wait done", "wait killed", "wake done", "wake killed")
 VERBS = ("create", "create", "start", "start", "start", "stop", "kill", "stopcase", "setverdict", "setverdict", "getverdict", "finish")
-
-
-def example(name: str) -> str:
-    """A history text of examples/."""
-    with open(os.path.join(TOP, "examples", f"{name}.history"), encoding="ascii") as file:
-        return file.read()
-
-
-def examples() -> List[str]:
-    """The names of all history texts of examples/."""
-    return sorted(it[:-8] for it in os.listdir(os.path.join(TOP, "examples")) if it.endswith(".history"))
-
-
-def kinds() -> str:
-    """Cases of every kind of picture, legal ones and not."""
-    with open(os.path.join(TOP, "tests", "page", "kinds.history"), encoding="ascii") as file:
-        return file.read()
-
-
-def kinds_of_evidence() -> str:
-    """Cases of evidence, each legal, and a history after them."""
-    with open(os.path.join(TOP, "tests", "page", "kinds.evidence"), encoding="ascii") as file:
-        return file.read()
 
 
 def random_entry(rng: random.Random, form: int, is_wild: bool) -> str:
@@ -65,6 +52,46 @@ def random_block(rng: random.Random, is_wild: bool) -> Tuple[str, List[str]]:
     entries = [random_entry(rng, form, is_wild) for _ in range(rng.randrange(0, 26))]
     text = "".join(f"{it}\n" for it in entries)
     return f"history {form} t_{rng.randrange(100)} 5\n{text}end {rng.choice(VERDICTS)}\n", entries
+
+
+def random_legal(rng: random.Random, name: str) -> str:
+    """A legal block: what the table gives to random moves."""
+    return "\n".join(MoveList(rng, Counter(), False).history_lines(name, "2")) + "\n"
+
+
+def entry_of(line: str) -> Entry:
+    found = read_entry(0, line, "2")
+    assert found is not None, line
+    return found
+
+
+def tables(block: str) -> Iterator[Table]:
+    """The table before the first entry of a legal block, and after each. It is one that changes."""
+    head, *lines = block.splitlines()
+    table = Table(int(head.split()[3]))
+    yield table
+    for entry in [entry_of(it) for it in lines if " -> " in it and it.split()[1] not in "#!"]:
+        assert table.play(entry.caller, entry.op) == entry.reply, entry
+        yield table
+
+
+def states(table: Table) -> Dict[str, List[str]]:
+    """Of each component: what it is doing, its local verdict, and what it waits for."""
+    def state(at: int) -> List[str]:
+        it = table.components[at]
+        awaited = table.awaited.get(it.run) if it.phase == "running" else None
+        return [f"running {it.run}" if it.phase == "running" else it.phase, it.verdict, "wait {} {}".format(*awaited) if awaited else ""]
+    return {str(at): state(at) for at in range(len(table.components))}
+
+
+def deciding(lines: List[str]) -> Optional[int]:
+    """The first entry of a legal history after which the overall verdict is the one at its end, none if no entry gives one."""
+    def given(line: str) -> int:
+        move, _, reply = line.partition(" -> ")
+        is_set = reply == "ok" and " setverdict " in move
+        return 4 if reply.startswith("error ") or reply == "ok" and move.endswith(" stopcase") else VERDICTS.index(move.split()[2]) if is_set else 0
+    verdicts = [given(it) for it in lines]
+    return verdicts.index(max(verdicts)) if any(verdicts) else None
 
 
 def workers(rng: random.Random, runs: int, steps: int, verdict: str) -> List[str]:
@@ -127,23 +154,16 @@ PIECES = (b"", b" ", b"  ", b"\n", b"\n\n", b"\r\n", b"\t", b"\0", b"\xc3\xa9", 
           b"end\n", b"history 2 t 1\n", b"history 1 t 65\n", b"named all", b" alive", b" named x", b"wait", b"wake ", b"finish", b"HISTORY")
 
 
-def spoilt(rng: random.Random, texts: List[bytes]) -> bytes:
+def spoilt(rng: random.Random, texts: List[bytes], pieces: Sequence[bytes] = PIECES) -> bytes:
     """One of the texts with one to three faults."""
     text = rng.choice(texts)
     for _ in range(rng.choice((1, 1, 1, 2, 3))):
-        at, how = rng.randrange(len(text) + 1), rng.randrange(5)
-        lines = text.split(b"\n")
-        line = rng.randrange(len(lines))
-        if how == 0:
-            text = text[:at] + rng.choice(PIECES) + text[at:]
-        elif how == 1:
-            text = text[:at] + rng.choice(PIECES) + text[at + rng.randrange(1, 9):]
-        elif how == 2:
-            text = text[:at]
-        elif how == 3:
-            text = b"\n".join(lines[:line] + lines[line + 1:])
-        else:
-            one = lines[line].split(b" ")
-            one[rng.randrange(len(one))] = rng.choice(PIECES)
-            text = b"\n".join([*lines[:line], b" ".join(one), *lines[line + 1:]])
+        lines, at = text.split(b"\n"), rng.randrange(len(text) + 1)
+        line, piece = rng.randrange(len(lines)), rng.choice(pieces)
+        words = lines[line].split(b" ")
+        words[rng.randrange(len(words))] = piece
+        changed = [b" ".join(words)]
+        text = rng.choice((text[:at] + piece + text[at:], text[:at] + piece + text[at + rng.randrange(1, 9):], text[:at],
+                           b"\n".join(lines[:line] + lines[line + 1:]), b"\n".join(lines[:line] + changed + lines[line + 1:]),
+                           b"\n".join(lines[:line] + lines[line:line + 2][::-1] + lines[line + 2:])))
     return text

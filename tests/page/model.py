@@ -1,71 +1,50 @@
 """Tests of the page's model, which need only node: what is read, refused, concluded and drawn of histories."""
-from __future__ import annotations
-
 import json
-import os
 import random
 import re
-import subprocess
 from collections import Counter
 from concurrent.futures import ThreadPoolExecutor
 from dataclasses import dataclass
 from functools import lru_cache
-from typing import Any, Dict, List, Optional, Tuple
+from typing import Any, Callable, Dict, List, Optional, Set, Tuple
 
-import said
-from definitions import VERDICTS, History, deciding, ends_case, words
-from histories import MOST_BYTES, TOP, example, examples, kinds, legal_case, random_block, spoilt
-from said import evidence_of
+import evidence_texts
+from histories import (EXAMPLES, KINDS, MOST_BYTES, TOP, deciding, entry_of, legal_case, random_block, random_legal, spoilt,
+                       states, tables)
+from evidence_texts import evidence_of
+from harness import Ran, call, hold, reached, same
+from table import VERDICTS, Table
+from texts import Entry
 
-SECONDS = 120
 FAULTS = ("bad first line", "bad entry", "text ends too early")
 
 
 @dataclass
 class Context:
-    """What the tests work with: the built program, node, the sources of the page, the seed of what is random."""
+    """What the tests work with: the built program, node, a page or the sources of one, the seed of what is random, a folder."""
 
     program: str
     node: str
     page: str
     seed: int
-    room: str
-
-
-def hold(is_so: object, text: object) -> None:
-    """Fails the test unless it is so."""
-    if not is_so:
-        raise AssertionError(str(text)[:600])
-
-
-def same(wanted: Any, given: Any, where: object = "") -> None:
-    """Fails the test unless both are the same."""
-    if wanted != given:
-        raise AssertionError(f"{str(where)[:300]}: wanted {str(wanted)[:400]}, came {str(given)[:400]}")
+    room: str = ""
 
 
 def ask(context: Context, what: str, texts: List[str]) -> List[Any]:
-    """What the model answers to the texts."""
-    words = [context.node, os.path.join(TOP, "tests", "page", "answers.mjs"), context.page]
-    ran = subprocess.run(words, input=json.dumps({"what": what, "texts": texts}).encode(), capture_output=True, timeout=SECONDS, check=False)
-    hold(ran.returncode == 0, ran.stderr.decode()[-600:])
-    return json.loads(ran.stdout)
+    ran = call([context.node, f"{TOP}/tests/page/answers.mjs", context.page], json.dumps({"what": what, "texts": texts}))
+    same(0, ran.status, ran.errors[-600:])
+    return json.loads(ran.output)
 
 
 @lru_cache(maxsize=4000)
-def checked(program: str, text: bytes) -> Tuple[bytes, bytes, int]:
-    """The output, standard error and status of `ttrun check`; a program is asked once about a text."""
-    ran = subprocess.run([program, "check"], input=text, capture_output=True, timeout=SECONDS, check=False)
-    return ran.stdout, ran.stderr, ran.returncode
+def checked(program: str, text: bytes) -> Ran:
+    """What `ttrun check` gives; a program is asked once about a text."""
+    return call([program, "check"], text)
 
 
-def check(context: Context, text: bytes) -> Tuple[bytes, bytes, int]:
-    """The same of the program of the tests."""
-    return checked(context.program, text)
-
-
-def fault_of(errors: bytes) -> Optional[List[Any]]:
+def told_fault(context: Context, text: bytes) -> Optional[List[Any]]:
     """Line and kind of the fault that the program prints."""
+    errors = checked(context.program, text).errors
     if not errors:
         return None
     found = re.fullmatch(rb"ttrun: (?:line (\d+): )?([a-z ]+)\n", errors)
@@ -74,29 +53,24 @@ def fault_of(errors: bytes) -> Optional[List[Any]]:
 
 
 def entries_of(text: str) -> List[str]:
-    """The lines of a text that are entries."""
     return re.findall(r"(?m)^\d.*$", text)
 
 
 def blocks_of(text: str) -> List[str]:
-    """The blocks of a text."""
     return re.findall(r"(?ms)^history .*?\nend \w+\n", text)
 
 
 def it_reads_the_examples(context: Context) -> str:
-    names = examples()
-    for name, answer in zip(names, ask(context, "games", [example(it) for it in names])):
-        text = example(name)
+    for (name, text), answer in zip(EXAMPLES.items(), ask(context, "games", list(EXAMPLES.values()))):
         same(None, answer["fault"], name)
         same(re.findall(r"(?m)^end (\w+)$", text), [it["status"] for it in answer["cases"]], name)
         hold(all(it["isOver"] and it["told"] == it["overall"] for it in answer["cases"]), name)
         same(entries_of(text), [line for lines in answer["texts"] for line in lines], name)
-    hold(len(names) >= 5, names)
-    return f"{len(names)} texts"
+    hold(len(EXAMPLES) >= 5, list(EXAMPLES))
+    return f"{len(EXAMPLES)} texts"
 
 
 def edges() -> List[str]:
-    """Texts at the edges of the grammar."""
     head, end = "history 1 t 1\n", "end none\n"
     texts = ["", "\n", head, head + end, head + "end none", head + end + "\n", head + "\n" + end, "\ufeff" + head + end,
              head.replace("\n", "\r\n") + end, head + end + "x", "history 3 t 1\n" + end, head + "end nil\n", head + "end\n", " " + head + end]
@@ -116,87 +90,145 @@ def edges() -> List[str]:
 
 
 def it_tells_faults_as_the_program_does(context: Context) -> str:
-    texts = edges()
-    for text, answer in zip(texts, ask(context, "faults", texts)):
-        data = text.encode()
-        same(fault_of(check(context, data)[1]), answer["fault"], text)
-    full = "x" * (MOST_BYTES + 1)
-    same([fault_of(check(context, full.encode())[1])], [it["fault"] for it in ask(context, "faults", [full])])
-    refused = sum(it["fault"] is not None for it in ask(context, "faults", texts))
+    texts = [*edges(), "x" * (MOST_BYTES + 1)]
+    faults = [it["fault"] for it in ask(context, "faults", texts)]
+    for text, fault in zip(texts, faults):
+        same(told_fault(context, text.encode()), fault, text)
+    refused = len(texts) - faults.count(None)
     hold(refused >= 50 and len(texts) - refused >= 20, (refused, len(texts)))
     return f"{len(texts)} texts, {refused} of them refused"
 
 
 def it_reads_spoilt_texts_as_the_program_does(context: Context) -> str:
     rng, met = random.Random(context.seed), Counter()
-    whole = [example(it).encode() for it in examples()] + [it.encode() for it in blocks_of(kinds())]
+    whole = [it.encode() for it in EXAMPLES.values()] + [it.encode() for it in blocks_of(KINDS)]
     whole += [random_block(rng, False)[0].encode() for _ in range(40)]
-    texts = whole + [spoilt(rng, whole) for _ in range(1500)]
+    texts = whole + [spoilt(rng, whole) for _ in range(2000)]
     answers = ask(context, "faults", [it.decode("latin-1") for it in texts])
     with ThreadPoolExecutor(4) as pool:
-        told = list(pool.map(lambda it: check(context, it), texts))
-    for text, answer, (output, errors, status) in zip(texts, answers, told):
-        same(fault_of(errors), answer["fault"], text)
-        same(said.read(text)[1], answer["fault"], text)
-        met[answer["fault"][1] if answer["fault"] else "legal" if status == 0 else "read"] += 1
+        told = list(pool.map(lambda it: checked(context.program, it), texts))
+    for text, answer, ran in zip(texts, answers, told):
+        same(told_fault(context, text), answer["fault"], text)
+        same(evidence_texts.read(text)[1], answer["fault"], text)
+        met[answer["fault"][1] if answer["fault"] else "legal" if ran.status == 0 else "read"] += 1
         if answer["fault"] is None:
-            legal = re.findall(rb"(?m)^legal (\w+) (\d+) (\w+)$", output)
+            legal = re.findall(rb"(?m)^legal (\w+) (\d+) (\w+)$", ran.output)
             read = [(it["name"].encode(), b"%d" % it["entries"], VERDICTS[it["told"]].encode()) for it in answer["cases"]]
-            hold(legal == read if status == 0 else legal == read[:len(legal)] and len(legal) < len(read), (text, output))
-            hold(status != 0 or all(it["told"] == it["overall"] for it in answer["cases"]), (text, output))
-    floors = {**dict.fromkeys(FAULTS, 60), "bad entry": 400, "legal": 20, "read": 150}
-    hold(all(met[it] >= least for it, least in floors.items()), met)
-    return ", ".join(f"{count} {it}" for it, count in sorted(met.items()))
+            hold(legal == read if ran.status == 0 else legal == read[:len(legal)] and len(legal) < len(read), (text, ran))
+            hold(ran.status != 0 or all(it["told"] == it["overall"] for it in answer["cases"]), (text, ran))
+    return reached(met, {**dict.fromkeys(FAULTS, 60), "bad entry": 400, "legal": 20, "read": 150})
 
 
-def judged_blocks(context: Context) -> Tuple[List[Tuple[str, List[str]]], int]:
-    """Blocks that can be read, hardly one of them legal, and after them legal ones; how many are legal."""
+# Two entries that are folded, the second of which ends a component.
+FOLDED = "".join(f"{it}\n" for it in ("history 2 t 2", "0 create -> made 1", "0 start 1 1 -> ok", *("0 getverdict -> none", "0 kill 1 -> ok") * 3,
+                                      "0 finish -> ok", "end none"))
+
+
+def legal_blocks(context: Context) -> List[str]:
+    """Random blocks that are legal, and at the end those of the examples and one of workers."""
     rng = random.Random(context.seed + 1)
-    blocks = [random_block(rng, it % 2 == 0) for it in range(400)]
-    legal = [block for name in examples() for block in blocks_of(example(name))] + [legal_case("t", 3, 6)]
-    return blocks + [(block, entries_of(block)) for block in legal], len(legal)
+    legal = [block for text in EXAMPLES.values() for block in blocks_of(text)] + [legal_case("t", 3, 6), FOLDED]
+    return [random_legal(rng, f"t_{it}") for it in range(250)] + legal
 
 
-def faults_of_a_block(lines: List[str], answer: Dict[str, Any], is_legal: bool) -> int:
-    """Holds what is said of a block to the definitions, at each of its points; how many these are."""
-    history, case, worst, why = History(lines), answer["cases"][0], 0, None
-    for count in range(len(lines) + 1):
-        wanted, came = history.states(count), answer["states"][0][count]
-        same(wanted, {it: state[:2] for it, state in came.items()}, lines[:count])
-        if is_legal:  # who waits, and for what
-            waits = {it: history.awaited(count, int(phase.split()[1])) if phase.startswith("running") else ""
-                     for it, (phase, _) in wanted.items()}
-            same(waits, {it: state[2] for it, state in came.items()}, lines[:count])
-        now = max(VERDICTS.index(verdict) for _, verdict in wanted.values())
-        if now > worst:
-            worst, why = now, count - 1
-    same(worst, case["overall"], lines)
-    if why is not None:
-        run = words(lines[why]).run
-        wanted = {"index": why, "line": why + 2, "text": lines[why], "run": run, "on": history.component_of(history.first(why), run)}
-        same(wanted, {it: case["why"][it] for it in wanted}, lines)
+def shape_of(entry: Entry, on: Optional[int], table: Table, phases: List[str], who: Callable[[int], str]) -> Tuple[str, str, object]:
+    """The form of the picture of a legal entry of a run that is on this component, its label, and what it points to. The table is
+    the one after it, the phases are those before it."""
+    op, reply = entry.op, entry.reply
+    if on is None:
+        return "note", f"run {entry.caller}: {op.text()} \u2192 {reply}", None
+    is_named = bool(op.named()) and isinstance(op.target, int)
+    words = f"{op.verb} {op.awaited}".rstrip() + f" {who(op.target)}" + f", run {op.run}" * (op.verb == "start") if is_named else op.text()
+    if reply.startswith("error "):
+        return "box", f"{words} \u2192 {reply}", None
+    if op.verb == "create" and reply != "ended":
+        return "create", "create" + " alive" * op.alive, int(reply.split()[1])
+    if reply == "matched":
+        return ("box" if op.target in ("any", "all", on) else "arrow"), words[5:], op.target if is_named and op.target != on else None
+    if reply == "parked":
+        return "note", words if op.verb == "wait" else f"still waits: {words[5:]}", None
+    if reply != "ok":
+        return "note", f"{words} \u2192 {reply}", None
+    if op.verb == "start":
+        given = [who(it) if len(op.args) == 1 else str(it) if it else "mtc" for it in op.args]
+        return "arrow", f"start run {op.run}" + f" with {', '.join(given)}" * bool(given), op.target
+    if op.verb in ("stop", "kill"):
+        if op.target == "all":
+            return "all", words, [it for it, phase in enumerate(phases) if phase != "killed" and it not in (0, on)]
+        return ("box", f"{op.verb} itself", None) if op.target == on else ("arrow", op.verb, op.target)
+    if op.verb == "setverdict":
+        local = table.components[on].verdict
+        return "box", words + f", stays {local}" * (local != op.verdict), None
+    return ("box", "testcase.stop", None) if op.verb == "stopcase" else ("note", f"finish run {entry.caller}", None)
+
+
+def drawn(shape: Dict[str, Any]) -> Tuple[Optional[int], str, str, object]:
+    """The same of a shape of the page, after the component that it is of. The arrow of a wait comes from what it waited for."""
+    form, label, one, other = (shape[it] for it in ("form", "label", "from", "to"))
+    if form == "arrow" and label.startswith(("done ", "killed ")):
+        one, other = other, one
+    return one, form, label, None if form in ("box", "note") else other
+
+
+def activations(diagram: str) -> List[Set[str]]:
+    """The participants that are active in a diagram of Mermaid before its first statement, and after each."""
+    found: List[Set[str]] = [set()]
+    for line in diagram.splitlines()[1:]:
+        word, _, rest = line.strip().partition(" ")
+        if word.endswith("activate"):
+            found[-1] ^= {rest}
+        elif word not in ("%%", "participant"):
+            found.append(set(found[-1]))
+    return found
+
+
+def points_of_a_block(block: str, answer: Dict[str, Any]) -> int:
+    """Holds what is said of a legal block to the table, at each of its points; how many these are."""
+    case, lines, over, runs, phases, running = answer["cases"][0], entries_of(block), None, {}, [], []
+    why, entries = deciding(lines), [entry_of(it) for it in lines]
+    names = [it.op.name for it in entries if it.reply.startswith("made ")]
+    who = lambda number: f"{number} {''.join(names[number - 1:number])}".rstrip() if number else "mtc"
+    for count, table in enumerate(tables(block)):
+        same(states(table), answer["states"][0][count], lines[:count])
+        over = count - 1 if over is None and table.components[0].phase != "running" else over
+        runs = dict(table.component_of_run) if count == why else runs
+        if count:
+            on = table.component_of_run.get(entries[count - 1].caller)
+            wanted = (on, *shape_of(entries[count - 1], on, table, phases, who))
+            same(wanted, drawn(answer["shapes"][0][count - 1]), lines[:count][::-1])
+        phases = [it.phase for it in table.components]
+        running.append({f"c{at}" for at, phase in enumerate(phases) if phase == "running"})
+    same([running[0], *(running[it + 1] for it in answer["rows"][0]), running[-1]], activations(answer["mermaid"][0]), lines)
+    same(VERDICTS.index(table.overall()), case["overall"], lines)
     same(why is None, case["why"] is None, lines)
-    hold(not is_legal or why == deciding(lines), lines)
-    ends = [at for at, it in enumerate(lines) if ends_case(History([it]).past[0])]
-    same((bool(ends), min(ends, default=None)), (case["isOver"], answer["ends"][0]), lines)
-    same((len(lines), lines), (case["entries"], answer["texts"][0]))
-    hold(len(answer["shapes"][0]) == len(lines) and all(it["label"] for it in answer["shapes"][0]), lines)
-    return len(lines) + 1
+    if why is not None:
+        wanted = {"index": why, "line": why + 2, "text": lines[why], "run": entries[why].caller, "on": runs[entries[why].caller]}
+        same(wanted, {it: case["why"][it] for it in wanted}, lines)
+    same((over is not None, over), (case["isOver"], answer["ends"][0]), lines)
+    return count + 1
 
 
-def it_concludes_by_the_definitions(context: Context) -> str:
-    blocks, legal = judged_blocks(context)
-    answers = ask(context, "games", [text for text, _ in blocks])
-    points = 0
-    for at, ((text, lines), answer) in enumerate(zip(blocks, answers)):
+def it_concludes_as_the_table_does(context: Context) -> str:
+    blocks, points = legal_blocks(context), 0
+    for text, answer in zip(blocks, ask(context, "games", blocks)):
         same(None, answer["fault"], text)
-        points += faults_of_a_block(lines, answer, at >= len(blocks) - legal)
-    hold(points >= 4500 and legal >= 10, (points, legal))
-    return f"{len(blocks)} histories, {legal} of them legal, at {points} points"
+        points += points_of_a_block(text, answer)
+    hold(points >= 6000, points)
+    return f"{len(blocks)} histories, at {points} points"
+
+
+def it_shows_each_entry_of_what_can_be_read(context: Context) -> str:
+    """Also of a history that no table makes: each entry has its text and a label."""
+    rng = random.Random(context.seed + 3)
+    blocks = [random_block(rng, it % 2 == 0) for it in range(400)]
+    for (_, lines), answer in zip(blocks, ask(context, "games", [text for text, _ in blocks])):
+        same((None, len(lines), lines), (answer["fault"], answer["cases"][0]["entries"], answer["texts"][0]))
+        hold(len(answer["shapes"][0]) == len(lines) and all(it["label"] for it in answer["shapes"][0]), lines)
+    return f"{len(blocks)} histories"
 
 
 def it_tells_where_two_cases_part(context: Context) -> str:
-    text = kinds() + legal_case("t", 2, 9, seed=1) + legal_case("t", 2, 9, seed=2)
+    text = KINDS + legal_case("t", 2, 9, seed=1) + legal_case("t", 2, 9, seed=2)
     answer, met = ask(context, "games", [text])[0], Counter()
     first = answer["texts"][0]
     for lines, count in zip(answer["texts"], answer["alike"]):
@@ -234,7 +266,7 @@ STATEMENT = re.compile(rf"  (%% [\w ,]+|participant c\d+ as [\w ,]+|c\d+(-->>|->
 def it_writes_mermaid(context: Context) -> str:
     """Each line is a statement of a sequence diagram, of participants that there are, and no activation is ended twice."""
     count = 0
-    for answer in ask(context, "games", [*(example(it) for it in examples()), kinds()]):
+    for answer in ask(context, "games", [*EXAMPLES.values(), KINDS]):
         for diagram in answer["mermaid"]:
             lines, on, there = diagram.splitlines(), set(), set()
             same("sequenceDiagram", lines[0])
@@ -254,4 +286,4 @@ def it_writes_mermaid(context: Context) -> str:
 
 
 TESTS = (it_reads_the_examples, it_tells_faults_as_the_program_does, it_reads_spoilt_texts_as_the_program_does,
-         it_concludes_by_the_definitions, it_tells_where_two_cases_part, it_folds_without_loss, it_writes_mermaid)
+         it_concludes_as_the_table_does, it_shows_each_entry_of_what_can_be_read, it_tells_where_two_cases_part, it_folds_without_loss, it_writes_mermaid)

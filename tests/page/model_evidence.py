@@ -1,21 +1,19 @@
 """Tests of the page's model on evidence, which need only node: what is read, refused, and shown next to the history in it."""
-from __future__ import annotations
-
 import random
 import re
 from collections import Counter
 from concurrent.futures import ThreadPoolExecutor
 from typing import Any, Dict, List, Optional, Tuple
 
-import said
-from definitions import VERDICTS, Entry, History, words
-from histories import example, examples, kinds, legal_case, random_block
-from model import FAULTS, STATEMENT, Context, ask, blocks_of, check, fault_of, hold, judged_blocks, same
-from said import evidence_of
+import evidence_texts
+from histories import EXAMPLES, KINDS, entry_of, legal_case, random_block, tables
+from model import FAULTS, STATEMENT, Context, ask, blocks_of, legal_blocks, told_fault
+from evidence_texts import evidence_of
+from harness import hold, reached, same
+from table import VERDICTS
 
 
 def edges_of_evidence() -> List[str]:
-    """Texts at the edges of the grammar of evidence."""
     head, end = "evidence 1 t 3\n", "end none\n"
     firsts = ["evidence 1 t 0", "evidence 1 t 256", "evidence 1 t 257", "evidence 1 t 65", "evidence 1 t 03", "evidence 2 t 3", "evidence 0 t 3",
               "evidence 1 t", "evidence 1 all 3", "evidence 1  t 3", "evidence 1 t 3 ", "evidence t 3", "Evidence 1 t 3", "evidences 1 t 3",
@@ -42,11 +40,10 @@ def told_of_evidence(context: Context, texts: List[bytes]) -> Counter:
     """Holds what the model and the program say of these texts to the tests' own reader; the kinds met."""
     met: Counter = Counter()
     with ThreadPoolExecutor(4) as pool:
-        told = [fault_of(errors) for _, errors, _ in pool.map(lambda it: check(context, it), texts)]
-    same(told, [said.read(it)[1] for it in texts], "the program and the tests' reader")
-    for text, answer in zip(texts, ask(context, "faults", [it.decode("latin-1") for it in texts])):
-        cases, fault = said.read(text)
-        same(fault, answer["fault"], text)
+        told = list(pool.map(lambda it: told_fault(context, it), texts))
+    for text, by_program, answer in zip(texts, told, ask(context, "faults", [it.decode("latin-1") for it in texts])):
+        cases, fault = evidence_texts.read(text)
+        same((fault, fault), (by_program, answer["fault"]), text)
         wanted = [(it.name, {str(run): name for run, name in it.names.items()}, len(it.entries()), it.verdict) for it in cases]
         same(wanted, [(it["name"], it["names"], it["entries"], VERDICTS[it["told"]]) for it in answer["cases"]], text)
         met[fault[1] if fault else "read"] += 1
@@ -58,57 +55,48 @@ def told_of_evidence(context: Context, texts: List[bytes]) -> Counter:
 def it_tells_faults_of_evidence(context: Context) -> str:
     texts = edges_of_evidence()
     met = told_of_evidence(context, [it.encode("utf-8" if "\u2039" in it else "latin-1") for it in texts])
-    hold(met["read"] >= 30 and met["bad entry"] >= 45 and met["bad first line"] >= 14 and met["text ends too early"] >= 3, met)
-    return ", ".join(f"{count} {it}" for it, count in sorted(met.items()))
+    return reached(met, {"read": 30, "bad entry": 45, "bad first line": 14, "text ends too early": 3})
 
 
 def it_reads_spoilt_evidence(context: Context) -> str:
     rng = random.Random(context.seed + 4)
-    blocks = [it for name in examples() for it in blocks_of(example(name))] + blocks_of(kinds()) + [random_block(rng, False)[0] for _ in range(60)]
+    blocks = [it for text in EXAMPLES.values() for it in blocks_of(text)] + blocks_of(KINDS) + [random_block(rng, False)[0] for _ in range(60)]
     whole = [evidence_of(rng, it).encode() for it in blocks]
     whole += [rng.choice(whole) + block.encode() + rng.choice(whole) for block in blocks[:30]]
-    met = told_of_evidence(context, whole + [said.spoilt(rng, whole) for _ in range(1500)])
-    floors = {**dict.fromkeys(FAULTS, 60), "bad entry": 400, "read": 300, "named": 500, "said": 1500}
-    hold(all(met[it] >= least for it, least in floors.items()), met)
-    return ", ".join(f"{count} {it}" for it, count in sorted(met.items()))
+    met = told_of_evidence(context, whole + [evidence_texts.spoilt(rng, whole) for _ in range(1500)])
+    return reached(met, {**dict.fromkeys(FAULTS, 60), "bad entry": 400, "read": 300, "named": 500, "said": 1500})
 
 
-def shape_of_said(history: History, case: said.Case, entries: int, line: said.Line) -> Tuple[str, str, Optional[int]]:
-    """Form, label and component of a remark or a refused line that is made after the given number of entries."""
-    past = history.first(entries)
-    on = history.component_of(past, line.run)
-    spoken = f"refused: {line.said}" if line.mark == "!" else f"\u201c{line.said}\u201d"
-    if on is None or on not in history.components(past):
-        return "note", f"{named(case, f'run {line.run}')}: {spoken}", None
-    return "box" if line.mark == "!" else "note", spoken, on
+def spoken(line: evidence_texts.Line) -> str:
+    return f"refused: {line.said}" if line.mark == "!" else f"\u201c{line.said}\u201d"
 
 
-def named(case: said.Case, label: str) -> str:
+def shape_of_said(case: evidence_texts.Case, on: Optional[int], line: evidence_texts.Line) -> Tuple[str, str, Optional[int]]:
+    """Form, label and component of a remark or a refused line of a run that is on this component."""
+    if on is None:
+        return "note", f"{named(case, f'run {line.run}')}: {spoken(line)}", None
+    return "box" if line.mark == "!" else "note", spoken(line), on
+
+
+def named(case: evidence_texts.Case, label: str) -> str:
     """A label with the names of behaviours next to the numbers of runs."""
     return re.sub(r"\brun (\d+)", lambda found: f"{found[0]} {case.names.get(int(found[1]), '')}".rstrip(), label)
 
 
-def says_its_run(case: said.Case, entry: Entry, shape: Dict[str, Any]) -> bool:
-    """Whether a start and a finish are shown with their runs."""
-    run = entry.run if entry.verb == "finish" else int(entry.operands[1]) if entry.verb == "start" else None
-    is_shown = run is not None and entry.reply == "ok" and shape["from"] is not None
-    return not is_shown or f"{shape['label']} ".startswith(f"{entry.verb} {named(case, f'run {run}')} ") or shape["form"] == "box"
-
-
-def faults_of_evidence(case: said.Case, told: Dict[str, Any], plain: Dict[str, Any]) -> int:
+def faults_of_evidence(text: str, told: Dict[str, Any], plain: Dict[str, Any]) -> int:
     """Holds what is shown of evidence to what is shown of the history in it; how many names and remarks there are."""
-    history, entries, shown = History(case.entries()), 0, told["shapes"][0]
+    case, entries, shown = evidence_texts.read(text.encode())[0][0], 0, told["shapes"][0]
+    runs = [dict(it.component_of_run) for it in tables(text)]
     same([it.text for it in case.lines], told["texts"][0])
     for key in ("status", "overall", "told", "isOver", "components", "entries"):
         same(plain["cases"][0][key], told["cases"][0][key], key)
     for place, line in enumerate(case.lines):
         same(plain["states"][0][entries], told["states"][0][place], line)
         if line.said:
-            same(shape_of_said(history, case, entries, line), (shown[place]["form"], shown[place]["label"], shown[place]["from"]), line)
+            same(shape_of_said(case, runs[entries].get(line.run), line), (shown[place]["form"], shown[place]["label"], shown[place]["from"]), line)
         else:
             wanted = plain["shapes"][0][entries]
             same({**wanted, "label": named(case, wanted["label"])}, shown[place], line)
-            hold(says_its_run(case, words(line.text), shown[place]), (line, shown[place]))
             entries += 1
     same(plain["states"][0][entries], told["states"][0][-1])
     over = plain["ends"][0]
@@ -119,44 +107,42 @@ def faults_of_evidence(case: said.Case, told: Dict[str, Any], plain: Dict[str, A
 def it_shows_evidence_as_its_history(context: Context) -> str:
     """Names and remarks change no state, verdict or picture of an entry; each has its place, and so has its component."""
     rng, count = random.Random(context.seed + 5), 0
-    blocks = [text for text, _ in judged_blocks(context)[0][250:]]
+    blocks = legal_blocks(context)[100:]
     texts = [evidence_of(rng, it) for it in blocks]
     for text, told, plain in zip(texts, ask(context, "games", texts), ask(context, "games", blocks)):
-        count += faults_of_evidence(said.read(text.encode())[0][0], told, plain)
+        count += faults_of_evidence(text, told, plain)
     hold(count >= 1200, count)
     return f"{len(texts)} blocks, {count} names and remarks"
 
 
 def legal_evidence(context: Context, rounds: int) -> List[str]:
-    """Blocks of evidence, each legal."""
     rng = random.Random(context.seed + 6)
-    blocks, legal = judged_blocks(context)
+    blocks = legal_blocks(context)[250:]
     extra = [legal_case("t", 3, 5, verdict, seed) for seed, verdict in enumerate(VERDICTS[1:4])]
-    return [evidence_of(rng, it, 20) for it in [text for text, _ in blocks[-legal:]] + extra for _ in range(rounds)]
+    return [evidence_of(rng, it, 20) for it in blocks + extra for _ in range(rounds)]
 
 
 def it_tells_reasons(context: Context) -> str:
     """Next to the entry that made the verdict: the name of its behaviour, and the remarks of its run right before and after it."""
     texts, met = legal_evidence(context, 25), Counter()
     for text, answer in zip(texts, ask(context, "faults", texts)):
-        wanted, came = said.read(text.encode())[0][0].why(), answer["cases"][0]["why"]
+        wanted, came = evidence_texts.read(text.encode())[0][0].why(), answer["cases"][0]["why"]
         same(wanted is None, came is None, text)
         if wanted is not None:
             same(wanted, {it: came[it] or "" if it == "behind" else came[it] for it in wanted}, text)
             met.update(it for it in ("behaviour", "before", "behind") if wanted[it])
-    hold(met["behaviour"] >= 200 and met["before"] >= 100 and met["behind"] >= 100, met)
-    return ", ".join(f"{count} {it}" for it, count in sorted(met.items()))
+    return reached(met, {"behaviour": 200, "before": 100, "behind": 100})
 
 
 def it_names_what_components_run(context: Context) -> str:
     """By a component are the runs that were started on it and have names, in the order of their starts."""
     texts, count = legal_evidence(context, 4), 0
     for text, answer in zip(texts, ask(context, "games", texts)):
-        case = said.read(text.encode())[0][0]
+        case = evidence_texts.read(text.encode())[0][0]
         ran: Dict[int, List[int]] = {0: [0]}
-        for entry in map(words, case.entries()):
-            if entry.verb == "start" and entry.reply == "ok":
-                ran.setdefault(int(entry.operands[0]), []).append(int(entry.operands[1]))
+        for entry in map(entry_of, case.entries()):
+            if entry.op.verb == "start" and entry.reply == "ok":
+                ran.setdefault(entry.op.target, []).append(entry.op.run)
         wanted = {at: ", ".join(named(case, f"run {it}") for it in runs if it in case.names) for at, runs in ran.items()}
         same({at: wanted.get(at, "") for at, _ in answer["ran"][0]}, dict(answer["ran"][0]), text)
         count += sum(map(bool, wanted.values()))
@@ -168,14 +154,13 @@ def it_writes_remarks_for_mermaid(context: Context) -> str:
     """Each name and remark is in the diagram, a remark in a note, spelled so that Mermaid reads nothing else in it."""
     texts, count = legal_evidence(context, 2), 0
     for text, answer in zip(texts, ask(context, "games", texts)):
-        case, lines = said.read(text.encode())[0][0], answer["mermaid"][0].splitlines()
+        case, lines = evidence_texts.read(text.encode())[0][0], answer["mermaid"][0].splitlines()
         hold(all(STATEMENT.fullmatch(it) for it in lines[1:]), [it for it in lines[1:] if not STATEMENT.fullmatch(it)])
         read = [re.sub(r"#(\d+);", lambda found: chr(int(found[1])), it) for it in lines]
         for line in case.lines:
-            spoken = f"refused: {line.said}" if line.mark == "!" else f"\u201c{line.said}\u201d"
-            hold(not line.said or any(it.startswith("  Note over ") and spoken in it for it in read), (line, lines))
+            hold(not line.said or any(it.startswith("  Note over ") and spoken(line) in it for it in read), (line, lines))
         for run, name in case.names.items():
-            is_started = run == 0 or any(words(it).verb == "start" and int(words(it).operands[1]) == run for it in case.entries())
+            is_started = run == 0 or any(it.op.verb == "start" and it.op.run == run for it in map(entry_of, case.entries()))
             hold(not is_started or any(f"run {run} {name}" in it for it in read), (run, name, lines))
         count += len(case.names) + sum(bool(it.said) for it in case.lines)
     hold(count >= 250, count)

@@ -1,6 +1,4 @@
 """The engine of the page in node, next to the built program: status, output and errors of the same words and input, byte by byte."""
-from __future__ import annotations
-
 import base64
 import json
 import os
@@ -9,11 +7,11 @@ import select
 import subprocess
 import sys
 from collections import Counter
-from dataclasses import dataclass
+from contextlib import AbstractContextManager
 from typing import Iterator, List, Sequence, Tuple
 
-TOP = os.path.dirname(os.path.dirname(os.path.dirname(os.path.abspath(__file__))))
-sys.path[1:1] = [os.path.join(TOP, "tests", "program"), os.path.join(TOP, "tests", "page")]
+TESTS_FOLDER = os.path.dirname(os.path.dirname(os.path.abspath(__file__)))
+sys.path[1:1] = [TESTS_FOLDER, os.path.join(TESTS_FOLDER, "program"), os.path.join(TESTS_FOLDER, "page")]
 
 import explain
 import reports
@@ -22,47 +20,29 @@ import scripts
 import sizes
 import words as of_words
 from case import Case
+from harness import SECONDS, TOP, bytes_of, call, hold, reached
 from histories import campaign, legal_case, random_block, spoilt, widest_case
+from model import Context
 from random_moves import mutated
 from random_scripts import changed, drawn_script
 
-SECONDS = 120
 # What the engine says of a run that it does not begin.
 LEFT = b"ttrun: a run needs threads, and there are none here: try explore\n"
-EXPLORING = (("explore",), ("explore", "--details"), ("explore", "--locals"), ("explore", "--history"), ("explore", "--states", "40"), ("run", "--list"), ("run", "--explain"))
+EXPLORING = (("explore",), ("explore", "--details"), ("explore", "--locals"), ("explore", "--history"), ("explore", "--states", "40"),
+             ("run", "--list"), ("run", "--explain"))
 CHECKING = (("check",), ("check", "--explain"), ("report", "--csv"), ("report", "--junit"), ("report", "--html"), ("report", "--csv", "--explain"))
 REPLAYING = (("replay",), ("replay", "--explain"))
 TASKS = {".script": EXPLORING, ".history": CHECKING, ".moves": REPLAYING}
 Answer = Tuple[int, bytes, bytes]
 
 
-@dataclass
-class Context:
-    """What the tests work with."""
-
-    program: str
-    node: str
-    page: str
-    seed: int
-    tree: str = TOP
-
-
-def hold(is_so: object, text: object) -> None:
-    """Fails the test unless it is so."""
-    if not is_so:
-        raise AssertionError(str(text)[:1500])
-
-
-class Engine:
+class Engine(AbstractContextManager):
     """The engine in node, which answers one question after the other."""
 
     def __init__(self, context: Context) -> None:
         words = [context.node, os.path.join(TOP, "tests", "play", "engine.mjs"), context.page]
         self.process = subprocess.Popen(words, stdin=subprocess.PIPE, stdout=subprocess.PIPE)
         self.memory = 0
-
-    def __enter__(self) -> "Engine":
-        return self
 
     def __exit__(self, *_: object) -> None:
         self.process.stdin.close()
@@ -72,7 +52,6 @@ class Engine:
             self.process.kill()
 
     def answer(self, words: Sequence[str], text: bytes, *how: object) -> Answer:
-        """The status, output and errors."""
         self.process.stdin.write(json.dumps([words, base64.b64encode(text).decode(), *how]).encode() + b"\n")
         self.process.stdin.flush()
         is_there = select.select([self.process.stdout], [], [], SECONDS)[0]
@@ -83,9 +62,8 @@ class Engine:
 
 
 def program_answer(context: Context, words: Sequence[str], text: bytes) -> Answer:
-    """What the program answers."""
-    ran = subprocess.run(["ttrun", *words], executable=context.program, input=text, capture_output=True, timeout=SECONDS, check=False)
-    return ran.returncode, ran.stdout, ran.stderr
+    ran = call(["ttrun", *words], text, executable=context.program)
+    return ran.status, ran.output, ran.errors
 
 
 def is_left(context: Context, words: Sequence[str], text: bytes) -> bool:
@@ -109,17 +87,8 @@ def compare(context: Context, engine: Engine, met: Counter, words: Sequence[str]
     met["same"] += 1
 
 
-def told(met: Counter, *floors: Tuple[str, int]) -> str:
-    """What was met; the test fails below a floor."""
-    for name, least in floors:
-        hold(met[name] >= least, f"{name}: {met[name]} of at least {least}")
-    return f"{met['same']} the same, {met['left']} runs left; " + ", ".join(f"{name} {met[name]}" for name in sorted(met) if " " in name)
-
-
 def texts(ending: str) -> List[bytes]:
-    """The examples of a sort."""
-    names = sorted(name for name in os.listdir(os.path.join(TOP, "examples")) if name.endswith(ending))
-    return [open(os.path.join(TOP, "examples", name), "rb").read() for name in names]
+    return [bytes_of("examples", name) for name in sorted(os.listdir(os.path.join(TOP, "examples"))) if name.endswith(ending)]
 
 
 def every_example_and_task(context: Context, engine: Engine) -> str:
@@ -133,7 +102,7 @@ def every_example_and_task(context: Context, engine: Engine) -> str:
     for words in (("--help",), ("--version",), ("-h",), ("help",), *((name, "--help") for name in ("run", "explore", "check", "report", "replay")),
                   ("frob",), ("explore", "--frob"), ("explore", "--histroy"), ("run", "--only", "a b"), ("report",), ("", ""), ("\u00e9",)):
         compare(context, engine, met, words, b"")
-    return told(met, ("same", 85), ("left", 7), ("check 0", 8), ("replay 0", 2), ("explore 0", 20))
+    return reached(met, {"same": 85, "left": 7, "check 0": 8, "replay 0": 2, "explore 0": 20})
 
 
 def cases_of_the_program() -> Iterator[Case]:
@@ -151,7 +120,7 @@ def every_case_of_the_program(context: Context, engine: Engine) -> str:
     for case in cases_of_the_program():
         compare(context, engine, met, case.words, case.given)
         met["large"] += len(case.given) >= 1 << 20
-    return told(met, ("same", 250), ("left", 30), ("large", 5), ("run 3", 50), ("check 3", 20), ("replay 3", 5))
+    return reached(met, {"same": 250, "left": 30, "large": 5, "run 3": 50, "check 3": 20, "replay 3": 5})
 
 
 def a_thousand_spoilt_texts(context: Context, engine: Engine) -> str:
@@ -165,7 +134,7 @@ def a_thousand_spoilt_texts(context: Context, engine: Engine) -> str:
             mutated(rng, rng.choice(given[ending])) if rng.random() < 0.4 else spoilt(rng, given[ending])
         words = rng.choice(TASKS[ending])
         compare(context, engine, met, (*words, "--states", "2000") if words[0] == "explore" and "--states" not in words else words, text)
-    return told(met, ("texts", 1000), ("same", 900), ("explore 3", 50), ("check 3", 50), ("report 3", 100), ("replay 3", 100), ("run 3", 30))
+    return reached(met, {"texts": 1000, "same": 900, "explore 3": 50, "check 3": 50, "report 3": 100, "replay 3": 100, "run 3": 30})
 
 
 def generated_searches(context: Context, engine: Engine) -> str:
@@ -176,7 +145,7 @@ def generated_searches(context: Context, engine: Engine) -> str:
         for words in (("explore", "--details"), ("explore", "--history")):
             met["searches"] += 1
             compare(context, engine, met, (*words, "--states", rng.choice(("100", "3000"))), text)
-    return told(met, ("searches", 300), ("same", 300), ("explore 0", 40), ("explore 1", 20), ("explore 3", 10))
+    return reached(met, {"searches": 300, "same": 300, "explore 0": 40, "explore 1": 20, "explore 3": 10})
 
 
 def generated_histories(context: Context, engine: Engine) -> str:
@@ -187,7 +156,7 @@ def generated_histories(context: Context, engine: Engine) -> str:
     for text in made:
         for words in (rng.choice(CHECKING), ("check",)):
             compare(context, engine, met, words, text.encode())
-    return told(met, ("same", 300), ("check 0", 8), ("check 3", 100))
+    return reached(met, {"same": 300, "check 0": 8, "check 3": 100})
 
 
 def the_largest_inputs(context: Context, engine: Engine) -> str:
@@ -203,7 +172,7 @@ def the_largest_inputs(context: Context, engine: Engine) -> str:
         for words in EXPLORING:
             met["largest"] += 1
             compare(context, engine, met, (*words, "--states", "3000") if words[0] == "explore" and len(words) < 3 else words, text)
-    return told(met, ("largest", 50), ("same", 40))
+    return reached(met, {"largest": 50, "same": 40})
 
 
 def memory_is_refused(context: Context, engine: Engine) -> str:
@@ -220,7 +189,7 @@ def memory_is_refused(context: Context, engine: Engine) -> str:
             is_prefix = len(output) < len(whole[1]) and whole[1].startswith(output) or not output
             hold(found == whole or (status, errors) == (3, b"ttrun: no memory\n") and is_prefix, f"{words} with {left} bytes: {str(found)[:300]}")
             hold(engine.answer(("check",), small) == wanted, f"after {words} with {left} bytes")
-    told(met, ("refused", 12), ("whole", 12))
+    reached(met, {"refused": 12, "whole": 12})
     return f"{met['refused']} times refused, {met['whole']} not, with {engine.memory} bytes"
 
 
@@ -235,7 +204,7 @@ def ten_thousand_calls_without_growth(context: Context, engine: Engine) -> str:
             if at == 300:
                 first = other.memory
         hold(other.memory == first, f"{first} bytes after 300 calls, {other.memory} after 10,000")
-        told(met, ("calls", 10_000))
+        reached(met, {"calls": 10_000})
         return f"{met['calls']} calls, {other.memory} bytes"
 
 

@@ -1,6 +1,4 @@
-"""Headless Firefox by WebDriver BiDi: JSON texts over a WebSocket of this machine. It is driven as tests/page/browser.py drives Chromium."""
-from __future__ import annotations
-
+"""Headless Firefox by WebDriver BiDi: JSON texts over a WebSocket of this machine."""
 import base64
 import json
 import os
@@ -10,12 +8,11 @@ import socket
 import struct
 import subprocess
 import tempfile
-import time
-from typing import Any, List, Optional
+from typing import Any, List
 
-NAMES = ("firefox-esr", "firefox")
-# The seconds without an answer after which a browser is given up.
-SECONDS = 120
+from browser import Browser
+from harness import SECONDS, bytes_of, hold, wait_for
+
 PREFERENCES = {"remote.active-protocols": 1, "browser.shell.checkDefaultBrowser": False, "datareporting.policy.dataSubmissionEnabled": False,
                "toolkit.telemetry.reportingpolicy.firstRun": False, "app.update.enabled": False, "browser.startup.page": 0,
                "network.captive-portal-service.enabled": False, "network.connectivity-service.enabled": False,
@@ -26,38 +23,25 @@ PREFERENCES = {"remote.active-protocols": 1, "browser.shell.checkDefaultBrowser"
 KEYS = {"Enter": "\ue007", "Escape": "\ue00c", "Tab": "\ue004", "Home": "\ue011", "End": "\ue010", "Control": "\ue009"}
 
 
-def find() -> Optional[str]:
-    """The browser on the path, if there is one."""
-    return next((path for path in map(shutil.which, NAMES) if path), None)
-
-
 class Socket:
     """A WebSocket of a client, for texts."""
 
     def __init__(self, port: int, path: str) -> None:
         self.stream = socket.create_connection(("127.0.0.1", port), SECONDS)
-        self.buffer = b""
+        self.reader = self.stream.makefile("rb")
         key = base64.b64encode(os.urandom(16)).decode()
         self.stream.sendall(f"GET {path} HTTP/1.1\r\nHost: 127.0.0.1:{port}\r\nUpgrade: websocket\r\nConnection: Upgrade\r\n"
                             f"Sec-WebSocket-Key: {key}\r\nSec-WebSocket-Version: 13\r\n\r\n".encode())
-        head = b""
-        while not head.endswith(b"\r\n\r\n"):
-            head += self.take(1)
-        if b" 101 " not in head.split(b"\r\n")[0]:
-            raise RuntimeError(head.decode(errors="replace"))
+        head = list(iter(self.reader.readline, b"\r\n"))
+        hold(b" 101 " in head[0], f"no WebSocket: {head}")
 
     def take(self, count: int) -> bytes:
-        """The next bytes, that many."""
-        while len(self.buffer) < count:
-            piece = self.stream.recv(1 << 20)
-            if not piece:
-                raise RuntimeError("the browser has ended")
-            self.buffer += piece
-        taken, self.buffer = self.buffer[:count], self.buffer[count:]
+        taken = self.reader.read(count)
+        if len(taken) < count:
+            raise RuntimeError("the browser has ended")
         return taken
 
     def send(self, data: bytes, kind: int = 1) -> None:
-        """Sends a text, or another frame."""
         size = len(data)
         head = bytes([0x80 | kind]) + (bytes([0x80 | size]) if size < 126 else struct.pack(">BH", 0xfe, size) if size < 1 << 16
                                        else struct.pack(">BQ", 0xff, size))
@@ -65,7 +49,6 @@ class Socket:
         self.stream.sendall(head + mask + (whole ^ int.from_bytes((mask * (size // 4 + 1))[:size], "big")).to_bytes(size, "big"))
 
     def receive(self) -> bytes:
-        """The next text."""
         text = b""
         while True:
             first, second = self.take(2)
@@ -85,22 +68,22 @@ class Socket:
 
 def plain(value: dict) -> Any:
     """A value as WebDriver BiDi writes it, as JSON would have it."""
-    kind = value["type"]
+    kind, inside = value["type"], value.get("value")
     if kind in ("array", "nodelist", "htmlcollection"):
-        return [plain(it) for it in value.get("value", [])]
+        return [plain(it) for it in inside or []]
     if kind == "object":
-        return {key: plain(it) for key, it in value.get("value", [])}
-    if kind == "number" and isinstance(value["value"], str):
-        return None
-    return value.get("value") if kind in ("string", "number", "boolean") else None
+        return {key: plain(it) for key, it in inside or []}
+    return inside if kind in ("string", "boolean") or kind == "number" and not isinstance(inside, str) else None
 
 
-class Firefox:
-    """A browser with one page. `errors` are what the page has said of faults of its own."""
+class Firefox(Browser):
+    """Firefox, which is started again for another theme."""
+
+    NAMES = ("firefox-esr", "firefox")
 
     def __init__(self, program: str) -> None:
-        self.program, self.process, self.dark = program, None, None
-        self.errors: List[str] = []
+        super().__init__()
+        self.program = program
         self.start(False)
 
     def start(self, dark: bool) -> None:
@@ -120,15 +103,9 @@ class Firefox:
 
     def port(self) -> int:
         """The port on which the browser listens, by what it prints."""
-        began = time.monotonic()
-        while True:
-            with open(self.told.name, encoding="utf-8", errors="replace") as file:
-                said = re.search(r"WebDriver BiDi listening on ws://[\w.]+:(\d+)", file.read())
-            if said:
-                return int(said[1])
-            if self.process.poll() is not None or time.monotonic() - began > SECONDS:
-                raise RuntimeError("Firefox does not listen")
-            time.sleep(0.05)
+        said = lambda: re.search(rb"WebDriver BiDi listening on ws://[\w.]+:(\d+)", bytes_of(self.told.name))
+        wait_for(lambda: said() or self.process.poll() is not None, "Firefox listens")
+        return int(said()[1])
 
     def call(self, method: str, **parameters: Any) -> dict:
         """The answer to a command. What the page says of faults meanwhile is kept."""
@@ -143,72 +120,39 @@ class Firefox:
             if reply.get("method") == "log.entryAdded" and reply["params"]["level"] == "error":
                 self.errors.append(reply["params"]["text"])
 
+    def on_page(self, method: str, **parameters: Any) -> dict:
+        return self.call(method, context=self.page, **parameters)
+
     def js(self, code: str) -> Any:
-        """The value of an expression, of a promise what it comes to."""
         found = self.call("script.evaluate", expression=code, target={"context": self.page}, awaitPromise=True, userActivation=True)
         if found["type"] == "exception":
             raise RuntimeError(found["exceptionDetails"]["text"])
         return plain(found["result"])
 
-    def open(self, path: str, width: int = 1280, height: int = 800, dark: bool = False, after: str = "") -> None:
-        """Opens a file in a window of this size and theme, with this after the `#` of its address."""
+    def show(self, url: str, width: int, height: int, dark: bool) -> None:
         if dark != self.dark:
             self.close(), self.start(dark)
-        self.call("browsingContext.setViewport", context=self.page, viewport={"width": width, "height": height})
-        self.call("browsingContext.navigate", context=self.page, url="about:blank", wait="complete")
-        self.call("browsingContext.navigate", context=self.page, url=f"file://{os.path.abspath(path)}{after and '#'}{after}", wait="complete")
-        self.settle()
+        self.on_page("browsingContext.setViewport", viewport={"width": width, "height": height})
+        for it in ("about:blank", url):
+            self.on_page("browsingContext.navigate", url=it, wait="complete")
 
-    def settle(self) -> None:
-        """Waits until what was done is drawn."""
-        self.js("new Promise(done => requestAnimationFrame(() => requestAnimationFrame(() => setTimeout(done, 20))))")
+    def perform(self, kind: str, steps: List[dict]) -> None:
+        """Does what a user does with keys or with a pointer."""
+        self.on_page("input.performActions", actions=[{"type": kind, "id": kind, "actions": steps}])
 
-    def press(self, *values: str) -> None:
-        """Holds keys down together, and leaves them."""
-        steps = [{"type": "keyDown", "value": it} for it in values] + [{"type": "keyUp", "value": it} for it in reversed(values)]
-        self.call("input.performActions", context=self.page, actions=[{"type": "key", "id": "keys", "actions": steps}])
+    def press(self, key: str, with_control: bool = False) -> None:
+        values = [KEYS["Control"]] * with_control + [KEYS.get(key, key)]
+        self.perform("key", [{"type": "keyDown", "value": it} for it in values] + [{"type": "keyUp", "value": it} for it in values[::-1]])
 
-    def key(self, *keys: str) -> None:
-        """Presses keys, one after the other."""
-        for key in keys:
-            self.press(KEYS.get(key, key))
-        self.settle()
+    def click_at(self, x: float, y: float) -> None:
+        self.perform("pointer", [{"type": "pointerMove", "x": int(x), "y": int(y)}, {"type": "pointerDown", "button": 0},
+                                 {"type": "pointerUp", "button": 0}])
 
-    def with_control(self, key: str) -> None:
-        """Presses a key with Ctrl."""
-        self.press(KEYS["Control"], KEYS.get(key, key))
-        self.settle()
-
-    def type(self, text: str) -> None:
-        """Puts a text in where the cursor is, at once."""
-        self.js(f"document.execCommand('insertText', false, {json.dumps(text)})")
-
-    def click(self, selector: str) -> None:
-        """Clicks on the middle of the first element of a selector."""
-        middle = "(r => [r.x + r.width / 2, r.y + r.height / 2])(document.querySelector(%s).getBoundingClientRect())"
-        x, y = self.js(middle % json.dumps(selector))
-        steps = [{"type": "pointerMove", "x": int(x), "y": int(y)}, {"type": "pointerDown", "button": 0}, {"type": "pointerUp", "button": 0}]
-        self.call("input.performActions", context=self.page, actions=[{"type": "pointer", "id": "mouse", "actions": steps}])
-        self.settle()
-
-    def go(self, address: str) -> None:
-        """Goes to a view of the page."""
-        self.js(f"location.hash = {json.dumps(address)}")
-        self.settle()
-
-    def choose_files(self, paths: List[str]) -> None:
-        """Opens files as a user does by the button."""
-        found = self.call("browsingContext.locateNodes", context=self.page, locator={"type": "css", "value": "#file"})["nodes"][0]
-        self.call("input.setFiles", context=self.page, element={"sharedId": found["sharedId"]}, files=paths)
-        self.settle(), time.sleep(0.1), self.settle()
-
-    def picture(self) -> bytes:
-        """What the browser shows, as PNG."""
-        self.settle()
-        return base64.b64decode(self.call("browsingContext.captureScreenshot", context=self.page)["data"])
+    def give_files(self, paths: List[str]) -> None:
+        found = self.on_page("browsingContext.locateNodes", locator={"type": "css", "value": "#file"})["nodes"][0]
+        self.on_page("input.setFiles", element={"sharedId": found["sharedId"]}, files=paths)
 
     def close(self) -> None:
-        """Ends the browser."""
         try:
             self.call("browser.close")
             self.process.wait(20)

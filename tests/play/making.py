@@ -1,18 +1,18 @@
 """The scripts that make the page: what it is made of is said on it, and another toolchain never makes a wrong engine."""
-from __future__ import annotations
-
 import base64
 import gzip
 import hashlib
 import importlib.util
 import os
-import subprocess
 import sys
 import tempfile
-from typing import Callable, Dict, List
+from typing import Callable
 
-from beside import Context, hold
+from beside import TOP, Context
+from harness import Fault, call, hold, same, text_of, write
 
+# The scripts that make the page, and the engine.
+MAKER, BUILDER = os.path.join(TOP, "page", "play", "make.py"), os.path.join(TOP, "page", "engine", "build.py")
 # The text of a bitcode that can be retargeted, by its lines.
 HEAD = ('target datalayout = "e-m:e-p270:32:32-i64:64"', 'target triple = "x86_64-unknown-linux-gnu"')
 DECLARED = ("declare { i64, ptr } @rattle_alloc(i64, i64)", "declare void @rattle_dealloc(ptr)",
@@ -39,49 +39,36 @@ def module(path: str) -> object:
     return made
 
 
-def maker(context: Context) -> str:
-    """The path of the script that makes the page."""
-    return os.path.join(context.tree, "page", "play", "make.py")
-
-
-def builder(context: Context) -> object:
-    """The script that makes the engine."""
-    return module(os.path.join(context.tree, "page", "engine", "build.py"))
-
-
 def fails(act: Callable[[], object], word: str) -> None:
     """Holds that no engine is made, and that the reason has this word."""
     try:
         made = act()
     except SystemExit as ended:
         hold(str(ended.code).startswith("no engine was made: ") and word in str(ended.code), ended.code)
-        return
-    raise AssertionError(f"it makes {str(made)[:300]} where it should say {word!r}")
+    else:
+        raise Fault(f"it makes {str(made)[:300]} where it should say {word!r}")
 
 
 def the_sums_are_those_of_the_sources(context: Context) -> str:
     """The page says what it is made of: its engine, and the scripts and files of C that it was made with, as they are."""
-    made = module(maker(context))
-    with open(context.page, encoding="ascii") as file:
-        text = file.read()
-    said: Dict[str, str] = dict(line.split(None, 1) if line.startswith(("engine ", "page/engine ", "toolchain ")) else line.rsplit(None, 1)
-                                for line in made.SUMS.search(text)[2].splitlines())
+    made, text = module(MAKER), text_of(context.page)
+    said = {line[:24].strip(): line[24:] for line in made.SUMS.search(text)[2].splitlines()}
     engine = gzip.decompress(base64.b64decode(made.ENGINE.search(text)[1]))
-    hold(said["engine"] == hashlib.sha256(engine).hexdigest(), "the engine has another sum")
-    hold(said["page/engine"] == made.sum_of(made.tools()), "page/engine has changed since: python3 page/play/make.py")
+    same(hashlib.sha256(engine).hexdigest(), said["engine"], "the engine has another sum")
+    same(made.sum_of(made.TOOLS), said["page/engine"], "page/engine has changed since: python3 page/play/make.py")
     hold(engine[:8] == b"\0asm\1\0\0\0" and said["toolchain"].startswith("rattle-kit-"), said)
-    is_same = said["sources of the program"].strip() == made.sum_of(made.sources())
-    return "of these sources" if is_same else "of other sources of the program, which answer the same"
+    is_of_these = said["sources of the program"] == made.sum_of(made.sources())
+    return "of these sources" if is_of_these else "of other sources of the program, which answer the same"
 
 
 def other_bitcode_is_refused(context: Context) -> str:
     """Bitcode that asks for more than memory, has code of a processor, or another head, is not linked."""
-    build = builder(context)
+    build = module(BUILDER)
     lines = [*HEAD, *DECLARED, *DEFINED]
     made = build.retarget("\n".join(lines) + "\n")
     hold('target triple = "wasm64-unknown-unknown"' in made and f'target datalayout = "{build.LAYOUT}"' in made and "x86" not in made, made)
     hold("probe-stack" not in made and "nounwind" in made, made)
-    changes: List[tuple] = [
+    changes = [
         (lines + ["declare i32 @write(i32, ptr, i64)"], "write"), (lines + ['declare void @"a_name"()'], "a_name"),
         (lines + ["declare i64 @llvm.x86.rdtsc()"], "code of the processor"), (lines + ["declare void @rattle_thread(ptr)"], "rattle_thread"),
         (lines[:6] + ['  call void asm sideeffect "pause", ""()'] + lines[6:], "code of the processor"),
@@ -94,36 +81,31 @@ def other_bitcode_is_refused(context: Context) -> str:
 
 def a_kit_without_bitcode_makes_nothing(context: Context) -> str:
     """If a kit hands over no bitcode, fails, or is missing, there is no engine, and the page stays as it is."""
-    build = builder(context)
+    build = module(BUILDER)
     for make, word in (("true", "hands no module.bc"), ("exit 1", "rattle ended with 1"), ("echo BC > module.bc; exit 3", "rattle ended with 3"),
                        ("echo BC > other.bc", "hands no module.bc"), (": > module.bc", "hands no module.bc"), ("echo BC > module.bc", "")):
         with tempfile.TemporaryDirectory(prefix="play-kit-") as room:
             kit, work = os.path.join(room, "kit"), os.path.join(room, "work")
             for name, text in (("bin/rattle", RATTLE.format(make=make)), ("toolchain/bin/clang", "#!/bin/sh\n: > module.o\n"), ("rlibs/none", "")):
-                os.makedirs(os.path.dirname(os.path.join(kit, name)), exist_ok=True)
-                with open(os.path.join(kit, name), "w", encoding="ascii") as file:
-                    file.write(text)
-                os.chmod(os.path.join(kit, name), 0o755)
+                write(os.path.join(kit, name), text, is_run=True)
             os.makedirs(work)
             os.environ["ROOM"] = room
             if word:
                 fails(lambda: build.keep_bitcode(kit, work), word)
-                continue
-            with open(build.keep_bitcode(kit, work), encoding="ascii") as file:
-                hold(file.read() == "BC\n", "it keeps other bitcode")
-    page = os.path.join(context.tree, "page", "play.html")
-    before = os.stat(page)
+            else:
+                same("BC\n", text_of(build.keep_bitcode(kit, work)), "it keeps other bitcode")
+    before = os.stat(os.path.join(TOP, "page", "play.html"))
     for words, status in ((["--frob"], 3), ([], 1)):
-        ran = subprocess.run([sys.executable, maker(context), *words], env={"PATH": "/nowhere"}, capture_output=True, text=True, check=False)
-        hold(ran.returncode == status and ("no rt on the path" in ran.stderr) == (not words), ran)
-    after = os.stat(page)
-    hold((before.st_mtime_ns, before.st_size, before.st_ino) == (after.st_mtime_ns, after.st_size, after.st_ino), "the page was written")
+        ran = call([sys.executable, MAKER, *words], env={"PATH": "/nowhere"})
+        hold(ran.status == status and ("no rt on the path" in ran.errors) == (not words), ran)
+    after = os.stat(os.path.join(TOP, "page", "play.html"))
+    same(*((it.st_mtime_ns, it.st_size, it.st_ino) for it in (before, after)), "the page was written")
     return "8 times"
 
 
 def a_wrong_module_is_refused(context: Context) -> str:
     """A module that imports something, has other exports, or says that it has another version, is no engine."""
-    build = builder(context)
+    build = module(BUILDER)
     head = b"\0asm\1\0\0\0"
     name = lambda text: bytes([len(text)]) + text.encode()
     section = lambda number, items: bytes([number, len(b"".join(items)) + 1, len(items)]) + b"".join(items)
@@ -133,7 +115,7 @@ def a_wrong_module_is_refused(context: Context) -> str:
                        (head + section(7, [*exports, name("malloc") + b"\0\0"]), "exports"),
                        (head + section(2, [name("env") + name("write") + b"\0\0"]) + section(7, exports), "imports")):
         fails(lambda data=data: build.hold_module(data), word)
-    made = module(maker(context))
+    made = module(MAKER)
     if context.node:
         made.hold_version(context.page, made.kept()[1])
         fails(lambda: made.hold_version(context.page, "0.0.1"), "asked for its version")

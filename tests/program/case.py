@@ -1,6 +1,5 @@
-"""One case of the program's tests: a command line with its devices, and what is wanted of it, byte by byte."""
-from __future__ import annotations
-
+"""The tests of the program: cases, which are a command line with its devices and what is wanted of it, byte by byte, and judgements."""
+import argparse
 import contextlib
 import os
 import re
@@ -9,11 +8,18 @@ import signal
 import subprocess
 import sys
 import threading
+import time
+from concurrent.futures import ThreadPoolExecutor
 from dataclasses import dataclass
-from typing import Dict, List, Optional, Tuple, Union
+from itertools import islice
+from typing import Callable, Dict, Iterable, List, Mapping, Optional, Tuple, Union
+
+from lanes import lanes
 
 # A program that has not ended after that many seconds is stopped, and its case has failed.
 SECONDS = 60
+# A test that has found that many faults ends.
+MOST_FAULTS = 10
 # Starts the words after it with standard output on a pipe that nobody reads. A process of its own makes the pipe, so that
 # no other that is just being started holds its other end.
 BROKEN = """
@@ -48,7 +54,6 @@ TIME = re.compile(rb"^(\d+/\d+ \w+ [a-z]+) \d+\.\d{3} s(?=:|$)", re.MULTILINE)
 
 
 def untimed(text: bytes) -> bytes:
-    """The text with 0.000 s for each time."""
     return TIME.sub(rb"\1 0.000 s", text)
 
 
@@ -71,6 +76,19 @@ class Case:
     # Standard output is a pipe that nobody reads any more.
     is_broken: bool = False
 
+    @property
+    def command(self) -> str:
+        """The command as a reader can type it."""
+        words = [it if isinstance(it, str) else repr(it)[1:] for it in self.words]
+        shown = " ".join(["ttrun", *map(shlex.quote, words)])
+        extra = [self.redirect, self.stays_open and "< (a pipe that stays open)", self.is_broken and "| (nobody)"]
+        limit = f"ulimit {self.limit}; " if self.limit else ""
+        return limit + " ".join([shown, *(it for it in extra if it)])
+
+    def faults(self, program: str) -> List[str]:
+        """What is wrong with a run of the program, nothing if the test passes."""
+        return faults_of(self, run(self, program))
+
 
 @dataclass
 class Ran:
@@ -80,6 +98,26 @@ class Ran:
     errors: bytes
     status: int
     is_late: bool = False
+
+
+def joined(*words: str) -> str:
+    """A name made of these words; an option is named without its dashes."""
+    return "_".join(it.strip("-") for it in words)
+
+
+def as_lines(*lines: str) -> bytes:
+    """The bytes of these lines, each of which ends with a line feed."""
+    return "".join(f"{it}\n" for it in lines).encode()
+
+
+def refusal(line: str) -> Ran:
+    """What the program gives if it refuses an input with this line on standard error."""
+    return Ran(b"", as_lines(f"ttrun: {line}"), 3)
+
+
+def refused(name: str, words: Tuple[Word, ...], given: bytes, line: str, **others: object) -> Case:
+    """A run that writes nothing, and is refused with this line on standard error."""
+    return Case(name, words, given, errors=as_lines(f"ttrun: {line}"), status=3, **others)
 
 
 def command_of(case: Case, program: str) -> List[Word]:
@@ -93,22 +131,13 @@ def command_of(case: Case, program: str) -> List[Word]:
     return ["sh", "-c", f'{limit}exec "$@" {case.redirect}', "sh", *plain]
 
 
-def shown_command(case: Case) -> str:
-    """The command as a reader can type it."""
-    words = [it if isinstance(it, str) else repr(it)[1:] for it in case.words]
-    shown = " ".join(["ttrun", *map(shlex.quote, words)])
-    extra = [case.redirect, case.stays_open and "< (a pipe that stays open)", case.is_broken and "| (nobody)"]
-    limit = f"ulimit {case.limit}; " if case.limit else ""
-    return limit + " ".join([shown, *(it for it in extra if it)])
-
-
-def ended(started: subprocess.Popen, given: Optional[bytes]) -> Ran:
-    """Gives the input, or with None keeps the pipe open, and waits for the program's end."""
+def ended(started: subprocess.Popen, given: Optional[bytes], seconds: int = SECONDS) -> Ran:
+    """Gives the input, or with None keeps the pipe open, and waits for the program's end. One that has not ended then is killed."""
     try:
         if given is None:
-            started.wait(SECONDS)
+            started.wait(seconds)
             return Ran(started.stdout.read(), started.stderr.read(), started.returncode)
-        output, errors = started.communicate(given, timeout=SECONDS)
+        output, errors = started.communicate(given, timeout=seconds)
         return Ran(output or b"", errors, started.returncode)
     except subprocess.TimeoutExpired:
         os.killpg(started.pid, signal.SIGKILL)
@@ -117,7 +146,6 @@ def ended(started: subprocess.Popen, given: Optional[bytes]) -> Ran:
 
 
 def run(case: Case, program: str) -> Ran:
-    """Runs the program once."""
     pipes: Dict[str, int] = {"stdin": subprocess.PIPE, "stdout": subprocess.PIPE, "stderr": subprocess.PIPE}
     with subprocess.Popen(command_of(case, program), bufsize=0, start_new_session=True, **pipes) as started:
         if not case.stays_open:
@@ -130,8 +158,11 @@ def run(case: Case, program: str) -> Ran:
         return ended(started, None)
 
 
+def answer(program: str, given: bytes, *words: str) -> Ran:
+    return run(Case("", words, given), program)
+
+
 def first_difference(wanted: bytes, given: bytes) -> str:
-    """The first line in which two texts differ."""
     both = [wanted.split(b"\n"), given.split(b"\n")]
     for number in range(max(map(len, both))):
         one, other = (lines[number][:200] if number < len(lines) else None for lines in both)
@@ -155,11 +186,72 @@ def difference(name: str, wanted: Wanted, given: bytes) -> List[str]:
     return [] if given else [f"{name} is empty, and some text is wanted"]
 
 
-def faults_of(case: Case, ran: Ran) -> List[str]:
-    """Everything that is not as the case wants it."""
-    if ran.is_late:
+def faults_in(wanted: Ran, came: Ran) -> List[str]:
+    """Everything that is not as it is wanted; the texts that are wanted need not be fixed."""
+    if came.is_late:
         return [f"it had not ended after {SECONDS} seconds"]
-    faults = [f"status: wanted {case.status}, came {ran.status}"] if ran.status != case.status else []
-    faults += difference("standard output", case.output, ran.output)
-    faults += difference("standard error", case.errors, ran.errors)
-    return faults
+    faults = [f"status: wanted {wanted.status}, came {came.status}"] if came.status != wanted.status else []
+    return faults + difference("standard output", wanted.output, came.output) + difference("standard error", wanted.errors, came.errors)
+
+
+def faults_of(case: Case, ran: Ran) -> List[str]:
+    return faults_in(Ran(case.output, case.errors, case.status), ran)
+
+
+@dataclass(frozen=True)
+class Judgement:
+    """A test of more than one run, by a function that gets the program's path and what else is kept for it, and names what is wrong."""
+
+    name: str
+    command: str
+    judge: Callable[..., Iterable[str]]
+    kept: Tuple[object, ...] = ()
+
+    def faults(self, program: str) -> List[str]:
+        return list(islice(self.judge(program, *self.kept), MOST_FAULTS))
+
+
+Test = Union[Case, Judgement]
+
+
+def below(met: Mapping[str, int], floors: Dict[str, int]) -> List[str]:
+    """What was met too seldom for a test to say much."""
+    return [f"{name} was met {met.get(name, 0)} times, and {floor} are wanted" for name, floor in floors.items() if met.get(name, 0) < floor]
+
+
+def shown_with(faults: List[str], *shown: str) -> List[str]:
+    """The faults, if there are any, and what they are of."""
+    return [*faults, *shown] if faults else []
+
+
+def chosen_tests(parser: argparse.ArgumentParser, tests: Callable[[int], List[Test]]) -> Tuple[argparse.Namespace, List[Test]]:
+    """The words that the parser takes, and the tests that they choose."""
+    parser.add_argument("--only", default="", help="the tests with this in their names")
+    parser.add_argument("--seed", type=int, default=1, help="of the random inputs")
+    parser.add_argument("--list", action="store_true", help="prints the names of the tests")
+    given = parser.parse_args()
+    chosen = [it for it in tests(given.seed) if given.only in it.name]
+    if given.list:
+        print("\n".join(it.name for it in chosen))
+        sys.exit(0)
+    return given, chosen
+
+
+def guarded(test: Test, program: object) -> List[str]:
+    try:
+        return test.faults(program)
+    except Exception as error:  # a test that breaks has failed, and the others run on
+        return [f"{type(error).__name__}: {error}"]
+
+
+def run_all(tests: List[Test], program: object, title: str) -> int:
+    """Runs the tests, several at a time, and prints which have failed; the status."""
+    began = time.monotonic()
+    with ThreadPoolExecutor(lanes()) as pool:
+        answers = list(pool.map(lambda it: guarded(it, program), tests))
+    failed = [(test, faults) for test, faults in zip(tests, answers) if faults]
+    for test, faults in failed:
+        print("\n".join([f"FAILED {test.name}", *(f"  {it}" for it in [test.command] * bool(test.command) + faults)]))
+    print(f"{title}: {len(tests)} tests in {time.monotonic() - began:.0f} seconds")
+    print(f"{len(tests) - len(failed)} passed, {len(failed)} failed")
+    return 1 if failed or not tests else 0

@@ -1,29 +1,23 @@
 """Test cases that are chosen: `--list`, `--only` and `--shard` of run and explore against a choice made here, on random scripts."""
-from __future__ import annotations
-
 import random
 import re
+from collections import Counter
 from dataclasses import dataclass
-from typing import Dict, List, Optional, Tuple
+from typing import Dict, Iterator, List, Optional, Tuple
 
-from case import Case, Ran, run
-from judged import Judgement
+from case import Judgement, Ran, answer, as_lines, below, refusal
+from rows import ONLY
+from texts import status_of
 
 # How many scripts are drawn, and the fewest choices, of each kind, that they have to reach.
 SCRIPTS = 12
 FEWEST = {"choices": 100, "empty choices": 5, "names": 40, "shards": 40, "names and shards": 15, "unknown names": 4, "live": 20, "stars": 30,
           "stars that take some": 10}
 
-ONLY = b"ttrun: --only takes the name of one of the test cases\n"
-STATUS = {"none": 0, "pass": 0, "inconc": 1, "fail": 1, "error": 2}
-LEVEL = ("none", "pass", "inconc", "fail", "error")
-
 # Steps after which the verdict is the same in each run, with that verdict.
-BODIES: Tuple[Tuple[str, str], ...] = (
-    ("setverdict pass", "pass"), ("setverdict fail", "fail"), ("setverdict inconc", "inconc"), ("getverdict", "none"),
-    ("setverdict fail\nsetverdict pass", "fail"), ("create p\nalive p", "none"), ("stopcase", "error"),
-    ("create p\nstart p other\nwait done p\nsetverdict pass", "inconc"),
-)
+BODIES: Tuple[Tuple[str, str], ...] = (("setverdict pass", "pass"), ("setverdict fail", "fail"), ("setverdict inconc", "inconc"),
+                                       ("getverdict", "none"), ("setverdict fail\nsetverdict pass", "fail"), ("create p\nalive p", "none"),
+                                       ("stopcase", "error"), ("create p\nstart p other\nwait done p\nsetverdict pass", "inconc"))
 
 
 @dataclass(frozen=True)
@@ -50,11 +44,9 @@ class Choice:
         return [word for words in spelled for word in words]
 
     def lacks(self, names: List[str]) -> bool:
-        """Whether one of the names that are asked for is none of these."""
         return not all(any(takes(it, name) for name in names) for it in self.only)
 
     def of(self, names: List[str]) -> List[str]:
-        """The names that it takes of these."""
         named = [name for name in names if not self.only or any(takes(it, name) for it in self.only)]
         if self.shard is None:
             return named
@@ -63,7 +55,6 @@ class Choice:
 
 
 def takes(pattern: str, name: str) -> bool:
-    """Whether the pattern matches the name."""
     return re.fullmatch(pattern.replace("*", ".*"), name) is not None
 
 
@@ -76,7 +67,6 @@ def starred(source: random.Random, name: str) -> str:
 
 
 def script(source: random.Random) -> Script:
-    """A random script of test cases whose verdicts are known."""
     verdicts: Dict[str, str] = {}
     lines: List[str] = []
     for number in source.sample(range(100), source.randint(1, 9)):
@@ -87,7 +77,7 @@ def script(source: random.Random) -> Script:
         if "start p other" in steps:
             lines += ["behaviour other", "setverdict inconc", "end"]
         lines.append("end")
-    return Script("".join(f"{line}\n" for line in lines).encode(), verdicts)
+    return Script(as_lines(*lines), verdicts)
 
 
 def choice(source: random.Random, names: List[str]) -> Choice:
@@ -102,87 +92,64 @@ def choice(source: random.Random, names: List[str]) -> Choice:
     return Choice(tuple(only), (source.randint(1, shards), shards) if source.random() < 0.6 else None)
 
 
-def status_of(verdicts: List[str]) -> int:
-    """The status for test cases of these verdicts."""
-    return STATUS[max(verdicts, key=LEVEL.index)] if verdicts else 0
+def blocks_by_name(text: bytes) -> Dict[str, bytes]:
+    """The block of each test case of a text of histories."""
+    return {it.split()[1].decode(): b"history " + it for it in re.split(rb"(?m)^history ", text)[1:]}
 
 
-def on(program: str, text: bytes, *words: str) -> Ran:
-    """Runs the program with these words."""
-    return run(Case("", words, text), program)
+def without_schedules(blocks: Dict[str, bytes]) -> Dict[str, bytes]:
+    """The blocks, but of one in which a behaviour is started only the verdict: what runs first there differs from run to run."""
+    return {name: block.splitlines()[-1] if b" start " in block else block for name, block in blocks.items()}
 
 
-def blocks_of(text: bytes) -> Dict[str, bytes]:
-    """The block of each test case of a text of histories, by its name."""
-    found: Dict[str, bytes] = {}
-    for line in text.splitlines(keepends=True):
-        if line.startswith(b"history "):
-            name = line.split()[2].decode()
-            found[name] = b""
-        found[name] += line
-    return found
-
-
-def faults_of_choice(program: str, given: Script, asked: Choice, source: random.Random, met: Dict[str, int]) -> List[str]:
-    """What is wrong with the list and the run of a choice."""
-    names = list(given.verdicts)
-    words = asked.words(source)
-    listed = on(program, given.text, "run", "--list", *words)
-    live = ["--live"] if source.random() < 0.4 else []
-    ran = on(program, given.text, "run", "--history", *live, *words)
-    for kind, is_met in (("choices", True), ("live", bool(live)), ("names", bool(asked.only)), ("shards", asked.shard is not None),
-                         ("names and shards", bool(asked.only) and asked.shard is not None)):
-        met[kind] += is_met
-    shown = " ".join(words)
-    explored = on(program, given.text, "explore", *words)
-    met["stars"] += any("*" in it for it in asked.only)
+def faults_of_choice(program: str, given: Script, asked: Choice, source: random.Random, met: Counter) -> List[str]:
+    names, words, live = list(given.verdicts), asked.words(source), ["--live"] if source.random() < 0.4 else []
+    listed, ran, explored = (answer(program, given.text, *it, *words) for it in (("run", "--list"), ("run", "--history", *live), ("explore",)))
+    has_stars = any("*" in it for it in asked.only)
+    met["choices"] += 1
+    met["live"] += bool(live)
+    met["names"] += bool(asked.only)
+    met["shards"] += bool(asked.shard)
+    met["names and shards"] += bool(asked.only and asked.shard)
+    met["stars"] += has_stars
     if asked.lacks(names):
         met["unknown names"] += 1
-        wanted = Ran(b"", ONLY, 3)
-        return [f"{shown}: {it}" for it in (listed, ran, explored) if it != wanted]
+        return [f"{words}: {it}" for it in (listed, ran, explored) if it != refusal(ONLY)]
     chosen = asked.of(names)
     met["empty choices"] += not chosen
-    met["stars that take some"] += any("*" in it for it in asked.only) and 0 < len(chosen) < len(names)
-    faults: List[str] = []
-    if listed != Ran("".join(f"{name}\n" for name in chosen).encode(), b"", 0):
-        faults.append(f"{shown}: the list is {listed}")
-    if list(blocks_of(ran.output)) != chosen or ran.errors or ran.status != status_of([given.verdicts[it] for it in chosen]):
-        faults.append(f"{shown}: the run gave {ran}, where {chosen} were chosen")
-    if explored != Ran("".join(f"{it} {given.verdicts[it]} complete\n" for it in chosen).encode(), b"", 0):
-        faults.append(f"{shown}: explore gave {explored}, where {chosen} were chosen")
-    return faults
+    met["stars that take some"] += has_stars and 0 < len(chosen) < len(names)
+    status = max((status_of(given.verdicts[it]) for it in chosen), default=0)
+    is_run = ([*blocks_by_name(ran.output)], ran.errors, ran.status) == (chosen, b"", status)
+    is_right = {"list": listed == Ran(as_lines(*chosen), b"", 0), "run": is_run,
+                "search": explored == Ran(as_lines(*(f"{it} {given.verdicts[it]} complete" for it in chosen)), b"", 0)}
+    return [f"{words}, {chosen} were chosen: the {it} gave {listed}, {ran}, {explored}" for it, right in is_right.items() if not right]
 
 
-def faults_of_shards(program: str, given: Script, shards: int) -> List[str]:
+def faults_of_shards(program: str, given: Script, shards: int) -> Iterator[str]:
     """What is wrong with the histories of all shards: after each other they are a text for `check`, of the whole campaign."""
-    whole = on(program, given.text, "run", "--history")
-    parts = [on(program, given.text, "run", "--history", "--shard", f"{number}/{shards}") for number in range(1, shards + 1)]
+    whole = answer(program, given.text, "run", "--history")
+    parts = [answer(program, given.text, "run", "--history", "--shard", f"{number}/{shards}") for number in range(1, shards + 1)]
     text = b"".join(it.output for it in parts)
-    checked = on(program, text, "check")
-    faults = [] if checked.status == 0 and not checked.errors else [f"{shards} shards: check gave {checked}"]
+    checked = answer(program, text, "check")
     told = [line.split()[1].decode() for line in checked.output.splitlines()]
-    if sorted(told) != sorted(given.verdicts):
-        faults.append(f"{shards} shards: {told} were run")
-    if blocks_of(text) != blocks_of(whole.output):
-        faults.append(f"{shards} shards: their histories are not those of the campaign")
+    if checked.status or checked.errors or sorted(told) != sorted(given.verdicts):
+        yield f"{shards} shards: check gave {checked}"
+    if without_schedules(blocks_by_name(text)) != without_schedules(blocks_by_name(whole.output)):
+        yield f"{shards} shards: their histories are not those of the campaign"
     if max(it.status for it in parts) != whole.status:
-        faults.append(f"{shards} shards: the worst status is not {whole.status}")
-    return faults
+        yield f"{shards} shards: the worst status is not {whole.status}"
+
+
+def faults_of_choices(program: str, seed: int) -> Iterator[str]:
+    source, met = random.Random(f"choosing {seed}"), Counter()
+    for _ in range(SCRIPTS):
+        given = script(source)
+        for _ in range(10):
+            yield from faults_of_choice(program, given, choice(source, list(given.verdicts)), source, met)
+        yield from faults_of_shards(program, given, source.randint(1, 5))
+    yield from below(met, FEWEST)
 
 
 def judgements(seed: int) -> List[Judgement]:
-    """One test over all scripts, which counts what it meets."""
-
-    def judge(program: str) -> List[str]:
-        source = random.Random(f"choosing {seed}")
-        met = dict.fromkeys(FEWEST, 0)
-        faults: List[str] = []
-        for _ in range(SCRIPTS):
-            given = script(source)
-            names = list(given.verdicts)
-            for _ in range(10):
-                faults += faults_of_choice(program, given, choice(source, names), source, met)
-            faults += faults_of_shards(program, given, source.randint(1, 5))
-        return faults + [f"only {met[kind]} {kind}, fewer than {fewest}" for kind, fewest in FEWEST.items() if met[kind] < fewest]
-
-    return [Judgement(f"chosen_test_cases_{seed}", "ttrun run [--list], explore [--only NAME].. [--shard K/N] < (random scripts)", judge)]
+    return [Judgement(f"chosen_test_cases_{seed}", "ttrun run [--list], explore [--only NAME].. [--shard K/N] < (random scripts)",
+                      faults_of_choices, (seed,))]

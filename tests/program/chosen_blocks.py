@@ -1,18 +1,15 @@
 """Histories that are chosen without their script: `check` and `report` with --only and --failed, worked texts, and random ones next to
 a choice made here."""
-from __future__ import annotations
-
 import random
 from collections import Counter
-from typing import List, Tuple
+from typing import Iterator, List, Sequence, Tuple
 
 import reports
-from case import Case, Ran, difference, run
-from choosing import ONLY, choice, takes
+from case import Case, Judgement, Ran, answer, below, faults_in, refusal, refused, shown_with
+from choosing import choice, takes
+from chosen_rows import LAST_TOLD, NEAR_TOLD
 from compared import LEGAL_A, LEGAL_B, LEGAL_C, OF_A, OF_B, OF_C
-from judged import Judgement
-from random_moves import below
-from rows import text
+from rows import ONLY, text
 from table import VERDICTS
 from texts import Block, judge_block, read_history
 
@@ -45,32 +42,30 @@ ROWS: List[Tuple[str, str, str, str, int]] = [
 
 # Name, options, text, the fault's line.
 REFUSED: List[Tuple[str, str, bytes, str]] = [
-    ("a_name_of_none", "--only d", text(EACH), ONLY.decode()[7:-1]),
-    ("a_pattern_of_none", "--only a --only d*", text(EACH), ONLY.decode()[7:-1]),
-    ("a_name_of_none_that_failed", "--only d --failed", text(EACH), ONLY.decode()[7:-1]),
-    ("a_name_in_capitals", "--only A", text(EACH), ONLY.decode()[7:-1]),
+    ("a_name_of_none", "--only d", text(EACH), ONLY),
+    ("a_pattern_of_none", "--only a --only d*", text(EACH), ONLY),
+    ("a_name_of_none_that_failed", "--only d --failed", text(EACH), ONLY),
+    ("a_name_in_capitals", "--only A", text(EACH), ONLY),
     ("a_bad_text_and_a_name_of_none", "--only d", text(f"{EACH};history 2 d 1;0 create"), "line 20: bad entry"),
     ("a_bad_text_after_an_illegal_one", "--only a", text(f"{OF_A};{BAD_B};history 3"), "line 13: bad first line"),
     ("no_text", "--failed", b"", "line 1: text ends too early"),
-    ("no_pattern", "--only 1", b"no text\n", ONLY.decode()[7:-1]),
+    ("no_pattern", "--only 1", b"no text\n", ONLY),
 ]
 
-# A name that is nearly one, and what is explained of it.
-NEARLY = ("--explain", "--only", "t_one", "--only", "t_tow")
+# Histories one of whose names is nearly t_tow, and many of which the last is nearly the_lats.
 NEAR_TEXT = text(";".join(OF_A.replace(" a ", f" {it} ") for it in ("t_one", "t_two", "u_one")))
-NEAR_TOLD = ONLY + b"  no test case has the name t_tow\n  nearest: t_two\n"
+MANY_TEXT = text(";".join(OF_A.replace(" a ", f" {it} ") for it in (*(f"v{it:03}" for it in range(100)), "the_last")))
 
 
-def chosen_of(blocks: List[Block], only: List[str], failed: bool) -> List[bool]:
-    """Whether each block is chosen."""
+def chosen_of(blocks: List[Block], only: Sequence[str], failed: bool) -> List[bool]:
     return [(not only or any(takes(it, block.name) for it in only)) and not (failed and block.verdict in ("none", "pass")) for block in blocks]
 
 
-def wanted_of(given: bytes, only: List[str], failed: bool) -> Tuple[Ran, List[reports.Told]]:
+def wanted_of(given: bytes, only: Sequence[str], failed: bool) -> Tuple[Ran, List[reports.Told]]:
     """What `check` answers, and what the forms have of the chosen blocks."""
-    blocks, refusal = read_history(given)
-    if refusal is not None:
-        return Ran(b"", refusal.errors, 3), []
+    blocks, refused_as = read_history(given)
+    if refused_as is not None:
+        return Ran(b"", refused_as.errors, 3), []
     output = ""
     chosen = chosen_of(blocks, only, failed)
     for block, is_chosen in zip(blocks, chosen):
@@ -79,35 +74,26 @@ def wanted_of(given: bytes, only: List[str], failed: bool) -> Tuple[Ran, List[re
             return Ran((output + line).encode(), b"", 3), []
         output += line if is_chosen else ""
     if not all(any(takes(it, block.name) for block in blocks) for it in only):
-        return Ran(b"", ONLY, 3), []
+        return refusal(ONLY), []
     return Ran(output.encode(), b"", 0), [reports.Told(it) for it, is_chosen in zip(blocks, chosen) if is_chosen]
 
 
 def faults_of(program: str, words: List[str], given: bytes, wanted: Ran, told: List[reports.Told], form: str) -> List[str]:
-    """What is wrong with `check` and with this form of `report`."""
-    checked = run(Case("", ("check", *words), given), program)
+    checked, ran = answer(program, given, "check", *words), answer(program, given, "report", f"--{form}", *words)
     faults = [] if checked == wanted else [f"check gave {checked}, and {wanted} is wanted"]
-    ran = run(Case("", ("report", f"--{form}", *words), given), program)
     if wanted.status:
-        line = wanted.errors or b"ttrun: " + wanted.output.splitlines(keepends=True)[-1]
-        faults += difference("standard output", b"", ran.output) + difference("standard error", line, ran.errors)
-        return faults + ([] if ran.status == 3 else [f"status {ran.status}"])
+        return faults + faults_in(Ran(b"", wanted.errors or b"ttrun: " + wanted.output.splitlines(keepends=True)[-1], 3), ran)
     return faults + reports.faults_of_forms(form, told, given, ran, b"", reports.status_for(told) if told else 0)
 
 
-def of_worked_texts(form: str) -> Judgement:
+def faults_of_worked_texts(program: str, form: str) -> List[str]:
     """A form of each worked text, and of each that is refused."""
-
-    def judge(program: str) -> List[str]:
-        faults: List[str] = []
-        for name, options, given in [(name, options, text(given)) for name, options, given, _, __ in ROWS] + [it[:3] for it in REFUSED[:-1]]:
-            words = options.replace("=", " ").split()
-            only = [it for it in words if not it.startswith("--")]
-            wanted, told = wanted_of(given, only, "--failed" in words)
-            faults += [f"{name}: {it}" for it in faults_of(program, words, given, wanted, told, form)]
-        return faults
-
-    return Judgement(f"chosen_histories_as_{form}", f"ttrun report --{form} [--only NAME].. [--failed]", judge)
+    faults: List[str] = []
+    for name, options, given in [(name, options, text(given)) for name, options, given, _, __ in ROWS] + [it[:3] for it in REFUSED[:-1]]:
+        words = options.replace("=", " ").split()
+        wanted, told = wanted_of(given, [it for it in words if not it.startswith("--")], "--failed" in words)
+        faults += [f"{name}: {it}" for it in faults_of(program, words, given, wanted, told, form)]
+    return faults
 
 
 def random_text(chance: random.Random) -> bytes:
@@ -122,56 +108,50 @@ def random_text(chance: random.Random) -> bytes:
     return given[:-4] if chance.random() < 0.03 else given
 
 
-def of_random_texts(seed: int) -> Judgement:
+def faults_of_random_texts(program: str, seed: int) -> Iterator[str]:
     """Random histories and choices next to a choice made here."""
-
-    def judge(program: str) -> List[str]:
-        chance, met = random.Random(f"chosen histories {seed}"), Counter()
-        for at in range(400):
-            given = random_text(chance)
-            blocks = read_history(given)[0]
-            asked = choice(chance, sorted({it.name for it in blocks}) or ["t1"])
-            failed = chance.random() < 0.5
-            words = [word for it in asked.only for word in ("--only", it)]
-            words[chance.choice((0, len(words))):0] = ["--failed"] if failed else []
-            wanted, told = wanted_of(given, list(asked.only), failed)
-            form = ("csv", "junit", "summary")[at % 3]
-            faults = faults_of(program, words, given, wanted, told, form)
-            if faults:
-                return [*faults, f"the words: {words}", f"the text: {given.decode()}"]
-            met["refused texts"] += bool(wanted.errors) and wanted.errors != ONLY
-            met["names of none"] += wanted.errors == ONLY
-            illegal = [it for it in blocks if not judge_block(it)[1]][:1]
-            met["illegal"] += bool(illegal)
-            met["illegal and not chosen"] += bool(illegal) and not chosen_of(illegal, list(asked.only), failed)[0]
-            if not wanted.status:
-                met["choices"] += 1
-                met["left out"] += len(blocks) - len(told)
-                met["left out of names"] += bool(asked.only) and len(told) < len(blocks)
-                met["left out of what failed"] += failed and not asked.only and 0 < len(told) < len(blocks)
-                met["both"] += failed and bool(asked.only) and bool(told)
-                met["nothing"] += not told
-        return below(met, [("choices", 200), ("left out", 200), ("left out of names", 50), ("left out of what failed", 15), ("both", 25), ("nothing", 20),
-                           ("names of none", 10), ("illegal", 12), ("illegal and not chosen", 4), ("refused texts", 2)])
-
-    return Judgement(f"chosen_random_histories_{seed}", "ttrun check and report [--only NAME].. [--failed] < (random histories)", judge)
+    chance, met = random.Random(f"chosen histories {seed}"), Counter()
+    for at in range(400):
+        given = random_text(chance)
+        blocks = read_history(given)[0]
+        only, failed = choice(chance, sorted({it.name for it in blocks}) or ["t1"]).only, chance.random() < 0.5
+        words = [word for it in only for word in ("--only", it)]
+        words[chance.choice((0, len(words))):0] = ["--failed"] if failed else []
+        wanted, told = wanted_of(given, only, failed)
+        faults = faults_of(program, words, given, wanted, told, ("csv", "junit", "summary")[at % 3])
+        yield from shown_with(faults, f"the words: {words}", f"the text: {given.decode()}")
+        illegal = [it for it in blocks if not judge_block(it)[1]][:1]
+        met["names of none"] += wanted == refusal(ONLY)
+        met["refused texts"] += bool(wanted.errors) and wanted != refusal(ONLY)
+        met["illegal"] += bool(illegal)
+        met["illegal and not chosen"] += bool(illegal) and not chosen_of(illegal, only, failed)[0]
+        if not wanted.status:
+            met["choices"] += 1
+            met["left out"] += len(blocks) - len(told)
+            met["left out of names"] += bool(only) and len(told) < len(blocks)
+            met["left out of what failed"] += failed and not only and 0 < len(told) < len(blocks)
+            met["both"] += failed and bool(only) and bool(told)
+            met["nothing"] += not told
+    yield from below(met, {"choices": 200, "left out": 200, "left out of names": 50, "left out of what failed": 15, "both": 25, "nothing": 20,
+                           "names of none": 10, "illegal": 12, "illegal and not chosen": 4, "refused texts": 2})
 
 
-def cases() -> List[Case]:
-    """The tests of worked texts."""
-    found = [Case(f"chosen_histories_{name}", ("check", *options.split()), text(given), text(output) if output else b"", status=status)
-             for name, options, given, output, status in ROWS]
-    found += [Case(f"chosen_histories_{name}", ("check", *options.split()), given, errors=f"ttrun: {fault}\n".encode(), status=3)
-              for name, options, given, fault in REFUSED]
-    found += [Case(f"a_name_that_is_nearly_one_{words[0]}_without_a_script", words + NEARLY, NEAR_TEXT, errors=NEAR_TOLD, status=3)
-              for words in (("check",), ("report", "--csv"))]
-    found += [Case(f"chosen_histories_{words[0]}_on_a_full_device", words + ("--only", "b"), text(EACH), errors=b"ttrun: write fault\n", status=3,
-                   redirect=">/dev/full") for words in (("check",), ("report", "--csv"))]
-    found += [Case(f"a_name_of_none_{words[0]}_on_a_full_device", words + ("--only", "d"), text(EACH), errors=ONLY, status=3,
-                   redirect=">/dev/full") for words in (("check",), ("report", "--csv"))]
-    return found
+def cases() -> Iterator[Case]:
+    for name, options, given, output, status in ROWS:
+        yield Case(f"chosen_histories_{name}", ("check", *options.split()), text(given), text(output) if output else b"", status=status)
+    for name, options, given, fault in REFUSED:
+        yield refused(f"chosen_histories_{name}", ("check", *options.split()), given, fault)
+    for words in (("check",), ("report", "--csv")):
+        yield Case(f"a_name_that_is_nearly_one_{words[0]}_without_a_script", words + ("--explain", "--only", "t_one", "--only", "t_tow"), NEAR_TEXT,
+                   b"", NEAR_TOLD, 3)
+        yield Case(f"a_name_that_is_nearly_the_last_of_many_{words[0]}", words + ("--explain", "--only", "the_lats"), MANY_TEXT, b"", LAST_TOLD, 3)
+        full = {"redirect": ">/dev/full"}
+        yield refused(f"chosen_histories_{words[0]}_on_a_full_device", words + ("--only", "b"), text(EACH), "write fault", **full)
+        yield refused(f"a_name_of_none_{words[0]}_on_a_full_device", words + ("--only", "d"), text(EACH), ONLY, **full)
 
 
 def judgements(seed: int) -> List[Judgement]:
-    """Each form of the worked texts, and random ones."""
-    return [of_worked_texts(form) for form in ("csv", "junit", "summary")] + [of_random_texts(seed)]
+    found = [Judgement(f"chosen_histories_as_{it}", f"ttrun report --{it} [--only NAME].. [--failed]", faults_of_worked_texts, (it,))
+             for it in ("csv", "junit", "summary")]
+    return [*found, Judgement(f"chosen_random_histories_{seed}", "ttrun check and report [--only NAME].. [--failed] < (random histories)",
+                              faults_of_random_texts, (seed,))]

@@ -1,19 +1,17 @@
 """Histories and evidence after their script: worked texts of `check --script`, and random campaigns whose blocks are changed, next
 to a reading of their own."""
-from __future__ import annotations
-
 import random
+import re
 from collections import Counter
-from typing import List, Tuple
+from dataclasses import dataclass
+from typing import Iterator, List, Tuple, Union
 
-from case import Case, Ran, run
-from choosing import ONLY, Choice, choice
-from courses import State
-from judged import Judgement
-from random_courses import drawn_cases
-from random_moves import below
-from rows import text
-from script_reader import Campaign, TestCase, read_script
+from case import Case, Judgement, Ran, answer, as_lines, below, faults_in, refusal, refused, shown_with
+from choosing import Choice, choice
+from courses import fault_of_course
+from random_courses import drawn_campaign
+from rows import ONLY, SHARD, text
+from script_reader import Campaign
 from table import VERDICTS
 from texts import Block, Judged, check, read_history
 
@@ -55,16 +53,14 @@ ROWS: List[Tuple[str, str, str, int]] = [
     ("another_number_of_behaviours", f"history 2 a 2;0 setverdict pass -> ok;0 finish -> ok;end pass;{OF_B};{OF_C}",
      f"legal a 2 pass;{LEGAL_B};{LEGAL_C};no course a", 3),
     ("no_entries", f"history 2 a 1;end none;{OF_B};{OF_C}", f"legal a 0 none;{LEGAL_B};{LEGAL_C};no course a", 3),
-    ("another_verdict", f"{OF_A.replace('end pass', 'end fail')};{OF_B};{OF_C}",
-     "line 4: fail, table gives pass;no course a", 3),
+    ("another_verdict", f"{OF_A.replace('end pass', 'end fail')};{OF_B};{OF_C}", "line 4: fail, table gives pass;no course a", 3),
     ("another_reply", f"{OF_A};{OF_B};{OF_C.replace('getverdict -> none', 'getverdict -> pass')}",
      f"{LEGAL_A};{LEGAL_B};line 15: pass, table gives none;no course c", 3),
     ("an_illegal_block_and_a_missing_one", OF_A.replace("finish -> ok", "finish -> ended"),
      "line 3: ended, table gives ok;no course a;missing b;missing c", 3),
     ("a_block_that_is_twice_and_no_course", f"{OF_A};history 2 a 1;end none;{OF_B};{OF_C}",
      f"{LEGAL_A};legal a 0 none;{LEGAL_B};{LEGAL_C};twice a", 3),
-    ("a_block_that_is_late_and_no_course", f"{OF_B};history 2 a 1;end none;{OF_C}",
-     f"{LEGAL_B};legal a 0 none;{LEGAL_C};out of order a", 3),
+    ("a_block_that_is_late_and_no_course", f"{OF_B};history 2 a 1;end none;{OF_C}", f"{LEGAL_B};legal a 0 none;{LEGAL_C};out of order a", 3),
 ]
 
 # Name, the words of a choice, blocks after the script of a, b and c, what is printed, status.
@@ -87,13 +83,12 @@ CHOSEN: List[Tuple[str, str, str, str, int]] = [
 
 # Name, the words of a choice, text, the fault's line.
 REFUSED_CHOICES: List[Tuple[str, str, bytes, str]] = [
-    ("a_name_of_no_test_case", "--only d", text(f"{SCRIPT};{OF_A}"), "--only takes the name of one of the test cases"),
-    ("a_name_of_no_test_case_and_a_bad_block", "--only d", text(f"{SCRIPT};history 2 a 1;0 create"),
-     "--only takes the name of one of the test cases"),
+    ("a_name_of_no_test_case", "--only d", text(f"{SCRIPT};{OF_A}"), ONLY),
+    ("a_name_of_no_test_case_and_a_bad_block", "--only d", text(f"{SCRIPT};history 2 a 1;0 create"), ONLY),
     ("a_bad_script_and_a_name", "--only d", text(f"testcase a;behaviour m;setverdict good;end;end;{OF_A}"), "line 3: line not understood"),
     ("a_bad_block_of_another_shard", "--shard 2/2", text(f"{SCRIPT};history 2 a 1;0 create"), "line 2: bad entry"),
-    ("a_name_that_is_none", "--only 1 --shard 1/2", text(SCRIPT), "--only takes the name of one of the test cases"),
-    ("a_bad_shard", "--only 1 --shard 0/2", text(SCRIPT), "--shard takes K/N, with K from 1 to N"),
+    ("a_name_that_is_none", "--only 1 --shard 1/2", text(SCRIPT), ONLY),
+    ("a_bad_shard", "--only 1 --shard 0/2", text(SCRIPT), SHARD),
     ("no_block_of_an_empty_shard", "--shard 4/4", text(SCRIPT), "line 1: text ends too early"),
 ]
 
@@ -114,19 +109,11 @@ REFUSED: List[Tuple[str, bytes, str]] = [
 ]
 
 
-def is_course(case: TestCase, block: Block) -> bool:
-    """Whether a block is a complete course of a test case with its verdict."""
-    if block.behaviours != len(case.behaviours):
-        return False
-    state = State(case)
-    for entry in block.entries:
-        run_ = entry.caller
-        if run_ not in state.going or not state.can_go(run_) or state.call_of(run_) != entry.op:
-            return False
-        if state.table.would(run_, entry.op) != entry.reply:
-            return False
-        state.step(run_)
-    return not state.going and state.table.overall() == block.verdict
+def refused_texts(name: str, words: Tuple[str, ...], part_words: Tuple[str, ...] = ()) -> List[Case]:
+    """Each text that is refused, with these words, or with others if test cases are chosen."""
+    found = [refused(f"{name}_a_script_{it}", words, given, fault) for it, given, fault in REFUSED]
+    return found + [refused(f"{name}_a_part_of_a_script_{it}", (*(part_words or words), *chosen.split()), given, fault)
+                    for it, chosen, given, fault in REFUSED_CHOICES]
 
 
 def notes_of(campaign: Campaign, blocks: List[Block]) -> List[str]:
@@ -142,28 +129,22 @@ def notes_of(campaign: Campaign, blocks: List[Block]) -> List[str]:
             notes.append(f"twice {block.name}")
         elif any(it > cases[block.name][0] for it in before):
             notes.append(f"out of order {block.name}")
-        elif not is_course(cases[block.name][1], block):
+        elif fault_of_course(cases[block.name][1], block):
             notes.append(f"no course {block.name}")
     return notes + [f"missing {it.name}" for it in campaign if it.name not in names]
 
 
-def wanted_of(campaign: Campaign, behind: bytes) -> Ran:
+def wanted_of(campaign: Campaign, behind: bytes) -> Union[Ran, Judged]:
     """What `check --script` answers to these blocks after their script."""
-    blocks, refusal = read_history(behind)
-    if refusal is not None:
-        return Ran(b"", refusal.errors, 3)
+    blocks, refused_as = read_history(behind)
+    if refused_as is not None:
+        return refused_as
     legal, notes = check(behind), notes_of(campaign, blocks)
-    return Ran(legal.output + "".join(f"{it}\n" for it in notes).encode(), b"", 3 if notes else legal.status)
+    return Ran(legal.output + as_lines(*notes), b"", 3 if notes else legal.status)
 
 
 def blocks_in(history: bytes) -> List[List[bytes]]:
-    """The lines of each block."""
-    found: List[List[bytes]] = []
-    for line in history.splitlines(keepends=True):
-        if line.startswith((b"history ", b"evidence ")):
-            found.append([])
-        found[-1].append(line)
-    return found
+    return [it.splitlines(keepends=True) for it in re.split(rb"(?m)^(?=history |evidence )", history)[1:]]
 
 
 def changed(chance: random.Random, blocks: List[List[bytes]]) -> List[List[bytes]]:
@@ -202,83 +183,84 @@ def drawn_choice(chance: random.Random, campaign: Campaign, blocks: List[List[by
     return asked, [it for it in campaign if it.name in taken], blocks
 
 
-def runs_and_changed_runs(seed: int) -> Judgement:
+@dataclass
+class Compared:
+    """Blocks after the script of a campaign, with a choice: its words, and the test cases that it takes."""
+
+    script: bytes
+    behind: bytes
+    asked: Choice
+    words: List[str]
+    taken: Campaign
+    lacks: bool
+
+    def answer(self, program: str, *words: str) -> Ran:
+        """What the program gives for the script and the blocks with these words and those of the choice."""
+        return answer(program, self.script + self.behind, *words, *self.words)
+
+    def shown(self) -> List[str]:
+        return [f"the choice: {self.asked}", f"the text: {(self.script + self.behind).decode()}"]
+
+
+def drawn_comparisons(chance: random.Random, program: str, scripts: int, texts: int, changes: Tuple[int, ...]) -> Iterator[Compared]:
+    """Texts of what real runs of random scripts wrote, some of them with changes and choices, after their scripts."""
+    for _ in range(scripts):
+        script, campaign = drawn_campaign(chance, chance.choice((1, 3, 6)))
+        history = answer(program, script, "run", chance.choice(("--history", "--evidence"))).output
+        for _ in range(texts):
+            asked, taken, blocks = drawn_choice(chance, campaign, blocks_in(history))
+            for _ in range(chance.choice(changes)):
+                blocks = changed(chance, blocks) or blocks
+            behind = b"".join(b"".join(it) for it in blocks)
+            yield Compared(script, behind, asked, asked.words(chance), taken, asked.lacks([it.name for it in campaign]))
+
+
+def runs_and_changed_runs(program: str, seed: int) -> Iterator[str]:
     """What real runs wrote is found whole, and what was changed of it is found wrong as by the tests' own reading."""
-
-    def judge(program: str) -> List[str]:
-        chance, met = random.Random(f"compared {seed}"), Counter()
-        for at in range(60):
-            script = ("\n".join(drawn_cases(chance, chance.choice((1, 3, 6)))) + "\n").encode()
-            campaign = read_script(script)
-            if isinstance(campaign, Judged):
-                return [f"the script that was drawn is refused: {campaign.errors!r}"]
-            history = run(Case("", ("run", "--history"), script), program).output
-            ran = run(Case("", ("check", "--script"), script + history), program)
-            if ran != Ran(check(history).output, b"", 0):
-                return [f"what a run wrote: {ran}", f"the text: {(script + history).decode()}"]
-            met["entries"] += len(history.splitlines())
-            for _ in range(8):
-                asked, taken, blocks = drawn_choice(chance, campaign, blocks_in(history))
-                for _ in range(chance.choice((0, 1, 1, 2, 3))):
-                    blocks = changed(chance, blocks) or blocks
-                behind = b"".join(b"".join(it) for it in blocks)
-                ran = run(Case("", ("check", "--script", *asked.words(chance)), script + behind), program)
-                wanted = wanted_of(taken, behind)
-                if asked.lacks([case.name for case in campaign]):
-                    wanted = Ran(b"", ONLY, 3)
-                    met["names of none"] += 1
-                if ran != wanted:
-                    return [f"wanted {wanted}", f"came {ran}", f"the choice: {asked}", f"the text: {(script + behind).decode()}"]
-                met["texts"] += 1
-                met["choices"] += bool(asked.only or asked.shard)
-                met["right choices"] += bool(asked.only or asked.shard) and ran.status == 0
-                met["right"] += ran.status == 0
-                met.update(line.rpartition(" ")[0] for line in ran.output.decode().splitlines() if not line.startswith(("legal", "line")))
-        floors = [("texts", 400), ("right", 20), ("choices", 100), ("right choices", 20), ("names of none", 5), ("entries", 1500),
-                  ("missing", 60), ("twice", 30), ("out of order", 15), ("unknown", 40), ("no course", 60)]
-        return below(met, floors)
-
-    return Judgement(f"runs_and_changed_runs_beside_their_script_{seed}", "ttrun check --script < (random scripts and runs)", judge)
+    chance, met = random.Random(f"compared {seed}"), Counter()
+    for _ in range(60):
+        script, _ = drawn_campaign(chance, chance.choice((1, 3, 6)))
+        history = answer(program, script, "run", "--history").output
+        faults = faults_in(check(history), answer(program, script + history, "check", "--script"))
+        yield from shown_with(faults, f"what a run wrote: {(script + history).decode()}")
+        met["entries"] += len(history.splitlines())
+    for it in drawn_comparisons(chance, program, 60, 8, (0, 1, 1, 2, 3)):
+        ran = it.answer(program, "check", "--script")
+        yield from shown_with(faults_in(refusal(ONLY) if it.lacks else wanted_of(it.taken, it.behind), ran), *it.shown())
+        met["names of none"] += it.lacks
+        met["texts"] += 1
+        met["choices"] += bool(it.words)
+        met["right choices"] += bool(it.words) and ran.status == 0
+        met["right"] += ran.status == 0
+        met.update(line.rpartition(" ")[0] for line in ran.output.decode().splitlines() if not line.startswith(("legal", "line")))
+    yield from below(met, {"texts": 400, "right": 20, "choices": 100, "right choices": 20, "names of none": 5, "entries": 1500,
+                           "missing": 60, "twice": 30, "out of order": 15, "unknown": 40, "no course": 60})
 
 
-def witnesses_are_courses(seed: int) -> Judgement:
+def witnesses_are_courses(program: str, seed: int) -> List[str]:
     """Each witness of `explore --history` is a course of its script: the first of each test case is found right."""
-
-    def judge(program: str) -> List[str]:
-        chance, met = random.Random(f"witnesses {seed}"), Counter()
-        script = ("\n".join(drawn_cases(chance, 300)) + "\n").encode()
-        history = run(Case("", ("explore", "--history"), script), program).output
-        ran = run(Case("", ("check", "--script"), script + history), program)
-        lines = ran.output.decode().splitlines()
-        met["legal"] = sum(it.startswith("legal ") for it in lines)
-        met["twice"] = sum(it.startswith("twice ") for it in lines)
-        wrong = [it for it in lines if not it.startswith(("legal ", "twice "))]
-        return wrong[:5] + below(met, [("legal", 300), ("twice", 30)])
-
-    return Judgement(f"witnesses_are_courses_{seed}", "ttrun explore --history, and check --script", judge)
+    script, _ = drawn_campaign(random.Random(f"witnesses {seed}"), 300)
+    history = answer(program, script, "explore", "--history").output
+    lines = answer(program, script + history, "check", "--script").output.decode().splitlines()
+    wrong = [it for it in lines if not it.startswith(("legal ", "twice "))]
+    return wrong[:5] + below(Counter(it.split()[0] for it in lines), {"legal": 300, "twice": 30})
 
 
 def long_input(cases: int) -> Case:
-    """That many test cases, each with its block."""
     names = [f"t{at}" for at in range(cases)]
-    script = "".join(text(A.replace(" a;", f" {it};")).decode() for it in names)
-    blocks = "".join(text(OF_A.replace(" a ", f" {it} ")).decode() for it in names)
-    output = "".join(f"legal {it} 2 pass\n" for it in names)
-    return Case("script_of_many_test_cases", ("check", "--script"), (script + blocks).encode(), output.encode())
+    script, blocks = b"".join(text(A.replace(" a;", f" {it};")) for it in names), b"".join(text(OF_A.replace(" a ", f" {it} ")) for it in names)
+    return Case("script_of_many_test_cases", ("check", "--script"), script + blocks, as_lines(*(f"legal {it} 2 pass" for it in names)))
 
 
 def cases() -> List[Case]:
-    """The tests of worked texts."""
     words = ("check", "--script")
-    found = [Case(f"beside_a_script_{name}", words, text(f"{SCRIPT};{given}"), text(output), status=status) for name, given, output, status in ROWS]
-    found += [Case(f"beside_a_script_{name}", words, given, errors=f"ttrun: {fault}\n".encode(), status=3) for name, given, fault in REFUSED]
-    found += [Case(f"beside_a_part_of_a_script_{name}", (*words, *chosen.split()), text(f"{SCRIPT};{given}"), text(output), status=status)
-              for name, chosen, given, output, status in CHOSEN]
-    found += [Case(f"beside_a_part_of_a_script_{name}", (*words, *chosen.split()), given, errors=f"ttrun: {fault}\n".encode(), status=3)
-              for name, chosen, given, fault in REFUSED_CHOICES]
-    return found + [long_input(1_000)]
+    chosen = [(f"beside_a_script_{name}", "", *row) for name, *row in ROWS] + [(f"beside_a_part_of_a_script_{name}", *row) for name, *row in CHOSEN]
+    found = [Case(name, (*words, *choice.split()), text(f"{SCRIPT};{given}"), text(output), status=status)
+             for name, choice, given, output, status in chosen]
+    return [*found, *refused_texts("beside", words), long_input(1_000)]
 
 
 def judgements(seed: int) -> List[Judgement]:
-    """The tests for this seed."""
-    return [runs_and_changed_runs(seed), witnesses_are_courses(seed)]
+    return [Judgement(f"runs_and_changed_runs_beside_their_script_{seed}", "ttrun check --script < (random scripts and runs)",
+                      runs_and_changed_runs, (seed,)),
+            Judgement(f"witnesses_are_courses_{seed}", "ttrun explore --history, and check --script", witnesses_are_courses, (seed,))]

@@ -1,6 +1,4 @@
 """The documents' commands that read a file of examples/, run as they are there, and the guide's that read a script of its own."""
-from __future__ import annotations
-
 import os
 import re
 import sys
@@ -55,7 +53,7 @@ def shown_cases() -> List[Case]:
         else:
             verdicts = set(written.split(b"\n")[0].split()[1:-1])
             found.append(Case(name, words, script, output=written, status=int(len(verdicts) > 1)))
-    assert [it.words[1] for it in found] == ["--explain", "--explain", "--locals", "--details", "--details"], [it.name for it in found]
+    assert [it.words[1] for it in found] == ["--explain", "--locals", "--details", "--details"], [it.name for it in found]
     return found
 
 
@@ -73,8 +71,7 @@ def cases() -> List[Case]:
             seen.add((words, file))
             output = examples.bytes_of(output_of(words, file))
             told = Timed(examples.bytes_of(f"{file.partition('.')[0]}.progress") if "--progress" in words else b"")
-            form = "report" if words[0] in ("run", "replay") and "--csv" not in words else "csv"
-            form = "summary" if "--summary" in words else form
-            found.append(Case(f"{path}_{number}_{'_'.join(words)}_{file}", words, examples.bytes_of(file), output, errors=told,
-                              status=examples.status_in(form, output)))
+            form = "summary" if "--summary" in words else "report" if words[0] in ("run", "replay") and "--csv" not in words else "csv"
+            found.append(Case(f"{path}_{number}_{'_'.join(words)}_{file}", words, examples.bytes_of(file), output, told,
+                              examples.status_in(form, output)))
     return found + shown_cases()

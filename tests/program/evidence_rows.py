@@ -1,20 +1,16 @@
 """Evidence that `run` writes, and evidence through `check` and `report`: worked texts, each fault, long texts, and random and spoilt
 ones next to the tests' reader."""
-from __future__ import annotations
-
 import os
 import random
 import re
 import sys
 from collections import Counter
 from concurrent.futures import ThreadPoolExecutor
-from typing import Dict, List, Tuple, Union
+from typing import Dict, Iterator, List, Tuple, Union
 
 import examples
 import reports
-from case import Case, difference, faults_of, run
-from judged import Judgement
-from random_moves import below
+from case import Case, Judgement, Ran, answer, as_lines, below, difference, faults_in, joined, refused, shown_with
 from random_scripts import drawn_script
 from rows import text
 from script_reader import Campaign, read_script
@@ -24,7 +20,7 @@ from texts import MOST_BYTES_OF_A_HISTORY, check
 sys.path += [os.path.join(examples.TOP, "tests", it) for it in ("page", "serve")]
 
 import evidence
-import said
+import evidence_texts
 
 # How many bytes `check` reads at a time, at most: what the sources say, so that the rows cut lines where `check` does.
 with open(os.path.join(examples.TOP, "crates", "tc_blocks", "src", "source.rt"), encoding="utf-8") as source:
@@ -108,121 +104,99 @@ REFUSED: List[Tuple[str, bytes, int, str]] = [
 ]
 
 
-def long_texts() -> List[Case]:
+def long_texts() -> Iterator[Case]:
     """A text as long as may be, and one byte more, each of evidence."""
     head, tail, line = b"evidence 1 t 1\n", b"end none\n", b"0 # " + b"x" * 200 + b"\n"
     count, rest = divmod(MOST_BYTES_OF_A_HISTORY - len(head) - len(tail), len(line))
     filled = head + line * count + (b"0 # " + b"x" * (rest - 5) + b"\n" if rest > 5 else b"") + tail
     assert MOST_BYTES_OF_A_HISTORY - 5 <= len(filled) <= MOST_BYTES_OF_A_HISTORY, len(filled)
-    more = filled + b"\n" * (MOST_BYTES_OF_A_HISTORY + 1 - len(filled))
-    return [Case("the_longest_evidence", ("check",), filled, b"legal t 0 none\n"),
-            Case("the_longest_evidence_in_less_memory_than_its_bytes", ("check",), filled, b"legal t 0 none\n", limit="-v 14000"),
-            *faults_before_the_end(filled),
-            Case("evidence_that_is_too_long", ("check",), more, errors=b"ttrun: input too long\n", status=3)]
+    yield Case("the_longest_evidence", ("check",), filled, b"legal t 0 none\n")
+    yield Case("the_longest_evidence_in_less_memory_than_its_bytes", ("check",), filled, b"legal t 0 none\n", limit="-v 14000")
+    yield refused("evidence_that_is_too_long", ("check",), filled + b"\n" * (MOST_BYTES_OF_A_HISTORY + 1 - len(filled)), "input too long")
+    # What is wrong with a text is said only when its last byte is read: there may be too many of them.
+    late = b"evidence 1 t 1\n0 getverdict -> pass\nend none\n" + filled[:3_000_000] + b"\nx\n"
+    yield refused("a_fault_before_too_many_bytes", ("check",), b"x\n" + filled, "input too long")
+    yield refused("a_fault_before_a_million_bytes", ("check",), b"x\n" + filled[:1_000_000], "line 1: bad first line")
+    last = late.count(b"\n")
+    yield refused("a_fault_long_behind_an_illegal_block", ("check",), late, f"line {last}: bad entry")
+    yield refused("a_line_of_two_million_bytes", ("check",), head + b"0 # " + b"x" * 2_000_000 + b"\n" + tail, "line 2: bad entry")
 
 
-def parted_texts() -> List[Case]:
+def parted_texts() -> Iterator[Case]:
     """Texts that `check` reads in several parts: each byte of a line, and each end of one, is the first of a part in some text."""
     head, tail, line = "evidence 1 t 1\n", "end none\n", "0 getverdict -> none\n"
-    found: List[Case] = []
     for cut in range(len(line) + 1):
         count, rest = divmod(BYTES_OF_A_PART - cut - len(head), 205)
         letters = rest + 195
-        lines = ["0 # " + "x" * 200] * (count - 1) + ["0 # " + "x" * it for it in (letters // 2, letters - letters // 2)]
-        before = head + "".join(f"{it}\n" for it in lines)
+        remarks = "".join(f"0 # {'x' * it}\n" for it in (*[200] * (count - 1), letters // 2, letters - letters // 2))
+        before = head + remarks
         assert len(before) == BYTES_OF_A_PART - cut, (cut, len(before))
-        number = before.count("\n") + 1
-        more = before + before[len(head):] * 2
-        name = f"a_part_that_begins_in_byte_{cut}_of_a_line"
-        found.append(Case(name, ("check",), (more + line + tail).encode(), b"legal t 1 none\n"))
-        found.append(Case(f"{name}_of_the_first", ("check",), (before + line + tail + before + line + tail[:-1]).encode(), b"legal t 1 none\n" * 2))
-        wrong = before + line.replace("none", "pass") + before[len(head):] * 2 + tail
-        found.append(Case(f"{name}_that_is_wrong", ("check",), wrong.encode(), f"line {number}: pass, table gives none\n".encode(), status=3))
-        bad = before + line[:-2] + "\n" + more + tail
-        found.append(Case(f"{name}_that_is_none", ("check",), bad.encode(), errors=f"ttrun: line {number}: bad entry\n".encode(), status=3))
-        early = before + line + before[len(head):]
-        found.append(Case(f"{name}_behind_which_nothing_ends", ("check",), early.encode(), errors=f"ttrun: line {early.count(chr(10)) + 1}: text ends too early\n".encode(), status=3))
-    return found
-
-
-def faults_before_the_end(filled: bytes) -> List[Case]:
-    """What is wrong with a text is said only when its last byte is read: there may be too many of them."""
-    late = b"evidence 1 t 1\n0 getverdict -> pass\nend none\n" + filled[:3_000_000] + b"\nx\n"
-    number = late.count(b"\n")
-    return [Case("a_fault_before_too_many_bytes", ("check",), b"x\n" + filled, errors=b"ttrun: input too long\n", status=3),
-            Case("a_fault_before_a_million_bytes", ("check",), b"x\n" + filled[:1_000_000], errors=b"ttrun: line 1: bad first line\n", status=3),
-            Case("a_fault_long_behind_an_illegal_block", ("check",), late, errors=f"ttrun: line {number}: bad entry\n".encode(), status=3),
-            Case("a_line_of_two_million_bytes", ("check",), b"evidence 1 t 1\n0 # " + b"x" * 2_000_000 + b"\nend none\n", errors=b"ttrun: line 2: bad entry\n", status=3)]
+        number, name = before.count("\n") + 1, f"a_part_that_begins_in_byte_{cut}_of_a_line"
+        whole, early = before + line + tail, before + line + remarks
+        yield Case(name, ("check",), (before + remarks * 2 + line + tail).encode(), b"legal t 1 none\n")
+        yield Case(f"{name}_of_the_first", ("check",), (whole * 2)[:-1].encode(), b"legal t 1 none\n" * 2)
+        wrong = before + line.replace("none", "pass") + remarks * 2 + tail
+        yield Case(f"{name}_that_is_wrong", ("check",), wrong.encode(), as_lines(f"line {number}: pass, table gives none"), status=3)
+        bad = before + line[:-2] + "\n" + before + remarks * 2 + tail
+        yield refused(f"{name}_that_is_none", ("check",), bad.encode(), f"line {number}: bad entry")
+        end = early.count("\n") + 1
+        yield refused(f"{name}_behind_which_nothing_ends", ("check",), early.encode(), f"line {end}: text ends too early")
 
 
 def held_page(program: str) -> List[str]:
     """No byte of a page of evidence but those of its two parts is `<`; turning U+2039 back gives the text."""
     given = text(f"{WHOLE};evidence 1 u 1;0 # </script><script>alert(1)</script><!--;0 ! {'<' * 200};end none")
-    page = run(Case("", ("report", "--html"), given), program).output
+    page = answer(program, given, "report", "--html").output
     head, tail = reports.pages.part_of("head"), reports.pages.part_of("tail")
     inside = page[len(head):len(page) - len(tail)]
     faults = [] if page == head + inside + tail and b"<" not in inside else ["the page has a tag in its text"]
     return faults + difference("the text", given, inside.replace("\u2039".encode(), b"<"))
 
 
-def reported(name: str, given: bytes) -> List[Judgement]:
-    """Each form of a legal text."""
-    return [Judgement(f"report_of_{name}_{form}", f"ttrun report --{form}", lambda program, form=form: reports.faults_of_report(program, form, given))
-            for form in reports.FORMS]
-
-
-def refused_by_report(name: str, given: bytes, line: bytes) -> Case:
-    """What `check` refuses or finds illegal: `report` prints its line on standard error, and writes nothing."""
-    return Case(f"report_of_{name}", ("report", "--csv"), given, errors=b"ttrun: " + line + b"\n", status=3)
-
-
 def written_of(campaign: Campaign, blocks: List[evidence.Block]) -> bytes:
     """Evidence of the campaign with these entries and verdicts: each block names its behaviours first, in their order."""
-    lines: List[str] = []
-    for case, block in zip(campaign, blocks):
-        lines += [f"evidence 1 {case.name} {len(case.behaviours)}", *(f"behaviour {at} {it.name}" for at, it in enumerate(case.behaviours)),
-                  *block.entries, f"end {block.verdict}"]
-    return "".join(f"{it}\n" for it in lines).encode()
+    return b"".join(as_lines(f"evidence 1 {case.name} {len(case.behaviours)}", *(f"behaviour {at} {it.name}" for at, it in enumerate(case.behaviours)),
+                             *block.entries, f"end {block.verdict}") for case, block in zip(campaign, blocks))
 
 
 def faults_of_a_run(program: str, script: bytes, live: Tuple[str, ...], met: Counter) -> List[str]:
     """What is wrong with `run --evidence`: it names each behaviour, and what is left without the names is a history of the script, of
     which `check` and the forms of `report` say the same."""
-    ran = run(Case("", ("run", *live, "--evidence"), script), program)
+    ran = answer(program, script, "run", *live, "--evidence")
     campaign, blocks = read_script(script), evidence.blocks_of(ran.output.decode())
     plain = "".join(it.history() for it in blocks).encode()
-    faults = difference("standard error", b"", ran.errors) + examples.faults_of_history(campaign, plain)
-    faults += difference("the evidence", written_of(campaign, blocks), ran.output)
+    faults = faults_in(Ran(written_of(campaign, blocks), b"", examples.status_in("history", plain)), ran)
+    faults += examples.faults_of_history(campaign, plain)
     faults += [] if len(blocks) == len(campaign) else [f"{len(blocks)} blocks of {len(campaign)} test cases"]
-    faults += [] if ran.status == examples.status_in("history", plain) else [f"status {ran.status}"]
     for words in (("check",), ("report", "--csv"), ("report", "--junit")):
-        of_both = [run(Case("", words, it), program) for it in (plain, ran.output)]
+        of_both = [answer(program, it, *words) for it in (plain, ran.output)]
         faults += [] if of_both[0] == of_both[1] else [f"{words}: {of_both[1]} of evidence, and {of_both[0]} of the history in it"]
-    met.update(blocks=len(blocks), names=sum(len(it.names) for it in blocks), entries=sum(len(it.entries) for it in blocks))
-    met["live"] += bool(live)
-    return faults + [fault for form in reports.FORMS for fault in reports.faults_of_report(program, form, ran.output)]
+    met.update(blocks=len(blocks), names=sum(len(it.names) for it in blocks), entries=sum(len(it.entries) for it in blocks), live=len(live))
+    return faults + reports.faults_of_each_form(program, ran.output)
 
 
-def run_of_an_example(stem: str, live: Tuple[str, ...]) -> Judgement:
-    """`run --evidence` of a script of examples/."""
-    words = " ".join(["ttrun run", *live, "--evidence"])
-    return Judgement("_".join([*(it.strip("-") for it in live), "evidence_of", stem]), f"{words} < examples/{stem}.script",
-                     lambda program: faults_of_a_run(program, examples.bytes_of(f"{stem}.script"), live, Counter()))
+def faults_of_an_example(program: str, stem: str, live: Tuple[str, ...]) -> List[str]:
+    return faults_of_a_run(program, examples.bytes_of(f"{stem}.script"), live, Counter())
 
 
-def cases() -> List[Union[Case, Judgement]]:
-    """All of them, but the random ones."""
-    found: List[Union[Case, Judgement]] = []
+def cases() -> Iterator[Union[Case, Judgement]]:
+    """What `check` refuses or finds illegal: `report` prints its line on standard error, and writes nothing."""
     for name, given, output, status in CHECKED:
-        found.append(Case(name, ("check",), text(given), text(output), status=status))
-        found += reported(name, text(given)) if status == 0 else [refused_by_report(name, text(given), output.split(";")[-1].encode())]
+        yield Case(name, ("check",), text(given), text(output), status=status)
+        if status == 0:
+            yield from (reports.of_form(name, form, text(given)) for form in reports.FORMS)
+        else:
+            yield refused(f"report_of_{name}", ("report", "--csv"), text(given), output.split(";")[-1])
     for name, given, line, fault in REFUSED:
-        words = f"line {line}: {fault}".encode()
-        found += [Case(name, ("check",), given, errors=b"ttrun: " + words + b"\n", status=3), refused_by_report(name, given, words)]
-    found.append(Judgement("a_page_of_evidence_has_no_tag_in_its_text", "ttrun report --html", held_page))
-    stems = sorted(it.partition(".")[0] for it in os.listdir(examples.FOLDER) if it.endswith(".script"))
-    found += [run_of_an_example(it, live) for it in stems for live in ((), ("--live",))]
-    return [*found, *long_texts(), *parted_texts()]
+        yield refused(name, ("check",), given, f"line {line}: {fault}")
+        yield refused(f"report_of_{name}", ("report", "--csv"), given, f"line {line}: {fault}")
+    yield Judgement("a_page_of_evidence_has_no_tag_in_its_text", "ttrun report --html", held_page)
+    for stem in sorted(it.partition(".")[0] for it in os.listdir(examples.FOLDER) if it.endswith(".script")):
+        for live in ((), ("--live",)):
+            yield Judgement(joined(*live, "evidence_of", stem), f"{' '.join(['ttrun run', *live, '--evidence'])} < examples/{stem}.script",
+                            faults_of_an_example, (stem, live))
+    yield from long_texts()
+    yield from parted_texts()
 
 
 # What random texts must meet at least.
@@ -245,7 +219,6 @@ def other(source: random.Random, block: str) -> str:
 
 
 def kind_of(judged) -> str:
-    """What `check` answers, in one word or two."""
     if judged.errors:
         return judged.errors.decode().rstrip("\n").partition(": ")[2].partition(": ")[2]
     last = judged.output.splitlines()[-1].decode()
@@ -256,46 +229,42 @@ def kind_of(judged) -> str:
 def texts_of(source: random.Random) -> Tuple[List[str], List[bytes]]:
     """Legal blocks of both kinds, and texts of some of them: legal, with another reply or verdict, and spoilt."""
     blocks = [reports.random_block(source, it)[0] for it in range(BLOCKS)]
-    blocks = [said.evidence_of(source, it) if source.random() < 0.8 else it for it in blocks]
+    blocks = [evidence_texts.evidence_of(source, it) if source.random() < 0.8 else it for it in blocks]
     some = ["".join(source.choice(blocks) for _ in range(source.randint(1, 3))).encode() for _ in range(300)]
     other_some = ["".join(other(source, source.choice(blocks)) for _ in range(source.randint(1, 3))).encode() for _ in range(500)]
-    return blocks, some + other_some + [said.spoilt(source, some) for _ in range(900)]
+    return blocks, some + other_some + [evidence_texts.spoilt(source, some) for _ in range(900)]
+
+
+def faults_of_random_texts(program: str, seed: int) -> List[str]:
+    """Random texts next to what the tests' own reader says."""
+    texts = texts_of(random.Random(seed))[1]
+    wanted = [check(it) for it in texts]
+    with ThreadPoolExecutor(4) as pool:
+        answers = list(pool.map(lambda it: answer(program, it, "check"), texts))
+    faults = [f"{fault}: {text[:200]!r}" for text, *both in zip(texts, wanted, answers) for fault in faults_in(*both)]
+    return below(Counter(map(kind_of, wanted)), FLOORS) + faults
+
+
+def faults_of_a_thousand_blocks(program: str, seed: int) -> List[str]:
+    blocks = texts_of(random.Random(seed + 1))[0]
+    given = "".join(blocks).encode()
+    count = sum(it.startswith("evidence") for it in blocks)
+    faults = [] if count >= 700 and len(blocks) - count >= 100 and given.count(b"<") >= 1000 else [f"{count} blocks of evidence"]
+    plain = "".join(evidence.blocks_of(it)[0].history() if it.startswith("evidence") else it for it in blocks).encode()
+    for it in (given, plain):
+        faults += faults_in(check(given), answer(program, it, "check"))
+    return faults + reports.faults_of_each_form(program, given)
+
+
+def faults_of_random_runs(program: str, seed: int) -> Iterator[str]:
+    source, met = random.Random(f"evidence of {seed}"), Counter()
+    for at in range(RUNS):
+        script = drawn_script(source, is_in_turn=False)
+        yield from shown_with(faults_of_a_run(program, script, ("--live",) * (at % 2), met), f"the script: {script[:3000].decode()}")
+    yield from below(met, {"blocks": RUNS, "names": 3 * RUNS, "entries": 10 * RUNS, "live": RUNS // 2})
 
 
 def judgements(seed: int) -> List[Judgement]:
-    """Random texts next to what the tests' own reader says, and a text of a thousand blocks."""
-
-    def judge(program: str) -> List[str]:
-        texts = texts_of(random.Random(seed))[1]
-        wanted = [check(it) for it in texts]
-        met = Counter(map(kind_of, wanted))
-        faults = [f"{name}: {met[name]} are fewer than {floor}" for name, floor in FLOORS.items() if met[name] < floor]
-        given = [Case("", ("check",), it, it_wanted.output, it_wanted.errors, it_wanted.status) for it, it_wanted in zip(texts, wanted)]
-        with ThreadPoolExecutor(4) as pool:
-            answers = list(pool.map(lambda it: faults_of(it, run(it, program)), given))
-        return faults + [f"{fault}: {it.given[:200]!r}" for it, found in zip(given, answers) for fault in found][:20]
-
-    def judge_many(program: str) -> List[str]:
-        blocks = texts_of(random.Random(seed + 1))[0]
-        given = "".join(blocks).encode()
-        count = sum(it.startswith("evidence") for it in blocks)
-        faults = [] if count >= 700 and len(blocks) - count >= 100 and given.count(b"<") >= 1000 else [f"{count} blocks of evidence"]
-        for form in reports.FORMS:
-            faults += reports.faults_of_report(program, form, given)
-        plain = "".join(evidence.blocks_of(it)[0].history() if it.startswith("evidence") else it for it in blocks).encode()
-        checked = [run(Case("", ("check",), it), program) for it in (given, plain)]
-        faults += difference("check of the histories", checked[0].output, checked[1].output)
-        return faults + faults_of(Case("", ("check",), given, check(given).output), checked[0])
-
-    def judge_runs(program: str) -> List[str]:
-        source, met = random.Random(f"evidence of {seed}"), Counter()
-        for at in range(RUNS):
-            script = drawn_script(source, is_in_turn=False)
-            faults = faults_of_a_run(program, script, ("--live",) * (at % 2), met)
-            if faults:
-                return [*faults, f"the script: {script[:3000].decode()}"]
-        return below(met, [("blocks", RUNS), ("names", 3 * RUNS), ("entries", 10 * RUNS), ("live", RUNS // 2)])
-
-    return [Judgement(f"evidence_of_random_scripts_{seed}", "ttrun run [--live] --evidence < (random scripts)", judge_runs),
-            Judgement("random_and_spoilt_evidence", f"ttrun check, seed {seed}", judge),
-            Judgement("a_thousand_blocks_of_both_kinds", f"ttrun check and report, seed {seed}", judge_many)]
+    return [Judgement(f"evidence_of_random_scripts_{seed}", "ttrun run [--live] --evidence < (random scripts)", faults_of_random_runs, (seed,)),
+            Judgement("random_and_spoilt_evidence", f"ttrun check, seed {seed}", faults_of_random_texts, (seed,)),
+            Judgement("a_thousand_blocks_of_both_kinds", f"ttrun check and report, seed {seed}", faults_of_a_thousand_blocks, (seed,))]

@@ -1,15 +1,13 @@
 """Every file of examples/: scripts with their reports, tables, histories and what is printed about their test cases, and lists of
 moves with their replies."""
-from __future__ import annotations
-
 import os
 import re
+from dataclasses import replace
 from typing import Dict, Iterator, List, Tuple, Union
 
-from case import Case, Timed, difference, run
-from judged import Judgement
+from case import Case, Judgement, Ran, Timed, answer, difference, faults_in, joined
+from courses import fault_of_course
 from script_reader import Campaign, read_script
-from script_run import faults_of_block
 from texts import Judged, check, read_history, replay, status_of
 
 TOP = os.path.dirname(os.path.dirname(os.path.dirname(os.path.abspath(__file__))))
@@ -20,15 +18,13 @@ VERSION = re.compile(rb'(?<=<property name="version" value=")[^"]*')
 
 
 def bytes_of(name: str) -> bytes:
-    """The bytes of a file of examples/."""
     with open(os.path.join(FOLDER, name), "rb") as it:
         return it.read()
 
 
 def status_in(form: str, output: bytes) -> int:
     """The status that belongs to a report, a table or histories, by the verdicts that are there."""
-    patterns = {"report": rb"^verdict (\w+)$", "csv": rb",(\w+)$", "history": rb"^end (\w+)$", "junit": rb'type="(\w+)"',
-                "summary": rb"^\w+: (\w+)$"}
+    patterns = {"report": rb"^verdict (\w+)$", "csv": rb",(\w+)$", "history": rb"^end (\w+)$", "junit": rb'type="(\w+)"', "summary": rb"^\w+: (\w+)$"}
     verdicts = [it.decode() for it in re.findall(patterns[form], output, re.M) if it != b"verdict"]
     return max((status_of(it) for it in verdicts), default=0)
 
@@ -41,7 +37,6 @@ def words_of(parts: List[str]) -> Tuple[str, ...]:
 
 
 def campaign_of(stem: str) -> Campaign:
-    """The campaign of a script of examples/."""
     campaign = read_script(bytes_of(f"{stem}.script"))
     assert not isinstance(campaign, Judged), campaign
     return campaign
@@ -49,59 +44,39 @@ def campaign_of(stem: str) -> Campaign:
 
 def faults_of_history(campaign: Campaign, text: bytes) -> List[str]:
     """Why the text is no history of the first test cases of the campaign."""
-    blocks, refusal = read_history(text)
-    if refusal is not None:
-        return [refusal.errors.decode()]
-    faults = [fault for case, block in zip(campaign, blocks) for fault in faults_of_block(case, block)]
-    return faults + ["more histories than test cases"] * (len(blocks) > len(campaign))
+    blocks, refused_as = read_history(text)
+    if refused_as is not None:
+        return [refused_as.errors.decode()]
+    faults = filter(None, map(fault_of_course, campaign, blocks))
+    return [*faults, *["more histories than test cases"] * (len(blocks) > len(campaign))]
 
 
-def written_is_checked(stem: str, count: int, live: Tuple[str, ...] = ()) -> Judgement:
+def faults_of_written(program: str, stem: str, live: Tuple[str, ...]) -> List[str]:
     """`run --history | check`, live or not: what is written is a history of the script, and is found legal."""
-    words = ("run", *live, "--history")
-
-    def judge(program: str) -> List[str]:
-        campaign = campaign_of(stem)
-        ran = run(Case("", words, bytes_of(f"{stem}.script")), program)
-        faults = difference("standard error", b"", ran.errors) + faults_of_history(campaign, ran.output)
-        if ran.output.count(b"history 2 ") != count:
-            faults.append(f"{count} histories are wanted: {ran.output[:300]!r}")
-        if ran.status != status_in("history", ran.output or b"end error"):
-            faults.append(f"status {ran.status}")
-        checked = run(Case("", ("check",), ran.output), program)
-        wanted = check(ran.output)
-        return faults + difference("check", wanted.output, checked.output) + ["check: its status"] * (checked.status != 0)
-
-    name = "_".join([*(it.strip("-") for it in live), "written_is_checked", stem])
-    return Judgement(name, f"ttrun {' '.join(words)} < examples/{stem}.script | ttrun check", judge)
+    campaign, ran = campaign_of(stem), answer(program, bytes_of(f"{stem}.script"), "run", *live, "--history")
+    faults = faults_in(Ran(ran.output, b"", status_in("history", ran.output or b"end error")), ran) + faults_of_history(campaign, ran.output)
+    if ran.output.count(b"history 2 ") != len(campaign):
+        faults.append(f"{len(campaign)} histories are wanted: {ran.output[:300]!r}")
+    return faults + faults_in(check(ran.output), answer(program, ran.output, "check"))
 
 
-def stands_as_history(stem: str) -> Judgement:
-    """A history of examples/ is one of its script."""
-    return Judgement(f"history_of_its_script_{stem}", f"examples/{stem}.history",
-                     lambda program: faults_of_history(campaign_of(stem), bytes_of(f"{stem}.history")))
+def written_is_checked(stem: str, live: Tuple[str, ...] = ()) -> Judgement:
+    command = f"ttrun {' '.join(['run', *live, '--history'])} < examples/{stem}.script | ttrun check"
+    return Judgement(joined(*live, "written_is_checked", stem), command, faults_of_written, (stem, live))
 
 
-def junit_of_example(name: str) -> Judgement:
+def faults_of_junit_example(program: str, name: str) -> List[str]:
     """A JUnit report of examples/ is that of its script, except for the program's version."""
-
-    def judge(program: str) -> List[str]:
-        wanted = bytes_of(name)
-        ran = run(Case("", words_of(name.split(".")), bytes_of(f"{name.partition('.')[0]}.script")), program)
-        faults = difference("standard output", VERSION.sub(b"", wanted), VERSION.sub(b"", ran.output))
-        return faults + ([] if ran.status == status_in("junit", wanted) else [f"status {ran.status}"])
-
-    return Judgement(f"example_{name}", f"ttrun run --junit < examples/{name.partition('.')[0]}.script", judge)
+    wanted = bytes_of(name)
+    ran = answer(program, bytes_of(f"{name.partition('.')[0]}.script"), *words_of(name.split(".")))
+    return faults_in(Ran(VERSION.sub(b"", wanted), b"", status_in("junit", wanted)), replace(ran, output=VERSION.sub(b"", ran.output)))
 
 
-def faults_of_folder(names: List[str]) -> List[str]:
-    """Files of examples/ that no test reads, and those that lack their outputs."""
+def faults_of_folder(_: str, names: List[str]) -> List[str]:
     faults = []
     for name in names:
-        stem, _, suffix = name.partition(".")
-        suffix = suffix.rpartition(".")[2]
-        given = {"report": "script", "csv": "script", "junit": "script", "history": "script", "progress": "script", "replies": "moves",
-                 "summary": "history"}.get(suffix)
+        stem, suffix = name.partition(".")[0], name.rpartition(".")[2]
+        given = {"replies": "moves", "summary": "history", **dict.fromkeys([*FORMS, "progress"], "script")}.get(suffix)
         if given is not None and f"{stem}.{given}" not in names or given is None and suffix not in ("script", "moves"):
             faults.append(f"{name} is no output of an example")
         lacking = {"script": [f"{stem}.report", f"{stem}.csv", f"{stem}.history"], "moves": [f"{stem}.replies"]}.get(suffix, [])
@@ -112,11 +87,9 @@ def faults_of_folder(names: List[str]) -> List[str]:
 
 
 def tests_of(name: str) -> Iterator[Union[Case, Judgement]]:
-    """What is tested of one file."""
-    stem, suffix = name.partition(".")[0], name.rpartition(".")[2]
-    text = bytes_of(name)
+    stem, suffix, text = name.partition(".")[0], name.rpartition(".")[2], bytes_of(name)
     if suffix == "script":
-        yield written_is_checked(stem, len(campaign_of(stem)))
+        yield written_is_checked(stem)
     elif suffix == "moves":
         wanted = replay(text)
         yield Case(f"example_{name}", ("replay",), text, bytes_of(f"{stem}.replies"), status=wanted.status)
@@ -124,21 +97,19 @@ def tests_of(name: str) -> Iterator[Union[Case, Judgement]]:
                         lambda program: difference("the rules", wanted.output, bytes_of(f"{stem}.replies")))
     elif suffix == "history":
         yield Case(f"example_{name}", ("check",), text, check(text).output)
-        yield stands_as_history(stem)
+        yield Judgement(f"history_of_its_script_{stem}", f"examples/{stem}.history", lambda program: faults_of_history(campaign_of(stem), text))
     elif suffix == "junit":
-        yield junit_of_example(name)
+        yield Judgement(f"example_{name}", f"ttrun run --junit < examples/{stem}.script", faults_of_junit_example, (name,))
     elif suffix == "summary":
         yield Case(f"example_{name}", ("report", "--summary"), bytes_of(f"{stem}.history"), text, status=status_in(suffix, text))
     elif suffix == "progress":
         table = bytes_of(f"{stem}.csv")
-        words = ("run", "--progress", "--csv")
-        yield Case(f"example_{name}", words, bytes_of(f"{stem}.script"), table, errors=Timed(text), status=status_in("csv", table))
+        yield Case(f"example_{name}", ("run", "--progress", "--csv"), bytes_of(f"{stem}.script"), table, Timed(text), status_in("csv", table))
     elif suffix in ("report", "csv"):
         yield Case(f"example_{name}", words_of(name.split(".")), bytes_of(f"{stem}.script"), text, status=status_in(suffix, text))
 
 
 def cases() -> List[Union[Case, Judgement]]:
-    """All of them."""
     names = sorted(os.listdir(FOLDER))
-    whole = Judgement("examples_are_whole", "examples/", lambda program: faults_of_folder(names))
+    whole = Judgement("examples_are_whole", "examples/", faults_of_folder, (names,))
     return [whole, *(test for name in names for test in tests_of(name))]

@@ -1,6 +1,4 @@
 """How many runs go side by side."""
-from __future__ import annotations
-
 import os
 
 

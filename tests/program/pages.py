@@ -1,6 +1,4 @@
-"""Pages of histories and evidence, made of the constants of the crate tc_page, and read by Python's reader of HTML."""
-from __future__ import annotations
-
+"""Pages of histories and evidence, made of the constants of the crate tc_answer, and read by Python's reader of HTML."""
 import os
 import re
 from html.parser import HTMLParser
@@ -15,14 +13,13 @@ INSTEAD = "\u2039"
 
 def part_of(name: str) -> bytes:
     """One of the two parts between which a page holds the text."""
-    with open(os.path.join(TOP, "crates", "tc_page", "src", f"{name}.rt"), encoding="ascii") as file:
+    with open(os.path.join(TOP, "crates", "tc_answer", "src", f"{name}.rt"), encoding="ascii") as file:
         found = CONSTANT.search(file.read())
     assert found is not None, name
     return re.sub(r"\\(.)", lambda it: ESCAPES.get(it[1], it[1]), found[1]).encode()
 
 
 def page_of(text: bytes) -> bytes:
-    """The page of a text."""
     return part_of("head") + text.replace(b"<", INSTEAD.encode()) + part_of("tail")
 
 
@@ -35,18 +32,15 @@ class Reader(HTMLParser):
         self.is_within = False
 
     def handle_starttag(self, tag: str, attrs: List[Tuple[str, Optional[str]]]) -> None:
-        """Begins the element, if it is the one of the text."""
         if tag == "script" and ("id", "history") in attrs:
             self.is_within = True
             self.held.append("")
 
     def handle_endtag(self, tag: str) -> None:
-        """Ends the element."""
         if tag == "script":
             self.is_within = False
 
     def handle_data(self, data: str) -> None:
-        """Keeps what is in the element."""
         if self.is_within:
             self.held[-1] += data
 

@@ -1,12 +1,9 @@
 """Random lists of moves and random histories: `replay` and `check` are held to the component table in Python."""
-from __future__ import annotations
-
 import random
 from collections import Counter
-from typing import List, Tuple
+from typing import Dict, Iterator, List, Tuple
 
-from case import Case, difference, run
-from judged import Judgement
+from case import Judgement, answer, as_lines, below, faults_in, shown_with
 from table import FAULTS, MOST_COMPONENTS, STATUSES, VERDICTS, Op, Table, Target
 from texts import FORMATS, Judged, check, replay
 
@@ -51,13 +48,11 @@ def drawn_op(chance: random.Random, table: Table, caller: int, names: Tuple[str,
 
 
 def ends_case(op: Op, caller: int, reply: str) -> bool:
-    """Whether the entry ends the case."""
     is_end = op.verb == "stopcase" or op.verb == "finish" and caller == 0 or op.verb in ("stop", "kill") and op.target == 0
     return reply != "ended" and is_end or reply.startswith("error ")
 
 
 def kind_of(op: Op) -> str:
-    """The name under which an operation is counted."""
     group = f" {op.target}" if isinstance(op.target, str) else ""
     return f"{op.verb} {op.awaited}{op.verdict}".strip() + " alive" * op.alive + " named" * (op.name != "") + group
 
@@ -65,13 +60,13 @@ def kind_of(op: Op) -> str:
 class MoveList:
     """A random test case: its moves, and their replies by the table."""
 
-    def __init__(self, chance: random.Random, met: Counter, is_crowded: bool) -> None:
+    def __init__(self, chance: random.Random, met: Counter, is_large: bool) -> None:
         self.behaviours = chance.choice((1, 2, 3, 4, 6, 9, 64, 256))
         self.names = chance.choice(((), NAMES))
         self.table = Table(self.behaviours)
         self.moves: List[Tuple[int, Op]] = []
         self.replies: List[str] = []
-        if is_crowded:
+        if is_large:
             for _ in range(MOST_COMPONENTS - 1):
                 self.play(0, Op("create", alive=True))
         daring = chance.choice((0.02, 0.1, 0.5))
@@ -101,14 +96,11 @@ class MoveList:
                 return
 
     def play(self, caller: int, op: Op) -> None:
-        """Adds a move."""
         self.moves.append((caller, op))
         self.replies.append(self.table.play(caller, op))
 
     def list_text(self) -> bytes:
-        """The list of moves."""
-        lines = [f"behaviours {self.behaviours}", *(f"{caller} {op.text()}" for caller, op in self.moves)]
-        return "".join(f"{it}\n" for it in lines).encode()
+        return as_lines(f"behaviours {self.behaviours}", *(f"{caller} {op.text()}" for caller, op in self.moves))
 
     def may_be_of_format_1(self) -> bool:
         """Whether format 1 can spell the history."""
@@ -152,100 +144,76 @@ def falsified(chance: random.Random, lines: List[str]) -> None:
     lines[at] = lines[at].partition(" -> ")[0] + " -> " + chance.choice(replies)
 
 
-def compared(program: str, word: str, text: bytes, wanted: Judged) -> List[str]:
-    """What is wrong with the program's answer to this text."""
-    ran = run(Case("", (word,), text), program)
-    faults = difference("standard output", wanted.output, ran.output) + difference("standard error", wanted.errors, ran.errors)
-    faults += [f"status: wanted {wanted.status}, came {ran.status}"] * (ran.status != wanted.status)
-    return faults + [f"the input: {text[:1500]!r}"] if faults else []
+def faults_next_to(program: str, word: str, text: bytes, wanted: Judged) -> List[str]:
+    return shown_with(faults_in(wanted, answer(program, text, word)), f"the input: {text[:1500]!r}")
 
 
-def below(met: Counter, floors: List[Tuple[str, int]]) -> List[str]:
-    """What was met too seldom for the test to say much."""
-    return [f"{name} was met {met[name]} times, and {floor} are wanted" for name, floor in floors if met[name] < floor]
-
-
-def list_floors() -> List[Tuple[str, int]]:
+def list_floors() -> Dict[str, int]:
     """How often each operation, reply and error is met at least by the random lists of one test."""
     groups = [f"{status} {group}" for status in STATUSES for group in ("any", "all")] + ["stop all", "kill all"]
     waits = [f"{verb} {awaited}{group}" for verb in ("wait", "wake") for awaited in ("done", "killed") for group in ("", " any", " all")]
     plain = ["create", "create alive", "create named", "create alive named", "start", "stop", "kill", *STATUSES, "stopcase", "getverdict", "finish"]
-    floors = [(name, 60) for name in plain] + [(name, 25) for name in groups + waits]
-    floors += [(f"setverdict {it}", 60) for it in USER_VERDICTS] + [(f"reply {it}", 40) for it in REPLIES]
-    return floors + [(f"reply error {it}", 1 if it == "too-many" else 4) for it in FAULTS]
+    return {**dict.fromkeys([*plain, *(f"setverdict {it}" for it in USER_VERDICTS)], 60), **dict.fromkeys(groups + waits, 25),
+            **dict.fromkeys((f"reply {it}" for it in REPLIES), 40), **{f"reply error {it}": 1 if it == "too-many" else 4 for it in FAULTS}}
 
 
-def lists_are_replayed(seed: int) -> Judgement:
-    """Random lists of moves."""
-
-    def judge(program: str) -> List[str]:
-        chance, met = random.Random(f"lists {seed}"), Counter()
-        for at in range(LISTS):
-            drawn = MoveList(chance, met, is_crowded=at % 50 == 49)
-            text = drawn.list_text()
-            lines = [*drawn.replies, f"verdict {drawn.table.overall()}"]
-            wanted = replay(text)
-            if wanted.output != "".join(f"{it}\n" for it in lines).encode():
-                return [f"the list that was drawn is read otherwise: {text[:1500]!r}"]
-            faults = compared(program, "replay", text, wanted)
-            if faults:
-                return faults
-        return below(met, list_floors())
-
-    return Judgement(f"random_lists_are_replayed_{seed}", "ttrun replay < (random lists of moves)", judge)
+def lists_are_replayed(program: str, seed: int) -> Iterator[str]:
+    chance, met = random.Random(f"lists {seed}"), Counter()
+    for at in range(LISTS):
+        drawn = MoveList(chance, met, is_large=at % 50 == 49)
+        text, wanted = drawn.list_text(), replay(drawn.list_text())
+        if wanted.output != as_lines(*drawn.replies, f"verdict {drawn.table.overall()}"):
+            yield f"the list that was drawn is read otherwise: {text[:1500]!r}"
+        yield from faults_next_to(program, "replay", text, wanted)
+    yield from below(met, list_floors())
 
 
-def changed_lists_are_judged(seed: int) -> Judgement:
+def changed_lists_are_judged(program: str, seed: int) -> Iterator[str]:
     """Lists of moves with a byte or a line changed."""
-
-    def judge(program: str) -> List[str]:
-        chance, met = random.Random(f"changed lists {seed}"), Counter()
-        for _ in range(TEXTS):
-            text = mutated(chance, MoveList(chance, Counter(), is_crowded=False).list_text())
-            wanted = replay(text)
-            met[wanted.errors.decode().rpartition(": ")[2].strip() or "accepted"] += 1
-            faults = compared(program, "replay", text, wanted)
-            if faults:
-                return faults
-        return below(met, [("accepted", 20), ("bad move", 40), ("bad first line", 2)])
-
-    return Judgement(f"changed_lists_are_judged_{seed}", "ttrun replay < (changed lists of moves)", judge)
+    chance, met = random.Random(f"changed lists {seed}"), Counter()
+    for _ in range(TEXTS):
+        text = mutated(chance, MoveList(chance, Counter(), is_large=False).list_text())
+        wanted = replay(text)
+        met[wanted.errors.decode().rpartition(": ")[2].strip() or "accepted"] += 1
+        yield from faults_next_to(program, "replay", text, wanted)
+    yield from below(met, {"accepted": 20, "bad move": 40, "bad first line": 2})
 
 
-def histories_are_checked(seed: int) -> Judgement:
+def drawn_histories(chance: random.Random, what: str, met: Counter) -> bytes:
+    """Histories of both formats, legal or not by what is asked for."""
+    lines: List[str] = []
+    for at in range(chance.randrange(1, 9)):
+        drawn = MoveList(chance, Counter(), is_large=False)
+        is_first = what == "format 1" if not drawn.may_be_of_format_1() else chance.random() < 0.6
+        block = drawn.history_lines(f"t{at}", "1" if is_first else "2")
+        met["histories"] += 1
+        met[f"format {block[0].split()[1]}"] += 1
+        met["named"] += sum(" named " in it for it in block)
+        if what == "falsified" and chance.random() < 0.3:
+            falsified(chance, block)
+        lines += block
+    text = as_lines(*lines)
+    return mutated(chance, text) if what == "changed" else text
+
+
+def histories_are_checked(program: str, seed: int) -> Iterator[str]:
     """Random histories of both formats: legal ones, ones with another reply or verdict, ones with a byte or a line changed, and ones in
     format 1 that it cannot spell."""
-
-    def judge(program: str) -> List[str]:
-        chance, met = random.Random(f"histories {seed}"), Counter()
-        for _ in range(TEXTS):
-            lines: List[str] = []
-            what = chance.choice(("legal", "falsified", "falsified", "changed", "format 1"))
-            for at in range(chance.randrange(1, 9)):
-                drawn = MoveList(chance, Counter(), is_crowded=False)
-                is_first = what == "format 1" if not drawn.may_be_of_format_1() else chance.random() < 0.6
-                block = drawn.history_lines(f"t{at}", "1" if is_first else "2")
-                met["histories"] += 1
-                met[f"format {block[0].split()[1]}"] += 1
-                met["named"] += sum(" named " in it for it in block)
-                if what == "falsified" and chance.random() < 0.3:
-                    falsified(chance, block)
-                lines += block
-            text = "".join(f"{it}\n" for it in lines).encode()
-            text = mutated(chance, text) if what == "changed" else text
-            wanted = check(text)
-            told = wanted.errors.decode().rpartition(": ")[2].strip()
-            met[told or ("legal" if wanted.status == 0 else "not legal")] += 1
-            faults = compared(program, "check", text, wanted)
-            if faults:
-                return faults
-        floors = [("histories", 800), ("format 1", 250), ("format 2", 250), ("named", 500)]
-        return below(met, floors + [("legal", 40), ("not legal", 50), ("bad entry", 20), ("bad first line", 3)])
-
-    return Judgement(f"random_histories_are_checked_{seed}", "ttrun check < (random histories)", judge)
+    chance, met = random.Random(f"histories {seed}"), Counter()
+    for _ in range(TEXTS):
+        text = drawn_histories(chance, chance.choice(("legal", "falsified", "falsified", "changed", "format 1")), met)
+        wanted = check(text)
+        told = wanted.errors.decode().rpartition(": ")[2].strip()
+        met[told or ("legal" if wanted.status == 0 else "not legal")] += 1
+        yield from faults_next_to(program, "check", text, wanted)
+    yield from below(met, {"histories": 800, "format 1": 250, "format 2": 250, "named": 500, "legal": 40, "not legal": 50, "bad entry": 20,
+                           "bad first line": 3})
 
 
 def judgements(seed: int) -> List[Judgement]:
-    """The tests for this seed, several of each kind, so that they run side by side."""
-    seeds = [4 * seed + at for at in range(4)]
-    return [*map(lists_are_replayed, seeds), *map(histories_are_checked, seeds), *map(changed_lists_are_judged, seeds[:2])]
+    """Several of each kind, so that they run side by side."""
+    kinds = (("random_lists_are_replayed", "replay < (random lists of moves)", lists_are_replayed, 4),
+             ("random_histories_are_checked", "check < (random histories)", histories_are_checked, 4),
+             ("changed_lists_are_judged", "replay < (changed lists of moves)", changed_lists_are_judged, 2))
+    return [Judgement(f"{name}_{4 * seed + at}", f"ttrun {command}", judge, (4 * seed + at,))
+            for name, command, judge, count in kinds for at in range(count)]

@@ -1,56 +1,44 @@
 """Forms made of histories, held to a making of our own and to Python's readers of XML and HTML."""
-from __future__ import annotations
-
 import os
 import random
 import re
 import xml.etree.ElementTree as ElementTree
-from typing import Callable, Dict, Iterator, List, Optional, Tuple, Union
+from collections import Counter
+from typing import Dict, Iterator, List, Tuple, Union
 
 import examples
 import pages
-from case import Case, Ran, difference, run
-from judged import Judgement
-from rows import text
+from case import Case, Judgement, Ran, answer, as_lines, below, faults_in, refused
+from rows import CSV_HEADER, text
 from table import VERDICTS, Op, Table
-from texts import Block, Entry, check, read_history, status_of
+from texts import Block, Entry, check, legal_blocks, status_of
 
 # The forms that histories have.
 FORMS = ("csv", "junit", "html", "summary")
-# How many histories of random calls are reported, and the fewest of each kind that must be among them.
+# How many histories of random calls are reported, and the fewest of each kind that must be among them; and how many verdicts are
+# decided by a setting and by an error.
 RANDOM_BLOCKS = 1000
-FLOORS: Dict[str, int] = {"none": 100, "pass": 20, "inconc": 20, "fail": 20, "error": 80, "unfinished": 100, "two components": 200}
+FLOORS: Dict[str, int] = {"none": 100, "pass": 20, "inconc": 20, "fail": 20, "error": 80, "unfinished": 100, "two components": 200,
+                          ": setverdict ": 100, "-> error ": 100}
 
 # A schema of our own: each element with its attributes, and the elements that may be in it, by their order.
 SCHEMA: Dict[str, Tuple[Tuple[str, ...], str]] = {
     "testsuites": (("tests", "failures", "errors"), "testsuite"),
     "testsuite": (("name", "tests", "failures", "errors", "skipped"), "properties( testcase)*"),
-    "properties": ((), "property"),
-    "property": (("name", "value"), ""),
+    "properties": ((), "property"), "property": (("name", "value"), ""),
     "testcase": (("name", "classname"), "(failure |error |skipped )?system-out"),
-    "failure": (("type", "message"), ""),
-    "error": (("type", "message"), ""),
-    "skipped": ((), ""),
-    "system-out": ((), ""),
+    "failure": (("type", "message"), ""), "error": (("type", "message"), ""), "skipped": ((), ""), "system-out": ((), ""),
 }
 # The attributes that an element need not have.
 OPTIONAL: Dict[str, Tuple[str, ...]] = {"skipped": ("message",)}
 # The element for each end of a test case but pass: its name and its type.
 ELEMENTS: Dict[str, Tuple[str, str]] = {
-    "none": ("skipped", ""),
-    "inconc": ("failure", "inconc"),
-    "fail": ("failure", "fail"),
-    "error": ("error", "error"),
-    "unfinished": ("error", "unfinished"),
-    "missing": ("error", "missing"),
-    "not run": ("skipped", ""),
-}
+    "none": ("skipped", ""), "not run": ("skipped", ""), "inconc": ("failure", "inconc"), "fail": ("failure", "fail"),
+    "error": ("error", "error"), "unfinished": ("error", "unfinished"), "missing": ("error", "missing")}
 # The messages of the ends that have no text of their own.
 MESSAGES = {"unfinished": "the test case is not over", "missing": "there is no history of the test case"}
 # The elements that have a text.
 WITH_TEXT = ("failure", "error", "system-out")
-# How many verdicts of random histories are decided by a setting and by an error, at least.
-DECIDED_FLOORS: Dict[str, int] = {": setverdict ": 100, "-> error ": 100}
 
 
 def line_of(entry: Entry) -> str:
@@ -59,16 +47,7 @@ def line_of(entry: Entry) -> str:
     return f"{'wait' + text[4:] if entry.op.verb == 'wake' else text} -> {entry.reply}"
 
 
-def who_decided(table: Table, block: Block, at: int) -> str:
-    """The run, the component and the call of the entry at this place."""
-    entry = block.entries[at]
-    on = table.component_of_run[entry.caller]
-    made = [it.op.name for it in block.entries if it.op.verb == "create" and it.reply == f"made {on}"]
-    return f"run {entry.caller} on component {on}{''.join(f' {it}' for it in made if it)}: {line_of(entry)}"
-
-
 def lines_by(entries: List[Entry], caller: int) -> List[str]:
-    """What is shown of the calls of a run."""
     return [f"  {line_of(it)}" for it in entries if it.caller == caller and it.reply != "parked"]
 
 
@@ -91,46 +70,30 @@ class Told:
         self.before: List[str] = []
         if self.end in VERDICTS[2:]:
             at = verdicts.index(self.end)
-            self.message = who_decided(table, block, at)
-            self.lines = lines_by(block.entries, block.entries[at].caller)
-            self.before = lines_by(block.entries[:at], block.entries[at].caller)[-5:]
+            caller = block.entries[at].caller
+            self.message = f"run {caller} on component {self.components[table.component_of_run[caller]]}: {line_of(block.entries[at])}"
+            self.lines = lines_by(block.entries, caller)
+            self.before = lines_by(block.entries[:at], caller)[-5:]
 
 
-def bare_case(name: str, end: str, message: str) -> Told:
-    """What a form prints of a test case of which there is no block."""
+def bare_case(name: str, end: str) -> Told:
+    """What a form prints of a test case of which there is no block: `missing`, or `not run` if it comes after the last that was run."""
     told = Told(Block("history 2", name, 1, [], 0, "none"))
-    told.locals, told.components, told.end, told.message = [], [], end, message
+    told.locals, told.components, told.end, told.message = [], [], end, MESSAGES.get(end, end)
     return told
 
 
-def missing_case(name: str) -> Told:
-    """What a form prints of a test case that its script has, and of which there is no block."""
-    return bare_case(name, "missing", MESSAGES["missing"])
-
-
-def unrun_case(name: str) -> Told:
-    """What a JUnit report prints of a test case after the last that was run."""
-    return bare_case(name, "not run", "not run")
-
-
 def blocks_of(text: bytes) -> List[Told]:
-    """What the forms say about a history text."""
-    blocks, refusal = read_history(text)
-    assert refusal is None, refusal
-    return [Told(it) for it in blocks]
+    return [Told(it) for it in legal_blocks(text)]
 
 
 def status_for(told: List[Told]) -> int:
-    """The exit status."""
     return max(status_of("error" if it.end in MESSAGES else it.end) for it in told)
 
 
 def csv_of(told: List[Told]) -> bytes:
-    """The CSV report."""
-    lines = [",".join(["testcase", "components", *VERDICTS, "verdict"])]
-    for it in told:
-        lines.append(",".join([it.name, str(len(it.locals)), *(str(it.locals.count(v)) for v in VERDICTS), it.end]))
-    return "".join(f"{it}\n" for it in lines).encode()
+    records = ([it.name, str(len(it.locals)), *(str(it.locals.count(v)) for v in VERDICTS), it.end] for it in told)
+    return CSV_HEADER.encode() + as_lines(*map(",".join, records))
 
 
 def junit_of(told: List[Told], version: str, name: str = "ttrun") -> bytes:
@@ -150,7 +113,7 @@ def junit_of(told: List[Told], version: str, name: str = "ttrun") -> bytes:
         elif element:
             lines.append(f'<{element} message="{it.message}"/>' if it.message else f"<{element}/>")
         lines += ["<system-out>", *(f"local {at} {v}" for at, v in enumerate(it.locals)), "</system-out>", "</testcase>"]
-    return "".join(f"{it}\n" for it in [*lines, "</testsuite>", "</testsuites>"]).encode()
+    return as_lines(*lines, "</testsuite>", "</testsuites>")
 
 
 def wrapped(verdict: str, components: List[str]) -> List[str]:
@@ -182,7 +145,7 @@ def summary_of(told: List[Told]) -> bytes:
         for verdict in reversed(VERDICTS):
             found = [name for name, local in zip(it.components, it.locals) if local == verdict]
             lines += wrapped(verdict, found) if found else []
-    return "".join(f"{it}\n" for it in lines).encode()
+    return as_lines(*lines)
 
 
 def faults_of_element(element: ElementTree.Element) -> Iterator[str]:
@@ -221,88 +184,54 @@ def faults_of_junit(text: bytes) -> List[str]:
 
 
 def version_in(text: bytes) -> str:
-    """The version in a JUnit report."""
     found = ElementTree.fromstring(text).find("testsuite/properties/property[@name='version']")
     return "" if found is None else found.get("value") or ""
 
 
 def faults_of_report(program: str, form: str, text: bytes) -> List[str]:
-    """What is wrong with the report of a legal history text."""
-    ran = run(Case("", ("report", f"--{form}"), text), program)
     told = blocks_of(text)
-    return faults_of_forms(form, told, text, ran, b"", status_for(told))
+    return faults_of_forms(form, told, text, answer(program, text, "report", f"--{form}"), b"", status_for(told))
 
 
 def faults_of_forms(form: str, told: List[Told], text: bytes, ran: Ran, errors: bytes, status: int) -> List[str]:
     """What is wrong with a report of these test cases, whose blocks are this text, with these lines on standard error."""
-    if form == "csv":
-        wanted = csv_of(told)
-        faults = []
-    elif form == "html":
-        wanted = pages.page_of(text)
-        faults = pages.faults_of_page(ran.output, text)
-    elif form == "summary":
-        wanted = summary_of(told)
-        faults = []
+    faults: List[str] = []
+    if form == "html":
+        wanted, faults = pages.page_of(text), pages.faults_of_page(ran.output, text)
+    elif form == "junit":
+        version = version_in(ran.output)
+        wanted, faults = junit_of(told, version), faults_of_junit(ran.output) + ([] if version else ["it tells no version"])
     else:
-        wanted = junit_of(told, version_in(ran.output))
-        faults = faults_of_junit(ran.output) + ([] if version_in(ran.output) else ["it tells no version"])
-    faults += difference(form, wanted, ran.output) + difference("standard error", errors, ran.errors)
-    return faults + ([] if ran.status == status else [f"status {ran.status}, and {status} is wanted"])
+        wanted = csv_of(told) if form == "csv" else summary_of(told)
+    return faults + faults_in(Ran(wanted, errors, status), ran)
 
 
-def history_of(program: str, script: bytes) -> bytes:
-    """The histories of a run of the script."""
-    return run(Case("", ("run", "--history"), script), program).output
+def faults_of_each_form(program: str, text: bytes) -> List[str]:
+    return [fault for form in FORMS for fault in faults_of_report(program, form, text)]
 
 
-def of_one_run(stem: str) -> Judgement:
-    """Each form of the history of one run."""
-
-    def judge(program: str) -> List[str]:
-        text = history_of(program, examples.bytes_of(f"{stem}.script"))
-        return [fault for form in FORMS for fault in faults_of_report(program, form, text)]
-
-    return Judgement(f"report_of_one_run_{stem}", f"ttrun run --history < examples/{stem}.script | ttrun report", judge)
+def faults_of_one_run(program: str, stem: str) -> List[str]:
+    return faults_of_each_form(program, answer(program, examples.bytes_of(f"{stem}.script"), "run", "--history").output)
 
 
 def tally_of(report: bytes) -> Dict[str, int]:
-    """The counts at the end of a text report."""
     found = re.search(rb"^cases (\d+) none (\d+) pass (\d+) inconc (\d+) fail (\d+) error (\d+)$", report, re.M)
     assert found is not None, report[-200:]
     return dict(zip(("cases", *VERDICTS), map(int, found.groups())))
 
 
-def as_run(stem: str) -> Judgement:
+def faults_as_run(program: str, stem: str) -> List[str]:
     """Of a script whose verdicts are the same in each run: the forms of `run` and of `report` are the same."""
-
-    def judge(program: str) -> List[str]:
-        script = examples.bytes_of(f"{stem}.script")
-        text = history_of(program, script)
-        faults = []
-        for form in ("csv", "junit"):
-            ran = run(Case("", ("run", f"--{form}"), script), program)
-            reported = run(Case("", ("report", f"--{form}"), text), program)
-            faults += difference(f"report --{form}", ran.output, reported.output)
-            faults += [] if ran.status == reported.status else [f"--{form}: status {ran.status}, and {reported.status}"]
-        tally = tally_of(run(Case("", ("run",), script), program).output)
-        suite = ElementTree.fromstring(run(Case("", ("run", "--junit"), script), program).output).find("testsuite")
-        counts = {"tests": tally["cases"], "failures": tally["inconc"] + tally["fail"], "errors": tally["error"], "skipped": tally["none"]}
-        return faults + [f"{name}: {suite.get(name)}, and the text report has {count}"
-                         for name, count in counts.items() if suite.get(name) != str(count)]
-
-    return Judgement(f"report_as_run_{stem}", f"ttrun run --csv < examples/{stem}.script", judge)
-
-
-def histories_of_examples() -> List[str]:
-    """The histories of examples/."""
-    return sorted(it for it in os.listdir(examples.FOLDER) if it.endswith(".history"))
-
-
-def of_a_history(name: str) -> Judgement:
-    """Each form of a history of examples/."""
-    return Judgement(f"report_of_{name}", f"ttrun report < examples/{name}", lambda program: [
-        fault for form in FORMS for fault in faults_of_report(program, form, examples.bytes_of(name))])
+    script = examples.bytes_of(f"{stem}.script")
+    text = answer(program, script, "run", "--history").output
+    faults: List[str] = []
+    for form in ("--csv", "--junit"):
+        ran = answer(program, script, "run", form)
+        faults += faults_in(Ran(ran.output, b"", ran.status), answer(program, text, "report", form))
+    tally = tally_of(answer(program, script, "run").output)
+    suite = ElementTree.fromstring(ran.output).find("testsuite")
+    counts = {"tests": tally["cases"], "failures": tally["inconc"] + tally["fail"], "errors": tally["error"], "skipped": tally["none"]}
+    return faults + [f"{name}: {suite.get(name)}, and the text report has {count}" for name, count in counts.items() if suite.get(name) != str(count)]
 
 
 def spoiled(text: bytes) -> List[bytes]:
@@ -319,22 +248,17 @@ def spoiled(text: bytes) -> List[bytes]:
     return [it for it in found if it == b"" or check(it).status != 0]
 
 
-def refused_as_by_check(name: str, fewest: int) -> Judgement:
+def faults_of_refusals(program: str, name: str, fewest: int) -> List[str]:
     """What `check` refuses is refused with its line, and nothing is written."""
-
-    def judge(program: str) -> List[str]:
-        texts = spoiled(examples.bytes_of(name))
-        faults = [] if len(texts) >= fewest else [f"{len(texts)} texts are fewer than {fewest}"]
-        for text in texts:
-            checked = run(Case("", ("check",), text), program)
-            line = checked.errors or b"ttrun: " + checked.output.splitlines(keepends=True)[-1]
-            for form in FORMS:
-                ran = run(Case("", ("report", f"--{form}"), text), program)
-                faults += difference("standard output", b"", ran.output) + difference("standard error", line, ran.errors)
-                faults += [] if ran.status == 3 and checked.status == 3 else [f"status {ran.status}"]
-        return faults
-
-    return Judgement(f"report_refuses_as_check_{name}", f"ttrun report < examples/{name}, with a change", judge)
+    texts = spoiled(examples.bytes_of(name))
+    faults = [] if len(texts) >= fewest else [f"{len(texts)} texts are fewer than {fewest}"]
+    for text in texts:
+        checked = answer(program, text, "check")
+        line = checked.errors or b"ttrun: " + checked.output.splitlines(keepends=True)[-1]
+        faults += [] if checked.status == 3 else [f"check ends with status {checked.status}"]
+        for form in FORMS:
+            faults += faults_in(Ran(b"", line, 3), answer(program, text, "report", f"--{form}"))
+    return faults
 
 
 def random_block(source: random.Random, number: int) -> Tuple[str, str]:
@@ -350,7 +274,7 @@ def random_block(source: random.Random, number: int) -> Tuple[str, str]:
         op = random_op(source, table)
         lines.append(f"{caller} {op.text()} -> {table.play(caller, op)}")
     over = table.components[0].phase != "running"
-    text = "".join(f"{it}\n" for it in [f"history 2 t{number} {behaviours}", *lines, f"end {table.overall()}"])
+    text = as_lines(f"history 2 t{number} {behaviours}", *lines, f"end {table.overall()}").decode()
     return text, table.overall() if over else "unfinished"
 
 
@@ -358,33 +282,26 @@ def random_op(source: random.Random, table: Table) -> Op:
     """A call, usually no error."""
     comp = source.randrange(len(table.components))
     run_ = source.randrange(table.behaviours)
-    return source.choice([
-        Op("create", alive=source.random() < 0.5, name=source.choice(["", "pump"])), Op("create"), Op("start", comp, run=run_),
-        Op("stop", comp), Op("kill", comp), Op("setverdict", verdict=source.choice(VERDICTS[:4])),
-        *(Op("setverdict", verdict=source.choice(VERDICTS[1:4])) for _ in range(4)), Op("getverdict"), Op("finish"), Op("alive", comp),
-        Op("wait", comp, awaited="done"),
-    ])
+    return source.choice([Op("create", alive=source.random() < 0.5, name=source.choice(["", "pump"])), Op("create"), Op("start", comp, run=run_),
+                          Op("stop", comp), Op("kill", comp), Op("setverdict", verdict=source.choice(VERDICTS[:4])),
+                          *(Op("setverdict", verdict=source.choice(VERDICTS[1:4])) for _ in range(4)), Op("getverdict"), Op("finish"),
+                          Op("alive", comp), Op("wait", comp, awaited="done")])
+
+
+def faults_of_random_histories(program: str, seed: int) -> List[str]:
+    source = random.Random(seed)
+    blocks = [random_block(source, it) for it in range(RANDOM_BLOCKS)]
+    text = "".join(it for it, _ in blocks).encode()
+    messages = "\n".join(it.message for it in blocks_of(text))
+    met = Counter(kind for _, kind in blocks)
+    met["two components"] = sum("-> made 1" in it for it, _ in blocks)
+    met.update({it: messages.count(it) for it in (": setverdict ", "-> error ")})
+    one_by_one = [fault for one, _ in blocks[:40] for fault in faults_of_each_form(program, one.encode())]
+    return below(met, FLOORS) + faults_of_each_form(program, text) + one_by_one
 
 
 def judgements(seed: int) -> List[Judgement]:
-    """Forms of histories of random calls."""
-
-    def judge(program: str) -> List[str]:
-        source = random.Random(seed)
-        blocks = [random_block(source, it) for it in range(RANDOM_BLOCKS)]
-        met = {it: sum(kind == it for _, kind in blocks) for it in FLOORS}
-        met["two components"] = sum("-> made 1" in text for text, _ in blocks)
-        faults = [f"{name}: {met[name]} are fewer than {floor}" for name, floor in FLOORS.items() if met[name] < floor]
-        text = "".join(it for it, _ in blocks).encode()
-        messages = "\n".join(it.message for it in blocks_of(text))
-        faults += [f"{word!r}: {messages.count(word)} are fewer than {floor}" for word, floor in DECIDED_FLOORS.items() if messages.count(word) < floor]
-        for form in FORMS:
-            faults += faults_of_report(program, form, text)
-            for one, _ in blocks[:40]:
-                faults += faults_of_report(program, form, one.encode())
-        return faults
-
-    return [Judgement("report_of_random_histories", f"ttrun report, seed {seed}", judge)]
+    return [Judgement("report_of_random_histories", f"ttrun report, seed {seed}", faults_of_random_histories, (seed,))]
 
 
 # Histories whose forms are made here too: creates with and without a name, starts with arguments, waits and stops; kills and
@@ -414,42 +331,37 @@ DRAWN["many_components"] = text(";".join(
 UNFINISHED = b"history 2 t 1\n0 create -> made 1\n0 setverdict pass -> ok\nend pass\n"
 
 
-def of_a_named_suite(name: str) -> Judgement:
+def faults_of_a_named_suite(program: str, name: str) -> List[str]:
     """The JUnit reports of a script and of its histories, in a suite of this name."""
-
-    def judge(program: str) -> List[str]:
-        told = blocks_of(examples.bytes_of("verdicts.history"))
-        faults = []
-        for words, given in ((("run", "--junit", "--suite", name), "script"), (("report", f"--suite={name}", "--junit"), "history")):
-            ran = run(Case("", words, examples.bytes_of(f"verdicts.{given}")), program)
-            faults += difference("junit", junit_of(told, version_in(ran.output), name), ran.output) + faults_of_junit(ran.output)
-            faults += [] if (ran.errors, ran.status) == (b"", 2) else [f"{ran.errors!r}, status {ran.status}"]
-        return faults
-
-    return Judgement(f"junit_of_the_suite_{name}", f"ttrun report --junit --suite {name}", judge)
+    told, faults = blocks_of(examples.bytes_of("verdicts.history")), []
+    for words, given in ((("run", "--junit", "--suite", name), "script"), (("report", f"--suite={name}", "--junit"), "history")):
+        ran = answer(program, examples.bytes_of(f"verdicts.{given}"), *words)
+        faults += faults_in(Ran(junit_of(told, version_in(ran.output), name), b"", 2), ran) + faults_of_junit(ran.output)
+    return faults
 
 
-def cases() -> List[Union[Case, Judgement]]:
-    """All of them, but those of random histories."""
+def of_form(name: str, form: str, given: bytes) -> Judgement:
+    return Judgement(f"report_of_{name}_{form}", f"ttrun report --{form}", faults_of_report, (form, given))
+
+
+def cases() -> Iterator[Union[Case, Judgement]]:
     names = sorted(os.listdir(examples.FOLDER))
-    stems = [it[: -len(".script")] for it in names if it.endswith(".script")]
-    fixed = [it for it in stems if f"{it}.csv" in names]
-    found: List[Union[Case, Judgement]] = [of_one_run(it) for it in stems] + [as_run(it) for it in fixed]
-    found += [of_a_history(it) for it in histories_of_examples()]
-    found += [refused_as_by_check("verdicts.history", 15), refused_as_by_check("restart.history", 10)]
-    found += [Judgement(f"report_of_{name}_{form}", f"ttrun report --{form}",
-                        lambda program, form=form, given=given: faults_of_report(program, form, given))
-              for name, given in DRAWN.items() for form in FORMS]
-    found += [of_a_named_suite(it) for it in ("nightly", "A_1", "x" * 32)]
-    unfinished = b"testcase,components,none,pass,inconc,fail,error,verdict\nt,2,1,1,0,0,0,unfinished\n"
-    full = b"ttrun: write fault\n"
-    found.append(Case("report_of_an_unfinished_history", ("report", "--csv"), UNFINISHED, unfinished, status=2))
+    for stem in (it[: -len(".script")] for it in names if it.endswith(".script")):
+        yield Judgement(f"report_of_one_run_{stem}", f"ttrun run --history < examples/{stem}.script | ttrun report", faults_of_one_run, (stem,))
+        if f"{stem}.csv" in names:
+            yield Judgement(f"report_as_run_{stem}", f"ttrun run --csv < examples/{stem}.script", faults_as_run, (stem,))
+    for name in (it for it in names if it.endswith(".history")):
+        yield Judgement(f"report_of_{name}", f"ttrun report < examples/{name}", faults_of_each_form, (examples.bytes_of(name),))
+    for name, fewest in (("verdicts.history", 15), ("restart.history", 10)):
+        yield Judgement(f"report_refuses_as_check_{name}", f"ttrun report < examples/{name}, with a change", faults_of_refusals, (name, fewest))
+    for name in ("nightly", "A_1", "x" * 32):
+        yield Judgement(f"junit_of_the_suite_{name}", f"ttrun report --junit --suite {name}", faults_of_a_named_suite, (name,))
+    yield Case("report_of_an_unfinished_history", ("report", "--csv"), UNFINISHED, (CSV_HEADER + "t,2,1,1,0,0,0,unfinished\n").encode(), status=2)
     for form in FORMS:
-        found.append(Judgement(f"report_of_an_unfinished_history_{form}", f"ttrun report --{form}",
-                               lambda program, form=form: faults_of_report(program, form, UNFINISHED)))
-        found.append(Case(f"report_{form}_on_a_full_device", ("report", f"--{form}"), UNFINISHED, b"", full, 3, redirect=">/dev/full"))
-        found.append(Case(f"report_{form}_to_nobody", ("report", f"--{form}"), UNFINISHED, b"", full, 3, is_broken=True))
-        found.append(Case(f"report_{form}_without_an_input", ("report", f"--{form}"), b"", b"", b"ttrun: read fault\n", 3, redirect="<&-"))
-        too_long = UNFINISHED * (16_777_216 // len(UNFINISHED) + 1)
-        found.append(Case(f"report_{form}_of_too_long_a_text", ("report", f"--{form}"), too_long, b"", b"ttrun: input too long\n", 3))
-    return found
+        words = ("report", f"--{form}")
+        yield from (of_form(name, form, given) for name, given in DRAWN.items())
+        yield of_form("an_unfinished_history", form, UNFINISHED)
+        yield refused(f"report_{form}_on_a_full_device", words, UNFINISHED, "write fault", redirect=">/dev/full")
+        yield refused(f"report_{form}_to_nobody", words, UNFINISHED, "write fault", is_broken=True)
+        yield refused(f"report_{form}_without_an_input", words, b"", "read fault", redirect="<&-")
+        yield refused(f"report_{form}_of_too_long_a_text", words, UNFINISHED * (16_777_216 // len(UNFINISHED) + 1), "input too long")

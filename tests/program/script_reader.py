@@ -1,6 +1,4 @@
 """The script language in Python, written from only docs/scripts.md: the campaign that a script spells, or its first fault."""
-from __future__ import annotations
-
 import re
 from dataclasses import dataclass, field
 from typing import List, Optional, Set, Union
@@ -14,8 +12,6 @@ MOST_STEPS = 1000
 
 @dataclass
 class Behaviour:
-    """A behaviour, with the words of each step."""
-
     name: str
     parameters: List[str]
     steps: List[List[str]] = field(default_factory=list)
@@ -23,13 +19,10 @@ class Behaviour:
 
 @dataclass
 class TestCase:
-    """A test case."""
-
     name: str
     behaviours: List[Behaviour] = field(default_factory=list)
 
     def find(self, name: str) -> Optional[Behaviour]:
-        """The first behaviour of that name."""
         return next((it for it in self.behaviours if it.name == name), None)
 
 
@@ -45,64 +38,35 @@ class Line:
     words: List[str]
 
 
-def lines_with_words(text: bytes) -> List[Line]:
-    """The lines that are not skipped. Words have spaces between them, and nothing else is a space."""
-    found = [Line(number, line, [it for it in line.split(" ") if it]) for number, line in enumerate(lines_of(text), 1)]
-    return [it for it in found if it.words and not it.words[0].startswith("#")]
+# The forms of lines. N is a name, C a component, A a component or all, G a component or a group, S a state and V a verdict; what has a
+# `*` may come any number of times.
+FORMS = (
+    "testcase N", "behaviour N N*", "end", "create N", "create N alive", "create N named N", "create N alive named N", "start C N C*",
+    "stop A", "kill A", *(f"{it} G" for it in STATUSES), "wait S G", "setverdict V", "stopcase", "getverdict")
+WORDS = {"S": ("done", "killed"), "V": ("none", "pass", "inconc", "fail")}
+# What may be in the place of a name or a component besides a name.
+PLACES = {"N": (), "C": ("mtc", "self"), "A": ("mtc", "self", "all"), "G": ("mtc", "self", "any", "all")}
 
 
-def has_form(words: List[str]) -> bool:
-    """Whether the words are of a form, any word being taken in the place of a name or a component."""
-    verb, rest = words[0], words[1:]
-    if verb == "create":
-        options = rest[1:]
-        is_named = options[:-1] in (["named"], ["alive", "named"])
-        return bool(rest) and (options in ([], ["alive"]) or is_named)
-    if verb in ("behaviour", "start"):
-        return len(rest) >= (1 if verb == "behaviour" else 2)
-    if verb == "wait":
-        return len(rest) == 2 and rest[0] in ("done", "killed")
-    if verb == "setverdict":
-        return len(rest) == 1 and rest[0] in ("none", "pass", "inconc", "fail")
-    if verb in ("end", "stopcase", "getverdict"):
-        return not rest
-    return verb in ("testcase", "stop", "kill", *STATUSES) and len(rest) == 1
+def kinds_of(words: List[str]) -> Optional[List[str]]:
+    """What each word is by the form of the line, any word being taken in the place of a name or a component; none if it has no form."""
+    for form in FORMS:
+        kinds = form.split()
+        if kinds[0] == words[0] and kinds[-1].endswith("*"):
+            kinds[-1:] = [kinds[-1][0]] * (len(words) - len(kinds) + 1)
+        if len(kinds) == len(words) and all(kind in PLACES or word in WORDS.get(kind, (kind,)) for kind, word in zip(kinds, words)):
+            return kinds
+    return None
 
 
 def references_of(words: List[str]) -> List[str]:
     """The words that are in the place of a component or a group."""
-    verb = words[0]
-    if verb == "start":
-        return [words[1], *words[3:]]
-    if verb == "wait":
-        return words[2:]
-    return words[1:] if verb in ("stop", "kill", *STATUSES) else []
+    return [word for kind, word in zip(kinds_of(words), words) if kind in PLACES and kind != "N"]
 
 
 def given_name(words: List[str]) -> str:
     """The name that a create gives the component that it makes, which is bound under another; empty where it gives none."""
     return words[-1] if len(words) > 3 else ""
-
-
-def names_of(words: List[str]) -> List[str]:
-    """The words that are in the place of a name, except for the components that a step refers to."""
-    verb = words[0]
-    if verb in ("testcase", "behaviour"):
-        return words[1:]
-    if verb == "create":
-        return [it for it in (words[1], given_name(words)) if it]
-    return words[2:3] if verb == "start" else []
-
-
-def has_good_names(words: List[str]) -> bool:
-    """Whether each word in the place of a name or a component is allowed there."""
-    verb = words[0]
-    groups = ["mtc", "self"]
-    if verb in ("stop", "kill"):
-        groups += ["all"]
-    elif verb in ("wait", *STATUSES):
-        groups += ["any", "all"]
-    return all(map(is_name, names_of(words))) and all(it in groups or is_name(it) for it in references_of(words))
 
 
 class Grammar:
@@ -118,16 +82,16 @@ class Grammar:
         words = line.words
         if re.search("[^ -~]", line.text):
             return "byte not allowed"
-        if not has_form(words):
+        kinds = kinds_of(words)
+        if kinds is None:
             return "line not understood"
-        if not has_good_names(words):
+        if not all(kind not in PLACES or word in PLACES[kind] or is_name(word) for kind, word in zip(kinds, words)):
             return "bad name"
         if not self.is_in_place(words[0]):
             return "not allowed here"
         return "too many" if self.is_too_many(words) else None
 
     def is_in_place(self, verb: str) -> bool:
-        """Whether such a line may be here."""
         if verb == "testcase":
             return self.test_case is None
         if verb == "behaviour":
@@ -137,7 +101,6 @@ class Grammar:
         return self.behaviour is not None
 
     def is_too_many(self, words: List[str]) -> bool:
-        """Whether the line is one more than a limit."""
         if words[0] == "testcase":
             return len(self.campaign) >= MOST_TEST_CASES
         if words[0] == "behaviour":
@@ -147,7 +110,6 @@ class Grammar:
         return len(self.behaviour.steps) >= MOST_STEPS or words[0] == "start" and len(words) > 3 + MOST_ARGUMENTS
 
     def take(self, words: List[str]) -> None:
-        """Takes a line without a fault."""
         if words[0] == "testcase":
             self.test_case = TestCase(words[1])
             self.campaign.append(self.test_case)
@@ -195,7 +157,6 @@ class Names:
         return None
 
     def take(self, words: List[str]) -> None:
-        """Takes a line without a fault."""
         if words[0] == "testcase":
             self.at += 1
             self.used = set()
@@ -209,7 +170,9 @@ class Names:
 
 def read_script(text: bytes) -> Union[Campaign, Judged]:
     """The campaign that the text spells, or the refusal of its first fault."""
-    lines = lines_with_words(text)
+    # Words have spaces between them, and nothing else is a space.
+    every = [Line(number, line, [it for it in line.split(" ") if it]) for number, line in enumerate(lines_of(text), 1)]
+    lines = [it for it in every if it.words and not it.words[0].startswith("#")]
     grammar = Grammar()
     for line in lines:
         fault = grammar.fault(line)
@@ -217,7 +180,7 @@ def read_script(text: bytes) -> Union[Campaign, Judged]:
             return refused(line.number, fault)
         grammar.take(line.words)
     if grammar.test_case is not None or not grammar.campaign:
-        return refused(len(lines_of(text)) + 1, "text ends too early")
+        return refused(len(every) + 1, "text ends too early")
     names = Names(grammar.campaign)
     for line in lines:
         fault = names.fault(line.words)

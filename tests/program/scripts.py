@@ -1,69 +1,39 @@
 """Scripts that are refused, line by line and kind by kind, and lines that are accepted."""
-from __future__ import annotations
-
 from typing import Dict, Iterator, List, Tuple
 
-from case import Case
-from rows import CSV_HEADER, text
+from case import Case, refused
+from rows import CSV_HEADER, counts_of, text
 
 FRAME = "testcase t;behaviour main;{};end;behaviour w a;end;end"
 
-# Name, line 3 of the frame, fault. The frame has a behaviour `w` with one parameter.
-THIRD_LINES: List[Tuple[str, str, str]] = [
-    ("a_name_that_begins_with_a_digit", "create 1x", "bad name"),
-    ("stop_of_any_in_a_script", "stop any", "bad name"),
-    ("setverdict_error", "setverdict error", "line not understood"),
-    ("a_tab_in_front", "\tgetverdict", "byte not allowed"),
-    ("a_behaviour_in_a_behaviour", "behaviour b", "not allowed here"),
-    ("five_arguments_in_a_script", "start mtc w mtc mtc mtc mtc mtc", "too many"),
-    ("an_unbound_component", "start x w mtc", "unbound reference"),
-    ("no_such_behaviour", "start mtc zz mtc", "unknown behaviour"),
-    ("too_few_arguments", "start mtc w", "wrong number of arguments"),
-    ("too_many_arguments", "start mtc w mtc self", "wrong number of arguments"),
-    ("a_test_case_in_a_test_case", "testcase u", "not allowed here"),
-    ("an_unknown_word", "foo", "line not understood"),
-    ("a_word_too_few", "create", "line not understood"),
-    ("a_word_too_many", "getverdict now", "line not understood"),
-    ("alive_misspelt", "create p living", "line not understood"),
-    ("wait_for_running_in_a_script", "wait running mtc", "line not understood"),
-    ("wait_without_a_target", "wait done", "line not understood"),
-    ("words_in_capitals", "GETVERDICT", "line not understood"),
-    ("a_stop_of_the_case_with_a_word_too_many", "stopcase all", "line not understood"),
-    ("a_named_create_without_a_name", "create p named", "line not understood"),
-    ("a_named_create_of_alive_without_a_name", "create p alive named", "line not understood"),
-    ("a_word_behind_the_name_of_a_create", "create p named l alive", "line not understood"),
-    ("alive_misspelt_before_a_name", "create p living named l", "line not understood"),
-    ("named_misspelt", "create p alive called l", "line not understood"),
-    ("a_create_named_mtc_in_a_script", "create p named mtc", "bad name"),
-    ("an_alive_create_named_all_in_a_script", "create p alive named all", "bad name"),
-    ("a_create_with_a_name_of_33_bytes", "create p named " + "l" * 33, "bad name"),
-    ("a_named_create_of_self", "create self named l", "bad name"),
-    ("kill_of_any", "kill any", "bad name"),
-    ("create_of_mtc", "create mtc", "bad name"),
-    ("create_of_self", "create self", "bad name"),
-    ("create_of_all", "create all alive", "bad name"),
-    ("a_name_of_33_bytes", "create " + "p" * 33, "bad name"),
-    ("a_name_with_a_dash", "create p-q", "bad name"),
-    ("a_name_that_begins_with_a_line", "create _p", "bad name"),
-    ("start_of_any", "start any w mtc", "bad name"),
-    ("start_of_a_behaviour_all", "start mtc all", "bad name"),
-    ("an_argument_all", "start mtc w all", "bad name"),
-    ("a_byte_above_126", "create p\x7f", "byte not allowed"),
-    ("a_carriage_return_in_a_script", "getverdict\r", "byte not allowed"),
-    ("an_unbound_argument", "start mtc w x", "unbound reference"),
-    ("an_unbound_target", "running q", "unbound reference"),
-    ("an_unbound_wait", "wait killed q", "unbound reference"),
-    ("an_unbound_group", "stop q", "unbound reference"),
-    ("a_parameter_of_another_behaviour", "alive a", "unbound reference"),
-    # the first kind that applies
-    ("byte_before_line", "foo\t", "byte not allowed"),
-    ("line_before_name", "create 1x 2x", "line not understood"),
-    ("line_before_the_name_of_a_create", "create 1x called mtc", "line not understood"),
-    ("name_before_place", "behaviour all", "bad name"),
-    ("place_before_many", "behaviour b p q r s u", "not allowed here"),
-    ("reference_before_behaviour", "start x zz", "unbound reference"),
-    ("reference_before_arguments", "start x w", "unbound reference"),
-]
+# Line 3 of the frame by its name and its fault, which is the first kind that applies. The frame has a behaviour `w` with one parameter.
+THIRD_LINES: Dict[str, Dict[str, str]] = {
+    "bad name": {"a_name_that_begins_with_a_digit": "create 1x", "stop_of_any_in_a_script": "stop any",
+                 "a_create_named_mtc_in_a_script": "create p named mtc", "an_alive_create_named_all_in_a_script": "create p alive named all",
+                 "a_create_with_a_name_of_33_bytes": "create p named " + "l" * 33, "a_named_create_of_self": "create self named l",
+                 "kill_of_any": "kill any", "create_of_mtc": "create mtc", "create_of_self": "create self", "create_of_all": "create all alive",
+                 "a_name_of_33_bytes": "create " + "p" * 33, "a_name_with_a_dash": "create p-q", "a_name_that_begins_with_a_line": "create _p",
+                 "start_of_any": "start any w mtc", "start_of_a_behaviour_all": "start mtc all", "an_argument_all": "start mtc w all",
+                 "name_before_place": "behaviour all"},
+    "line not understood": {"setverdict_error": "setverdict error", "an_unknown_word": "foo", "a_word_too_few": "create",
+                            "a_word_too_many": "getverdict now", "alive_misspelt": "create p living",
+                            "wait_for_running_in_a_script": "wait running mtc", "wait_without_a_target": "wait done",
+                            "words_in_capitals": "GETVERDICT", "a_stop_of_the_case_with_a_word_too_many": "stopcase all",
+                            "a_named_create_without_a_name": "create p named", "a_named_create_of_alive_without_a_name": "create p alive named",
+                            "a_word_behind_the_name_of_a_create": "create p named l alive", "alive_misspelt_before_a_name": "create p living named l",
+                            "named_misspelt": "create p alive called l", "line_before_name": "create 1x 2x",
+                            "line_before_the_name_of_a_create": "create 1x called mtc"},
+    "byte not allowed": {"a_tab_in_front": "\tgetverdict", "a_byte_above_126": "create p\x7f", "a_carriage_return_in_a_script": "getverdict\r",
+                         "byte_before_line": "foo\t"},
+    "not allowed here": {"a_behaviour_in_a_behaviour": "behaviour b", "a_test_case_in_a_test_case": "testcase u",
+                         "place_before_many": "behaviour b p q r s u"},
+    "too many": {"five_arguments_in_a_script": "start mtc w mtc mtc mtc mtc mtc"},
+    "unbound reference": {"an_unbound_component": "start x w mtc", "an_unbound_argument": "start mtc w x", "an_unbound_target": "running q",
+                          "an_unbound_wait": "wait killed q", "an_unbound_group": "stop q", "a_parameter_of_another_behaviour": "alive a",
+                          "reference_before_behaviour": "start x zz", "reference_before_arguments": "start x w"},
+    "unknown behaviour": {"no_such_behaviour": "start mtc zz mtc"},
+    "wrong number of arguments": {"too_few_arguments": "start mtc w", "too_many_arguments": "start mtc w mtc self"},
+}
 
 # Further lines in the place of line 3, by their fault.
 MORE_LINES: Dict[str, Tuple[str, ...]] = {
@@ -105,16 +75,14 @@ ACCEPTED_LINES: List[Tuple[str, str, str, str, int]] = [
 
 # Name, script, line, fault.
 REFUSED: List[Tuple[str, bytes, int, str]] = [
-    ("refused_scripts_unbound", text("testcase t;behaviour main;create p;start q worker;end;behaviour worker;end;end"),
-     4, "unbound reference"),
+    ("refused_scripts_unbound", text("testcase t;behaviour main;create p;start q worker;end;behaviour worker;end;end"), 4, "unbound reference"),
     ("refused_scripts_arguments", text("testcase t;behaviour main;create p;start p worker mtc;end;behaviour worker;end;end"),
      4, "wrong number of arguments"),
     ("refused_scripts_cut_in_a_line", b"testcase t\nbehaviour main\nsetver", 3, "line not understood"),
     ("refused_scripts_cut_between_lines", text("testcase t;behaviour main;setverdict pass"), 4, "text ends too early"),
     ("refused_scripts_empty", b"", 1, "text ends too early"),
     ("two_behaviours_of_one_name", text(FRAME.format("getverdict").replace("w a", "main")), 5, "name already used"),
-    ("a_parameter_of_the_main", text(FRAME.format("getverdict").replace("main", "main p")), 2,
-     "main behaviour takes no parameters"),
+    ("a_parameter_of_the_main", text(FRAME.format("getverdict").replace("main", "main p")), 2, "main behaviour takes no parameters"),
     ("comments_alone", text("# nothing; ;#"), 4, "text ends too early"),
     ("a_test_case_without_a_behaviour", text("testcase t;end"), 2, "not allowed here"),
     ("an_end_of_nothing", text("end"), 1, "not allowed here"),
@@ -124,25 +92,19 @@ REFUSED: List[Tuple[str, bytes, int, str]] = [
     ("a_step_between_behaviours", text("testcase t;behaviour main;end;getverdict;end"), 4, "not allowed here"),
     ("an_open_test_case", text("testcase t;behaviour main;end"), 4, "text ends too early"),
     ("cut_before_the_last_line", text(FRAME.format("getverdict"))[:-4], 7, "text ends too early"),
-    ("two_test_cases_of_one_name", text("testcase t;behaviour main;end;end;testcase t;behaviour main;end;end"), 5,
-     "name already used"),
+    ("two_test_cases_of_one_name", text("testcase t;behaviour main;end;end;testcase t;behaviour main;end;end"), 5, "name already used"),
     ("a_component_bound_twice", text("testcase t;behaviour main;create p;create p;end;end"), 4, "name already used"),
-    ("a_component_bound_twice_with_two_names", text("testcase t;behaviour main;create p named l;create p named m;end;end"), 4,
-     "name already used"),
+    ("a_component_bound_twice_with_two_names", text("testcase t;behaviour main;create p named l;create p named m;end;end"), 4, "name already used"),
     ("a_name_of_a_create_is_not_bound", text("testcase t;behaviour main;create p named l;kill l;end;end"), 4, "unbound reference"),
     ("a_name_of_a_create_before_names", text("testcase t;behaviour main;create p;create p named mtc;end;end"), 4, "bad name"),
     ("a_parameter_bound_twice", text("testcase t;behaviour main;end;behaviour w a a;end;end"), 4, "name already used"),
-    ("a_component_named_as_a_parameter", text("testcase t;behaviour main;end;behaviour w a;create a;end;end"), 5,
-     "name already used"),
+    ("a_component_named_as_a_parameter", text("testcase t;behaviour main;end;behaviour w a;create a;end;end"), 5, "name already used"),
     ("a_component_used_above_its_create", text("testcase t;behaviour main;kill p;create p;end;end"), 3, "unbound reference"),
-    ("a_component_of_another_behaviour", text("testcase t;behaviour main;create p;end;behaviour w;kill p;end;end"), 6,
-     "unbound reference"),
+    ("a_component_of_another_behaviour", text("testcase t;behaviour main;create p;end;behaviour w;kill p;end;end"), 6, "unbound reference"),
     ("a_behaviour_of_another_test_case",
-     text("testcase t;behaviour main;end;behaviour w;end;end;testcase u;behaviour main;create p;start p w;end;end"), 10,
-     "unknown behaviour"),
+     text("testcase t;behaviour main;end;behaviour w;end;end;testcase u;behaviour main;create p;start p w;end;end"), 10, "unknown behaviour"),
     ("five_parameters", text("testcase t;behaviour main;end;behaviour w a b c d e;end;end"), 4, "too many"),
-    ("grammar_before_names", text("testcase t;behaviour main;kill p;end;end;testcase t;behaviour main;end"), 9,
-     "text ends too early"),
+    ("grammar_before_names", text("testcase t;behaviour main;kill p;end;end;testcase t;behaviour main;end"), 9, "text ends too early"),
     ("place_before_names", text("testcase t;behaviour m;stop p;end;end;;end"), 7, "not allowed here"),
     ("a_cut_before_names", text("testcase t;behaviour m;stop p;end"), 5, "text ends too early"),
     ("twice_before_a_parameter_of_the_main", text("testcase t;behaviour m p p;end;end"), 2, "name already used"),
@@ -181,8 +143,7 @@ WORKED = text("testcase t;run 0 main on 0;  create -> made 1;  create alive -> m
 # Scripts whose names are bound: a component after the line of its create, a parameter in its whole behaviour.
 BOUND = (
     ("a_component_bound_lines_before", text("testcase t;behaviour m;create p;# p;;stop p;end;end")),
-    ("parameters_in_their_whole_behaviour",
-     text("testcase t;behaviour m;end;behaviour w a b;stop a;create c;stop b;kill a;end;end")),
+    ("parameters_in_their_whole_behaviour", text("testcase t;behaviour m;end;behaviour w a b;stop a;create c;stop b;kill a;end;end")),
 )
 
 
@@ -191,31 +152,29 @@ def of_places() -> Iterator[Case]:
     for line, fault in PLACES:
         longest, too_long = text(FRAME.format(line.format("n" * 32))), text(FRAME.format(line.format("n" * 33)))
         name = line.replace("{}", "_").replace(" ", "_")
-        if fault:
-            yield Case(f"longest_name_in_{name}", ("run",), longest, errors=f"ttrun: line 3: {fault}\n".encode(), status=3)
-        else:
-            yield Case(f"longest_name_in_{name}", ("run", "--list"), longest, b"t\n")
-        yield Case(f"too_long_a_name_in_{name}", ("run",), too_long, errors=b"ttrun: line 3: bad name\n", status=3)
+        yield (refused(f"longest_name_in_{name}", ("run",), longest, f"line 3: {fault}") if fault
+               else Case(f"longest_name_in_{name}", ("run", "--list"), longest, b"t\n"))
+        yield refused(f"too_long_a_name_in_{name}", ("run",), too_long, "line 3: bad name")
 
 
-def cases() -> List[Case]:
-    """All of them. A refused script is refused alike in each form."""
-    thirds = [(name, text(FRAME.format(line)), 3, fault) for name, line, fault in THIRD_LINES]
-    thirds += [(f"{fault.replace(' ', '_')}_{line!r}", text(FRAME.format(line)), 3, fault)
-               for fault, lines in MORE_LINES.items() for line in lines]
+def of_one(name: str, line: str, calls: str, components: str, verdict: str, status: int = 0) -> Case:
+    """A script of the frame with this line: what its report has of its calls and of its components, and the verdict."""
+    output = f"testcase t;run 0 main on 0;  {calls};{components};verdict {verdict};{counts_of(verdict)[:-1]};complete"
+    return Case(name, ("run",), text(FRAME.format(line)), text(output), status=status)
+
+
+def cases() -> Iterator[Case]:
+    """A refused script is refused alike in each form."""
+    thirds = [(name, text(FRAME.format(line)), 3, fault) for fault, lines in THIRD_LINES.items() for name, line in lines.items()]
+    thirds += [(f"{fault.replace(' ', '_')}_{line!r}", text(FRAME.format(line)), 3, fault) for fault, lines in MORE_LINES.items() for line in lines]
     forms: Tuple[Tuple[str, ...], ...] = (("run",), ("run", "--csv"), ("run", "--history"), ("run", "--stop-on", "fail"), ())
-    found = [Case(name, forms[at % len(forms)], given, errors=f"ttrun: line {line}: {fault}\n".encode(), status=3)
-             for at, (name, given, line, fault) in enumerate(thirds + REFUSED)]
+    for at, (name, given, line, fault) in enumerate(thirds + REFUSED):
+        yield refused(name, forms[at % len(forms)], given, f"line {line}: {fault}")
     for name, line, calls, verdict, status in ACCEPTED_LINES:
-        count = " ".join(f"{it} {int(it == verdict)}" for it in ("none", "pass", "inconc", "fail", "error"))
-        output = text(f"testcase t;run 0 main on 0;  {calls};local 0 {verdict};verdict {verdict};cases 1 {count};complete")
-        found.append(Case(name, ("run",), text(FRAME.format(line)), output, status=status))
+        yield of_one(name, line, calls, f"local 0 {verdict}", verdict, status)
     for name, line, call in NAMED_CREATES:
-        output = text(f"testcase t;run 0 main on 0;  {call} -> made 1;  finish -> ok;local 0 none;local 1 none;verdict none;"
-                      "cases 1 none 1 pass 0 inconc 0 fail 0 error 0;complete")
-        found.append(Case(name, ("run",), text(FRAME.format(line)), output))
-    found.append(Case("names_of_components_are_not_distinct", ("run", "--csv"), SHARED_NAMES,
-                      (CSV_HEADER + "t,4,4,0,0,0,0,none\n").encode()))
-    found.append(Case("places_of_a_worker", ("run",), WORKER, WORKED))
-    found += [Case(name, ("run", "--list"), given, b"t\n") for name, given in BOUND]
-    return [*found, *of_places()]
+        yield of_one(name, line, f"{call} -> made 1;  finish -> ok", "local 0 none;local 1 none", "none")
+    yield Case("names_of_components_are_not_distinct", ("run", "--csv"), SHARED_NAMES, (CSV_HEADER + "t,4,4,0,0,0,0,none\n").encode())
+    yield Case("places_of_a_worker", ("run",), WORKER, WORKED)
+    yield from (Case(name, ("run", "--list"), given, b"t\n") for name, given in BOUND)
+    yield from of_places()

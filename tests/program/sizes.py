@@ -1,21 +1,17 @@
 """The largest inputs, one more than each limit, and what is refused because memory or threads ran out."""
-from __future__ import annotations
-
 from typing import Iterator, List, Tuple
 
-from case import Case, SomeText, Timed
-from rows import CSV_HEADER, csv_of_verdict, text
+from case import Case, SomeText, Timed, as_lines, joined, refused
+from rows import CSV_HEADER, case_of_verdict, counts_of, csv_of_verdict, evidence_of_verdict, history_of_verdict, text
 from texts import MOST_BYTES_OF_A_HISTORY, MOST_BYTES_OF_A_LIST, MOST_BYTES_OF_A_SCRIPT
 
-TOO_LONG = b"ttrun: input too long\n"
-NO_MEMORY = b"ttrun: no memory\n"
+TOO_LONG = "input too long"
 PASSING = text("testcase t;behaviour main;setverdict pass;end;end")
 PASSED = (CSV_HEADER + csv_of_verdict("t", "pass")).encode()
 
 
 def many_of(*lines: str) -> str:
-    """These lines."""
-    return "".join(f"{line}\n" for line in lines)
+    return as_lines(*lines).decode()
 
 
 def padded_script(length: int) -> bytes:
@@ -47,64 +43,50 @@ def longest_evidence() -> bytes:
     return head + b"m" * rest + b"\n" + line * count + tail[1:]
 
 
-def most_blocks() -> Iterator[Case]:
-    """A history text of as many blocks as may be."""
-    block = b"history 2 t 1\n0 finish -> ok\nend none\n"
-    count = MOST_BYTES_OF_A_HISTORY // len(block)
-    yield Case("most_blocks", ("check",), block * count, b"legal t 1 none\n" * count)
-    yield Case("most_blocks_csv", ("report", "--csv"), block * count, CSV_HEADER.encode() + csv_of_verdict("t", "none").encode() * count)
-
-
 def longest() -> Iterator[Case]:
     """Inputs at their limit, and one byte past it."""
     moves, replies = longest_list()
     history, legal = longest_history()
     assert len(moves) == MOST_BYTES_OF_A_LIST and len(history) == MOST_BYTES_OF_A_HISTORY
     yield Case("longest_list", ("replay",), moves, replies)
-    yield Case("a_list_one_byte_longer", ("replay",), moves + b"\n", errors=TOO_LONG, status=3)
+    yield refused("a_list_one_byte_longer", ("replay",), moves + b"\n", TOO_LONG)
     yield Case("longest_history", ("check",), history, legal)
-    yield Case("a_history_one_byte_longer", ("check",), history + b"\n", errors=TOO_LONG, status=3)
+    yield refused("a_history_one_byte_longer", ("check",), history + b"\n", TOO_LONG)
     yield Case("longest_evidence", ("check",), longest_evidence(), b"legal t 0 none\n")
-    yield from most_blocks()
+    for name, whole in (("history", history), ("evidence", longest_evidence())):
+        last = whole.count(b"\n")
+        yield refused(f"the_longest_{name}_with_a_bad_last_line", ("check",), whole[:-2] + b"x\n", f"line {last}: bad entry")
+    block = b"history 2 t 1\n0 finish -> ok\nend none\n"
+    count = MOST_BYTES_OF_A_HISTORY // len(block)
+    yield Case("most_blocks", ("check",), block * count, b"legal t 1 none\n" * count)
+    yield Case("most_blocks_csv", ("report", "--csv"), block * count, CSV_HEADER.encode() + csv_of_verdict("t", "none").encode() * count)
     yield Case("longest_script", ("run", "--csv"), padded_script(MOST_BYTES_OF_A_SCRIPT), PASSED)
-    yield Case("a_script_one_byte_longer", ("run", "--csv"), padded_script(MOST_BYTES_OF_A_SCRIPT + 1), errors=TOO_LONG, status=3)
+    yield refused("a_script_one_byte_longer", ("run", "--csv"), padded_script(MOST_BYTES_OF_A_SCRIPT + 1), TOO_LONG)
     for words in ((), ("--list",)):
-        yield Case("_".join(["a_script_too_long_for_names", *(it.strip("-") for it in words)]), ("run", *words, "--only", "z"),
-                   b"\n" * (MOST_BYTES_OF_A_SCRIPT + 1), errors=TOO_LONG, status=3)
-    for name, words, most in (("list", ("replay",), MOST_BYTES_OF_A_LIST), ("history", ("check",), MOST_BYTES_OF_A_HISTORY),
-                              ("script", ("run",), MOST_BYTES_OF_A_SCRIPT)):
-        yield Case(f"a_{name}_that_never_ends", words, b"\n" * (most + 1), errors=TOO_LONG, status=3, stays_open=True)
-        yield Case(f"a_{name}_of_line_feeds", words, b"\n" * most, status=3,
-                   errors=(f"line {most + 1}: text ends too early" if name == "script" else "line 1: bad first line")
-                   .join(("ttrun: ", "\n")).encode())
+        yield refused(joined("a_script_too_long_for_names", *words), ("run", *words, "--only", "z"), b"\n" * (MOST_BYTES_OF_A_SCRIPT + 1), TOO_LONG)
+    for name, words, most, fault in (("list", ("replay",), MOST_BYTES_OF_A_LIST, "line 1: bad first line"),
+                                     ("history", ("check",), MOST_BYTES_OF_A_HISTORY, "line 1: bad first line"),
+                                     ("script", ("run",), MOST_BYTES_OF_A_SCRIPT, f"line {MOST_BYTES_OF_A_SCRIPT + 1}: text ends too early")):
+        yield refused(f"a_{name}_that_never_ends", words, b"\n" * (most + 1), TOO_LONG, stays_open=True)
+        yield refused(f"a_{name}_of_line_feeds", words, b"\n" * most, fault)
 
 
 def many_behaviours(count: int) -> bytes:
     """The main behaviour starts each other one on a component of its own and waits for all; each other one sets pass."""
-    lines = ["testcase t", "behaviour main"]
-    for at in range(1, count):
-        lines += [f"create p{at}", f"start p{at} w{at}"]
-    lines += ["wait done all", "end"]
-    for at in range(1, count):
-        lines += [f"behaviour w{at}", "setverdict pass", "end"]
-    return text(";".join([*lines, "end"]))
+    starts = [line for at in range(1, count) for line in (f"create p{at}", f"start p{at} w{at}")]
+    others = [line for at in range(1, count) for line in (f"behaviour w{at}", "setverdict pass", "end")]
+    return as_lines("testcase t", "behaviour main", *starts, "wait done all", "end", *others, "end")
 
 
 def report_of_many(count: int) -> bytes:
-    """The report of such a test case."""
-    lines = ["testcase t", "run 0 main on 0"]
-    for at in range(1, count):
-        lines += [f"  create -> made {at}", f"  start {at} {at} -> ok"]
-    lines += ["  wait done all -> matched", "  finish -> ok"]
-    for at in range(1, count):
-        lines += [f"run {at} w{at} on {at}", "  setverdict pass -> ok", "  finish -> ok"]
-    lines += ["local 0 none", *(f"local {at} pass" for at in range(1, count)), "verdict pass"]
-    return text(";".join([*lines, "cases 1 none 0 pass 1 inconc 0 fail 0 error 0", "complete"]))
+    starts = [line for at in range(1, count) for line in (f"  create -> made {at}", f"  start {at} {at} -> ok")]
+    others = [line for at in range(1, count) for line in (f"run {at} w{at} on {at}", "  setverdict pass -> ok", "  finish -> ok")]
+    return as_lines("testcase t", "run 0 main on 0", *starts, "  wait done all -> matched", "  finish -> ok", *others, "local 0 none",
+                    *(f"local {at} pass" for at in range(1, count)), "verdict pass", "cases 1 none 0 pass 1 inconc 0 fail 0 error 0", "complete")
 
 
 def single(steps: List[str]) -> bytes:
-    """A test case of one behaviour with these steps."""
-    return text(";".join(["testcase t", "behaviour main", *steps, "end", "end"]))
+    return as_lines("testcase t", "behaviour main", *steps, "end", "end")
 
 
 def most_steps() -> bytes:
@@ -121,38 +103,32 @@ def waiting(count: int, steps: int) -> bytes:
         main += [f"create p{at}", f"start p{at} w{at}", f"wait done p{at}"]
         others += [f"behaviour w{at}", *["setverdict pass"] * 50, "end"]
     main += ["setverdict pass"] * (steps - len(main))
-    return text(";".join(["testcase t", "behaviour main", *main, "end", *others, "end"]))
+    return as_lines("testcase t", "behaviour main", *main, "end", *others, "end")
 
 
 def counted() -> Iterator[Case]:
     """As many of a thing as may be, and one more."""
     yield Case("sixty_four_jobs", ("run",), many_behaviours(64), report_of_many(64))
-    yield Case("two_hundred_and_fifty_six_jobs", ("run",), many_behaviours(256), report_of_many(256))
-    yield Case("two_hundred_and_fifty_six_jobs_live", ("run", "--live"), many_behaviours(256), report_of_many(256))
+    for words in ((), ("--live",)):
+        yield Case(joined("two_hundred_and_fifty_six_jobs", *words), ("run", *words), many_behaviours(256), report_of_many(256))
     yield Case("two_hundred_and_fifty_six_jobs_evidence", ("run", "--evidence"), many_behaviours(256),
                SomeText(tuple(f"behaviour {at} w{at}\n" for at in range(1, 256))))
     unstarted = single(["setverdict pass"])[:-len("end\n")] + text(";".join(f"behaviour w{at};end" for at in range(1, 256)) + ";end")
     yield Case("two_hundred_and_fifty_six_jobs_searched", ("explore",), unstarted, text("t pass complete"))
-    yield Case("one_behaviour_too_many", ("run",), many_behaviours(257), status=3, errors=b"ttrun: line 1282: too many\n")
-    passed = ["setverdict pass"]
-    calls = "  setverdict pass -> ok;" * 1000
-    yield Case("a_thousand_steps", ("run",), single(passed * 1000),
-               text(f"testcase t;run 0 main on 0;{calls}  finish -> ok;local 0 pass;verdict pass;"
-                    "cases 1 none 0 pass 1 inconc 0 fail 0 error 0;complete"))
-    yield Case("more_entries_than_steps", ("run", "--csv"), waiting(64, 1000), (CSV_HEADER + "t,64,0,64,0,0,0,pass\n").encode())
-    yield Case("one_step_more", ("run", "--csv"), single(passed * 1001), status=3, errors=b"ttrun: line 1003: too many\n")
-    yield Case("most_steps", ("run", "--csv"), most_steps(), PASSED)
-    creates = [f"create p{at}" for at in range(1000)]
-    yield Case("a_thousand_components_of_a_script", ("run", "--csv"), single(creates),
-               (CSV_HEADER + "t,1000,999,0,0,0,1,error\n").encode(), status=2)
-    yield Case("a_component_less", ("run", "--csv"), single(creates[1:]), (CSV_HEADER + "t,1000,1000,0,0,0,0,none\n").encode())
-    many = [f"testcase t{at};behaviour main;end;end" for at in range(1001)]
-    records = "".join(f"t{at},1,1,0,0,0,0,none\n" for at in range(1000))
-    yield Case("a_thousand_test_cases", ("run", "--csv"), text(";".join(many[:-1])), (CSV_HEADER + records).encode())
-    yield Case("one_test_case_more", ("run", "--csv"), text(";".join(many)), status=3, errors=b"ttrun: line 4001: too many\n")
-    name = "n" * 32
-    yield Case("a_name_of_32_bytes", ("run", "--csv"), PASSING.replace(b"testcase t", f"testcase {name}".encode()),
-               PASSED.replace(b"\nt,", f"\n{name},".encode()))
+    yield Case("a_thousand_steps", ("run",), single(["setverdict pass"] * 1000), as_lines(
+        "testcase t", "run 0 main on 0", *["  setverdict pass -> ok"] * 1000, "  finish -> ok", "local 0 pass", "verdict pass",
+        counts_of("pass")[:-1], "complete"))
+    creates, many = [f"create p{at}" for at in range(1000)], [f"testcase t{at};behaviour main;end;end" for at in range(1001)]
+    for name, script, records, status in (
+            ("more_entries_than_steps", waiting(64, 1000), "t,64,0,64,0,0,0,pass\n", 0), ("most_steps", most_steps(), csv_of_verdict("t", "pass"), 0),
+            ("a_thousand_components_of_a_script", single(creates), "t,1000,999,0,0,0,1,error\n", 2),
+            ("a_component_less", single(creates[1:]), "t,1000,1000,0,0,0,0,none\n", 0),
+            ("a_thousand_test_cases", text(";".join(many[:-1])), "".join(csv_of_verdict(f"t{at}", "none") for at in range(1000)), 0),
+            ("a_name_of_32_bytes", PASSING.replace(b"testcase t", b"testcase " + b"n" * 32), csv_of_verdict("n" * 32, "pass"), 0)):
+        yield Case(name, ("run", "--csv"), script, (CSV_HEADER + records).encode(), status=status)
+    yield refused("one_behaviour_too_many", ("run",), many_behaviours(257), "line 1282: too many")
+    yield refused("one_step_more", ("run", "--csv"), single(["setverdict pass"] * 1001), "line 1003: too many")
+    yield refused("one_test_case_more", ("run", "--csv"), text(";".join(many)), "line 4001: too many")
     four = "testcase t;behaviour main;create p;start p w mtc self p p;wait done p;end;behaviour w a b c d;alive d;end;end"
     yield Case("four_arguments", ("run",), text(four),
                text("testcase t;run 0 main on 0;  create -> made 1;  start 1 1 0 0 1 1 -> ok;  wait done 1 -> matched;"
@@ -165,7 +141,6 @@ ABORTED = text("testcase t;behaviour main;setverdict pass;end;end;testcase u;beh
 
 
 def summary(failed: int, cases: str) -> bytes:
-    """The summary of test cases that have all failed."""
     return text(f"cases {failed} none 0 pass 0 inconc 0 fail {failed} error 0;;{cases}")
 
 
@@ -188,30 +163,34 @@ def long_report() -> Iterator[Case]:
             "    9 pump, 10 valve_of_the_tank, 11, 12, 13 pump, 14 valve_of_the_tank, 15,;"
             "    16, 17 pump, 18 valve_of_the_tank, 19, 20, 21 pump, 22 valve_of_the_tank,;"
             "    23, 24, 25 pump, 26 valve_of_the_tank, 27, 28"), status=1)
-    many = [f"history 2 t{at} 1;0 setverdict fail -> ok;0 finish -> ok;end fail" for at in range(200_000)]
-    yield Case("summary_of_many_histories", ("report", "--summary"), text(";".join(many)), summary(
-        len(many), ";;".join(f"t{at}: fail;  {cause};  fail: 0" for at, _ in enumerate(many))), status=1)
+    many = "".join(history_of_verdict(f"t{at}", "fail") for at in range(200_000))
+    yield Case("summary_of_many_histories", ("report", "--summary"), many.encode(), summary(
+        200_000, ";;".join(f"t{at}: fail;  {cause};  fail: 0" for at in range(200_000))), status=1)
     yield Case("page_of_a_long_history", ("report", "--html"), given, SomeText((given.decode(),)), status=1)
 
 
-def long_case() -> Iterator[Case]:
-    """A test case of more entries than 16 bits count: 66 behaviours make a thousand calls each."""
+def long_script() -> bytes:
+    """A test case that takes some time: 66 behaviours make a thousand calls each."""
     names = [f"w{at}" for at in range(1, 67)]
-    calls = ["getverdict -> none"] * 999 + ["setverdict pass -> ok"]
+    starts = [line for it in names for line in (f"create p_{it}", f"start p_{it} {it}")]
     others = [line for it in names for line in (f"behaviour {it}", *["getverdict"] * 999, "setverdict pass", "end")]
-    script = many_of("testcase t", "behaviour main", *(line for it in names for line in (f"create p_{it}", f"start p_{it} {it}")),
-                     "wait done all", "end", *others, "end")
+    return as_lines("testcase t", "behaviour main", *starts, "wait done all", "end", *others, "end")
+
+
+def long_case() -> Iterator[Case]:
+    """A test case of more entries than 16 bits count."""
+    names, script = [f"w{at}" for at in range(1, 67)], long_script()
+    calls = ["getverdict -> none"] * 999 + ["setverdict pass -> ok"]
     logs = [many_of(f"run {at} {it} on {at}", *(f"  {call}" for call in calls), "  finish -> ok") for at, it in enumerate(names, 1)]
     entries = [many_of(*(f"{at} {call}" for call in calls)) for at, _ in enumerate(names, 1)]
     starts = [line for at, _ in enumerate(names, 1) for line in (f"0 create -> made {at}", f"0 start {at} {at} -> ok")]
     history = many_of("history 2 t 67", *starts) + "".join(f"{it}{at} finish -> ok\n" for at, it in enumerate(entries, 1))
     for words in ((), ("--live",)):
-        yield Case("_".join(["a_long_case", *(it.strip("-") for it in words)]), ("run", *words), script.encode(),
-                   SomeText((*logs, "cases 1 none 0 pass 1 inconc 0 fail 0 error 0\ncomplete\n")))
+        yield Case(joined("a_long_case", *words), ("run", *words), script, SomeText((*logs, counts_of("pass") + "complete\n")))
     for form in ("history", "evidence"):
-        yield Case(f"a_long_case_{form}", ("run", f"--{form}"), script.encode(), SomeText((*entries, "0 finish -> ok\nend pass\n")))
-    yield Case("a_long_case_compared", ("check", "--script"), (script + history + "0 wait done all -> matched\n0 finish -> ok\nend pass\n").encode(),
-               text(f"legal t {66 * 1003 + 2} pass"))
+        yield Case(f"a_long_case_{form}", ("run", f"--{form}"), script, SomeText((*entries, "0 finish -> ok\nend pass\n")))
+    whole = script + (history + many_of("0 wait done all -> matched", "0 finish -> ok", "end pass")).encode()
+    yield Case("a_long_case_compared", ("check", "--script"), whole, text(f"legal t {66 * 1003 + 2} pass"))
 
 
 def most_components() -> Iterator[Case]:
@@ -221,12 +200,12 @@ def most_components() -> Iterator[Case]:
     entries, shown = many_of(*(f"0 {it}" for it in calls)), many_of(*(f"  {it}" for it in calls))
     local = many_of("local 0 fail", *(f"local {at} none" for at in range(1, 1000)))
     block = f"history 2 t 1\n{entries}end fail\n"
-    report = f"testcase t\nrun 0 main on 0\n{shown}{local}verdict fail\ncases 1 none 0 pass 0 inconc 0 fail 1 error 0\ncomplete\n".encode()
+    report = f"testcase t\nrun 0 main on 0\n{shown}{local}verdict fail\n{counts_of('fail')}complete\n".encode()
     cause = "run 0 on component 0: setverdict fail -> ok"
     evidence = f"evidence 1 t 1\nbehaviour 0 main\n{entries}end fail\n".encode()
     for words, wanted in ((("run",), report), (("run", "--live"), report), (("run", "--history"), block.encode()), (("run", "--evidence"), evidence),
                           (("run", "--junit"), SomeText((cause, shown, local)))):
-        yield Case("_".join(["a_thousand_components", *(it.strip("-") for it in words)]), words, script, wanted, status=1)
+        yield Case(joined("a_thousand_components", *words), words, script, wanted, status=1)
     record = (CSV_HEADER + "t,1000,999,0,0,1,0,fail\n").encode()
     for form, wanted in (("csv", record), ("junit", SomeText((cause, shown, local))), ("html", SomeText((block,))),
                          ("summary", SomeText((f"t: fail\n  {cause}\n  after:\n", "  fail: 0\n  none: 1, 2, 3,", " 998, 999\n")))):
@@ -234,15 +213,15 @@ def most_components() -> Iterator[Case]:
     yield Case("a_thousand_components_checked", ("check",), block.encode(), text("legal t 1001 fail"))
     yield Case("a_thousand_components_compared", ("check", "--script"), script + block.encode(), text("legal t 1001 fail"))
     for words, wanted in ((), text("t fail complete")), (("--history",), block.encode()), (("--details",), SomeText(("t fail complete\n", "998 none, 999 none\n"))):
-        yield Case("_".join(["a_thousand_components_searched", *(it.strip("-") for it in words)]), ("explore", *words), script, wanted)
+        yield Case(joined("a_thousand_components_searched", *words), ("explore", *words), script, wanted)
     # (with a thousand of them a search of `rt try` takes more than a minute)
     late = single([*(f"create p{at}" for at in range(298)), "start p297 w", "stop p297"])[:-len("end\n")] + text("behaviour w;setverdict pass;end;end")
     yield Case("three_hundred_components_searched_for_locals", ("explore", "--locals"), late, b"t none pass complete\n  local 298: none or pass\n", status=1)
-    moves = many_of("case t 1", *(f"0 {it.split(' -> ')[0]}" for it in calls), "end")
-    yield Case("a_thousand_components_served", ("serve",), moves.encode(), f"evidence 1 t 1\n{entries}end fail\n".encode(), status=1)
+    moves = as_lines("case t 1", *(f"0 {it.split(' -> ')[0]}" for it in calls), "end")
+    yield Case("a_thousand_components_served", ("serve",), moves, f"evidence 1 t 1\n{entries}end fail\n".encode(), status=1)
 
 
-def crowded() -> Iterator[Case]:
+def a_thousand() -> Iterator[Case]:
     """As many test cases as may be, all of which fail, in what else is done with them."""
     names = [f"t{at}" for at in range(1000)]
     script = ";".join(f"testcase {it};behaviour main;setverdict fail;end;end" for it in names)
@@ -276,26 +255,23 @@ def racing() -> Iterator[Case]:
                text(f"t undecided after {most} states"), status=3)
 
 
-def refused() -> Iterator[Case]:
+def unaffordable() -> Iterator[Case]:
     """Memory and threads are refused by a limit on the space for addresses."""
-    yield Case("no_memory_for_a_history", ("check", "--only", "t*"), longest_history()[0], errors=NO_MEMORY, status=3, limit="-v 9000")
-    first = (b"testcase t\nrun 0 main on 0\n  setverdict pass -> ok\n  finish -> ok\nlocal 0 pass\nverdict pass\n"
-             b"cases 1 none 0 pass 1 inconc 0 fail 0 error 0\naborted at u: no thread\n")
-    line = b"ttrun: aborted at u: no thread\n"
-    yield Case("no_thread", ("run",), ABORTED, first, line, status=3, limit="-v 40000")
-    yield Case("no_thread_csv", ("run", "--csv"), ABORTED, PASSED, line, status=3, limit="-v 40000")
-    begun = text("1/2 t ..;1/2 t pass 0.000 s;2/2 u ..")
-    yield Case("no_thread_progress", ("run", "--csv", "--progress"), ABORTED, PASSED, Timed(begun + line), 3, limit="-v 40000")
-    yield Case("no_thread_history", ("run", "--history"), ABORTED, status=3, limit="-v 40000", errors=line,
-               output=text("history 2 t 1;0 setverdict pass -> ok;0 finish -> ok;end pass"))
-    yield Case("no_thread_evidence", ("run", "--evidence"), ABORTED, status=3, limit="-v 40000", errors=line,
-               output=text("evidence 1 t 1;behaviour 0 main;0 setverdict pass -> ok;0 finish -> ok;end pass"))
-    yield Case("no_thread_and_no_output", ("run",), ABORTED, errors=b"ttrun: write fault\n", status=3, limit="-v 40000",
-               redirect=">/dev/full")
-    yield Case("no_thread_untold", ("run",), ABORTED, first, status=3, limit="-v 40000", redirect="2>/dev/full")
+    history, legal = longest_history()
+    yield refused("no_memory_for_a_history", ("check", "--explain"), history, "no memory", limit="-v 9000")
+    yield Case("little_memory_for_a_history", ("check", "--only", "t*"), history, legal, limit="-v 9000")
+    yield refused("no_memory_for_a_report", ("report", "--csv", "--explain"), history, "no memory", limit="-v 9000")
+    first = (case_of_verdict("t", "pass") + counts_of("pass") + "aborted at u: no thread\n").encode()
+    line, begun = b"ttrun: aborted at u: no thread\n", text("1/2 t ..;1/2 t pass 0.000 s;2/2 u ..")
+    evidence, history = evidence_of_verdict("t", "pass").encode(), history_of_verdict("t", "pass").encode()
+    for name, options, output, errors, redirect in (
+            ("", "", first, line, ""), ("_csv", "--csv", PASSED, line, ""), ("_progress", "--csv --progress", PASSED, Timed(begun + line), ""),
+            ("_history", "--history", history, line, ""), ("_evidence", "--evidence", evidence, line, ""),
+            ("_and_no_output", "", b"", b"ttrun: write fault\n", ">/dev/full"), ("_untold", "", first, b"", "2>/dev/full")):
+        yield Case(f"no_thread{name}", ("run", *options.split()), ABORTED, output, errors, 3, redirect, limit="-v 40000")
     yield Case("stopped_before_no_thread", ("run", "--csv", "--stop-on", "pass"), ABORTED, PASSED, limit="-v 40000")
 
 
 def cases() -> List[Case]:
     """All of them, except for the search of many states."""
-    return [*longest(), *counted(), *long_report(), *long_case(), *most_components(), *crowded(), *refused()]
+    return [*longest(), *counted(), *long_report(), *long_case(), *most_components(), *a_thousand(), *unaffordable()]

@@ -1,9 +1,7 @@
 """The texts of docs/texts.md in Python: move lists, histories and evidence, what is printed for them, and their first faults."""
-from __future__ import annotations
-
 import re
 from dataclasses import dataclass
-from typing import List, Optional, Set, Tuple
+from typing import List, NamedTuple, Optional, Set, Tuple
 
 from table import FAULTS, MOST_BEHAVIOURS, VERDICTS, Op, Table, Target
 
@@ -33,7 +31,7 @@ MOVE = re.compile(
     rf")"
 )
 NAMING = re.compile(rf"behaviour ({NUMBER}) ({NAME})")
-SAID = re.compile(rf"({NUMBER}) [#!] [ -~]{{1,200}}")
+SAID = re.compile(rf"({NUMBER}) ([#!]) ([ -~]{{1,200}})")
 REPLY = re.compile(
     rf"made (?P<made>{NUMBER})|ok|true|false|matched|parked|ended|{'|'.join(VERDICTS)}|error (?:{'|'.join(FAULTS)})"
 )
@@ -49,7 +47,6 @@ class Judged:
 
 
 def refused(line: int, text: str) -> Judged:
-    """The answer to a text that is refused at this line."""
     return Judged(b"", f"ttrun: line {line}: {text}\n".encode(), 3)
 
 
@@ -60,7 +57,6 @@ def lines_of(text: bytes) -> List[str]:
 
 
 def status_of(verdict: str) -> int:
-    """The exit status for a worst verdict."""
     return {"none": 0, "pass": 0, "inconc": 1, "fail": 1, "error": 2}[verdict]
 
 
@@ -81,39 +77,25 @@ def read_move(text: str) -> Optional[Tuple[int, Op]]:
     if None in targets + args or int(found["run"] or 0) > MOST_RUN or found["name"] in NO_NAMES:
         return None
     verb = next(found[it] for it in ("create", "start", "halt", "status", "wait", "set", "plain") if found[it])
-    op = Op(
-        verb,
-        target=targets[0],
-        alive=found["alive"] is not None and verb == "create",
-        run=int(found["run"] or 0),
-        args=tuple(args),
-        awaited=found["awaited"] or "",
-        verdict=found["verdict"] or "",
-        name=found["name"] or "",
-    )
+    op = Op(verb, target=targets[0], alive=found["alive"] is not None, run=int(found["run"] or 0), args=tuple(args),
+            awaited=found["awaited"] or "", verdict=found["verdict"] or "", name=found["name"] or "")
     return int(found["caller"]), op
 
 
 def is_reply(text: str) -> bool:
-    """Whether the text spells a reply."""
     found = REPLY.fullmatch(text)
     return found is not None and int(found["made"] or 0) <= MOST_COMPONENT
 
 
 def is_name(word: str) -> bool:
-    """Whether the word is a name."""
     return re.fullmatch(NAME, word) is not None and word not in NO_NAMES
 
 
 def behaviours_of(word: str) -> Optional[int]:
-    """The number of behaviours that the word spells."""
-    if re.fullmatch(NUMBER, word) and 1 <= int(word) <= MOST_BEHAVIOURS:
-        return int(word)
-    return None
+    return int(word) if re.fullmatch(NUMBER, word) and 1 <= int(word) <= MOST_BEHAVIOURS else None
 
 
 def replay(text: bytes) -> Judged:
-    """What `replay` answers to this list of moves."""
     if len(text) > MOST_BYTES_OF_A_LIST:
         return Judged(b"", b"ttrun: input too long\n", 3)
     lines = lines_of(text)
@@ -140,6 +122,9 @@ class Entry:
     caller: int
     op: Op
     reply: str
+
+    def text(self) -> str:
+        return f"{self.caller} {self.op.text()} -> {self.reply}"
 
 
 @dataclass
@@ -180,13 +165,21 @@ def runs_of(entry: Entry) -> Set[int]:
     return {entry.caller, entry.op.run} if entry.op.verb == "start" else {entry.caller}
 
 
-def run_said(line: str, behaviours: int, met: Set[int]) -> Optional[int]:
-    """The run that a remark or a refused line is of, or whose behaviour is named, before any other line about it."""
+class Said(NamedTuple):
+    """A line that is no entry: a remark (`#`), a refused line (`!`), or without a mark the name of a behaviour."""
+
+    run: int
+    mark: str
+    text: str
+
+
+def read_said(line: str, behaviours: int, met: Set[int]) -> Optional[Said]:
+    """What a line says of a run, if it may be there; these are the runs about which there was a line: they are named no more."""
     naming, said = NAMING.fullmatch(line), SAID.fullmatch(line)
-    found = naming or said
-    if found is None or int(found[1]) >= behaviours or naming and (int(found[1]) in met or not is_name(naming[2])):
+    found = Said(int(naming[1]), "", naming[2]) if naming else Said(int(said[1]), said[2], said[3]) if said else None
+    if found is None or found.run >= behaviours or naming and (found.run in met or not is_name(found.text)):
         return None
-    return int(found[1])
+    return found
 
 
 def read_history(text: bytes) -> Tuple[List[Block], Optional[Judged]]:
@@ -206,14 +199,21 @@ def read_history(text: bytes) -> Tuple[List[Block], Optional[Judged]]:
             header = None
         else:
             entry = read_entry(number, line, header[0])
-            said = run_said(line, header[2], met) if entry is None and header[0] == EVIDENCE else None
+            said = read_said(line, header[2], met) if entry is None and header[0] == EVIDENCE else None
             if entry is None and said is None:
                 return [], refused(number, "bad entry")
             entries += [entry] if entry else []
-            met |= runs_of(entry) if entry else {said}
+            met |= runs_of(entry) if entry else {said.run}
     if header is not None or not lines:
         return [], refused(len(lines) + 1, "text ends too early")
     return blocks, None
+
+
+def legal_blocks(text: bytes) -> List[Block]:
+    """The blocks of a text that must not be refused."""
+    blocks, refusal = read_history(text)
+    assert refusal is None, refusal
+    return blocks
 
 
 def judge_block(block: Block) -> Tuple[str, bool]:
@@ -229,7 +229,6 @@ def judge_block(block: Block) -> Tuple[str, bool]:
 
 
 def check(text: bytes) -> Judged:
-    """What `check` answers to this text of histories and evidence."""
     if len(text) > MOST_BYTES_OF_A_HISTORY:
         return Judged(b"", b"ttrun: input too long\n", 3)
     blocks, refusal = read_history(text)

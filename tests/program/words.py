@@ -1,12 +1,12 @@
 """Command lines: help in all its spellings, and words that are refused before any input is read."""
-from __future__ import annotations
-
 import os
 import re
-from typing import List, Tuple
+import shlex
+from typing import Iterator, List, Tuple, Union
 
-from case import Case, SomeText, Word, run
-from judged import Judgement
+from case import Case, Judgement, SomeText, Wanted, Word, answer, as_lines, joined, refused
+from examples import TOP
+from rows import ONLY, SHARD, STOP_ON, text
 
 COMMANDS = ("run", "serve", "check", "replay", "explore", "report", "\n  ttrun run < FILE\nNo argument at all means run.\n",
             "Each command reads standard input and writes standard output:\n",
@@ -35,8 +35,8 @@ ALL_OPTIONS = ("runs the campaign of a script, and writes its report\n",
                "  --explain            " + EXPLAIN, "  --no-explain         " + NO_EXPLAIN,
                "Standard input is a script: ttrun run < FILE. Standard output is the report.\n"
                "With --failed it is a script, and after it histories or evidence of its test\n"
-               "cases: cat FILE EVIDENCE | ttrun run --failed runs those that are missing, or\n"
-               "have a verdict other than none and pass.\n",
+               "cases: cat FILE EVIDENCE | ttrun run --failed runs those that are missing, are\n"
+               "not legal, or have a verdict other than none and pass.\n",
                "VERDICT is none, pass, inconc, fail or error. A * in NAME stands for any\nletters, or none: --only 't_*'."
                " --shard K/N runs every N-th of the chosen test\ncases, from the K-th on. --list takes no form, no --live, no --progress"
                " and no\n--stop-on, and --junit is not taken with --live.\n",
@@ -116,196 +116,101 @@ HELP: List[Tuple[Tuple[str, ...], Tuple[str, ...]]] = [
     (("help", "serve"), SERVE), (("serve", "--help"), SERVE), (("serve", "-h"), SERVE),
 ]
 
-# Lines that ask for no task, and what the first line of the refusal says.
+# What the first line of a refusal says, and below it the command lines of which it is said: `{last}` is their last word, `{option}` that word up
+# to `=`, `{valued}` the last option that takes a value, and `{twice}` the option that comes twice.
 MISTAKES = """\
-explore --states => a value is required for '--states <N>' but none was supplied
-run --only => a value is required for '--only <NAME>' but none was supplied
-run --only --list => a value is required for '--only <NAME>' but none was supplied
-run --shard => a value is required for '--shard <K/N>' but none was supplied
-run --stop-on => a value is required for '--stop-on <VERDICT>' but none was supplied
-run --stop-on --csv => a value is required for '--stop-on <VERDICT>' but none was supplied
-run --stop-on --live => a value is required for '--stop-on <VERDICT>' but none was supplied
-report => one of the arguments '--csv', '--junit', '--html' and '--summary' is needed
-report -- => one of the arguments '--csv', '--junit', '--html' and '--summary' is needed
-report --explain => one of the arguments '--csv', '--junit', '--html' and '--summary' is needed
-report --suite a => one of the arguments '--csv', '--junit', '--html' and '--summary' is needed
-report --csv --suite a => the argument '--suite' needs '--junit'
-report --suite 7 --summary => the argument '--suite' needs '--junit'
-run --suite a => the argument '--suite' needs '--junit'
-run --suite 7 --stop-on no => the argument '--suite' needs '--junit'
-run --list --suite a => the argument '--suite' needs '--junit'
-run --list --junit --suite a => the argument '--list' cannot be used with '--junit'
-run --junit --suite => a value is required for '--suite <NAME>' but none was supplied
-run --junit --suite a --suite b => the argument '--suite <NAME>' cannot be used multiple times
-check --suite a => unexpected argument '--suite' found
-check --summary => unexpected argument '--summary' found
-run --summary => unexpected argument '--summary' found
-report --csv --summary => the argument '--csv' cannot be used with '--summary'
-report --summary --html => the argument '--html' cannot be used with '--summary'
-report --summary --junit --suite a => the argument '--junit' cannot be used with '--summary'
-report --summary --summary => the argument '--summary' cannot be used multiple times
-check --explain --explain => the argument '--explain' cannot be used multiple times
-check --explain --no-explain => the argument '--explain' cannot be used with '--no-explain'
-check --no-explain --script --explain => the argument '--explain' cannot be used with '--no-explain'
-check --no-explain --no-explain => the argument '--no-explain' cannot be used multiple times
-check --script --script => the argument '--script' cannot be used multiple times
-check --script --shard => a value is required for '--shard <K/N>' but none was supplied
-check --script --shard 1/2 --shard 1/2 => the argument '--shard <K/N>' cannot be used multiple times
-check --shard 0/1 => the arguments '--shard', and '--only' with '--html', need '--script'
-check --shard 1/2 --only a --explain => the arguments '--shard', and '--only' with '--html', need '--script'
-check --only => a value is required for '--only <NAME>' but none was supplied
-check --failed --failed => the argument '--failed' cannot be used multiple times
-check --failed --script => the argument '--script' cannot be used with '--failed'
-check --failed --shard 0/1 => the arguments '--shard', and '--only' with '--html', need '--script'
-explore --details --details => the argument '--details' cannot be used multiple times
-explore --details --history => the argument '--history' cannot be used with '--details'
-explore --locals --history => the argument '--history' cannot be used with '--locals'
-explore --locals --details --history => the argument '--history' cannot be used with '--details'
-explore --locals --locals => the argument '--locals' cannot be used multiple times
-explore --history --history => the argument '--history' cannot be used multiple times
-explore --history --states=1 --details => the argument '--history' cannot be used with '--details'
-explore --states 1 --states 1 => the argument '--states <N>' cannot be used multiple times
-report --csv --csv => the argument '--csv' cannot be used multiple times
-report --csv --junit => the argument '--csv' cannot be used with '--junit'
-report --explain --csv --junit => the argument '--csv' cannot be used with '--junit'
-report --html --csv => the argument '--csv' cannot be used with '--html'
-report --html --html => the argument '--html' cannot be used multiple times
-report --html --junit => the argument '--junit' cannot be used with '--html'
-report --explain --junit --no-explain => the argument '--explain' cannot be used with '--no-explain'
-report --html --only a => the arguments '--shard', and '--only' with '--html', need '--script'
-report --only a --html --shard 1/2 => the arguments '--shard', and '--only' with '--html', need '--script'
-report --shard 1/2 => the arguments '--shard', and '--only' with '--html', need '--script'
-report --only a => one of the arguments '--csv', '--junit', '--html' and '--summary' is needed
-report --failed => one of the arguments '--csv', '--junit', '--html' and '--summary' is needed
-report --failed --html => the argument '--html' cannot be used with '--failed'
-report --html --failed --only a => the argument '--html' cannot be used with '--failed'
-report --csv --script --failed => the argument '--script' cannot be used with '--failed'
-report --failed --failed --csv => the argument '--failed' cannot be used multiple times
-report --script --only a => one of the arguments '--csv', '--junit', '--html' and '--summary' is needed
-report --junit --csv => the argument '--csv' cannot be used with '--junit'
-report --junit --junit => the argument '--junit' cannot be used multiple times
-run --csv --csv => the argument '--csv' cannot be used multiple times
-run --csv --evidence => the argument '--csv' cannot be used with '--evidence'
-run --csv --history => the argument '--csv' cannot be used with '--history'
-run --csv --history --junit => the argument '--csv' cannot be used with '--history'
-run --csv --history --stop-on no => the argument '--csv' cannot be used with '--history'
-run --csv --list --only a => the argument '--list' cannot be used with '--csv'
-run --csv --live --history => the argument '--csv' cannot be used with '--history'
-run --evidence --csv => the argument '--csv' cannot be used with '--evidence'
-run --evidence --evidence => the argument '--evidence' cannot be used multiple times
-run --evidence --history => the argument '--history' cannot be used with '--evidence'
-run --evidence --junit => the argument '--evidence' cannot be used with '--junit'
-run --evidence --list => the argument '--list' cannot be used with '--evidence'
-run --no-explain --explain => the argument '--explain' cannot be used with '--no-explain'
-run --failed --failed => the argument '--failed' cannot be used multiple times
-run --explain --list --no-explain => the argument '--explain' cannot be used with '--no-explain'
-replay --explain --no-explain => the argument '--explain' cannot be used with '--no-explain'
-explore --explain --no-explain => the argument '--explain' cannot be used with '--no-explain'
-explore --only => a value is required for '--only <NAME>' but none was supplied
-explore --shard 1/2 --shard 1/2 => the argument '--shard <K/N>' cannot be used multiple times
-run --history --csv => the argument '--csv' cannot be used with '--history'
-run --history --evidence => the argument '--history' cannot be used with '--evidence'
-run --history --history => the argument '--history' cannot be used multiple times
-run --history --junit => the argument '--history' cannot be used with '--junit'
-run --history --list => the argument '--list' cannot be used with '--history'
-run --history --stop-on pass --csv => the argument '--csv' cannot be used with '--history'
-run --junit --csv => the argument '--csv' cannot be used with '--junit'
-run --junit --evidence => the argument '--evidence' cannot be used with '--junit'
-run --junit --history => the argument '--history' cannot be used with '--junit'
-run --junit --junit => the argument '--junit' cannot be used multiple times
-run --junit --live => the argument '--junit' cannot be used with '--live'
-run --list --csv => the argument '--list' cannot be used with '--csv'
-run --list --evidence => the argument '--list' cannot be used with '--evidence'
-run --list --history => the argument '--list' cannot be used with '--history'
-run --list --junit => the argument '--list' cannot be used with '--junit'
-run --list --list => the argument '--list' cannot be used multiple times
-run --list --live => the argument '--list' cannot be used with '--live'
-run --list --progress => the argument '--list' cannot be used with '--progress'
-run --list --stop-on fail => the argument '--list' cannot be used with '--stop-on'
-run --live --csv --history => the argument '--csv' cannot be used with '--history'
-run --live --evidence --history => the argument '--history' cannot be used with '--evidence'
-run --live --junit => the argument '--junit' cannot be used with '--live'
-run --live --list => the argument '--list' cannot be used with '--live'
-run --live --live => the argument '--live' cannot be used multiple times
-run --progress --junit --live => the argument '--junit' cannot be used with '--live'
-run --progress --list => the argument '--list' cannot be used with '--progress'
-run --progress --progress => the argument '--progress' cannot be used multiple times
-run --shard 1/2 --shard 1/2 => the argument '--shard <K/N>' cannot be used multiple times
-run --stop-on pass --stop-on pass => the argument '--stop-on <VERDICT>' cannot be used multiple times
--- run => unexpected argument 'run' found
---csv => unexpected argument '--csv' found
---csv run => unexpected argument '--csv' found
---explain => unexpected argument '--explain' found
---frobnicate => unexpected argument '--frobnicate' found
---junit => unexpected argument '--junit' found
---list => unexpected argument '--list' found
---live => unexpected argument '--live' found
---live run => unexpected argument '--live' found
---progress => unexpected argument '--progress' found
---stop-on fail => unexpected argument '--stop-on' found
--x => unexpected argument '-x' found
-check --csv => unexpected argument '--csv' found
-check --evidence => unexpected argument '--evidence' found
-check --html => unexpected argument '--html' found
-check --junit => unexpected argument '--junit' found
-check --live => unexpected argument '--live' found
-check --progress => unexpected argument '--progress' found
-check more => unexpected argument 'more' found
-explore --csv => unexpected argument '--csv' found
-explore --evidence => unexpected argument '--evidence' found
-explore --progress => unexpected argument '--progress' found
-explore --stop-on fail => unexpected argument '--stop-on' found
-explore more => unexpected argument 'more' found
-replay --list => unexpected argument '--list' found
-replay --live => unexpected argument '--live' found
-replay --stop-on fail => unexpected argument '--stop-on' found
-replay more => unexpected argument 'more' found
-report --evidence => unexpected argument '--evidence' found
-report --history => unexpected argument '--history' found
-report --live => unexpected argument '--live' found
-report more => unexpected argument 'more' found
-serve --explain => unexpected argument '--explain' found
-serve --no-explain => unexpected argument '--no-explain' found
-serve --evidence => unexpected argument '--evidence' found
-serve --history => unexpected argument '--history' found
-serve more => unexpected argument 'more' found
-run  => unexpected argument '' found
-run - => unexpected argument '-' found
-run -- --csv => unexpected argument '--csv' found
-run -- --live => unexpected argument '--live' found
-report --chart => unexpected argument '--chart' found
-run --chart => unexpected argument '--chart' found
-run --cs => unexpected argument '--cs' found
-run --csv check => unexpected argument 'check' found
-run --details => unexpected argument '--details' found
-run --html => unexpected argument '--html' found
-run --liv => unexpected argument '--liv' found
-run --live more => unexpected argument 'more' found
-run --only a b => unexpected argument 'b' found
-run --states 7 => unexpected argument '--states' found
-run --version => unexpected argument '--version' found
-run -V => unexpected argument '-V' found
-run -c => unexpected argument '-c' found
-run -csv => unexpected argument '-c' found
-run check => unexpected argument 'check' found
-run help => unexpected argument 'help' found
-run more => unexpected argument 'more' found
-run --csv=yes => unexpected value 'yes' for '--csv' found; no more were expected
-run --junit=yes => unexpected value 'yes' for '--junit' found; no more were expected
-run --list=yes => unexpected value 'yes' for '--list' found; no more were expected
-run --live=yes => unexpected value 'yes' for '--live' found; no more were expected
-run --progress=yes => unexpected value 'yes' for '--progress' found; no more were expected
- => unrecognized subcommand ''
-Run => unrecognized subcommand 'Run'
-chec => unrecognized subcommand 'chec'
-frobnicate => unrecognized subcommand 'frobnicate'
-help a.script => unrecognized subcommand 'a.script'
-help more => unrecognized subcommand 'more'
-help run check => unrecognized subcommand 'check'
-list => unrecognized subcommand 'list'
-repla => unrecognized subcommand 'repla'
-version => unrecognized subcommand 'version'
+a value is required for '{valued}' but none was supplied
+    explore --states, run --only, run --only --list, run --shard, run --stop-on, run --stop-on --csv, run --stop-on --live, run --junit --suite,
+    check --script --shard, check --only, explore --only
+one of the arguments '--csv', '--junit', '--html' and '--summary' is needed
+    report, report --, report --explain, report --suite a, report --only a, report --failed, report --script --only a
+the argument '--suite' needs '--junit'
+    report --csv --suite a, report --suite 7 --summary, run --suite a, run --suite 7 --stop-on no, run --list --suite a
+the arguments '--shard', and '--only' with '--html', need '--script'
+    check --shard 0/1, check --shard 1/2 --only a --explain, check --failed --shard 0/1, report --html --only a, report --only a --html --shard 1/2,
+    report --shard 1/2
+the argument '{twice}' cannot be used multiple times
+    run --junit --suite a --suite b, report --summary --summary, check --explain --explain, check --no-explain --no-explain, check --script --script,
+    check --script --shard 1/2 --shard 1/2, check --failed --failed, explore --details --details, explore --locals --locals,
+    explore --history --history, explore --states 1 --states 1, report --csv --csv, report --html --html, report --failed --failed --csv,
+    report --junit --junit, run --csv --csv, run --evidence --evidence, run --failed --failed, explore --shard 1/2 --shard 1/2,
+    run --history --history, run --junit --junit, run --list --list, run --live --live, run --progress --progress, run --shard 1/2 --shard 1/2,
+    run --stop-on pass --stop-on pass
+unexpected value 'yes' for '{option}' found; no more were expected
+    run --csv=yes, run --junit=yes, run --list=yes, run --live=yes, run --progress=yes
+unrecognized subcommand '{last}'
+    '', Run, chec, frobnicate, help a.script, help more, help run check, list, repla, version
+unexpected argument '{last}' found
+    check --summary, run --summary, -- run, --csv, --explain, --frobnicate, --junit, --list, --live, --progress, -x, check --csv, check --evidence,
+    check --html, check --junit, check --live, check --progress, check more, explore --csv, explore --evidence, explore --progress, explore more,
+    replay --list, replay --live, replay more, report --evidence, report --history, report --live, report more, serve --explain, serve --no-explain,
+    serve --evidence, serve --history, serve more, run '', run -, run -- --csv, run -- --live, report --chart, run --chart, run --cs, run --x.y,
+    run --a/b, run --csv check, run --details, run --html, run --liv, run --live more, run --only a b, run --version, run -V, run -c, run check,
+    run help, run more
+unexpected argument '--suite' found
+    check --suite a
+unexpected argument '--csv' found
+    --csv run
+unexpected argument '--live' found
+    --live run
+unexpected argument '--stop-on' found
+    --stop-on fail, explore --stop-on fail, replay --stop-on fail
+unexpected argument '--states' found
+    run --states 7
+unexpected argument '-c' found
+    run -csv
 """
+
+# Two options that are not taken together, in the order in which they are said, and command lines that have both.
+CONFLICTS = """\
+list junit: run --list --junit --suite a, run --list --junit
+csv summary: report --csv --summary
+html summary: report --summary --html
+junit summary: report --summary --junit --suite a
+explain no-explain: check --explain --no-explain, check --no-explain --script --explain, report --explain --junit --no-explain,
+    run --no-explain --explain, run --explain --list --no-explain, replay --explain --no-explain, explore --explain --no-explain
+script failed: check --failed --script, report --csv --script --failed
+history details: explore --details --history, explore --locals --details --history, explore --history --states=1 --details
+history locals: explore --locals --history
+csv junit: report --csv --junit, report --explain --csv --junit, report --junit --csv, run --junit --csv
+csv html: report --html --csv
+junit html: report --html --junit
+html failed: report --failed --html, report --html --failed --only a
+csv evidence: run --csv --evidence, run --evidence --csv
+csv history: run --csv --history, run --csv --history --junit, run --csv --history --stop-on no, run --csv --live --history, run --history --csv,
+    run --history --stop-on pass --csv, run --live --csv --history
+list csv: run --csv --list --only a, run --list --csv
+history evidence: run --evidence --history, run --history --evidence, run --live --evidence --history
+evidence junit: run --evidence --junit, run --junit --evidence
+list evidence: run --evidence --list, run --list --evidence
+history junit: run --history --junit, run --junit --history
+list history: run --history --list, run --list --history
+junit live: run --junit --live, run --live --junit, run --progress --junit --live
+list live: run --list --live, run --live --list
+list progress: run --list --progress, run --progress --list
+list stop-on: run --list --stop-on fail
+"""
+
+# Options with a value, as a refusal shows them.
+SHOWN = {"--suite": "--suite <NAME>", "--only": "--only <NAME>", "--shard": "--shard <K/N>", "--states": "--states <N>",
+         "--stop-on": "--stop-on <VERDICT>"}
+
+
+def lines_under_heads(listed: str, head: str) -> Iterator[Tuple[str, ...]]:
+    """What each head is made of, and after it each of its command lines, which commas separate."""
+    for *parts, lines in re.findall(head, listed):
+        yield from ((*parts, line.strip()) for line in lines.split(","))
+
+
+def mistakes() -> Iterator[Tuple[Tuple[str, ...], str]]:
+    """The words of each mistake, and what the first line of the refusal says."""
+    for said, line in lines_under_heads(MISTAKES, r"(?m)^(\S.*)((?:\n    .*)+)"):
+        words = tuple(shlex.split(line))
+        valued = [SHOWN[it] for it in words if it in SHOWN]
+        twice = [SHOWN.get(it, it) for it in words if words.count(it) > 1]
+        yield words, said.format(last=words[-1], option=words[-1].partition("=")[0], valued="".join(valued[-1:]), twice="".join(twice[:1]))
+    for one, other, line in lines_under_heads(CONFLICTS, r"(?m)^(\S+) (\S+):(.*(?:\n    .*)*)"):
+        yield tuple(line.split()), f"the argument '--{one}' cannot be used with '--{other}'"
 
 REFUSED: List[Tuple[str, Tuple[Word, ...]]] = [
     ("a_command_in_capitals", ("RUN",)),
@@ -322,54 +227,47 @@ REFUSED: List[Tuple[str, Tuple[Word, ...]]] = [
 ]
 
 # A script of one test case, t.
-NAMED = b"testcase t\nbehaviour main\nend\nend\n"
+NAMED = text("testcase t;behaviour main;end;end")
 
-SUITE_TOLD = b"ttrun: --suite takes 1 to 32 letters, digits or _, a letter first\n"
+SUITE = "--suite takes 1 to 32 letters, digits or _, a letter first"
+STATES = "--states takes a number from 1 to 1000000"
 
 # Of several faults the first is printed: of the shard, of a word that is no name, of the suite, of the stopping rule, of the
 # text, and then of the names.
-ORDERED: List[Tuple[str, bytes, bytes]] = [
-    ("run --only z --stop-on x --shard 0/2", b"x\n", b"ttrun: --shard takes K/N, with K from 1 to N\n"),
-    ("run --only z --stop-on x", b"x\n", b"ttrun: --stop-on takes none, pass, inconc, fail or error\n"),
-    ("run --only z", b"x\n", b"ttrun: line 1: line not understood\n"),
-    ("run --list --only z", b"x\n", b"ttrun: line 1: line not understood\n"),
-    ("run --shard 0/2", b"x\n", b"ttrun: --shard takes K/N, with K from 1 to N\n"),
-    ("run --list --only z --shard 0/2", b"x\n", b"ttrun: --shard takes K/N, with K from 1 to N\n"),
-    ("run --stop-on x", b"x\n", b"ttrun: --stop-on takes none, pass, inconc, fail or error\n"),
-    ("run --only z- --stop-on x", NAMED, b"ttrun: --only takes the name of one of the test cases\n"),
-    ("run --only z- --stop-on x --shard 0/1", NAMED, b"ttrun: --shard takes K/N, with K from 1 to N\n"),
-    ("run --junit --suite 7 --stop-on x", b"x\n", SUITE_TOLD),
-    ("run --junit --suite 7 --only z-", NAMED, b"ttrun: --only takes the name of one of the test cases\n"),
-    ("run --junit --suite 7 --only z", NAMED, SUITE_TOLD),
-    ("report --script --junit --suite 7 --shard 0/1", b"x\n", b"ttrun: --shard takes K/N, with K from 1 to N\n"),
-    ("report --script --junit --suite 7 --only z", NAMED, SUITE_TOLD),
-    ("report --junit --suite 7", b"x\n", SUITE_TOLD),
-    ("report --junit --suite t", b"x\n", b"ttrun: line 1: bad first line\n"),
-    ("explore --states 0", b"x\n", b"ttrun: --states takes a number from 1 to 1000000\n"),
-    ("explore --states 1", b"x\n", b"ttrun: line 1: line not understood\n"),
-    ("run --only z --shard 1/2", b"", b"ttrun: line 1: text ends too early\n"),
-    ("run --only z --stop-on pass", NAMED, b"ttrun: --only takes the name of one of the test cases\n"),
-    ("run --only z --only z", NAMED, b"ttrun: --only takes the name of one of the test cases\n"),
-    ("run --only t --only t --only z", NAMED, b"ttrun: --only takes the name of one of the test cases\n"),
-    ("run --list --only z --shard 1/1", NAMED, b"ttrun: --only takes the name of one of the test cases\n"),
-    ("run --live --progress --only z", NAMED, b"ttrun: --only takes the name of one of the test cases\n"),
+ORDERED: List[Tuple[str, bytes, str]] = [
+    ("run --only z --stop-on x --shard 0/2", b"x\n", SHARD),
+    ("run --only z --stop-on x", b"x\n", STOP_ON),
+    ("run --only z", b"x\n", "line 1: line not understood"),
+    ("run --list --only z", b"x\n", "line 1: line not understood"),
+    ("run --shard 0/2", b"x\n", SHARD),
+    ("run --list --only z --shard 0/2", b"x\n", SHARD),
+    ("run --stop-on x", b"x\n", STOP_ON),
+    ("run --only z- --stop-on x", NAMED, ONLY),
+    ("run --only z- --stop-on x --shard 0/1", NAMED, SHARD),
+    ("run --junit --suite 7 --stop-on x", b"x\n", SUITE),
+    ("run --junit --suite 7 --only z-", NAMED, ONLY),
+    ("run --junit --suite 7 --only z", NAMED, SUITE),
+    ("report --script --junit --suite 7 --shard 0/1", b"x\n", SHARD),
+    ("report --script --junit --suite 7 --only z", NAMED, SUITE),
+    ("report --junit --suite 7", b"x\n", SUITE),
+    ("report --junit --suite t", b"x\n", "line 1: bad first line"),
+    ("explore --states 0", b"x\n", STATES),
+    ("explore --states 1", b"x\n", "line 1: line not understood"),
+    ("run --only z --shard 1/2", b"", "line 1: text ends too early"),
+    *((line, NAMED, ONLY) for line in (
+        "run --only z --stop-on pass", "run --only z --only z", "run --only t --only t --only z", "run --list --only z --shard 1/1",
+        "run --live --progress --only z")),
 ]
 
 # Words after options that name nothing.
-NAMELESS: List[Tuple[str, bytes]] = [
-    (line, b"ttrun: --" + told.encode() + b"\n") for told, lines in (
-        ("stop-on takes none, pass, inconc, fail or error",
-         ("run --stop-on ", "run --stop-on -", "run --stop-on=--csv", "run --stop-on=--live", "run --stop-on run", "run --stop-on help",
-          "run --stop-on no --only a")),
-        ("shard takes K/N, with K from 1 to N",
-         ("run --list --shard 0/1", "run --shard 1/02", "run --shard=many", "run --only a --shard= --only 1",
-          "run --stop-on fail --shard 3/2", "run --stop-on no --shard 3/2")),
-        ("suite takes 1 to 32 letters, digits or _, a letter first",
-         ("run --junit --suite=", "run --junit --suite 1", "run --suite a-b --junit", "report --junit --suite all",
-          "report --junit --script --suite " + "a" * 33)),
-        ("only takes the name of one of the test cases",
-         ("run --only=", "run --list --only all", "run --only a --only 2b", "run --stop-on no --only 1")),
-    ) for line in lines
+NAMELESS: List[Tuple[str, Tuple[str, ...]]] = [
+    (STOP_ON, ("run --stop-on ", "run --stop-on -", "run --stop-on=--csv", "run --stop-on=--live", "run --stop-on run", "run --stop-on help",
+               "run --stop-on no --only a")),
+    (SHARD, ("run --list --shard 0/1", "run --shard 1/02", "run --shard=many", "run --only a --shard= --only 1", "run --stop-on fail --shard 3/2",
+             "run --stop-on no --shard 3/2")),
+    (SUITE, ("run --junit --suite=", "run --junit --suite 1", "run --suite a-b --junit", "report --junit --suite all",
+             "report --junit --script --suite " + "a" * 33)),
+    (ONLY, ("run --only=", "run --list --only all", "run --only a --only 2b", "run --stop-on no --only 1")),
 ]
 
 # How the text about refused words ends.
@@ -406,150 +304,135 @@ NOT_UTF8: List[Tuple[str, Tuple[Word, ...]]] = [
 ]
 
 
-TOP = os.path.dirname(os.path.dirname(os.path.dirname(os.path.abspath(__file__))))
-
 # A test case of two verdicts, whose search needs more states than one.
-RACE = (b"testcase t\nbehaviour main\ncreate p\nstart p w\nkill p\nend\n"
-        b"behaviour w\nsetverdict fail\nend\nend\n")
-
+RACE = text("testcase t;behaviour main;create p;start p w;kill p;end;behaviour w;setverdict fail;end;end")
 # Another, each of whose searches needs three states.
-LOOSE = b"testcase t\nbehaviour main\ncreate p\nstart p w\nend\nbehaviour w\nsetverdict fail\nend\nend\n"
-
+LOOSE = text("testcase t;behaviour main;create p;start p w;end;behaviour w;setverdict fail;end;end")
 # One whose worker makes a component after it has set its verdict.
 MAKING = LOOSE.replace(b"fail\n", b"fail\ncreate q\n")
-
 # Its worker waits for its own end, and nobody comes after that.
-DEAD = (b"testcase t\nbehaviour main\ncreate p alive\nstart p w\nwait done p\nsetverdict pass\nend\n"
-        b"behaviour w\nwait killed self\nend\nend\n")
-DEAD_TOLD = (b"t error complete\n  error: mtc error, 1 none\n"
-             b"  stuck: run 0 on mtc waits for done of 1, where run 1 is\n"
-             b"  stuck: run 1 on 1 waits for killed of 1, where run 1 is\n"
-             b"  not seen: run 0 from step 4 of 4 on: setverdict pass\n")
+DEAD = text("testcase t;behaviour main;create p alive;start p w;wait done p;setverdict pass;end;behaviour w;wait killed self;end;end")
+DEAD_TOLD = text("t error complete;  error: mtc error, 1 none;  stuck: run 0 on mtc waits for done of 1, where run 1 is;"
+                 "  stuck: run 1 on 1 waits for killed of 1, where run 1 is;  not seen: run 0 from step 4 of 4 on: setverdict pass")
 # The worker sets a verdict before it is killed, or not.
-KILLED = (b"testcase t\nbehaviour main\ncreate p named worker\nstart p w\nsetverdict fail\nkill p\nend\n"
-          b"behaviour w\nsetverdict pass\nend\nend\n")
+KILLED = text("testcase t;behaviour main;create p named worker;start p w;setverdict fail;kill p;end;behaviour w;setverdict pass;end;end")
 KILLED_TOLD = b"t fail complete\n  local 1 worker: none or pass\n"
 # The main component waits for the end of one that is stopped, and stays alive.
-STOPPED = (b"testcase t\nbehaviour main\ncreate p alive\nstart p w\nwait done p\nwait killed p\nend\n"
-           b"behaviour w\nend\nend\n")
-STOPPED_TOLD = (b"t error complete\n  error: mtc error, 1 none\n"
-                b"  stuck: run 0 on mtc waits for killed of 1, stopped\n")
+STOPPED = text("testcase t;behaviour main;create p alive;start p w;wait done p;wait killed p;end;behaviour w;end;end")
+STOPPED_TOLD = text("t error complete;  error: mtc error, 1 none;  stuck: run 0 on mtc waits for killed of 1, stopped")
 # Component 3 has the name x or y, whichever is created first.
-NAMED_BY_ORDER = (b"testcase t\nbehaviour main\ncreate p\ncreate q\nstart p one\nstart q two\nwait done all\nend\n"
-                  b"behaviour one\ncreate c named x\nstart c three\nend\nbehaviour two\ncreate c named y\nend\n"
-                  b"behaviour three\nsetverdict fail\nend\nend\n")
+NAMED_BY_ORDER = text("testcase t;behaviour main;create p;create q;start p one;start q two;wait done all;end;"
+                      "behaviour one;create c named x;start c three;end;behaviour two;create c named y;end;"
+                      "behaviour three;setverdict fail;end;end")
 # Of this no step is dead.
-PLAIN = b"testcase t\nbehaviour main\ncreate p\nstart p w\nwait done p\nend\nbehaviour w\nsetverdict pass\nend\nend\n"
-
+PLAIN = text("testcase t;behaviour main;create p;start p w;wait done p;end;behaviour w;setverdict pass;end;end")
 # A race of which one side has thirteen entries, and twelve rows are shown.
-LONG = (b"testcase t\nbehaviour main\ncreate p\nstart p w\nend\n"
-        b"behaviour w\nsetverdict fail\n" + b"getverdict\n" * 10 + b"end\nend\n")
-LONG_TOLD = "".join(f"{it}\n" for it in (
+LONG = LOOSE.replace(b"fail\n", b"fail\n" + b"getverdict\n" * 10)
+LONG_TOLD = as_lines(
     "t none fail complete", "  none: mtc none, 1 none", "  fail: mtc none, 1 fail", "  none and fail: alike for 2 entries",
     f"  {'none':<36} | fail", f"  {'0 finish -> ok':<36} | 1 setverdict fail -> ok",
     f"  {'1 setverdict fail -> ended':<36} | 1 getverdict -> fail", *(f"  {'':<36} | 1 getverdict -> fail",) * 9,
-    f"  {'':<36} | 1 finish -> ok", "  ..")).encode()
+    f"  {'':<36} | 1 finish -> ok", "  ..")
 
-STATES = b"ttrun: --states takes a number from 1 to 1000000\n"
-SHARD = b"ttrun: --shard takes K/N, with K from 1 to N\n"
-
-
-def first_match(path: str, pattern: str) -> str:
-    """What the pattern's group finds first in a file at the top."""
-    with open(os.path.join(TOP, path), encoding="utf-8") as text:
-        return re.search(pattern, text.read(), re.MULTILINE).group(1)
+# Name, options, script, output, status.
+EXPLORED: List[Tuple[str, str, bytes, Wanted, int]] = [
+    ("one_state_decides_nothing", "--states 1", RACE, SomeText(("t undecided",)), 3),
+    ("two_states_are_not_complete", "--states 2", LOOSE, b"t undecided after 2 states\n", 3),
+    ("three_states_are_complete", "--states 3", LOOSE, b"t none fail complete\n", 1),
+    ("the_worst_verdict_is_found_first", "--states 3", MAKING, b"t fail undecided after 3 states\n", 3),
+    ("a_race_is_told_complete", "", RACE, b"t none fail complete\n", 1),
+    ("steps_behind_a_wait_are_dead", "--details", DEAD, DEAD_TOLD, 0),
+    ("a_stopped_component_is_waited_for", "--details", STOPPED, STOPPED_TOLD, 0),
+    ("a_long_race_is_cut", "--details", LONG, LONG_TOLD, 1),
+    ("no_step_is_dead", "--details", PLAIN, b"t pass complete\n  pass: mtc none, 1 pass\n", 0),
+    ("no_step_is_told_dead_by_half_a_search", "--details --states 1", DEAD, b"t undecided after 1 states\n", 3),
+    ("local_verdicts_that_differ", "--locals", KILLED, KILLED_TOLD, 0),
+    ("local_verdicts_before_details", "--locals --details", KILLED, KILLED_TOLD + b"  fail: mtc fail, 1 worker pass\n", 0),
+    ("a_component_of_two_names_has_none", "--locals", NAMED_BY_ORDER, text("t fail complete;  local 3: none or fail;  local 4: none or fail"), 0),
+    ("no_local_verdict_differs", "--locals", PLAIN, b"t pass complete\n", 0),
+    ("local_verdicts_of_half_a_search", "--locals --states 2", KILLED,
+     text("t undecided after 2 states;  local verdicts undecided after 2 states"), 3),
+    ("only_the_search_for_local_verdicts_ends_early", "--locals --states 3", KILLED,
+     text("t fail complete;  local verdicts undecided after 3 states"), 0),
+]
 
 
 def version_line() -> bytes:
     """The line of the version, which is that of the newest changes."""
-    version = first_match("CHANGELOG.md", r"^## ([0-9]+\.[0-9]+\.[0-9]+),")
+    with open(os.path.join(TOP, "CHANGELOG.md"), encoding="utf-8") as changes:
+        version = re.search(r"^## ([0-9]+\.[0-9]+\.[0-9]+),", changes.read(), re.MULTILINE).group(1)
     return f"ttrun {version}\n".encode()
 
 
-def of_explore() -> List[Case]:
+def of_explore() -> Iterator[Case]:
     """The words of `explore`, and its output where it can't be written."""
-    found = [Case("_".join(["unread_with_states", word or "empty", *form]), ("explore", *form, "--states", word), status=3, stays_open=True,
-                  errors=STATES)
-             for word in ("0", "x", "", "01", "1000001") for form in ((), ("--history",), ("--details",), ("--locals",))]
-    found.append(Case("one_state_decides_nothing", ("explore", "--states", "1"), RACE, SomeText(("t undecided",)), status=3))
-    found.append(Case("two_states_are_not_complete", ("explore", "--states", "2"), LOOSE, b"t undecided after 2 states\n", status=3))
-    found.append(Case("three_states_are_complete", ("explore", "--states", "3"), LOOSE, b"t none fail complete\n", status=1))
-    found.append(Case("the_worst_verdict_is_found_first", ("explore", "--states", "3"), MAKING, b"t fail undecided after 3 states\n", status=3))
-    found.append(Case("a_race_is_told_complete", ("explore",), RACE, b"t none fail complete\n", status=1))
-    found.append(Case("steps_behind_a_wait_are_dead", ("explore", "--details"), DEAD, DEAD_TOLD))
-    found.append(Case("a_stopped_component_is_waited_for", ("explore", "--details"), STOPPED, STOPPED_TOLD))
-    found.append(Case("a_long_race_is_cut", ("explore", "--details"), LONG, LONG_TOLD, status=1))
-    found.append(Case("no_step_is_dead", ("explore", "--details"), PLAIN, b"t pass complete\n  pass: mtc none, 1 pass\n"))
-    found.append(Case("no_step_is_told_dead_by_half_a_search", ("explore", "--details", "--states", "1"), DEAD,
-                      b"t undecided after 1 states\n", status=3))
-    found.append(Case("local_verdicts_that_differ", ("explore", "--locals"), KILLED, KILLED_TOLD))
-    found.append(Case("local_verdicts_before_details", ("explore", "--locals", "--details"), KILLED,
-                      KILLED_TOLD + b"  fail: mtc fail, 1 worker pass\n"))
-    found.append(Case("a_component_of_two_names_has_none", ("explore", "--locals"), NAMED_BY_ORDER,
-                      b"t fail complete\n  local 3: none or fail\n  local 4: none or fail\n"))
-    found.append(Case("no_local_verdict_differs", ("explore", "--locals"), PLAIN, b"t pass complete\n"))
-    found.append(Case("local_verdicts_of_half_a_search", ("explore", "--locals", "--states", "2"), KILLED,
-                      b"t undecided after 2 states\n  local verdicts undecided after 2 states\n", status=3))
-    found.append(Case("only_the_search_for_local_verdicts_ends_early", ("explore", "--locals", "--states", "3"), KILLED,
-                      b"t fail complete\n  local verdicts undecided after 3 states\n"))
-    for form in ((), ("--history",), ("--details",), ("--locals",)):
-        name = "_".join(it.strip("-") for it in ("explore", *form))
+    forms: Tuple[Tuple[str, ...], ...] = ((), ("--history",), ("--details",), ("--locals",))
+    for word in ("0", "x", "", "01", "1000001"):
+        for form in forms:
+            yield unread("_".join(["unread_with_states", word or "empty", *form]), ("explore", *form, "--states", word), STATES)
+    for name, options, given, output, status in EXPLORED:
+        yield Case(name, ("explore", *options.split()), given, output, status=status)
+    for form in forms:
         for device, redirect in (("full", ">/dev/full"), ("closed", ">&-")):
-            found.append(Case(f"output_{device}_{name}", ("explore", *form), RACE, status=3, redirect=redirect,
-                              errors=b"ttrun: write fault\n"))
-    return found
+            yield refused(joined(f"output_{device}_explore", *form), ("explore", *form), RACE, "write fault", redirect=redirect)
 
 
-def help_in_78_columns() -> Judgement:
+def faults_of_wide_help(program: str) -> List[str]:
     """The help of the program and of each subcommand fits a terminal of 80 columns."""
-
-    def judge(program: str) -> List[str]:
-        faults, lines = [], 0
-        for name in ("", "run", "serve", "explore", "check", "report", "replay"):
-            for line in run(Case("", (*name.split(), "--help"), b""), program).output.decode().splitlines():
-                lines += 1
-                faults += [f"{name}: {len(line)} columns: {line}"] if len(line) > 78 else []
-        return faults + ([] if lines > 100 else [f"{lines} lines"])
-
-    return Judgement("help_in_78_columns", "ttrun SUBCOMMAND --help", judge)
+    lines = [(name, line) for name in ("", "run", "serve", "explore", "check", "report", "replay")
+             for line in answer(program, b"", *name.split(), "--help").output.decode().splitlines()]
+    faults = [f"{name}: {len(line)} columns: {line}" for name, line in lines if len(line) > 78]
+    return faults + ([] if len(lines) > 100 else [f"{len(lines)} lines"])
 
 
-def cases() -> List[Case]:
-    """All of them. Standard input is a pipe that stays open: a program that reads it does not end."""
-    found = [Case("help_" + "_".join(words), words, output=SomeText(("Usage", *named)), stays_open=True)
-             for words, named in HELP]
-    found += [Case(f"refused_{name}", words, errors=NO_TIP, status=3, stays_open=True) for name, words in REFUSED]
-    for mistake in MISTAKES.splitlines():
-        line, _, said = mistake.partition(" => ")
-        found.append(Case(f"refused: {line}", tuple(line.split(" ")), errors=SomeText((f"error: {said}\n", MORE), NO_TIP.lacking), status=3,
-                          stays_open=True))
-    found += [Case(f"unread: {line}", tuple(line.split(" ")), errors=told, status=3, stays_open=True) for line, told in NAMELESS]
-    found += [Case(f"names_are_judged_last: {line}", tuple(line.split(" ")), given, errors=told, status=3) for line, given, told in ORDERED]
-    found += [Case("_".join(["refused_file", word, *more]), (word, *more), status=3, stays_open=True,
-                   errors=SomeText((f"unrecognized subcommand '{word}'", f"\n  tip: ttrun run < {word}\n")))
-              for word in FILES for more in ((), ("more",))]
+def unread(name: str, words: Tuple[Word, ...], said: Union[str, SomeText]) -> Case:
+    """Words that are refused before standard input is read: it is a pipe that stays open, and a program that reads it does not end."""
+    return Case(name, words, errors=as_lines(f"ttrun: {said}") if isinstance(said, str) else said, status=3, stays_open=True)
+
+
+def files() -> Iterator[Case]:
+    """Names of files instead of subcommands and after them, and words that are nearly subcommands."""
+    for word in FILES:
+        for more in ((), ("more",)):
+            yield unread("_".join(["refused_file", word, *more]), (word, *more),
+                         SomeText((f"unrecognized subcommand '{word}'", f"\n  tip: ttrun run < {word}\n")))
     for line in GIVEN_FILES:
         given = line.split(" ")
         file = next(it for it in given if "." in it or "/" in it)
-        found.append(Case(f"refused_file: {line}", tuple(given), status=3, stays_open=True, errors=SomeText(
-            (f"error: unexpected argument '{file}' found\n", f"\n  tip: ttrun {given[0]} < {file}\n", f"Usage: ttrun {given[0]}", MORE))))
-    found += [Case(f"refused_and_no_file: {line}", tuple(line.split(" ")), status=3, stays_open=True,
-                   errors=SomeText(("error: unexpected argument 'more' found\n",), NO_TIP.lacking)) for line in NO_FILES]
-    found += [Case(f"nearly_a_subcommand_{word}", (word,), status=3, stays_open=True, errors=SomeText(
-        (f"error: unrecognized subcommand '{word}'\n", f"\n  tip: a similar subcommand exists: '{name}'\n"))) for word, name in NEARLY]
-    found += [Case(f"not_nearly_a_subcommand: {line}", tuple(line.split(" ")), status=3, stays_open=True,
-                   errors=SomeText(("unrecognized subcommand",), ("tip:",))) for line in NOT_NEARLY]
-    found += [Case(f"usage_of_a_subcommand: {line}", tuple(line.split(" ")), status=3, stays_open=True,
-                   errors=SomeText((f"Usage: ttrun {name} [OPTIONS]\n", MORE))) for line, name in USAGES]
-    found += [Case(f"refused_{name}", words, errors=b"ttrun: an argument is not UTF-8\n", status=3, stays_open=True)
-              for name, words in NOT_UTF8]
-    found += [Case("_".join(["unread_with", word, *form]), ("run", *form, "--stop-on", word), status=3, stays_open=True,
-                   errors=b"ttrun: --stop-on takes none, pass, inconc, fail or error\n")
-              for word in ("maybe", "PASS") for form in ((), ("--csv",), ("--history",), ("--evidence",))]
-    found += [Case("_".join(["unread_with_shard", word or "empty", *form]), ("run", *form, "--shard", word), status=3,
-                   stays_open=True, errors=SHARD)
-              for word in ("", "1", "0/2", "3/2", "1/0", "01/2", "1/2/3", "a/b", "1/4294967296")
-              for form in ((), ("--csv",), ("--list",))]
-    found += [Case("version_" + "_".join(words), words, output=version_line(), stays_open=True)
-              for words in (("--version",), ("-V",), ("--version", "more"))]
-    return found + of_explore()
+        yield unread(f"refused_file: {line}", tuple(given), SomeText(
+            (f"error: unexpected argument '{file}' found\n", f"\n  tip: ttrun {given[0]} < {file}\n", f"Usage: ttrun {given[0]}", MORE)))
+    for line in NO_FILES:
+        yield unread(f"refused_and_no_file: {line}", tuple(line.split(" ")), SomeText(("error: unexpected argument 'more' found\n",), NO_TIP.lacking))
+    for word, name in NEARLY:
+        yield unread(f"nearly_a_subcommand_{word}", (word,), SomeText(
+            (f"error: unrecognized subcommand '{word}'\n", f"\n  tip: a similar subcommand exists: '{name}'\n")))
+    for line in NOT_NEARLY:
+        yield unread(f"not_nearly_a_subcommand: {line}", tuple(line.split(" ")), SomeText(("unrecognized subcommand",), ("tip:",)))
+
+
+def cases() -> Iterator[Union[Case, Judgement]]:
+    for words, named in HELP:
+        yield Case("help_" + "_".join(words), words, output=SomeText(("Usage", *named)), stays_open=True)
+    for name, words in REFUSED:
+        yield unread(f"refused_{name}", words, NO_TIP)
+    for words, said in mistakes():
+        yield unread(f"refused: {' '.join(words)}", words, SomeText((f"error: {said}\n", MORE), NO_TIP.lacking))
+    for said, lines in NAMELESS:
+        yield from (unread(f"unread: {line}", tuple(line.split(" ")), said) for line in lines)
+    for line, given, said in ORDERED:
+        yield refused(f"names_are_judged_last: {line}", tuple(line.split(" ")), given, said)
+    yield from files()
+    for line, name in USAGES:
+        yield unread(f"usage_of_a_subcommand: {line}", tuple(line.split(" ")), SomeText((f"Usage: ttrun {name} [OPTIONS]\n", MORE)))
+    for name, words in NOT_UTF8:
+        yield unread(f"refused_{name}", words, "an argument is not UTF-8")
+    for word in ("maybe", "PASS"):
+        for form in ((), ("--csv",), ("--history",), ("--evidence",)):
+            yield unread("_".join(["unread_with", word, *form]), ("run", *form, "--stop-on", word), STOP_ON)
+    for word in ("", "1", "0/2", "3/2", "1/0", "01/2", "1/2/3", "a/b", "1/4294967296"):
+        for form in ((), ("--csv",), ("--list",)):
+            yield unread("_".join(["unread_with_shard", word or "empty", *form]), ("run", *form, "--shard", word), SHARD)
+    for words in (("--version",), ("-V",), ("--version", "more")):
+        yield Case("version_" + "_".join(words), words, output=version_line(), stays_open=True)
+    yield from of_explore()
+    yield Judgement("help_in_78_columns", "ttrun SUBCOMMAND --help", faults_of_wide_help)

@@ -1,8 +1,8 @@
 """How behaviours end: by themselves, by what they raise, by others, and not at all."""
-from __future__ import annotations
-
 import asyncio
+import multiprocessing
 import os
+import re
 import signal
 import subprocess
 import sys
@@ -11,12 +11,13 @@ import time
 from typing import Callable, Iterator, List
 
 import evidence
+from document_tests import README
 from filskeam import Case, DynamicError, Ended, Run
-from kit import CLIENT, FOR_EVER, Place, hold, holds_word, legal, raises, same, test, timed
+from holding import hold, holds_word, raises, same, text_of
+from kit import CLIENT, FOR_EVER, HANGS, Place, legal, timed
 
 
 def alone(behaviour: Callable[..., object], *arguments: int) -> Callable[[Run], None]:
-    """A main behaviour that starts this one, and waits for it."""
 
     def main(run: Run) -> None:
         worker = run.create("worker")
@@ -31,30 +32,6 @@ def no_answer(run: Run) -> None:
     raise TimeoutError("no answer from 10.0.0.7")
 
 
-@test
-def a_behaviour_that_raises_stops_the_case(place: Place) -> None:
-    """The evidence is there, says what was raised and where; the exception is kept; the next test case runs."""
-    with place.server() as server:
-        for raised in (TimeoutError("x"), SystemExit(3), KeyboardInterrupt(), AssertionError(), ValueError("\n\x00 \xe4\u20ac")):
-
-            def worker(run: Run, it: BaseException = raised) -> None:
-                run.set_verdict("pass")
-                raise it
-
-            result = server.run("t_raises", alone(worker), timeout=5)
-            same((result.verdict, result.local("worker"), result.local("mtc")), ("error", "error", "none"))
-            same([it.exception for it in result.raised], [raised])
-            hold("1 stopcase -> ok" in legal(result).entries, "there is no stopcase")
-            holds_word(f"run 1 worker on component 1 worker: stopcase: {type(raised).__name__}", result.why)
-        result = server.run("t_no_answer", alone(no_answer))
-        line = no_answer.__code__.co_firstlineno + 2
-        told = f"TimeoutError: no answer from 10.0.0.7 (ending_tests.py:{line})"
-        same(result.why, f"run 1 no_answer on component 1 worker: stopcase: {told}")
-        same(str(result.raised[0]), f"run 1 no_answer: {told}")
-        same(server.run("t_next", lambda run: run.set_verdict("pass")).verdict, "pass", "the next case:")
-        place.reach("exceptions", 6, 6)
-
-
 class Mute(Exception):
     """An exception whose text is not available."""
 
@@ -62,24 +39,34 @@ class Mute(Exception):
         raise RuntimeError
 
 
-@test
-def an_exception_without_a_text_stops_the_case(place: Place) -> None:
-    """Its name is said."""
+RAISED = ((TimeoutError("x"), "TimeoutError: x"), (SystemExit(3), "SystemExit: 3"), (KeyboardInterrupt(), "KeyboardInterrupt"),
+          (AssertionError(), "AssertionError"), (ValueError("\n\x00 \xe4\u20ac"), r"ValueError: \x00 \xe4\u20ac"),
+          (OSError("x" * 300), f"OSError: {'x' * 300}"), (Mute(), "Mute"))
 
-    def worker(run: Run) -> None:
-        raise Mute
 
+def a_behaviour_that_raises_stops_the_case(place: Place) -> None:
+    """The evidence is there, says what was raised and where; the exception is kept; the next test case runs."""
     with place.server() as server:
-        result = timed(lambda: server.run("t_mute", alone(worker), timeout=20), 10)
-    same((result.verdict, len(result.raised)), ("error", 1))
-    holds_word("stopcase: Mute (ending_tests.py:", result.why)
-    place.reach("entries", len(legal(result).entries), 4)
+        for raised, text in RAISED:
+
+            def worker(run: Run, it: BaseException = raised) -> None:
+                run.set_verdict("pass")
+                raise it
+
+            result = timed(lambda: server.run("t_raises", alone(worker), timeout=5), 10)
+            same((result.verdict, result.local("worker"), result.local("mtc")), ("error", "error", "none"))
+            same([it.exception for it in result.raised], [raised])
+            hold("1 stopcase -> ok" in legal(result).entries, "there is no stopcase")
+            where = f" (ending_tests.py:{worker.__code__.co_firstlineno + 2})"
+            told = (text if len(text + where) <= 200 else text[:198 - len(where)] + "..") + where
+            same(result.why, f"run 1 worker on component 1 worker: stopcase: {told}")
+            same(str(result.raised[0]), f"run 1 worker: {told}")
+        same(server.run("t_next", lambda run: run.set_verdict("pass")).verdict, "pass", "the next case:")
+        place.reach("exceptions", len(RAISED), 7)
 
 
-@test
 def a_behaviour_that_is_no_plain_function(place: Place) -> None:
     """One that is asynchronous, or a generator, would run nothing and pass: the test case ends in error instead."""
-
     async def waits(run: Run) -> None:
         run.set_verdict("pass")
 
@@ -97,44 +84,21 @@ def a_behaviour_that_is_no_plain_function(place: Place) -> None:
     place.reach("behaviours", len(results), 3)
 
 
-@test
-def the_main_behaviour_may_raise(place: Place) -> None:
-    """Others that still work are ended, and what they raise is kept too."""
-
-    def worker(run: Run) -> None:
-        run.sleep(FOR_EVER)
-
-    def main(run: Run) -> None:
-        for _ in range(3):
-            run.start(run.create(), worker)
-        raise OSError(5, "broken")
-
-    with place.server() as server:
-        result = timed(lambda: server.run("t_main", main), 10)
-    same((result.verdict, result.hung, [it.run for it in result.raised]), ("error", (), [0]))
-    holds_word("OSError: [Errno 5] broken", result.why)
-    legal(result)
-    place.reach("entries", len(legal(result).entries), 7)
-
-
-@test
 def a_dynamic_error_is_told(place: Place) -> None:
     """Why has the call and the error; the exception is kept; the others are ended."""
     wrong: List[Callable[[Run], object]] = [
         lambda run: run.stop(7), lambda run: run.start(0, no_answer), lambda run: run.wait_done(run.create()),
-        lambda run: run.start(run.create(), no_answer, 9),
-    ]
-    errors = ("no-component", "start-main", "stuck", "no-component")
+        lambda run: run.start(run.create(), no_answer, 9), lambda run: run.start(4_294_967_295, no_answer)]
+    errors = ("no-component", "start-main", "stuck", "no-component", "no-component")
     with place.server() as server:
         for call, error in zip(wrong, errors):
             result = server.run("t_wrong", call)
             same((result.verdict, [type(it.exception) for it in result.raised]), ("error", [DynamicError]))
             hold(result.why.startswith("run 0 lambda on mtc: ") and result.why.endswith(f" -> error {error}"), result.why)
             legal(result)
-    place.reach("dynamic errors", len(wrong), 4)
+    place.reach("dynamic errors", len(wrong), 5)
 
 
-@test
 def a_thread_that_cannot_be_made(place: Place) -> None:
     """Its starter learns of it as of an exception; nobody waits for the behaviour, or names it as hanging."""
     starts = threading.Thread.start
@@ -149,8 +113,7 @@ def a_thread_that_cannot_be_made(place: Place) -> None:
 
     threading.Thread.start = start  # type: ignore[method-assign]
     try:
-        with place.server(grace=15) as server:
-            result = timed(lambda: server.run("t_thread", alone(worker)), 10)
+        result = timed(lambda: place.run("t_thread", alone(worker)), 10)
     finally:
         threading.Thread.start = starts  # type: ignore[method-assign]
     same((result.verdict, result.hung, [it.run for it in result.raised]), ("error", (), [0]))
@@ -158,10 +121,8 @@ def a_thread_that_cannot_be_made(place: Place) -> None:
     place.reach("entries", len(legal(result).entries), 3)
 
 
-@test
 def a_case_past_its_time_out(place: Place) -> None:
     """It ends in error, what hangs is named, and the evidence is whole: a worker hangs, the main one, or all."""
-
     def hang(run: Run) -> None:
         run.set_verdict("pass")
         time.sleep(FOR_EVER)
@@ -179,10 +140,10 @@ def a_case_past_its_time_out(place: Place) -> None:
 
     shown = {"a": ("run 1 hang",), "b": ("run 0 hang",), "c": ("run 0 all_hang", "run 1 hang", "run 2 hang", "run 3 hang"),
              "d": ("run 0 one_hangs_killed", "run 1 hang")}
-    with place.server() as server:
+    with place.server(grace=2) as server:
         server.run("warm", lambda run: None)
         for name, main in (("a", alone(hang)), ("b", hang), ("c", all_hang), ("d", one_hangs_killed)):
-            result = timed(lambda: server.run(name, main, timeout=0.5), 10)
+            result = timed(lambda: server.run(name, main, timeout=0.5), 15)
             same((result.verdict, result.is_timed_out, result.hung), ("error", True, shown[name]))
             holds_word(f"stopcase: the test case took longer than 0.5 s; not returned: {', '.join(shown[name])}", result.why)
             holds_word("the test case took longer than it may", result.report())
@@ -192,10 +153,8 @@ def a_case_past_its_time_out(place: Place) -> None:
     place.reach("hanging behaviours", sum(map(len, shown.values())), 8)
 
 
-@test
 def a_case_that_is_late_may_still_end_well(place: Place) -> None:
-    """A behaviour that learns of the time-out returns, and is not named as hanging."""
-
+    """A behaviour that learns of the time-out returns. It is named all the same, as in why."""
     def late(run: Run) -> None:
         while True:
             time.sleep(0.02)
@@ -205,16 +164,39 @@ def a_case_that_is_late_may_still_end_well(place: Place) -> None:
         while not run.wait_done(run.me, timeout=0.02):
             pass
 
+    def late_in_the_device(run: Run) -> None:
+        time.sleep(1.5)
+
+    mains = (late, late_in_the_table, late_in_the_device)
     with place.server() as server:
         server.run("warm", lambda run: None)
-        results = [timed(lambda: server.run("t_late", main, timeout=0.5), 10) for main in (late, late_in_the_table)]
-    for result in results:
-        same((result.verdict, result.is_timed_out, result.hung), ("error", True, ()))
+        results = [timed(lambda: server.run("t_late", main, timeout=0.5), 10) for main in mains]
+    for main, result in zip(mains, results):
+        same((result.verdict, result.is_timed_out, result.hung), ("error", True, (f"run 0 {main.__name__}",)))
+        holds_word(f"took longer than 0.5 s; not returned: {', '.join(result.hung)}", result.why)
         legal(result)
-    place.reach("late behaviours", len(results), 2)
+    place.reach("late behaviours", len(results), 3)
 
 
-@test
+def a_case_past_its_time_out_is_no_pass(place: Place) -> None:
+    """The server is stuck until after the limit, and then says pass."""
+    def stalls(run: Run) -> None:
+        process = server._program._process
+        run.set_verdict("pass")
+        process.send_signal(signal.SIGSTOP)
+        threading.Timer(1, process.send_signal, [signal.SIGCONT]).start()
+
+    with place.server() as server:
+        server.run("warm", lambda run: None)
+        result = timed(lambda: server.run("t_limit", stalls, timeout=0.5), 20)
+        same(server.close(), 2, "the status:")
+    same((result.verdict, result.is_timed_out, result.hung), ("error", True, ("run 0 stalls",)))
+    same(result.why, "the test case took longer than 0.5 s; not returned: run 0 stalls")
+    (block,) = evidence.blocks_of(result.evidence)
+    same(block.verdict, "pass", "the evidence:")
+    place.reach("entries", len(block.entries), 2)
+
+
 def who_hangs_says_nothing_more_once_it_wakes(place: Place) -> None:
     """A thread that keeps running can put no line into the next test case."""
     wakes, woken = threading.Event(), []
@@ -230,7 +212,7 @@ def who_hangs_says_nothing_more_once_it_wakes(place: Place) -> None:
             run.sleep(0.02)
         run.set_verdict("pass")
 
-    with place.server() as server:
+    with place.server(grace=HANGS) as server:
         server.run("warm", lambda run: None)
         first = server.run("t_first", sleeper, timeout=0.3)
         result = server.run("t_second", second, timeout=20)
@@ -238,12 +220,11 @@ def who_hangs_says_nothing_more_once_it_wakes(place: Place) -> None:
     place.reach("late calls", len(woken), 5)
 
 
-@test
 def a_case_that_another_behaviour_ends(place: Place) -> None:
     """A main behaviour that hangs in its device is not waited for: the test case is over, and the result names it."""
     wakes = threading.Event()
     ends: List[Callable[[Run], object]] = [lambda run: run.stop(0), lambda run: run.kill(0), lambda run: run.stop_case()]
-    with place.server() as server:
+    with place.server(grace=HANGS) as server:
         for end in ends:
 
             def main(run: Run, it: Callable[[Run], object] = end) -> None:
@@ -256,10 +237,8 @@ def a_case_that_another_behaviour_ends(place: Place) -> None:
     wakes.set()
 
 
-@test
 def what_was_raised_is_in_its_order(place: Place) -> None:
     """The first exception is the first in the result."""
-
     def main(run: Run) -> None:
         run.start(run.create(), no_answer)
         try:
@@ -267,15 +246,13 @@ def what_was_raised_is_in_its_order(place: Place) -> None:
         except Ended:
             raise ValueError("second") from None
 
-    with place.server() as server:
-        result = timed(lambda: server.run("t_order", main, timeout=30), 20)
+    result = timed(lambda: place.run("t_order", main, 30), 20)
     same([(it.run, type(it.exception)) for it in result.raised], [(1, TimeoutError), (0, ValueError)])
     told = [it for it in result.report().splitlines() if it.startswith("raised by ")]
     same([it.split(" (")[0] for it in told], ["raised by run 1 no_answer: TimeoutError: no answer from 10.0.0.7", "raised by run 0 main: ValueError: second"])
     place.reach("exceptions", len(result.raised), 2)
 
 
-@test
 def nothing_comes_after_a_stop_of_the_case(place: Place) -> None:
     """The behaviour that stops the test case is ended by it."""
     reached: List[Run] = []
@@ -284,16 +261,22 @@ def nothing_comes_after_a_stop_of_the_case(place: Place) -> None:
         run.stop_case("enough")
         reached.append(run)
 
-    with place.server() as server:
-        result = server.run("t_stop", main)
+    result = place.run("t_stop", main)
     same((result.verdict, result.raised, reached), ("error", (), []))
     place.reach("entries", len(legal(result).entries), 1)
 
 
-@test
 def ended_is_no_exception(place: Place) -> None:
-    """A behaviour that catches each Exception ends all the same if it is stopped."""
-    tries = []
+    """A behaviour that catches each Exception ends all the same if it is stopped. One that catches all else asks the table once."""
+    tries, more = [], []
+
+    def deaf(run: Run) -> None:
+        while len(more) < 5000:
+            try:
+                run.get_verdict()
+            except BaseException:
+                more.append(raises(Ended, lambda: run.stop_case("late")))
+        more.append(raises(Ended, run.check))
 
     def stubborn(run: Run) -> None:
         while True:
@@ -304,22 +287,21 @@ def ended_is_no_exception(place: Place) -> None:
                 pass
 
     def main(run: Run) -> None:
-        worker = run.create()
-        run.start(worker, stubborn)
+        for it in (stubborn, deaf):
+            run.start(run.create(), it)
         while len(tries) < 50:
             time.sleep(0.005)
-        run.stop(worker)
-        run.wait_done(worker)
+        run.stop("all")
+        while len(more) < 5001:
+            time.sleep(0.005)
         run.set_verdict("pass")
 
-    with place.server() as server:
-        result = server.run("t_stubborn", main, timeout=20)
-    same((result.verdict, result.hung, result.raised), ("pass", (), ()))
-    legal(result)
-    place.reach("calls", len(tries), 50)
+    result = place.run("t_stubborn", main, 20)
+    same((result.verdict, result.hung, result.raised, set(tries)), ("pass", (), (), {"none"}))
+    hold(sum(it.startswith("2 ") and it.endswith("-> ended") for it in legal(result).entries) == 1, "the table was asked again")
+    place.reach("calls", len(tries) + len(more), 5050)
 
 
-@test
 def check_and_sleep_learn_of_a_stop(place: Place) -> None:
     """A loop with check asks the table only if something was stopped; a long sleep ends at once."""
     turns, ended = [], []
@@ -350,15 +332,13 @@ def check_and_sleep_learn_of_a_stop(place: Place) -> None:
             time.sleep(0.01)
         run.set_verdict("pass")
 
-    with place.server() as server:
-        result = timed(lambda: server.run("t_check", main, timeout=30), 20)
+    result = timed(lambda: place.run("t_check", main, 30), 20)
     same((result.verdict, result.hung), ("pass", ()))
     entries = [it for it in legal(result).entries if "getverdict" in it]
     hold(len(entries) <= 8, f"a loop of {len(turns)} turns left {len(entries)} entries")
     place.reach("turns", len(turns), 300)
 
 
-@test
 def a_wait_may_have_a_time_out(place: Place) -> None:
     """False where the time passed before; True as soon as it holds; the run does not wait in the table meanwhile."""
     found, seconds = [], []
@@ -377,8 +357,7 @@ def a_wait_may_have_a_time_out(place: Place) -> None:
         found.append(run.wait_killed(it, timeout=0))
         found.append(run.wait_killed("all"))
 
-    with place.server() as server:
-        result = server.run("t_wait", main, timeout=30)
+    result = place.run("t_wait", main, 30)
     same((result.verdict, found), ("none", [False, False, True, True, True]))
     hold(seconds[0] < 10, f"the wait took {seconds[0]:.1f} seconds")
     waits = [it for it in legal(result).entries if " wait " in it]
@@ -387,7 +366,6 @@ def a_wait_may_have_a_time_out(place: Place) -> None:
     place.reach("waits", len(found), 5)
 
 
-@test
 def a_sleep_and_a_time_out_take_their_seconds(place: Place) -> None:
     """Not fewer, and not twice as many."""
     took: List[float] = []
@@ -399,13 +377,11 @@ def a_sleep_and_a_time_out_take_their_seconds(place: Place) -> None:
             call()
             took.append(time.monotonic() - began)
 
-    with place.server() as server:
-        same(server.run("t_seconds", main, timeout=30).verdict, "none")
+    same(place.run("t_seconds", main, 30).verdict, "none")
     hold(all(1.5 <= it < 2.9 for it in took), f"they took {took} seconds")
     place.reach("waits", len(took), 2)
 
 
-@test
 def a_wait_with_a_time_out_misses_no_end(place: Place) -> None:
     """What it waits for ends after it was asked, and before the answer is looked at: the wait learns of it all the same."""
     ends, found = threading.Event(), []
@@ -424,20 +400,94 @@ def a_wait_with_a_time_out_misses_no_end(place: Place) -> None:
         run._is = asks_slowly
         found.append(run.wait_done(it, timeout=8))
 
-    with place.server() as server:
-        result = timed(lambda: server.run("t_missed", main, timeout=30), 6)
+    result = timed(lambda: place.run("t_missed", main, 30), 6)
     same((result.verdict, found), ("none", [True]))
     place.reach("entries", len(legal(result).entries), 6)
 
 
-@test
+def a_check_misses_no_stop(place: Place) -> None:
+    """A stop that comes after it has asked, and before it looks at the answer: the next check learns of it."""
+    asked, found = threading.Event(), []
+
+    def worker(run: Run) -> None:
+        calls = run._call
+
+        def asks_slowly(words: str) -> None:
+            calls(words)
+            before = run._case._changes
+            asked.set()
+            while run._case._changes == before:
+                time.sleep(0.001)
+
+        run._call = asks_slowly
+        run.check()
+        run._call = calls
+        found.append(raises(Ended, run.check))
+
+    def main(run: Run) -> None:
+        first, second = run.create(), run.create()
+        run.start(first, lambda it: None)
+        run.wait_done(first)
+        run.start(second, worker)
+        asked.wait(20)
+        run.stop(second)
+        while not found:
+            run.sleep(0.01)
+
+    result = timed(lambda: place.run("t_missed", main, 8), 20)
+    same((result.verdict, len(found), result.raised), ("none", 1, ()))
+    place.reach("entries", len(legal(result).entries), 10)
+
+
+def a_forked_child_keeps_no_pipe(place: Place) -> None:
+    """A simulator in a process of its own, which lives on: the server learns of the end of its input, and of the client's."""
+    with place.server() as server:
+        child = multiprocessing.get_context("fork").Process(target=time.sleep, args=(FOR_EVER,), daemon=True)
+
+        def main(run: Run) -> None:
+            child.start()
+            run.set_verdict("pass")
+
+        result = server.run("t_fork", main, timeout=20)
+        pipes = {os.readlink(f"/proc/{os.getpid()}/fd/{it.fileno()}") for it in (server._program._input, server._program._output)}
+        until = time.monotonic() + 5
+        kept = pipes
+        # the child closes them once it runs, which may be later than its parent continues
+        while kept & pipes and time.monotonic() < until:
+            kept = {os.readlink(it.path) for it in os.scandir(f"/proc/{child.pid}/fd")}
+            time.sleep(0.01)
+        began = time.monotonic()
+        status = server.close()
+        seconds = time.monotonic() - began
+        hold(child.is_alive(), "the child has ended")
+        child.kill()
+    same((result.verdict, status, pipes & kept), ("pass", 0, set()))
+    hold(seconds < 5, f"the server took {seconds:.1f} seconds to end")
+    place.reach("pipes", len(pipes), 2)
+
+
 def a_bench_that_is_interrupted_leaves_its_evidence(place: Place) -> None:
-    """Ctrl-C stops the test case through the table; the file is whole; the interrupt is raised."""
+    """Ctrl-C stops the test case through the table; the file is whole; the interrupt is raised. SIGTERM does so by the line of the README only."""
+    (line,) = re.findall(r"`(signal\.signal\(signal\.SIGTERM, [^`]+)`", text_of(README))
+    interrupt(place, "", signal.SIGTERM, b"")
+    same(place.text("run.evidence"), "")
+    for more, number in (("", signal.SIGINT), (line, signal.SIGTERM)):
+        interrupt(place, more, number, b"KeyboardInterrupt")
+        found = place.blocks("run.evidence")
+        same([it.verdict for it in found], ["error"])
+        block = found[0]
+        holds_word("the bench was interrupted; not returned: run 1 worker", block.remarks[0][1])
+        place.reach("entries", len(block.entries), 4)
+
+
+def interrupt(place: Place, line: str, number: int, shown: bytes) -> None:
+    """Sends a signal to a bench with this line, and waits for its end, with that in its standard error."""
     text = f"""import signal, sys
 sys.path.insert(0, {CLIENT!r})
 from filskeam import Server
 
 signal.signal(signal.SIGINT, signal.default_int_handler)  # a job in the background of a shell ignores it
+{line}
 
 def worker(run):
     run.sleep(0.5)
@@ -454,30 +504,27 @@ with Server({list(place.command)!r}, evidence={place.path('run.evidence')!r}, gr
 """
     bench = subprocess.Popen([sys.executable, place.write("bench.py", text)], stdout=subprocess.PIPE, stderr=subprocess.PIPE, start_new_session=True)
     same(bench.stdout.readline(), b"waits\n")
-    os.killpg(bench.pid, signal.SIGINT)
+    os.killpg(bench.pid, number)
     _, errors = bench.communicate(timeout=30)
-    hold(b"KeyboardInterrupt" in errors, errors[-300:])
-    with open(place.path("run.evidence"), encoding="ascii") as file:
-        blocks = evidence.blocks_of(file.read())
-    same(len(blocks), 1, "blocks:")
-    block = blocks[0]
-    same((block.verdict, evidence.is_legal([block])), ("error", True))
-    holds_word("the bench was interrupted; not returned: run 1 worker", block.remarks[0][1])
-    place.reach("entries", len(block.entries), 4)
+    hold(shown in errors, errors[-300:])
 
 
-@test
 def a_case_runs_once(place: Place) -> None:
-    """A test case that was run is not run again; a server may be given or not."""
+    """A test case that was run is not run again, and none inside another, where it would wait for that one's end."""
+    def inside(run: Run) -> None:
+        run.set_verdict("pass")
+        server.run("t_inside", no_answer)
+
     with place.server() as server:
         case = Case("t_once", lambda run: run.set_verdict("pass"), server=server)
         same(case.run().verdict, "pass")
         raises(RuntimeError, case.run)
+        result = timed(lambda: server.run("t_outside", alone(inside), timeout=20), 5)
+        holds_word("stopcase: RuntimeError: run 1 inside cannot run test case t_inside: ", result.why)
         same(server.run("t_then", lambda run: run.set_verdict("fail")).verdict, "fail", "the next case:")
-    place.reach("cases", 2, 2)
+    place.reach("cases", 3, 3)
 
 
-@test
 def the_calls_of_a_run_are_its_own_threads(place: Place) -> None:
     """Another thread may log, and do nothing else."""
     found: List[BaseException] = []
@@ -493,7 +540,6 @@ def the_calls_of_a_run_are_its_own_threads(place: Place) -> None:
         thread.join()
         run.set_verdict("pass")
 
-    with place.server() as server:
-        result = server.run("t_threads", main)
+    result = place.run("t_threads", main)
     same((result.verdict, legal(result).remarks, len(result.evidence.splitlines())), ("pass", [(0, "from another thread")], 6))
     place.reach("calls", len(found), 5)

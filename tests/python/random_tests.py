@@ -1,6 +1,4 @@
 """Random test cases of forty behaviours, and how many calls there are in a second."""
-from __future__ import annotations
-
 import os
 import random
 import subprocess
@@ -9,7 +7,8 @@ from collections import Counter
 from typing import Callable, List
 
 from filskeam import DynamicError, Result, Run
-from kit import Place, hold, legal, same, test
+from holding import hold, same
+from kit import Place, legal
 from table import Table
 from texts import read_move
 
@@ -19,8 +18,6 @@ SEED = "a bench"
 
 
 class Draw:
-    """Behaviours that draw their calls, and start others while there are any left."""
-
     def __init__(self, seed: str) -> None:
         self.seed, self.left, self.components = seed, BEHAVIOURS - 1, [0]
         self.is_daring = random.Random(seed).random() < 0.5
@@ -34,7 +31,6 @@ class Draw:
             run.wait_done("all")
 
     def call(self, run: Run, chance: random.Random) -> None:
-        """Makes a call."""
         what, target = chance.random(), chance.choice(self.components)
         if what < 0.4 and self.left > 0:
             self.left -= 1
@@ -87,33 +83,30 @@ def hold_by_program(place: Place, results: List[Result]) -> None:
     if os.path.basename(program) != "ttrun":
         return
     text = "".join(it.evidence for it in results)
-    ran = subprocess.run([program, "check"], input=text.encode(), stdout=subprocess.PIPE, stderr=subprocess.PIPE, timeout=60, check=False)
+    ran = subprocess.run([program, "check"], input=text, capture_output=True, text=True, timeout=60, check=False)
     wanted = [f"legal {it.name} {len(legal(it).entries)} {it.verdict}" for it in results]
-    same((ran.stdout.decode().splitlines(), ran.stderr, ran.returncode), (wanted, b"", 0), "ttrun check:")
+    same((ran.stdout.splitlines(), ran.stderr, ran.returncode), (wanted, "", 0), "ttrun check:")
     place.reach("blocks for ttrun check", len(wanted), CASES)
 
 
-@test
 def random_cases_are_legal(place: Place) -> None:
     """Thirty cases of up to forty behaviours at once: legal evidence, and the local verdicts of the table."""
     met: Counter = Counter()
     results: List[Result] = []
-    with place.server(grace=20) as server:
+    with place.server() as server:
         for at in range(CASES):
             results.append(server.run(f"t_{at}", Draw(f"{SEED} {at}").behave, timeout=60))
             hold(not results[-1].is_timed_out, f"{results[-1].name} took too long")
             judged(results[-1], met)
     hold_by_program(place, results)
     same(met["hung"], 0, "hanging behaviours:")
-    for what, least in (("behaviours", 600), ("create", 600), ("start", 600), ("setverdict", 100), ("wait", 20), ("wake", 15), ("parked", 15),
+    for what, least in (("behaviours", 450), ("create", 450), ("start", 450), ("setverdict", 100), ("wait", 20), ("wake", 15), ("parked", 15),
                         ("ended", 30), ("remarks", 60), ("finish", 40), ("raised", 1), ("dynamic error", 2), ("error", 4), ("fail", 4)):
         place.reach(what, met[what], least)
 
 
-@test
 def calls_in_a_second(place: Place) -> None:
     """One caller, and eight at once: a floor that only a wait for nothing would miss."""
-
     def busy(run: Run, *, calls: int) -> None:
         for _ in range(calls):
             run.get_verdict()

@@ -1,6 +1,4 @@
 """Servers that end, hang, or write what they may not; where the program is found; the file of the evidence."""
-from __future__ import annotations
-
 import os
 import shutil
 import sys
@@ -9,7 +7,8 @@ from typing import List
 
 import evidence
 from filskeam import DynamicError, NoProgram, Refused, Run, Server, ServerEnded
-from kit import CLIENT, FOR_EVER, TOP, Place, hold, holds_word, legal, raises, same, test, timed
+from holding import TOP, hold, holds_word, raises, same
+from kit import CLIENT, FOR_EVER, Place, legal, timed
 
 # A server that answers the first lines rightly, and then writes what it was given; then it ends, or waits.
 STUB = """import os, sys, time
@@ -28,7 +27,6 @@ sys.exit(int(status))
 
 
 def stub(place: Place, lines: str, status: str = "hang") -> List[str]:
-    """The command of such a server."""
     return [sys.executable, place.write("stub.py", STUB), lines, status]
 
 
@@ -38,7 +36,6 @@ def main_that_calls(run: Run) -> None:
     run.get_verdict()
 
 
-@test
 def a_server_that_is_killed(place: Place) -> None:
     """The evidence so far is there, the verdict is error, no behaviour hangs, and the next test case has a new server."""
     ended: List[int] = []
@@ -72,7 +69,6 @@ def a_server_that_is_killed(place: Place) -> None:
     place.reach("lines", len(lines), 17)
 
 
-@test
 def a_program_that_does_not_know_serve(place: Place) -> None:
     """The line that says so is named, and not the last one, which says how to get help."""
     refusal = "echo \"error: unrecognized subcommand 'serve'\" >&2; echo >&2; echo \"For more information, try '--help'.\" >&2; exit 3"
@@ -82,10 +78,8 @@ def a_program_that_does_not_know_serve(place: Place) -> None:
     place.reach("refusals", 1, 1)
 
 
-@test
 def a_reader_that_breaks(place: Place) -> None:
     """What breaks the client's own reader ends the test case in error, and no behaviour hangs."""
-
     def main(run: Run) -> None:
         run.set_verdict("pass")
         run._case._take = breaks
@@ -102,7 +96,6 @@ def a_reader_that_breaks(place: Place) -> None:
     place.reach("lines", len(result.evidence.splitlines()), 3)
 
 
-@test
 def a_server_that_ends_is_told_by_its_last_line(place: Place) -> None:
     """Its status and the last line of its standard error; half a line that it wrote is no evidence."""
     with Server(stub(place, "0 setverdict pass -> ok\\n0 getv", "3"), grace=0.4) as server:
@@ -119,11 +112,9 @@ NONSENSE = (
     "0 setverdict fail -> ok\\n", "0 getverdict -> none\\n", "1 finish -> ok\\n", "9 # who\\n", "end pass\\n", "end none\\n", "0 wake done 1 -> matched\\n",
     "evidence 1 t_nonsense 256\\n", "0 setverdict pass -> ok\\n0 setverdict pass -> ok\\n", "x" * 5000, "0 # " + "x" * 5000 + "\\n",
     "0 setverdict pass\\n", "0 setverdict pass -> ok \\n", " 0 setverdict pass -> ok\\n", "0 setverdict pass -> ok\\r\\n",
-    "0 setverdict pass -> ok\\n0 ! bad line\\n0 ! bad line\\n",
-)
+    "0 setverdict pass -> ok\\n0 ! bad line\\n0 ! bad line\\n")
 
 
-@test
 def a_server_that_writes_nonsense(place: Place) -> None:
     """The test case is an error, what was written is named, and the server is ended."""
     for lines in NONSENSE:
@@ -136,7 +127,6 @@ def a_server_that_writes_nonsense(place: Place) -> None:
     place.reach("kinds of nonsense", len(NONSENSE), 22)
 
 
-@test
 def a_wrong_first_or_last_line(place: Place) -> None:
     """A header of another test case, and an end with another verdict."""
     with Server(["sh", "-c", "echo evidence 1 t 256; exec sleep 1000"], grace=0.4) as server:
@@ -150,10 +140,8 @@ def a_wrong_first_or_last_line(place: Place) -> None:
     place.reach("lines", 2, 2)
 
 
-@test
 def a_server_that_hangs(place: Place) -> None:
     """It answers no call, or takes no lines: after the time-out it is killed, and the next one serves."""
-
     def chatter(run: Run) -> None:
         while True:
             run.log("x" * 200)
@@ -179,7 +167,6 @@ def a_server_that_hangs(place: Place) -> None:
     place.reach("servers", 3, 3)
 
 
-@test
 def a_refused_line_changes_nothing(place: Place) -> None:
     """The run learns of it, the evidence says so, and the server serves on; its status is 3 at the end."""
     found = []
@@ -199,10 +186,10 @@ def a_refused_line_changes_nothing(place: Place) -> None:
     place.reach("refused lines", len(found), 4)
 
 
-@test
 def the_evidence_goes_into_a_file(place: Place) -> None:
-    """Each block as the server wrote it, in order; one without its end goes next to it, so that the file can be read."""
-    path = place.path("run.evidence")
+    """Each block as the server wrote it, in order; one without its end goes next to it. What was there before is appended to on demand only."""
+    path = place.write("run.evidence", "of an earlier run\n")
+    place.write("run.evidence.cut", "of an earlier run\n")
     with place.server(evidence=path) as server:
         results = [server.run(f"t{at}", lambda run: run.set_verdict(verdict)) for at, verdict in enumerate(("pass", "fail", "none"))]
 
@@ -212,17 +199,22 @@ def the_evidence_goes_into_a_file(place: Place) -> None:
 
         cut = server.run("t_cut", main)
         results.append(server.run("t_last", main_that_calls))
-    with open(path, encoding="ascii") as file:
-        text = file.read()
-    same(text, "".join(it.evidence for it in results))
-    same([it.verdict for it in evidence.blocks_of(text)], ["pass", "fail", "none", "pass"])
-    with open(path + ".cut", encoding="ascii") as file:
-        same(file.read(), cut.evidence)
+    same(place.text("run.evidence"), "".join(it.evidence for it in results))
+    same([it.verdict for it in place.blocks("run.evidence")], ["pass", "fail", "none", "pass"])
+    same(place.text("run.evidence.cut"), cut.evidence)
+    with place.server(evidence=path, append=True) as server:
+        results += [server.run(f"t{at}", main_that_calls) for at in (5, 6)] + [cut]
+        more = server.run("t_cut", main)
+    lines = place.text("run.evidence").splitlines()
+    same([it.name for it in place.blocks("run.evidence")], ["t0", "t1", "t2", "t_last", "t5", "t6"])
+    for it in results:
+        file, line = it.place.rsplit(":", 1)
+        same((file, lines[int(line) - 1]) if it is not cut else it.place, (path, f"evidence 1 {it.name} 256") if it is not cut else f"{path}.cut:1")
+    same(more.place, f"{path}.cut:{len(cut.evidence.splitlines()) + 1}")
     raises(OSError, lambda: place.server(evidence="/nowhere/run.evidence"))
-    place.reach("blocks", len(results), 4)
+    place.reach("blocks", len(results), 7)
 
 
-@test
 def statuses_are_those_of_the_server(place: Place) -> None:
     """0, 1 or 2 by the worst verdict; any other counts as 3."""
     for verdicts, status in ((["none", "pass"], 0), (["inconc", "pass"], 1), (["fail"], 1), (["pass", "error", "fail"], 2)):
@@ -237,12 +229,11 @@ def statuses_are_those_of_the_server(place: Place) -> None:
     place.reach("statuses", 4, 4)
 
 
-@test
 def the_program_is_found(place: Place) -> None:
-    """By FILSKEAM_TTRUN, then on the path, then the wrapper of the checkout."""
+    """By a variable, then on the path, then the wrapper of the checkout."""
     before = dict(os.environ)
     try:
-        os.environ["FILSKEAM_TTRUN"] = place.program()
+        os.environ.update(FILSKEAM_TTRUN="", TTRUN=place.program())
         os.mkdir(place.path("other"))
         shutil.copyfile("/bin/false", place.path("other/ttrun"))
         os.chmod(place.path("other/ttrun"), 0o755)
@@ -251,7 +242,7 @@ def the_program_is_found(place: Place) -> None:
             same(server.run("t", main_that_calls).verdict, "pass", "by the variable:")
         os.environ["FILSKEAM_TTRUN"] = "/nowhere/ttrun"
         holds_word("/nowhere/ttrun cannot be started", str(raises(NoProgram, lambda: Server().run("t", main_that_calls))))
-        del os.environ["FILSKEAM_TTRUN"]
+        del os.environ["FILSKEAM_TTRUN"], os.environ["TTRUN"]
         os.environ["PATH"] = place.room + os.pathsep + before["PATH"]
         with Server(grace=0.4) as server:
             same(server.run("t", main_that_calls).verdict, "pass", "by the path:")
@@ -264,9 +255,8 @@ def the_program_is_found(place: Place) -> None:
     place.reach("ways", 3, 3)
 
 
-@test
 def more_runs_than_there_may_be(place: Place) -> None:
-    """A case has 256 behaviours. One more is a dynamic error, which is reported as one."""
+    """A case has 256 behaviours. One more is a dynamic error, which is reported as one, in words."""
     started = []
 
     def worker(run: Run) -> None:
@@ -278,9 +268,8 @@ def more_runs_than_there_may_be(place: Place) -> None:
             run.start(it, worker)
             run.wait_done(it)
 
-    with place.server() as server:
-        result = server.run("t_many", main)
+    result = place.run("t_many", main)
     same((result.verdict, started, type(result.raised[0].exception)), ("error", list(range(1, 256)), DynamicError))
-    same(result.why, "run 0 main on mtc: start 1 256 -> error no-behaviour")
+    same(result.why, "run 0 main on mtc: start 1 256 -> error no-behaviour: a test case has at most 256 behaviours, and each start is one")
     same(len(legal(result).names), 256, "names:")
     place.reach("runs", len(started), 255)

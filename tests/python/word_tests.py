@@ -1,11 +1,10 @@
 """Words: what is refused before it is sent, remarks, names, and what a result says."""
-from __future__ import annotations
-
 import functools
 from typing import Callable, List, Tuple
 
 from filskeam import Case, Run
-from kit import FOR_EVER, Place, hold, holds_word, legal, named, raises, same, test
+from holding import hold, hold_each_call, holds_word, raises, same
+from kit import FOR_EVER, Place, legal
 
 
 def nothing(run: Run) -> None:
@@ -20,17 +19,11 @@ WRONG: Tuple[Callable[[Run], object], ...] = (
     lambda run: run.stop(True), lambda run: run.kill(1.0), lambda run: run.kill(None), lambda run: run.wait_done(4_294_967_296),
     lambda run: run.wait_done("1"), lambda run: run.wait_killed("every", timeout=1), lambda run: run.running("0\n0 finish"),
     lambda run: run.alive([1]), lambda run: run.done("none"), lambda run: run.killed(""), lambda run: run.start("any", nothing),
-    lambda run: run.start(1, 7), lambda run: run.start(1, nothing, "x"), lambda run: run.start(1, nothing, 0, 0, 0, 0, 0),
-)
+    lambda run: run.start(1, 7), lambda run: run.start(1, nothing, "x"), lambda run: run.start(1, nothing, 0, 0, 0, 0, 0))
 
 
-STATUSES = ("running", "alive", "done", "killed")
-
-
-@test
 def each_call_has_its_word(place: Place) -> None:
     """All calls, and each status of a component: not started, stopped, killed, running."""
-
     def ask(run: Run, it: int) -> None:
         for call in (run.running, run.alive, run.done, run.killed):
             call(it)
@@ -51,20 +44,9 @@ def each_call_has_its_word(place: Place) -> None:
         run.set_verdict("pass")
         run.get_verdict()
 
-    with place.server() as server:
-        result = server.run("t_calls", main, timeout=30)
-    told = [(1, "false true false false"), (1, "false true true false"), (1, "false false true true"), (2, "true true false false"),
-            (2, "false false true true")]
-    asked = [[f"0 {status} {it} -> {answer}" for status, answer in zip(STATUSES, answers.split())] for it, answers in told]
-    wanted = ["0 create alive named pump -> made 1", "0 create -> made 2", *asked[0], "0 start 1 1 -> ok", *asked[1], "0 kill 1 -> ok", *asked[2],
-              "0 start 2 2 -> ok", *asked[3], "0 stop 2 -> ok", *asked[4], "0 setverdict pass -> ok", "0 getverdict -> pass", "0 finish -> ok"]
-    entries = [it for it in legal(result).entries if it.startswith("0 ")]
-    same([it for it in entries if not it.startswith(("0 wait", "0 wake"))], wanted)
-    same({" ".join(it.split()[1:4]) for it in entries if it.startswith("0 wait")}, {"wait done 1", "wait killed 2"})
-    place.reach("entries", len(entries), len(wanted) + 2)
+    place.reach("entries", hold_each_call(legal(place.run("t_calls", main, 30)).entries), 30)
 
 
-@test
 def wrong_words_are_not_sent(place: Place) -> None:
     """Each is a ValueError that names the word; the evidence has nothing of it."""
     found: List[str] = []
@@ -84,28 +66,14 @@ def wrong_words_are_not_sent(place: Place) -> None:
     place.reach("wrong words", len(found) + 6, 36)
 
 
-@test
-def a_word_that_nobody_catches_stops_the_case(place: Place) -> None:
-    """It is an exception as any other: the evidence says which word, and where."""
-    with place.server() as server:
-        result = server.run("t_word", WRONG[0])
-    same((result.verdict, result.raised[0].run), ("error", 0))
-    holds_word("stopcase: ValueError: 'passed' is no verdict to set: there are none, pass, inconc and fail (word_tests.py:", result.why)
-    legal(result)
-    place.reach("entries", len(legal(result).entries), 1)
-
-
 REMARKS = (
     ("too hot", "too hot"), (81, "81"), ("", None), ("   ", None), ("a\nb\r\n\tc", "a b c"), ("81 \u00b0C", r"81 \xb0C"), ("\u20ac", r"\u20ac"),
     ("\x1b[31mred\x00\x7f", r"\x1b[31mred\x00\x7f"), ("# -> ok", "# -> ok"), ("x" * 200, "x" * 200), ("x" * 201, "x" * 198 + ".."),
-    ("\u00e4" * 60, r"\xe4" * 49 + r"\x" + ".."), ("\ud800", r"\ud800"), (b"\xff\n", r"b'\xff\n'"), (None, "None"), ("~", "~"),
-)
+    ("\u00e4" * 60, r"\xe4" * 49 + r"\x" + ".."), ("\ud800", r"\ud800"), (b"\xff\n", r"b'\xff\n'"), (None, "None"), ("~", "~"))
 
 
-@test
 def remarks_are_cut_and_cleaned(place: Place) -> None:
     """Other bytes are escapes, white space is one space, and a long text is cut."""
-
     def main(run: Run) -> None:
         for text, _ in REMARKS:
             run.log(text)
@@ -129,7 +97,6 @@ class Sampler:
         run.set_verdict("pass")
 
 
-@test
 def one_function_is_many_behaviours(place: Place) -> None:
     """Each start is a run of its own, named by its function, whatever that is."""
     got: List[Tuple[Tuple[int, ...], str]] = []
@@ -137,14 +104,14 @@ def one_function_is_many_behaviours(place: Place) -> None:
     def probe(run: Run, *components: int, word: str = "") -> None:
         got.append((components, word))
 
-    def all(run: Run) -> None:
-        run.set_verdict("pass")
-
     def a_name_that_is_longer_than_a_name_may_be(run: Run) -> None:
         run.set_verdict("pass")
 
-    others = (lambda run: None, Sampler(), Sampler()._method, functools.partial(functools.partial(probe), word="p"), all,
-              a_name_that_is_longer_than_a_name_may_be)
+    others = [lambda run: None, Sampler(), Sampler()._method, functools.partial(functools.partial(probe), word="p"),
+              a_name_that_is_longer_than_a_name_may_be]
+    for name in ("self", "mtc", "any", "all", "_9"):
+        others.append(lambda run: None)
+        others[-1].__name__ = name
 
     def main(run: Run) -> None:
         comps = [run.create() for _ in range(4 + len(others))]
@@ -154,20 +121,18 @@ def one_function_is_many_behaviours(place: Place) -> None:
             run.start(comp, other)
         run.wait_done("all")
 
-    with place.server() as server:
-        result = server.run("t_functions", main)
+    result = place.run("t_functions", main)
     same(result.verdict, "pass")
-    names = ["main", *["probe"] * 4, "lambda", "Sampler", "method", "probe", "all_", "a_name_that_is_longer_than_a_nam"]
-    same(named(legal(result)), list(enumerate(names)))
+    names = ["main", *["probe"] * 4, "lambda", "Sampler", "method", "probe", "a_name_that_is_longer_than_a_nam",
+             "self_", "mtc_", "any_", "all_", "behaviour_"]
+    same(sorted(legal(result).names), list(enumerate(names)))
     same(sorted(got), [((), "p"), ((0,), "w0"), ((1, 0), "w1"), ((1, 2, 0), "w2"), ((1, 2, 3, 0), "w3")])
     hold("0 start 4 4 1 2 3 0 -> ok" in legal(result).entries, "the arguments are not in the evidence")
-    place.reach("behaviours", len(names), 11)
+    place.reach("behaviours", len(names), 15)
 
 
-@test
 def local_verdicts_by_component_and_name(place: Place) -> None:
     """Also of components with one name, without a name, never started, and started again."""
-
     def sets(run: Run, *, verdict: str) -> None:
         run.set_verdict(verdict)
 
@@ -179,8 +144,7 @@ def local_verdicts_by_component_and_name(place: Place) -> None:
             run.wait_done(comp)
         run.set_verdict("pass")
 
-    with place.server() as server:
-        result = server.run("t_locals", main)
+    result = place.run("t_locals", main)
     same(result.locals, {0: "pass", 1: "fail", 2: "inconc", 3: "none", 4: "none"})
     same(result.names, {0: "mtc", 1: "pump", 2: "pump", 3: "", 4: "spare"})
     same([result.local(it) for it in (0, "mtc", 1, 2, "pump", 3, "spare")], ["pass", "pass", "fail", "inconc", "fail", "none", "none"])
@@ -203,11 +167,9 @@ WHY = (
     ((("pass",), ("pass", "again")), "run 0 main on mtc: setverdict pass"),
     ((("pass",), ("fail", "first"), ("fail", "second"), ("inconc", "third")), "run 0 main on mtc: setverdict fail: first"),
     ((("inconc", "one"), ("fail",)), "run 0 main on mtc: setverdict fail"),
-    ((("fail", "x: y -> z"),), "run 0 main on mtc: setverdict fail: x: y -> z"),
-)
+    ((("fail", "x: y -> z"),), "run 0 main on mtc: setverdict fail: x: y -> z"))
 
 
-@test
 def why_is_the_first_that_made_the_verdict(place: Place) -> None:
     """With the reason that was given with it, and no other."""
     with place.server() as server:
@@ -224,18 +186,15 @@ def why_is_the_first_that_made_the_verdict(place: Place) -> None:
     place.reach("reasons", len(WHY) + 1, 7)
 
 
-@test
 def a_report_shows_the_last_entries(place: Place) -> None:
     """As many as are asked for, and how many there are."""
-
     def main(run: Run) -> None:
         for _ in range(50):
             run.get_verdict()
 
-    with place.server() as server:
-        result = server.run("t_report", main)
-    lines = result.report().splitlines()
-    same(lines[3], "evidence, the last 20 of 54 lines:")
-    same(lines[4:], [f"  {it}" for it in result.evidence.splitlines()[-20:]])
-    same(result.report(100).splitlines()[3:], ["evidence:", *(f"  {it}" for it in result.evidence.splitlines())])
-    place.reach("lines", len(lines), 24)
+    result = place.run("t_report", main)
+    entries = [f"  {it}" for it in result.evidence.splitlines()]
+    same(result.report().splitlines()[3:], ["evidence, the last 20 of 54 lines:", *entries[-20:]])
+    same(result.report(53).splitlines()[3:], ["evidence, the last 53 of 54 lines:", *entries[1:]])
+    same(result.report(54).splitlines()[3:], ["evidence:", *entries])
+    place.reach("lines", len(entries), 54)

@@ -1,8 +1,5 @@
 """Evidence as docs/texts.md has it: its blocks, and the history text that is left without its remarks."""
-from __future__ import annotations
-
 import os
-import re
 import sys
 from dataclasses import dataclass, field
 from typing import List, Optional, Set, Tuple
@@ -10,11 +7,7 @@ from typing import List, Optional, Set, Tuple
 sys.path.insert(0, os.path.join(os.path.dirname(os.path.dirname(os.path.abspath(__file__))), "program"))
 
 from table import VERDICTS
-from texts import NAME, NUMBER, behaviours_of, check, is_name, is_reply, read_move
-
-HEADER = re.compile(rf"evidence 1 ({NAME}) ({NUMBER})")
-NAMING = re.compile(rf"behaviour ({NUMBER}) ({NAME})")
-SAID = re.compile(rf"({NUMBER}) ([#!]) ([ -~]{{1,200}})")
+from texts import EVIDENCE, check, read_entry, read_header, read_said, runs_of
 
 
 class NoEvidence(Exception):
@@ -23,8 +16,6 @@ class NoEvidence(Exception):
 
 @dataclass
 class Block:
-    """The evidence of one test case."""
-
     name: str
     behaviours: int
     entries: List[str] = field(default_factory=list)
@@ -36,28 +27,14 @@ class Block:
 
     def take(self, line: str) -> bool:
         """Takes a line inside the block, if it may be there."""
-        naming, said = NAMING.fullmatch(line), SAID.fullmatch(line)
-        if naming:
-            run = int(naming[1])
-            if run >= self.behaviours or run in self.met or not is_name(naming[2]):
-                return False
-            self.names.append((run, naming[2]))
-        elif said:
-            run = int(said[1])
-            if run >= self.behaviours:
-                return False
-            (self.remarks if said[2] == "#" else self.refused).append((run, said[3]))
-        else:
-            move_text, arrow, reply = line.partition(" -> ")
-            move = read_move(move_text)
-            if not arrow or move is None or not is_reply(reply):
-                return False
-            run = move[0]
-            if move[1].verb == "start":
-                self.met.add(move[1].run)
+        entry, said = read_entry(0, line, EVIDENCE), read_said(line, self.behaviours, self.met)
+        if entry:
             self.entries.append(line)
-        self.met.add(run)
-        return True
+            self.met |= runs_of(entry)
+        elif said:
+            {"": self.names, "#": self.remarks, "!": self.refused}[said.mark].append((said.run, said.text))
+            self.met.add(said.run)
+        return entry is not None or said is not None
 
     def history(self) -> str:
         """The block of a history that is left without what says nothing to the table."""
@@ -65,11 +42,8 @@ class Block:
 
 
 def opened(line: str) -> Optional[Block]:
-    """The block that the line begins."""
-    found = HEADER.fullmatch(line)
-    if not found or not is_name(found[1]) or behaviours_of(found[2]) is None:
-        return None
-    return Block(found[1], int(found[2]))
+    header = read_header(line)
+    return Block(*header[1:]) if header and header[0] == EVIDENCE else None
 
 
 def blocks_of(text: str) -> List[Block]:
@@ -77,20 +51,19 @@ def blocks_of(text: str) -> List[Block]:
     if text and not text.endswith("\n"):
         raise NoEvidence("the last line has no line feed")
     blocks: List[Block] = []
-    is_open = False
+    block: Optional[Block] = None
     for number, line in enumerate(text.split("\n")[:-1], 1):
-        if not is_open:
+        if block is None:
             block = opened(line)
             if block is None:
                 raise NoEvidence(f"line {number} begins no block: {line[:100]!r}")
-            blocks.append(block)
-            is_open = True
         elif line.startswith("end ") and line[4:] in VERDICTS:
-            blocks[-1].verdict = line[4:]
-            is_open = False
-        elif not blocks[-1].take(line):
+            block.verdict = line[4:]
+            blocks.append(block)
+            block = None
+        elif not block.take(line):
             raise NoEvidence(f"line {number} may not stand in the block: {line[:100]!r}")
-    if is_open:
+    if block is not None:
         raise NoEvidence("the last block has no end")
     return blocks
 

@@ -1,18 +1,16 @@
 """What is seen of a server over pipes: when a line is answered, and what a pipe that is closed on either side does."""
-from __future__ import annotations
-
 import random
-import subprocess
 import sys
 import time
 from collections import Counter
-from typing import Callable, Dict, List, Sequence
+from typing import Callable, Dict, Iterable, Iterator, List, Sequence
 
+from case import as_lines, faults_in
 from reference import Server
-from serving import SECONDS, Pipe, Ran, difference
+from serving import SECONDS, Pipe, Ran, served
 from sessions import Session
 
-Judge = Callable[[Sequence[str]], List[str]]
+Judge = Callable[[Sequence[str]], Iterable[str]]
 TESTS: Dict[str, Judge] = {}
 # How long nothing must come, if nothing is wanted.
 QUIET = 0.2
@@ -27,14 +25,20 @@ def test(judge: Judge) -> Judge:
 
 
 def exchanged(pipe: Pipe, given: bytes, wanted: bytes) -> List[str]:
-    """Gives a line and reads its answer."""
     pipe.write(given)
     came = pipe.read_all_of(len(wanted)) if wanted else pipe.read(QUIET)
     return [] if came == wanted else [f"the answer to {given!r}: wanted {wanted!r}, came {came!r}"]
 
 
+def told_at_once(pipe: Pipe, given: bytes, wanted: str) -> List[str]:
+    """Gives a line and reads what is printed about it."""
+    pipe.write(given)
+    told = pipe.process.stderr.readline()
+    return [] if told == as_lines(wanted) else [f"standard error has {told!r} for {given!r}"]
+
+
 @test
-def each_line_is_answered_before_the_next(command: Sequence[str]) -> List[str]:
+def each_line_is_answered_before_the_next(command: Sequence[str]) -> Iterator[str]:
     """A client that waits for each answer gets it."""
     steps = [
         (b"case t 2\n", b"evidence 1 t 2\n"),
@@ -50,29 +54,22 @@ def each_line_is_answered_before_the_next(command: Sequence[str]) -> List[str]:
     ]
     with Pipe(command) as pipe:
         for given, wanted in steps:
-            faults = exchanged(pipe, given, wanted)
-            if faults:
-                return faults
-        return difference(Ran(b"", b"", 3), pipe.ended())
+            yield from exchanged(pipe, given, wanted)
+        yield from faults_in(Ran(b"", b"", 3), pipe.ended())
 
 
 @test
-def each_line_of_random_sessions_is_answered_before_the_next(command: Sequence[str]) -> List[str]:
+def each_line_of_random_sessions_is_answered_before_the_next(command: Sequence[str]) -> Iterator[str]:
     """Every answer, and every line on standard error, comes before the client writes more."""
     chance, server, answered = random.Random("exchanges"), Server(), 0
     with Pipe(command) as pipe:
         while answered < EXCHANGES:
             for line in Session(chance, Counter()).lines:
                 output, errors = server.take(line)
-                faults = exchanged(pipe, f"{line}\n".encode("latin-1"), "".join(f"{it}\n" for it in output).encode()) if output else []
-                if errors:
-                    pipe.write(f"{line}\n".encode("latin-1"))
-                    told = pipe.process.stderr.readline()
-                    faults = [] if told == f"ttrun: {errors[0]}\n".encode() else [f"standard error has {told!r} for {line!r}"]
-                if faults:
-                    return faults
+                given = f"{line}\n".encode("latin-1")
+                yield from exchanged(pipe, given, as_lines(*output)) if output else told_at_once(pipe, given, f"ttrun: {errors[0]}")
                 answered += 1
-        return difference(Ran(b"", b"", server.status()), pipe.ended())
+        yield from faults_in(Ran(b"", b"", server.status()), pipe.ended())
 
 
 @test
@@ -85,7 +82,7 @@ def half_a_line_is_not_answered(command: Sequence[str]) -> List[str]:
             pipe.write(bytes([byte]))
             time.sleep(0.002)
         faults += exchanged(pipe, b"h\n", b"0 getverdict -> none\n0 finish -> ok\n")
-        return faults + difference(Ran(b"end none\n", b"ttrun: the input ended inside a test case\n", 0), pipe.ended())
+        return faults + faults_in(Ran(b"end none\n", b"ttrun: the input ended inside a test case\n", 0), pipe.ended())
 
 
 @test
@@ -93,9 +90,7 @@ def a_refused_line_without_a_run_is_told_at_once(command: Sequence[str]) -> List
     """Standard error has it while the server continues."""
     with Pipe(command) as pipe:
         faults = exchanged(pipe, b"case t 1\n", b"evidence 1 t 1\n")
-        pipe.write(b"fly\n")
-        told = pipe.process.stderr.readline()
-        faults += [] if told == b"ttrun: line 2: bad line\n" else [f"standard error has {told!r}"]
+        faults += told_at_once(pipe, b"fly\n", "ttrun: line 2: bad line")
         return faults + exchanged(pipe, b"0 finish\n", b"0 finish -> ok\n")
 
 
@@ -105,7 +100,7 @@ def a_server_ends_at_a_fault_though_the_input_goes_on(command: Sequence[str]) ->
     with Pipe(command) as pipe:
         pipe.write(b"0 finish\n")
         pipe.process.wait(SECONDS)
-        return difference(Ran(b"", b"ttrun: line 1: no test case is open\n", 3), pipe.ended())
+        return faults_in(Ran(b"", b"ttrun: line 1: no test case is open\n", 3), pipe.ended())
 
 
 @test
@@ -117,9 +112,8 @@ def a_client_that_dies_leaves_whole_evidence(command: Sequence[str]) -> List[str
         "it.stdin.write(b'case t 2\\n0 create\\n0 start 1 1'); it.stdin.flush()\n"
         "os.kill(os.getpid(), 9)\n"
     )
-    ran = subprocess.run([sys.executable, "-c", client, *command], stdout=subprocess.PIPE, stderr=subprocess.PIPE, timeout=SECONDS, check=False)
     wanted = Ran(b"evidence 1 t 2\n0 create -> made 1\n0 ! no line feed\nend none\n", b"ttrun: the input ended inside a test case\n", -9)
-    return difference(wanted, Ran(ran.stdout, ran.stderr, ran.returncode))
+    return faults_in(wanted, served([sys.executable, "-c", client, *command], b""))
 
 
 @test
@@ -129,28 +123,28 @@ def a_server_whose_output_nobody_reads_ends(command: Sequence[str]) -> List[str]
         pipe.process.stdout.close()
         pipe.write(b"case t 1\n")
         status = pipe.process.wait(SECONDS)
-        return difference(Ran(b"", b"ttrun: write fault\n", 3), Ran(b"", pipe.process.stderr.read(), status))
+        return faults_in(Ran(b"", b"ttrun: write fault\n", 3), Ran(b"", pipe.process.stderr.read(), status))
+
+
+def redirected(command: Sequence[str], redirect: str, given: bytes) -> Ran:
+    return served(["sh", "-c", f'"$@" {redirect}', "sh", *command], given)
 
 
 @test
 def a_full_device_is_a_write_fault(command: Sequence[str]) -> List[str]:
     """Standard output takes nothing."""
-    ran = subprocess.run(["sh", "-c", '"$@" > /dev/full', "sh", *command], input=b"case t 1\n", stderr=subprocess.PIPE, timeout=SECONDS, check=False)
-    return difference(Ran(b"", b"ttrun: write fault\n", 3), Ran(b"", ran.stderr, ran.returncode))
+    return faults_in(Ran(b"", b"ttrun: write fault\n", 3), redirected(command, "> /dev/full", b"case t 1\n"))
 
 
 @test
 def an_input_that_cannot_be_read_is_a_read_fault(command: Sequence[str]) -> List[str]:
     """Standard input is open only for writing."""
-    ran = subprocess.run(["sh", "-c", '"$@" 0> /dev/null', "sh", *command], stdout=subprocess.PIPE, stderr=subprocess.PIPE, timeout=SECONDS, check=False)
-    return difference(Ran(b"", b"ttrun: read fault\n", 3), Ran(ran.stdout, ran.stderr, ran.returncode))
+    return faults_in(Ran(b"", b"ttrun: read fault\n", 3), redirected(command, "0> /dev/null", b""))
 
 
 @test
 def a_closed_standard_error_costs_nothing(command: Sequence[str]) -> List[str]:
     """A refusal that standard error does not take is not reported."""
-    given, faults = b"case t 1\nfly\n0 finish\nend\n", []
-    for closed in ("2> /dev/full", "2>&-"):
-        ran = subprocess.run(["sh", "-c", f'"$@" {closed}', "sh", *command], input=given, stdout=subprocess.PIPE, timeout=SECONDS, check=False)
-        faults += difference(Ran(b"evidence 1 t 1\n0 finish -> ok\nend none\n", b"", 3), Ran(ran.stdout, b"", ran.returncode))
-    return faults
+    wanted = Ran(b"evidence 1 t 1\n0 finish -> ok\nend none\n", b"", 3)
+    return [fault for closed in ("2> /dev/full", "2>&-")
+            for fault in faults_in(wanted, redirected(command, closed, b"case t 1\nfly\n0 finish\nend\n"))]

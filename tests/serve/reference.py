@@ -3,8 +3,9 @@
 
 usage: tests/serve/reference.py [serve] < LINES
 
-The tests of the clients run over it, and the tests of the protocol hold `ttrun serve` to it, byte by byte. The table is
-tests/program/table.py, the reader of moves tests/program/texts.py. If the protocol leaves a choice, it is made so here:
+The tests of the clients run over it, and the tests of the protocol hold `ttrun serve` to it, byte by byte. So it uses nothing of
+the clients of a bench, and must not. The table is that of all tests, the reader of moves tests/program/texts.py. If the protocol
+leaves a choice, it is made so here:
 
 - A line is of run B if it begins with the number of a run of the case, as numbers are spelled. The next byte, if there
   is one, is below 48: it is neither a digit nor a letter. So lines as `1`, `1,5` and `0 nonsense` are answered in the
@@ -17,8 +18,6 @@ tests/program/table.py, the reader of moves tests/program/texts.py. If the proto
   counts as error.
 - No line of these forms has more than 208 bytes, so of a longer one only the beginning is kept. It is refused at its end.
 """
-from __future__ import annotations
-
 import os
 import re
 import sys
@@ -65,6 +64,8 @@ class Asked:
             raise Refused("line too long")
         if self.is_remark and not REMARKED.fullmatch(remark[2]):
             raise Refused("bad remark")
+        if header and is_name(header[1]) and re.fullmatch(NUMBER, header[2]) and not self.is_header and int(header[2]) < 1 << 32:
+            raise Refused("a test case has 1 to 256 behaviours")
         if not (self.move or self.is_end or self.is_header or self.is_remark or self.is_naming):
             raise Refused("bad line")
 
@@ -95,7 +96,6 @@ class OpenCase:
         return [asked.line]
 
     def moved(self, caller: int, op: Op) -> List[str]:
-        """What is written for a move."""
         if op.verb == "wake":
             raise Refused("a wake comes of itself")
         if caller in self.waits:
@@ -108,7 +108,6 @@ class OpenCase:
         return f"{run} ! {why}"
 
     def play(self, caller: int, op: Op) -> str:
-        """Makes the call; the entry's line."""
         reply = self.table.play(caller, op)
         self.met.add(caller)
         if op.verb == "start":
@@ -150,7 +149,6 @@ class Server:
             return self.refuse(line, str(refused))
 
     def refuse(self, line: str, why: str) -> Tuple[List[str], List[str]]:
-        """What a refused line adds."""
         self.is_refused = True
         told = f"line {self.lines}: {why}"
         if self.case is None:
@@ -170,14 +168,12 @@ class Server:
         return self.close() if asked.is_end else self.case.take(asked)
 
     def begin(self, asked: Asked) -> List[str]:
-        """Opens a test case."""
         if self.case:
             raise Refused("a test case is open")
         self.case = OpenCase(asked.name, int(asked.behaviours))
         return [f"evidence 1 {asked.name} {asked.behaviours}"]
 
     def close(self) -> List[str]:
-        """Closes the test case."""
         self.worst = worst(self.worst, self.case.counted())
         line = f"end {self.case.table.overall()}"
         self.case = None
@@ -190,7 +186,6 @@ class Server:
         return self.close(), ["the input ended inside a test case"]
 
     def status(self) -> int:
-        """The status at the end."""
         return 3 if self.is_refused else status_of(self.worst)
 
 
@@ -247,7 +242,6 @@ def serve(server: Server) -> int:
 
 
 def main() -> int:
-    """Serves, and says what ends the server."""
     if sys.argv[1:] not in ([], ["serve"]):
         print(__doc__, file=sys.stderr)
         return 3

@@ -5,23 +5,14 @@ import os
 import select
 import signal
 import subprocess
-from dataclasses import dataclass
-from typing import List, Sequence
+from typing import Sequence
+
+from case import Ran
 
 SECONDS = 30
 
 
-@dataclass
-class Ran:
-    """What a server gave. A status below 0 is the signal that ended it."""
-
-    output: bytes
-    errors: bytes
-    status: int
-
-
 def served(command: Sequence[str], given: bytes) -> Ran:
-    """Serves a whole text."""
     ran = subprocess.run(list(command), input=given, stdout=subprocess.PIPE, stderr=subprocess.PIPE, timeout=SECONDS, check=False)
     return Ran(ran.stdout, ran.stderr, ran.returncode)
 
@@ -34,7 +25,6 @@ class Pipe:
         self.process = subprocess.Popen(list(command), bufsize=0, start_new_session=True, **pipes)
 
     def write(self, text: bytes) -> None:
-        """Gives it these bytes."""
         self.process.stdin.write(text)
 
     def read(self, seconds: float) -> bytes:
@@ -53,7 +43,6 @@ class Pipe:
         return text
 
     def ended(self) -> Ran:
-        """Ends the input, and waits for the end."""
         output, errors = self.process.communicate(timeout=SECONDS)
         return Ran(output, errors, self.process.returncode)
 
@@ -66,17 +55,3 @@ class Pipe:
             self.process.wait()
         for stream in (self.process.stdin, self.process.stdout, self.process.stderr):
             stream.close()
-
-
-def difference(wanted: Ran, came: Ran) -> List[str]:
-    """What is not as it is wanted."""
-    faults = []
-    for name, one, other in (("standard output", wanted.output, came.output), ("standard error", wanted.errors, came.errors)):
-        if one != other:
-            both = [text.split(b"\n") for text in (one, other)]
-            at = next((at for at, pair in enumerate(zip(*both)) if pair[0] != pair[1]), min(map(len, both)))
-            shown = [lines[at][:200] if at < len(lines) else None for lines in both]
-            faults.append(f"{name}, line {at + 1}: wanted {shown[0]!r}, came {shown[1]!r}")
-    if wanted.status != came.status:
-        faults.append(f"status: wanted {wanted.status}, came {came.status}")
-    return faults

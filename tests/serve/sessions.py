@@ -1,109 +1,95 @@
 """Random sessions: their evidence is judged by the reader of histories, and is what the reference server writes."""
-from __future__ import annotations
-
 import os
 import random
+import re
 from collections import Counter
-from typing import Dict, List, Optional, Sequence, Tuple
+from typing import Dict, Iterator, List, Optional, Sequence, Tuple
 
 import evidence
-from random_moves import below, drawn_op, ends_case
-from reference import Asked, Fatal, OpenCase, Refused, Server
-from serving import Ran, difference, served
+from case import Ran, as_lines, below, faults_in, shown_with
+from examples import TOP
+from random_moves import drawn_op, ends_case
+from reference import Server
+from serving import served
 from table import Op, Table
+from texts import NUMBER, read_move
 
-TOP = os.path.dirname(os.path.dirname(os.path.dirname(os.path.abspath(__file__))))
 PROGRAM = os.path.join(TOP, "crates", "ttrun", "out", "ttrun")
 SESSIONS = 30
 RUNS = (1, 2, 3, 5, 9, 64, 256)
 NAMES = ("pump", "probe", "p_1", "A" * 32)
 # Lines that are refused at every place inside a case; those with a run begin with one that each case has.
-BAD_LINES = (
-    "0 fly", "0", "0fly", "00", "0 ", "0 # ", "0 setverdict error", "0 wake done all", "0 create named all", "0 ! no", "0 # \xe4", "0 # " + "x" * 201,
-    "0 wait done", "0 start 1 1 ", "fly", "", "end pass", "case t 1", "behaviour 256 a", "behaviour 0 9a", "70000 finish", "0 " + "y" * 999,
-)
-
-
-def remark_of(chance: random.Random) -> str:
-    """A text of any letters that a remark may have."""
-    return "".join(chr(chance.randrange(32, 127)) for _ in range(chance.choice((1, 3, 30, 200))))
-
-
-def answered(model: OpenCase, line: str) -> Optional[List[str]]:
-    """What the case writes for the line, or None if it is refused."""
-    try:
-        asked = Asked(line)
-        if asked.is_header:
-            raise Refused("a test case is open")
-        return model.take(asked)
-    except Refused as refused:
-        run = model.run_of(line)
-        if run is not None:
-            model.refuse(run, str(refused))
-    return None
+BAD_LINES = ("0 fly", "0", "0fly", "00", "0 ", "0 # ", "0 setverdict error", "0 wake done all", "0 create named all", "0 ! no", "0 # \xe4",
+             "0 # " + "x" * 201, "0 wait done", "0 start 1 1 ", "fly", "", "end pass", "case t 1", "behaviour 256 a", "behaviour 0 9a",
+             "70000 finish", "0 " + "y" * 999)
 
 
 class Session:
-    """A random input. A table of its own says who continues and who waits, so that most moves may be made."""
+    """A random input. A server of its own says who continues and who waits, so that most moves may be made, and what is wanted."""
 
     def __init__(self, chance: random.Random, met: Counter) -> None:
-        self.chance, self.met = chance, met
+        self.chance, self.met, self.server = chance, met, Server()
         self.lines: List[str] = []
+        self.output: List[str] = []
+        self.errors: List[str] = []
         # The moves that are taken, of each case.
         self.moves: List[List[str]] = []
         for at in range(chance.randrange(1, 9)):
             self.draw_case(f"t{at}")
 
     def draw_case(self, name: str) -> None:
-        """Adds a case."""
         behaviours = self.chance.choice(RUNS)
-        model = OpenCase(name, behaviours)
         self.moves.append([])
-        self.lines.append(f"case {name} {behaviours}")
+        self.take(f"case {name} {behaviours}")
         daring = self.chance.choice((0.02, 0.1, 0.5))
         if self.chance.random() < 0.5:
             for run in range(1, min(behaviours, 5)):
-                self.move(model, 0, Op("create", alive=True))
-                self.move(model, 0, Op("start", run, run=run))
+                self.move(0, Op("create", alive=True))
+                self.move(0, Op("start", run, run=run))
         for _ in range(self.chance.randrange(5, 80)):
             what = self.chance.random()
             if what < 0.1:
-                self.add(model, f"{self.chance.randrange(behaviours)} # {remark_of(self.chance)}", "remark")
+                run = self.chance.randrange(behaviours)
+                said = "".join(chr(self.chance.randrange(32, 127)) for _ in range(self.chance.choice((1, 3, 30, 200))))
+                self.add(f"{run} # {said}", "remark")
             elif what < 0.2:
-                self.add(model, f"behaviour {self.chance.randrange(behaviours)} {self.chance.choice(NAMES)}", "naming")
+                self.add(f"behaviour {self.chance.randrange(behaviours)} {self.chance.choice(NAMES)}", "naming")
             elif what < 0.23:
-                self.add(model, self.chance.choice(BAD_LINES), "bad line")
+                self.add(self.chance.choice(BAD_LINES), "bad line")
             else:
-                self.draw_move(model, daring)
+                self.draw_move(daring)
         if self.chance.random() < 0.5:
-            self.move(model, 0, Op("finish"))
-        self.lines.append("end")
-        self.met["over" if model.counted() != "error" else "not over, or error"] += 1
+            self.move(0, Op("finish"))
+        self.met["over" if self.server.case.counted() != "error" else "not over, or error"] += 1
+        self.take("end")
 
-    def add(self, model: OpenCase, line: str, what: str) -> None:
-        """Adds a line that is no move that may be made."""
-        is_taken = answered(model, line) is not None
+    def take(self, line: str) -> List[str]:
+        """Adds a line; what is written for it, nothing if it is refused."""
+        written, told = self.server.take(line)
         self.lines.append(line)
-        self.met[f"{what}, {'taken' if is_taken else 'refused'}"] += 1
+        self.output += written
+        self.errors += told
+        return [] if told or re.match(f"{NUMBER} ! ", written[0]) else written
 
-    def draw_move(self, model: OpenCase, daring: float) -> None:
+    def add(self, line: str, what: str) -> None:
+        """Adds a line that is no move that may be made."""
+        self.met[f"{what}, {'taken' if self.take(line) else 'refused'}"] += 1
+
+    def draw_move(self, daring: float) -> None:
         """Adds a move, seldom one of a run that waits."""
-        table = model.table
-        able = [run for run in table.component_of_run if table.is_going_on(run) and (run not in model.waits or self.chance.random() < 0.05)]
+        table, waits = self.server.case.table, self.server.case.waits
+        able = [run for run in table.component_of_run if table.is_going_on(run) and (run not in waits or self.chance.random() < 0.05)]
         caller = self.chance.choice(able) if able and self.chance.random() < 0.97 else self.chance.choice((0, 1, 300))
         op = drawn_op(self.chance, table, caller, NAMES)
         if self.chance.random() < 0.15:
             op = Op("wait", self.chance.randrange(len(table.components)), awaited=self.chance.choice(("done", "killed")))
-        if ends_case(op, caller, table.would(caller, op)) and self.chance.random() > daring:
-            return
-        self.move(model, caller, op)
+        if not ends_case(op, caller, table.would(caller, op)) or self.chance.random() <= daring:
+            self.move(caller, op)
 
-    def move(self, model: OpenCase, caller: int, op: Op) -> None:
-        """Adds this move."""
+    def move(self, caller: int, op: Op) -> None:
         text = f"{caller} {op.text()}"
-        written = answered(model, text)
-        self.lines.append(text)
-        if written is None:
+        written = self.take(text)
+        if not written:
             self.met["move, refused"] += 1
             return
         self.moves[-1].append(text)
@@ -114,24 +100,10 @@ class Session:
         self.met["woken with others"] += len(written) > 2
 
     def text(self) -> bytes:
-        """The input."""
         return "".join(f"{line}\n" for line in self.lines).encode("latin-1")
 
-
-def reference_of(text: bytes) -> Ran:
-    """What the reference gives for lines that all have their line feed."""
-    server, output, errors = Server(), [], []
-    try:
-        for line in text.decode("latin-1").split("\n")[:-1]:
-            out, err = server.take(line)
-            output += out
-            errors += err
-        out, err = server.finish()
-        output, errors, status = output + out, errors + err, server.status()
-    except Fatal as fault:
-        errors, status = errors + [str(fault)], 3
-    told = "".join(f"ttrun: {line}\n" for line in errors)
-    return Ran("".join(f"{line}\n" for line in output).encode("latin-1"), told.encode(), status)
+    def wanted(self) -> Ran:
+        return Ran(as_lines(*self.output), as_lines(*(f"ttrun: {line}" for line in self.errors)), self.server.status())
 
 
 def faults_of_evidence(session: Session, output: bytes) -> List[str]:
@@ -156,23 +128,21 @@ def sleepers(block: evidence.Block) -> Optional[Tuple[int, int]]:
     """A run that sleeps though it can continue, if a turn has ended: in front of an entry that is no wake, or at the end."""
     table, waits = Table(block.behaviours), {}  # type: Tuple[Table, Dict[int, Op]]
     for at, entry in enumerate([*block.entries, ""]):
-        move = evidence.read_move(entry.partition(" -> ")[0])
+        move = read_move(entry.partition(" -> ")[0])
         if move is None or move[1].verb != "wake":
-            for run, op in waits.items():
-                if table.would(run, op) != "parked":
-                    return run, at
+            able = [run for run, op in waits.items() if table.would(run, op) != "parked"]
+            if able:
+                return able[0], at
         if move is not None:
-            reply = table.play(*move)
             waits.pop(move[0], None)
-            if reply == "parked":
+            if table.play(*move) == "parked":
                 waits[move[0]] = Op("wake", move[1].target, awaited=move[1].awaited)
     return None
 
 
-FLOORS = (
-    ("move, taken", 1500), ("move, refused", 60), ("remark, taken", 300), ("naming, taken", 100), ("naming, refused", 100),
-    ("bad line, refused", 80), ("parked", 60), ("woken", 40), ("woken at once", 10), ("woken with others", 4), ("over", 4),
-)
+FLOORS = {
+    "move, taken": 1500, "move, refused": 60, "remark, taken": 300, "naming, taken": 100, "naming, refused": 100, "bad line, refused": 80,
+    "parked": 60, "woken": 40, "woken at once": 10, "woken with others": 4, "over": 4}
 
 
 def faults_by_program(output: bytes) -> List[str]:
@@ -184,15 +154,12 @@ def faults_by_program(output: bytes) -> List[str]:
     return [] if ran.status == 0 else [f"ttrun check says: {ran.output[-200:]!r} {ran.errors!r}"]
 
 
-def random_sessions(seed: int, command: Sequence[str]) -> List[str]:
-    """Sessions of this seed."""
+def random_sessions(command: Sequence[str], seed: int) -> Iterator[str]:
     chance, met, written = random.Random(f"sessions {seed}"), Counter(), b""
     for _ in range(SESSIONS):
         session = Session(chance, met)
         text = session.text()
         came = served(command, text)
-        faults = difference(reference_of(text), came) or faults_of_evidence(session, came.output)
-        if faults:
-            return [*faults, f"the input: {text[:1500]!r}"]
+        yield from shown_with(faults_in(session.wanted(), came) or faults_of_evidence(session, came.output), f"the input: {text[:1500]!r}")
         written += came.output
-    return faults_by_program(written) + below(met, list(FLOORS))
+    yield from faults_by_program(written) + below(met, FLOORS)

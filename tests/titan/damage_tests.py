@@ -1,12 +1,10 @@
 """Every single damage of every line of two test cases: found out, or its witness shows the log of another legal run."""
-from __future__ import annotations
-
 import re
 from collections import Counter
-from dataclasses import replace
 from typing import Dict, Iterator, List, Tuple
 
-from kit import Place, hold, log, same, test
+from holding import hold, same
+from kit import Place, log
 from table import VERDICTS
 
 from titan_logs import audit, cases, lines, phrases, program, reading, sessions
@@ -61,8 +59,7 @@ def damages(its: List[lines.Line], references: List[int]) -> Iterator[Tuple[str,
 
 
 def case_of(whole: cases.TestCase, logs: Lines, verdict: str) -> cases.TestCase:
-    """The test case over these lines."""
-    fresh = cases.TestCase(whole.name, 1, whole.begin, whole.end, verdict, logs[0])
+    fresh = cases.TestCase(whole.name, whole.begin, whole.end, verdict, logs[0])
     fresh.logs = {role: its for role, its in logs.items() if role != 0}
     return reading.read_case(fresh)
 
@@ -86,7 +83,6 @@ def shown(one: audit.Audit) -> Counter:
                     "Operation": groups, "PTC": verbs["create"]})
 
 
-@test
 def every_damage_is_found_out_or_another_legal_log(place: Place) -> None:
     session, = sessions.read_sessions([log("pumps-full.merged")])
     count, found_out, blocks = 0, Counter(), []
@@ -111,7 +107,7 @@ def every_damage_is_found_out_or_another_legal_log(place: Place) -> None:
             wanted = said(its)
             del wanted[""]
             same({it: n for it, n in shown(one).items() if n}, dict(wanted), f"{kind} of {whole.name}")
-            blocks.append(one.block)
+            blocks += one.blocks.values()
     same(set(program.checked(place.program, blocks)), {""})
     hold(count >= FEWEST and len(blocks) > 50, (count, len(blocks)))
     hold(sum(found_out.values()) >= FEWEST_FOUND_OUT, found_out)

@@ -1,92 +1,62 @@
-"""What the tests of ttrun-titan share: their list, how one fails, and calls of the command."""
-from __future__ import annotations
-
+"""What the tests of ttrun-titan share: their place, and calls of the command."""
 import os
 import subprocess
 import sys
 import tempfile
 from dataclasses import dataclass
-from typing import Callable, Dict, List, Sequence
+from typing import List, Sequence
 
 TOP = os.path.dirname(os.path.dirname(os.path.dirname(os.path.abspath(__file__))))
 CLIENT = os.environ.get("TITAN_CLIENT", os.path.join(TOP, "clients", "titan"))
-LOGS = os.path.join(TOP, "clients", "titan", "logs")
-SECONDS = 120
 sys.path[:0] = [CLIENT, os.path.join(TOP, "tests", "program")]
 
+import holding
 
-class Fault(Exception):
-    """Why a test has failed."""
-
-
-@dataclass(frozen=True)
-class Place:
-    """The place of a test: a folder of its own, and the program ttrun."""
-
-    room: str
-    program: str
-
-
-Test = Callable[[Place], None]
-TESTS: Dict[str, Test] = {}
-
-
-def test(judge: Test) -> Test:
-    """Lists a test under its name."""
-    if judge.__name__ in TESTS:
-        sys.exit(f"two tests have one name: {judge.__name__}")
-    TESTS[judge.__name__] = judge
-    return judge
-
-
-def hold(is_so: object, text: object = "") -> None:
-    """Fails the test unless it is so."""
-    if not is_so:
-        raise Fault(str(text))
-
-
-def same(found: object, wanted: object, about: object = "") -> None:
-    """Fails the test unless both are the same."""
-    if found != wanted:
-        raise Fault(f"{about} found {found!r}, and {wanted!r} is wanted")
+LOGS = os.path.join(TOP, "clients", "titan", "logs")
+SECONDS = 120
 
 
 @dataclass
 class Ran:
-    """What a call of the command gave."""
-
     lines: List[str]
     errors: str
     status: int
 
+    @property
+    def text(self) -> str:
+        return "\n".join(self.lines)
 
-def command(place: Place, *words: str, given: Sequence[str] = ()) -> Ran:
-    """Calls ttrun-titan as a user does."""
-    environment = {**os.environ, "FILSKEAM_TTRUN": place.program, "PYTHONDONTWRITEBYTECODE": "1"}
-    ran = subprocess.run([sys.executable, os.path.join(CLIENT, "ttrun-titan"), *words], cwd=place.room, env=environment,
-                         stdin=subprocess.DEVNULL, stdout=subprocess.PIPE, stderr=subprocess.PIPE, timeout=SECONDS, check=False)
-    return Ran(ran.stdout.decode().splitlines(), ran.stderr.decode(), ran.returncode)
+
+@dataclass
+class Place(holding.Room):
+    """The place of a test: a folder of its own, and the program ttrun."""
+
+    program: str
+
+    def log(self, name: str, lines: Sequence[str]) -> str:
+        return self.write(name, "".join(f"{it}\n" for it in lines))
+
+    def command(self, *words: str) -> Ran:
+        environment = {**os.environ, "TTRUN": self.program, "PYTHONDONTWRITEBYTECODE": "1"}
+        ran = subprocess.run([sys.executable, os.path.join(CLIENT, "ttrun-titan"), *words], cwd=self.room, env=environment,
+                             stdin=subprocess.DEVNULL, capture_output=True, timeout=SECONDS, check=False)
+        return Ran(ran.stdout.decode().splitlines(), ran.stderr.decode(), ran.returncode)
+
+    def says(self, status: int, said: str, *words: str) -> Ran:
+        """The same of a call that must end with this status, and say this."""
+        ran = self.command(*words)
+        holding.hold(ran.status == status and said in ran.text + ran.errors, f"{said} and status {status} are wanted: {ran}")
+        return ran
 
 
 def log(name: str) -> str:
-    """A recorded log."""
     return os.path.join(LOGS, name)
 
 
-def write(place: Place, name: str, lines: Sequence[str]) -> str:
-    """Writes a file of the test's own."""
-    path = os.path.join(place.room, name)
-    os.makedirs(os.path.dirname(path), exist_ok=True)
-    with open(path, "w", encoding="utf-8") as file:
-        file.write("".join(f"{it}\n" for it in lines))
-    return path
+def lines_of(name: str) -> List[str]:
+    return holding.text_of(log(name)).splitlines()
 
 
-def faults_in(name: str, program: str) -> List[str]:
-    """What is wrong, nothing if the test passes."""
+def judged(name: str, program: str) -> holding.Answer:
     with tempfile.TemporaryDirectory(prefix="titan-test-") as room:
-        try:
-            TESTS[name](Place(room, program))
-            return []
-        except Exception as error:  # a test that breaks has failed, and the others run on
-            return [f"{type(error).__name__}: {error}"[:2000]]
+        return holding.judged(name, Place(room, program))

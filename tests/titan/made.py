@@ -1,15 +1,16 @@
 """Logs as Titan writes them, made of random legal courses: what happened is known, with every order that could have been."""
-from __future__ import annotations
-
 import os
 import random
 import re
 from dataclasses import dataclass, field
-from typing import Dict, List, Tuple
+from typing import Dict, List, Sequence, Tuple
 
 from table import Op, Table, worst
 
 FIRST_REFERENCE = 3
+REMAINS = "remains alive and is waiting for next start"
+SETTINGS = "TimeStampFormat:=Time; LogEntityName:=No; LogEventTypes:=No; SourceInfoFormat:=None; *.FileMask:=LOG_ALL | MATCHING"
+BEGUN = "TTCN-3 Parallel Test Component started on host. Component reference: "
 # Of each draw of what a run does next.
 DRAWS = ("create", "start", "start", "stop", "kill", "stop all", "wait", "wait", "wait", "set", "set", "set", "get", "finish", "status")
 
@@ -25,8 +26,6 @@ class Made:
 
 
 class Course:
-    """A random course of a test case."""
-
     def __init__(self, rng: random.Random, most: int, components: int) -> None:
         self.rng, self.most, self.components = rng, most, components
         self.table, self.made = Table(256), Made(logs={0: []})
@@ -36,7 +35,6 @@ class Course:
         self.component_of: Dict[int, int] = {0: 0}
 
     def say(self, component: int, text: str) -> None:
-        """A line of a process."""
         self.time += self.rng.randrange(1, 40)
         seconds, micros = divmod(self.time, 1_000_000)
         stamp = f"{seconds // 3600 % 24:02}:{seconds // 60 % 60:02}:{seconds % 60:02}.{micros:06}"
@@ -45,17 +43,14 @@ class Course:
 
     @staticmethod
     def called(component: int) -> str:
-        """A component as Titan names it."""
         return f"component reference {component + FIRST_REFERENCE - 1}"
 
     def play(self, run: int, op: Op) -> str:
-        """Carries a call out."""
         reply = self.table.play(run, op)
         self.made.entries.append((run, op, reply))
         return reply
 
     def going(self) -> List[int]:
-        """The runs that continue."""
         return [run for run in self.component_of if self.table.is_going_on(run)]
 
     def step(self, run: int) -> None:
@@ -71,21 +66,28 @@ class Course:
         number = len(self.is_alive)
         self.play(run, Op("create", alive=is_alive))
         self.is_alive.append(is_alive)
-        self.say(number, f"TTCN-3 Parallel Test Component started on host. Component reference: {number + 2}, component type: M.C. Version: 8.2.0.")
+        self.say(number, f"{BEGUN}{number + 2}, component type: M.C. Version: 8.2.0.")
         self.say(at, f"PTC was created. Component reference: {number + 2}, alive: {'yes' if is_alive else 'no'}, type: M.C.")
 
     def do_start(self, run: int, at: int) -> None:
         number = len(self.component_of)
         fit = [it for it in range(1, len(self.is_alive)) if self.table.fault(run, Op("start", target=it, run=number)) is None]
-        if not fit or number > 12:
-            return
-        target = self.rng.choice(fit)
+        if fit and number <= 12:
+            self.start(run, at, self.rng.choice(fit))
+
+    def start(self, run: int, at: int, target: int) -> int:
+        number = len(self.component_of)
         self.say(at, f"Starting function f{number}() on component {target + 2}.")
         self.play(run, Op("start", target=target, run=number))
-        self.component_of[number] = target
-        self.made.runs = number + 1
+        self.component_of[number], self.made.runs = target, number + 1
         self.say(at, "Function was started.")
         self.say(target, f"Starting function f{number}().")
+        return number
+
+    def start_to_pass(self, target: int) -> int:
+        number = self.start(0, 0, target)
+        self.set(number, target, "pass")
+        return number
 
     def halt(self, run: int, at: int, verb: str, target: object) -> None:
         """A stop or kill: what the caller logs, and what those log that it halts."""
@@ -105,7 +107,7 @@ class Course:
         self.say(component, f"{'Stop' if verb == 'stop' else 'Kill'} was requested from MC.")
         self.say(component, f"{'Stopping' if verb == 'stop' else 'Terminating'} test component execution.")
         remains = verb == "stop" and self.is_alive[component]
-        self.say(component, f"Function f{run} was stopped. PTC {'remains alive and is waiting for next start' if remains else 'terminates'}.")
+        self.say(component, f"Function f{run} was stopped. PTC {REMAINS if remains else 'terminates'}.")
 
     def do_stop(self, run: int, at: int, verb: str = "stop") -> None:
         # Titan kills an ordinary component that was never started; the table has no such stop.
@@ -150,7 +152,10 @@ class Course:
             self.say(at, f"AUDIT {verb} {target + 2} -> {reply}")
 
     def do_set(self, run: int, at: int) -> None:
-        verdict = self.rng.choice(("pass", "pass", "pass", "inconc", "fail", "none"))
+        self.set(run, at, self.rng.choice(("pass", "pass", "pass", "inconc", "fail", "none")))
+
+    def set(self, run: int, at: int, verdict: str) -> None:
+        """Sets a verdict, unless the old one is worse."""
         old = self.table.components[at].verdict
         if worst(verdict, old) == verdict:
             self.play(run, Op("setverdict", verdict=verdict))
@@ -161,12 +166,14 @@ class Course:
 
     def do_finish(self, run: int, at: int) -> None:
         if at != 0 and self.rng.random() < 0.5:
-            self.play(run, Op("finish"))
-            self.say(at, f"Function f{run} finished. PTC {'remains alive and is waiting for next start' if self.is_alive[at] else 'terminates'}.")
+            self.finish(run, at)
+
+    def finish(self, run: int, at: int) -> None:
+        self.play(run, Op("finish"))
+        self.say(at, f"Function f{run} finished. PTC {REMAINS if self.is_alive[at] else 'terminates'}.")
 
     def end(self) -> None:
-        """The end of the main component, and with it of all."""
-        locals_ = [it.verdict for it in self.table.components]
+        main, *others = [it.verdict for it in self.table.components]
         before = [(it, self.component_of[it]) for it in self.going() if it != 0]
         idle = [it for it in range(1, len(self.is_alive)) if self.table.components[it].phase in ("inactive", "stopped")]
         self.say(0, "Terminating component type M.C.")
@@ -175,38 +182,41 @@ class Course:
             self.cut(run, component, "kill")
         for component in idle:
             self.say(component, "Kill was requested from MC. Terminating idle PTC.")
-        overall = locals_[0]
-        for component in range(1, len(self.is_alive)):
-            self.say(component, f"Final verdict of PTC: {locals_[component]}")
+        for component, verdict in enumerate(others, 1):
+            self.say(component, f"Final verdict of PTC: {verdict}")
         self.say(0, "Setting final verdict of the test case.")
-        self.say(0, f"Local verdict of MTC: {locals_[0]}")
-        for component in range(1, len(self.is_alive)):
-            new = worst(overall, locals_[component])
-            self.say(0, f"Local verdict of PTC with {self.called(component)}: {locals_[component]} ({overall} -> {new})")
-            overall = new
+        self.verdicts(main, others)
+
+    def verdicts(self, main: str, others: Sequence[str]) -> None:
+        """The last lines of the main component: the local verdicts, and that of the test case."""
+        self.say(0, f"Local verdict of MTC: {main}")
+        overall = main
+        for component, verdict in enumerate(others, 1):
+            before, overall = overall, worst(overall, verdict)
+            self.say(0, f"Local verdict of PTC with {self.called(component)}: {verdict} ({before} -> {overall})")
         self.say(0, f"Test case t finished. Verdict: {overall}")
         self.made.verdict = overall
 
-    def run(self) -> Made:
-        """A whole course."""
-        self.say(0, "TTCN-3 Main Test Component started on host. Version: 8.2.0.")
-        self.say(0, "TTCN Logger v2.2 options: TimeStampFormat:=Time; LogEntityName:=No; LogEventTypes:=No; SourceInfoFormat:=None; "
-                    "*.FileMask:=LOG_ALL | MATCHING")
-        self.say(0, "Test case t started.")
-        for _ in range(self.most):
-            going = self.going()
-            self.step(self.rng.choice(going))
-        self.end()
-        return self.made
+
+def begun(components: int, seed: int = 1, most: int = 0, options: str = "") -> Course:
+    """The beginning of a test case, with a line of the settings if they are given."""
+    it = Course(random.Random(seed), most, components)
+    it.say(0, "TTCN-3 Main Test Component started on host. Version: 8.2.0.")
+    if options:
+        it.say(0, f"TTCN Logger v2.2 options: {options}")
+    it.say(0, "Test case t started.")
+    return it
 
 
 def course(seed: int, most: int = 30, components: int = 4) -> Made:
-    """The course of a seed."""
-    return Course(random.Random(seed), most, components).run()
+    it = begun(components, seed, most, SETTINGS)
+    for _ in range(most):
+        it.step(it.rng.choice(it.going()))
+    it.end()
+    return it.made
 
 
 def put(made: Made, folder: str, prefix: str = "M.host") -> str:
-    """Writes the logs of a course into a folder."""
     os.makedirs(folder, exist_ok=True)
     for role, lines in made.logs.items():
         with open(os.path.join(folder, f"{prefix}-{role or 'mtc'}.log"), "w", encoding="utf-8") as file:
@@ -214,62 +224,50 @@ def put(made: Made, folder: str, prefix: str = "M.host") -> str:
     return folder
 
 
+def shifted(line: str, by: int) -> str:
+    """A line whose stamp is that many microseconds later."""
+    hours, minutes, seconds = line[:15].split(":")
+    stamp = (int(hours) * 60 + int(minutes)) * 60_000_000 + round(float(seconds) * 1_000_000) + by
+    return f"{stamp // 3_600_000_000:02}:{stamp // 60_000_000 % 60:02}:{stamp // 1_000_000 % 60:02}.{stamp % 1_000_000:06}{line[15:]}"
+
+
 def crowd(components: int, rounds: int) -> Made:
-    """A large campaign: each component is started and awaited in every round."""
-    it = Course(random.Random(1), 0, components)
+    it = begun(components)
     it.always_alive = True
-    it.say(0, "TTCN-3 Main Test Component started on host. Version: 8.2.0.")
-    it.say(0, "Test case t started.")
+    it.table.behaviours = components * rounds + 2
     for _ in range(components):
         it.do_create(0, 0)
     for _ in range(rounds):
-        runs = []
-        for target in range(1, components + 1):
-            runs.append((start_one(it, target), target))
+        runs = [(it.start_to_pass(target), target) for target in range(1, components + 1)]
         for run, target in runs:
             it.do_get(run, target)
-            finish_one(it, run, target)
+            it.finish(run, target)
             it.play(0, Op("wait", target=target, awaited="done"))
             it.say(0, f"PTC with {it.called(target)} is done.")
     it.end()
     return it.made
 
 
-def start_one(it: Course, target: int) -> int:
-    """Starts a behaviour that sets pass."""
-    number = len(it.component_of)
-    it.table.behaviours = max(it.table.behaviours, number + 2)
-    it.say(0, f"Starting function f{number}() on component {target + 2}.")
-    it.play(0, Op("start", target=target, run=number))
-    it.component_of[number], it.made.runs = target, number + 1
-    it.say(0, "Function was started.")
-    it.say(target, f"Starting function f{number}().")
-    old = it.table.components[target].verdict
-    it.play(number, Op("setverdict", verdict="pass"))
-    it.say(target, f"setverdict(pass): {old} -> pass")
-    return number
-
-
-def finish_one(it: Course, run: int, target: int) -> None:
-    """Ends a behaviour."""
-    it.play(run, Op("finish"))
-    end = "remains alive and is waiting for next start" if it.is_alive[target] else "terminates"
-    it.say(target, f"Function f{run} finished. PTC {end}.")
-
-
 def told(story: str) -> Made:
-    """The logs of a test case t from lines as `mtc: TEXT` and `3: TEXT`, in the order of their stamps."""
-    it = Course(random.Random(1), 0, 0)
-    it.say(0, "TTCN-3 Main Test Component started on host. Version: 8.2.0.")
-    it.say(0, "Test case t started.")
+    """The logs of a test case t from lines as `mtc: TEXT` and `3: TEXT`, in the order of their stamps. Each of these is several lines:
+    `mtc: create 3` and `mtc: create alive 3`, `mtc: start f() on 3`, and `mtc: end none, fail` with the local verdicts."""
+    it = begun(0)
     for line in story.strip().splitlines():
         who, _, text = line.strip().partition(": ")
         at = 0 if who == "mtc" else int(who) - FIRST_REFERENCE + 1
-        created = re.match(r"PTC was created\. Component reference: (\d+)", text)
+        created, started = re.fullmatch(r"create (alive )?(\d+)", text), re.fullmatch(r"start (.*) on (\d+)", text)
         if created:
-            begin = f"TTCN-3 Parallel Test Component started on host. Component reference: {created[1]}, component type: M.C."
-            it.say(int(created[1]) - FIRST_REFERENCE + 1, begin)
-        it.say(at, text)
-    verdict = re.search(r"finished\. Verdict: (\w+)", story)
-    it.made.verdict = verdict[1] if verdict else ""
+            reference, alive = created[2], created[1] or ""
+            it.say(at, f"Creating new {alive}PTC with component type M.C.")
+            it.say(int(reference) - FIRST_REFERENCE + 1, f"{BEGUN}{reference}, component type: M.C.")
+            it.say(at, f"PTC was created. Component reference: {reference}, alive: {'yes' if alive else 'no'}, type: M.C.")
+        elif started:
+            it.say(at, f"Starting function {started[1]} on component {started[2]}.")
+            it.say(at, "Function was started.")
+            it.say(int(started[2]) - FIRST_REFERENCE + 1, f"Starting function {started[1]}.")
+        elif text.startswith("end "):
+            main, *others = text[4:].split(", ")
+            it.verdicts(main, others)
+        else:
+            it.say(at, text)
     return it.made

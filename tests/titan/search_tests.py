@@ -1,81 +1,102 @@
 """Tests of the two searches: random courses, plain searches without any reduction, damages, large campaigns."""
-from __future__ import annotations
-
-import os
+import copy
 import random
-import sys
 import time
-from typing import List
+from typing import Iterator, List, Optional, Set, Tuple
 
 import made
-import plain
-from kit import CLIENT, Place, hold, log, same, test
-from reading_tests import read
+from holding import hold, same
+from kit import Place, log
+from reading_tests import read, read_made
 from courses import courses_of
 from script_reader import read_script
 from table import VERDICTS, Op, Table
 from texts import Judged
 
-from titan_logs import audit, cases, flaky, histories, orders, playing, program, scripts, search
+from titan_logs import audit, cases, flaky, histories, playing, program, scripts, search
 
 STATES = 100_000
 COURSES = 120
+# A call as the plain searches need it: operation, reply or None. They have no reduction.
+Plain = Tuple[Op, Optional[str]]
 
 
-def calls_of(case: cases.TestCase, is_visible: bool) -> List[List[plain.Plain]]:
-    """The calls as the plain searches need them."""
+class TooMany(Exception):
+    """The search has more states than are worth the time."""
+
+
+def plain_states(calls: List[List[Plain]], most: int, is_judged: bool) -> Iterator[Tuple[List[int], Table]]:
+    """Every state that calls lead to whose replies are the table's. If verdicts are judged, nobody calls after its end."""
+    seen: Set[Tuple[object, ...]] = set()
+    waiting = [([0] * len(calls), Table(len(calls)))]
+    while waiting:
+        places, table = waiting.pop()
+        yield places, table
+        for run, its in enumerate(calls):
+            if places[run] == len(its) or is_judged and not table.is_going_on(run) or table.would(run, its[places[run]][0]) != its[places[run]][1]:
+                continue
+            other, at = copy.deepcopy(table), list(places)
+            other.play(run, its[places[run]][0])
+            at[run] += 1
+            key = tuple(at), tuple((it.phase, it.run, it.is_excused, it.verdict) for it in other.components)
+            if key not in seen:
+                seen.add(key)
+                if len(seen) > most:
+                    raise TooMany
+                waiting.append((at, other))
+
+
+def has_plain_order(calls: List[List[Plain]], most: int) -> bool:
+    return any(all(at == len(its) for at, its in zip(places, calls)) for places, _ in plain_states(calls, most, is_judged=False))
+
+
+def plain_verdicts(calls: List[List[Plain]], most: int) -> Set[str]:
+    """Every overall verdict of an order in which the replies are the table's and nobody calls after its end."""
+    return {table.overall() for _, table in plain_states(calls, most, is_judged=True) if table.components[0].phase != "running"}
+
+
+def calls_of(case: cases.TestCase, is_visible: bool) -> List[List[Plain]]:
     return [[(it.op, it.reply) for it in run.calls if it.channel is None and not (is_visible and it.seen)] for run in case.runs]
 
 
-@test
 def every_true_log_has_an_order(place: Place) -> None:
     blocks, calls = [], 0
     for seed in range(COURSES):
         it = made.course(seed, most=20 + seed % 40, components=2 + seed % 6)
-        case, = read(made.put(it, os.path.join(place.room, str(seed))))
+        case = read_made(place, it, str(seed))
         one = audit.audited(case, STATES)
         same((one.outcome, one.overall, case.faults), (audit.LEGAL, it.verdict, []), f"seed {seed}: {one.remarks}")
         logged = [entry for entry in it.entries if entry[2] not in ("ended", "parked")]
         shown = [entry for entry in one.answer.entries if entry.reply != "ended"]
         for verb in ("create", "start", "stop", "kill", "wait", "finish", "running", "alive", "setverdict"):
             same(sum(entry.op.verb == verb for entry in shown), sum(entry[1].verb == verb for entry in logged), f"seed {seed} {verb}")
-        blocks.append(one.block)
+        blocks += one.blocks.values()
         calls += case.total
     hold(calls > 2500, calls)
     same(program.checked(place.program, blocks), [""] * COURSES)
 
 
-def shifted(line: str, by: int) -> str:
-    """A line whose stamp is that many microseconds later."""
-    hours, minutes, seconds = line[:15].split(":")
-    stamp = (int(hours) * 60 + int(minutes)) * 60_000_000 + round(float(seconds) * 1_000_000) + by
-    return f"{stamp // 3_600_000_000:02}:{stamp // 60_000_000 % 60:02}:{stamp // 1_000_000 % 60:02}.{stamp % 1_000_000:06}{line[15:]}"
-
-
-@test
 def clocks_of_several_hosts_do_not_matter(place: Place) -> None:
     for seed in range(COURSES):
         it = made.course(seed, most=20 + seed % 40, components=2 + seed % 6)
-        case, = read(made.put(it, os.path.join(place.room, str(seed))))
+        case = read_made(place, it, str(seed))
         by = (100, 1_000, 20_000, -1_000, 2_000_000)[seed % 5]
-        it.logs = {role: [shifted(line, by if role % 2 else 0) for line in its] for role, its in it.logs.items()}
-        other, = read(made.put(it, os.path.join(place.room, f"shifted{seed}")))
+        it.logs = {role: [made.shifted(line, by if role % 2 else 0) for line in its] for role, its in it.logs.items()}
+        other = read_made(place, it, f"shifted{seed}")
         same((audit.audited(other, STATES).outcome, other.faults), (audit.LEGAL, []), f"seed {seed}")
-        same(set(orders.verdicts_of(other, STATES).witnesses), set(orders.verdicts_of(case, STATES).witnesses), f"seed {seed}")
+        same(set(search.verdicts_of(other, STATES).witnesses), set(search.verdicts_of(case, STATES).witnesses), f"seed {seed}")
 
 
-@test
 def no_verdict_is_missed_and_none_made_up(place: Place) -> None:
     several = looked = 0
     blocks: List[str] = []
     for seed in range(COURSES * 2):
-        it = made.course(seed + 1000, most=16 + seed % 16, components=3)
-        case, = read(made.put(it, os.path.join(place.room, str(seed))))
-        found = orders.verdicts_of(case, STATES)
+        case = read_made(place, made.course(seed + 1000, most=16 + seed % 16, components=3), str(seed))
+        found = search.verdicts_of(case, STATES)
         hold(found.is_complete and case.verdict in found.witnesses, f"seed {seed}: {found}")
         try:
-            wanted = plain.verdicts(calls_of(case, is_visible=True), 20_000)
-        except plain.TooMany:
+            wanted = plain_verdicts(calls_of(case, is_visible=True), 20_000)
+        except TooMany:
             continue
         same(set(found.witnesses), wanted, f"seed {seed}")
         looked += 1
@@ -87,12 +108,10 @@ def no_verdict_is_missed_and_none_made_up(place: Place) -> None:
     same(set(program.checked(place.program, blocks)), {""})
 
 
-@test
 def a_witness_keeps_each_runs_order(place: Place) -> None:
     for seed in range(40):
-        it = made.course(seed + 2000, most=14, components=3)
-        case, = read(made.put(it, os.path.join(place.room, str(seed))))
-        for entries in orders.verdicts_of(case, STATES).witnesses.values():
+        case = read_made(place, made.course(seed + 2000, most=14, components=3), str(seed))
+        for entries in search.verdicts_of(case, STATES).witnesses.values():
             for run in case.runs:
                 mine = [entry.op.text() for entry in entries if entry.run == run.number]
                 same(mine, [call.op.text() for call in run.calls if not call.seen][:len(mine)], f"seed {seed} run {run.number}")
@@ -111,17 +130,15 @@ def damaged(case: cases.TestCase, rng: random.Random) -> None:
         run.calls[at], run.calls[at + 1] = run.calls[at + 1], call
 
 
-@test
 def no_order_is_found_where_there_is_none(place: Place) -> None:
     rng, outcomes = random.Random(5), [0, 0]
     for seed in range(COURSES * 2):
-        it = made.course(seed + 3000, most=12 + seed % 14, components=3)
-        case, = read(made.put(it, os.path.join(place.room, str(seed))))
+        case = read_made(place, made.course(seed + 3000, most=12 + seed % 14, components=3), str(seed))
         damaged(case, rng)
         answer = search.search(case, STATES)
         try:
-            wanted = plain.has_order(calls_of(case, is_visible=False), 20_000)
-        except plain.TooMany:
+            wanted = has_plain_order(calls_of(case, is_visible=False), 20_000)
+        except TooMany:
             continue
         same(answer.outcome == search.FOUND, wanted, f"seed {seed}")
         outcomes[wanted] += 1
@@ -129,29 +146,26 @@ def no_order_is_found_where_there_is_none(place: Place) -> None:
     hold(min(outcomes) > 30, outcomes)
 
 
-@test
 def a_large_campaign_takes_seconds(place: Place) -> None:
-    folder = made.put(made.crowd(900, 3), os.path.join(place.room, "logs"))
+    folder = made.put(made.crowd(900, 3), place.path("logs"))
     begun = time.time()
     case, = read(folder)
     hold(len(case.runs) == 2701 and case.total > 12_000, (len(case.runs), case.total))
     one, other = audit.audited(case, STATES), flaky.looked_at(case, STATES)
     took = time.time() - begun
-    same((one.outcome, other.outcome, one.block, other.blocks), (audit.LEGAL, flaky.STEADY, "", {}))
+    same((one.outcome, other.outcome, one.blocks, other.blocks), (audit.LEGAL, flaky.STEADY, {}, {}))
     hold("2700 starts, and a history holds 255" in "\n".join(one.remarks), one.remarks)
     hold(took < 60, f"it took {took:.1f} seconds")
 
 
-@test
 def a_search_ends_at_its_limit(place: Place) -> None:
     case, = (it for it in read(log("pumps-default.merged")) if it.name == "t_stop_all")
-    whole = orders.verdicts_of(case, STATES)
-    short = orders.verdicts_of(case, 3)
+    whole = search.verdicts_of(case, STATES)
+    short = search.verdicts_of(case, 3)
     hold(whole.is_complete and not short.is_complete and short.states <= 4 and whole.states > 4, (whole, short))
     hold(flaky.looked_at(case, 3).outcome in (flaky.OPEN, flaky.UNEXPLAINED), "it is decided")
 
 
-@test
 def a_state_is_kept_when_calls_are_taken_back(place: Place) -> None:
     case, = read(log("pumps-full.merged"))[:1]
     trail = playing.Trail(case, [[it for it in run.calls if it.channel is None] for run in case.runs])
@@ -173,13 +187,6 @@ def a_state_is_kept_when_calls_are_taken_back(place: Place) -> None:
         same(sum(trail.places), length)
 
 
-@test
-def the_table_is_the_tests_own(place: Place) -> None:
-    own = sys.modules["titan_logs.table"].__file__ or ""
-    hold(os.path.samefile(own, made.__file__.replace("titan/made.py", "program/table.py")), own)
-
-
-@test
 def a_stop_of_a_component_that_never_ran_destroys_it(place: Place) -> None:
     table = Table(2)
     table.play(0, Op("create"))
@@ -189,18 +196,12 @@ def a_stop_of_a_component_that_never_ran_destroys_it(place: Place) -> None:
 
 
 STOP_OR_START = """
-mtc: Creating new alive PTC with component type M.C.
-mtc: PTC was created. Component reference: 3, alive: yes, type: M.C.
-mtc: Creating new PTC with component type M.C.
-mtc: PTC was created. Component reference: 4, alive: no, type: M.C.
-mtc: Starting function f_stop(3) on component 4.
-mtc: Function was started.
-4: Starting function f_stop(3).
+mtc: create alive 3
+mtc: create 4
+mtc: start f_stop(3) on 4
 4: PTC with component reference 3 is not running. Stop operation had no effect.
 4: Function f_stop finished. PTC terminates.
-mtc: Starting function f_fail() on component 3.
-mtc: Function was started.
-3: Starting function f_fail().
+mtc: start f_fail() on 3
 3: setverdict(fail): none -> fail
 3: Function f_fail finished. PTC remains alive and is waiting for next start.
 mtc: PTC with component reference 3 is done.
@@ -208,24 +209,14 @@ mtc: Terminating component type M.C.
 3: Kill was requested from MC. Terminating idle PTC.
 3: Final verdict of PTC: fail
 4: Final verdict of PTC: none
-mtc: Local verdict of MTC: none
-mtc: Local verdict of PTC with component reference 3: fail (none -> fail)
-mtc: Local verdict of PTC with component reference 4: none (fail -> fail)
-mtc: Test case t finished. Verdict: fail
+mtc: end none, fail, none
 """
 KILL_AND_QUESTION = """
-mtc: Creating new alive PTC with component type M.C.
-mtc: PTC was created. Component reference: 3, alive: yes, type: M.C.
-mtc: Creating new PTC with component type M.C.
-mtc: PTC was created. Component reference: 4, alive: no, type: M.C.
-mtc: Creating new PTC with component type M.C.
-mtc: PTC was created. Component reference: 5, alive: no, type: M.C.
-mtc: Starting function f_kill(3) on component 4.
-mtc: Function was started.
-mtc: Starting function f_ask(3) on component 5.
-mtc: Function was started.
-4: Starting function f_kill(3).
-5: Starting function f_ask(3).
+mtc: create alive 3
+mtc: create 4
+mtc: create 5
+mtc: start f_kill(3) on 4
+mtc: start f_ask(3) on 5
 4: Killing PTC with component reference 3.
 3: Kill was requested from MC. Terminating idle PTC.
 3: Final verdict of PTC: none
@@ -238,11 +229,7 @@ mtc: Function was started.
 mtc: PTC with component reference 4 is done.
 mtc: PTC with component reference 5 is done.
 mtc: Terminating component type M.C.
-mtc: Local verdict of MTC: none
-mtc: Local verdict of PTC with component reference 3: none (none -> none)
-mtc: Local verdict of PTC with component reference 4: none (none -> none)
-mtc: Local verdict of PTC with component reference 5: none (none -> none)
-mtc: Test case t finished. Verdict: none
+mtc: end none, none, none, none
 """
 
 
@@ -251,14 +238,13 @@ def number_of(case: cases.TestCase, caller: int) -> int:
     return 0 if caller == 0 else next(it.number for it in case.runs if it.function.startswith("f_stop"))
 
 
-@test
 def a_start_behind_a_stop_is_another_state_than_before_it(place: Place) -> None:
-    case, = read(made.put(made.told(STOP_OR_START), os.path.join(place.room, "logs")))
+    case = read_made(place, made.told(STOP_OR_START))
     same(audit.audited(case, STATES).outcome, audit.LEGAL)
-    same(set(orders.verdicts_of(case, STATES).witnesses), {"fail", "none"})
+    same(set(search.verdicts_of(case, STATES).witnesses), {"fail", "none"})
     states = []
     for callers in ((0, 0, 0, 1, 0), (0, 0, 0, 0, 1)):
-        trail = playing.Trail(case, orders.visible(case))
+        trail = playing.Trail(case, search.visible(case))
         for caller in callers:
             call = next(it for it in map(trail.head, range(len(case.runs))) if it is not None and it.run == number_of(case, caller))
             trail.take(call, trail.attempt(call))
@@ -266,55 +252,45 @@ def a_start_behind_a_stop_is_another_state_than_before_it(place: Place) -> None:
     hold(states[0][0] == states[1][0] and states[0] != states[1], states)
 
 
-@test
 def an_order_against_the_stamps_is_found(place: Place) -> None:
-    case, = read(made.put(made.told(KILL_AND_QUESTION), os.path.join(place.room, "logs")))
+    case = read_made(place, made.told(KILL_AND_QUESTION))
     same(audit.audited(case, STATES).outcome, audit.LEGAL, case.faults)
 
 
-@test
 def a_missing_log_is_no_proof_of_one_verdict(place: Place) -> None:
-    it = made.told(STOP_OR_START.replace("mtc: PTC with component reference 3 is done.\n", ""))
-    folder = made.put(it, os.path.join(place.room, "whole"))
-    same(flaky.looked_at(read(folder)[0], STATES).outcome, flaky.LUCK)
+    case = read_made(place, made.told(STOP_OR_START.replace("mtc: PTC with component reference 3 is done.\n", "")), "whole")
+    same(flaky.looked_at(case, STATES).outcome, flaky.LUCK)
     quiet = made.told("\n".join(line for line in KILL_AND_QUESTION.splitlines() if not line.startswith("mtc: PTC with component reference 5 is")))
-    same(flaky.looked_at(read(made.put(quiet, os.path.join(place.room, "quiet")))[0], STATES).outcome, flaky.STEADY)
+    same(flaky.looked_at(read_made(place, quiet, "quiet"), STATES).outcome, flaky.STEADY)
     del quiet.logs[5]
-    one = flaky.looked_at(read(made.put(quiet, os.path.join(place.room, "less")))[0], STATES)
+    one = flaky.looked_at(read_made(place, quiet, "less"), STATES)
     same((one.outcome, one.remarks[0]), (flaky.UNEXPLAINED, "there is no log of component 5"))
 
 
 ERROR_OR_END = """
-mtc: Creating new PTC with component type M.C.
-mtc: PTC was created. Component reference: 3, alive: no, type: M.C.
-mtc: Starting function f_divide(0) on component 3.
-mtc: Function was started.
-3: Starting function f_divide(0).
+mtc: create 3
+mtc: start f_divide(0) on 3
 3: Dynamic test case error: Integer division by zero.
 3: setverdict(error): none -> error
 3: Function f_divide finished with an error. PTC terminates.
 3: Final verdict of PTC: error
 mtc: setverdict(pass): none -> pass
 mtc: Terminating component type M.C.
-mtc: Local verdict of MTC: pass
-mtc: Local verdict of PTC with component reference 3: error (pass -> error)
-mtc: Test case t finished. Verdict: error
+mtc: end pass, error
 """
 
 
-@test
 def an_error_that_the_end_may_come_before(place: Place) -> None:
-    case, = read(made.put(made.told(ERROR_OR_END), os.path.join(place.room, "logs")))
+    case = read_made(place, made.told(ERROR_OR_END))
     one = flaky.looked_at(case, STATES)
     same((case.faults, one.outcome, one.others), ([], flaky.LUCK, ["pass"]))
     hold("the error of a component is written as its kill: the history of error ends with pass" in one.remarks, one.remarks)
 
 
-@test
 def a_script_has_every_verdict_that_is_named(place: Place) -> None:
     looked = several = 0
     for seed in range(COURSES):
-        case, = read(made.put(made.course(seed + 5000, most=8 + seed % 10, components=3), os.path.join(place.room, str(seed))))
+        case = read_made(place, made.course(seed + 5000, most=8 + seed % 10, components=3), str(seed))
         text, _ = scripts.script_of(case)
         if text is None:
             continue
@@ -323,20 +299,16 @@ def a_script_has_every_verdict_that_is_named(place: Place) -> None:
         courses = courses_of(next(iter(campaign)), 1500)
         if courses is not None:
             # A script holds no answer fixed, so it may have more.
-            named = set(orders.verdicts_of(case, STATES).witnesses)
+            named = set(search.verdicts_of(case, STATES).witnesses)
             hold(named <= courses.verdicts, f"seed {seed}: {named} {courses.verdicts}")
             looked, several = looked + 1, several + (len(named) > 1)
     hold(looked > COURSES // 2 and several > 3, (looked, several))
 
 
 LOST_CONTROLLER = """
-mtc: Creating new PTC with component type M.C.
-mtc: PTC was created. Component reference: 3, alive: no, type: M.C.
-mtc: Creating new PTC with component type M.C.
-mtc: PTC was created. Component reference: 4, alive: no, type: M.C.
-mtc: Starting function f_work() on component 3.
-mtc: Function was started.
-3: Starting function f_work().
+mtc: create 3
+mtc: create 4
+mtc: start f_work() on 3
 3: setverdict(pass): none -> pass
 mtc: Terminating component type M.C.
 mtc: Dynamic test case error: Internal error: Message PTC_VERDICT arrived in invalid state.
@@ -349,11 +321,37 @@ mtc: Dynamic test case error: Internal error: Message PTC_VERDICT arrived in inv
 4: Dynamic test case error: Trying to send a message to MC, but the control connection is down.
 4: Final verdict of PTC: error
 """
+OPERATOR = """
+mtc: create 3
+mtc: start f_work() on 3
+3: setverdict(fail): none -> fail
+3: AUDIT alive 1 -> true
+3: Kill was requested from MC.
+3: Terminating test component execution.
+3: Function f_work was stopped. PTC terminates.
+3: Final verdict of PTC: fail
+mtc: Stop was requested from MC.
+mtc: Stopping test component execution.
+mtc: Terminating component type M.C.
+mtc: end none, fail
+"""
 
 
-@test
+def a_stop_by_an_operator_is_named(place: Place) -> None:
+    """Not a stop by a component; the main component is that which Titan calls 1."""
+    case = read_made(place, made.told(OPERATOR))
+    one, other = audit.audited(case, STATES), flaky.looked_at(case, STATES)
+    same((one.outcome, other.outcome, case.faults), (audit.PART, flaky.UNEXPLAINED, []), one.remarks)
+    for remarks in (one.remarks, other.remarks):
+        hold(remarks[0].startswith("it was stopped from outside, as by an operator") and "Stop was requested from MC." in remarks[0], remarks)
+    hold("1 alive 0 -> true" in [it.text() for it in one.answer.entries], one.blocks)
+    story = OPERATOR.replace("3: Kill was requested from MC.\n3: Terminating test component execution.\n", "3: Stopping MTC. The current test case will be terminated.\n")
+    case = read_made(place, made.told(story), "stopped")
+    same((case.is_stopped, case.missing, audit.audited(case, STATES).outcome), (False, [], audit.LEGAL), case.faults)
+
+
 def components_that_lost_the_controller_are_named(place: Place) -> None:
-    case, = read(made.put(made.told(LOST_CONTROLLER), os.path.join(place.room, "logs")))
+    case = read_made(place, made.told(LOST_CONTROLLER))
     one = audit.audited(case, STATES)
     same((one.outcome, case.faults, len(case.missing)), (audit.PART, [], 4), case.missing)
     for word in ("no end of this test case", "the main component crashed", "component 3 lost the main controller", "component 4 lost"):

@@ -1,15 +1,16 @@
 """Runs, test cases and the server: what a bench is written with."""
 from __future__ import annotations
 
+import dataclasses
 import functools
 import queue
 import threading
 import time
 from collections.abc import Coroutine, Generator
-from typing import Callable, Dict, List, NoReturn, Optional, Sequence, Tuple, Union
+from typing import Callable, Dict, List, NoReturn, Optional, Sequence, Set, Tuple, Union
 
 from .errors import DynamicError, Ended, Refused, ServerEnded
-from .evidence import VERDICTS, Findings, Line, Raised, Result, ends_case, may_halt, parsed, suits
+from .evidence import VERDICTS, EvidenceFile, Findings, Line, Raised, Result, ends_case, may_halt, parsed, suits
 from .program import Program, find_program
 from .words import Behaviour, Group, component_word, name_of, name_word, plain_text, told
 
@@ -18,6 +19,8 @@ MOST_BEHAVIOURS = 256
 MOST_ARGUMENTS = 4
 # How many seconds behaviours have, once their test case is over, to return; and the server, to answer or to end.
 GRACE = 5.0
+# The run that this thread is the behaviour of.
+_OWN = threading.local()
 
 
 class Run:
@@ -35,7 +38,7 @@ class Run:
         self._calling = threading.Lock()
         self._answers: queue.SimpleQueue[Union[str, BaseException]] = queue.SimpleQueue()
         self._asked = ""
-        self._is_parked = False
+        self._is_parked = self._has_ended = False
         self._seen = 0
 
     def __str__(self) -> str:
@@ -55,9 +58,10 @@ class Run:
             raise ValueError(f"{behaviour!r} is no function")
         if len(arguments) > MOST_ARGUMENTS:
             raise ValueError(f"a start has at most {MOST_ARGUMENTS} arguments; hand others over by name")
-        self._check_thread()
+        self._check_caller()
         run = self._case._new_run(behaviour, component)
-        self._ask(" ".join(["start", words[0], str(run.number), *words[1:]]), self._case._naming(run))
+        before = self._case._naming(run) or self._remark(f"a test case has at most {MOST_BEHAVIOURS} behaviours, and each start is one")
+        self._ask(" ".join(["start", words[0], str(run.number), *words[1:]]), before)
         self._case._begin(run, functools.partial(behaviour, run, *arguments, **others))
 
     def stop(self, group: Group) -> None:
@@ -113,7 +117,7 @@ class Run:
 
     def check(self) -> None:
         """Raises `Ended` if this run was stopped: for long loops. It asks the table only after something was stopped."""
-        self._check_thread()
+        self._check_caller()
         changes = self._case._changes
         if changes != self._seen:
             self._call("getverdict")
@@ -146,16 +150,18 @@ class Run:
         plain = plain_text(text)
         return [f"{self.number} # {plain}"] if plain else []
 
-    def _check_thread(self) -> None:
+    def _check_caller(self) -> None:
+        """Whether this thread may call. A run that knows of its end asks the table no more."""
         if threading.current_thread() is not self.thread:
             raise RuntimeError(f"the calls of {self} are its own thread's: another may only log")
+        if self._has_ended:
+            raise Ended(f"{self} has ended")
 
     def _call(self, words: str, reason: object = "") -> str:
-        self._check_thread()
+        self._check_caller()
         return self._ask(words, self._remark(reason))
 
     def _ask(self, words: str, before: Sequence[str] = ()) -> str:
-        """Writes these lines and a call, and waits for its answer."""
         with self._calling:
             return self._exchange(words, before)
 
@@ -166,6 +172,7 @@ class Run:
         answer = self._answers.get(timeout=seconds)
         if isinstance(answer, BaseException):
             raise answer
+        self._has_ended = answer == "ended" or answer.startswith("error ")
         if answer == "ended":
             raise Ended(f"{self} has ended")
         if answer.startswith("error "):
@@ -178,7 +185,6 @@ class Run:
         return wanted != "" if line.kind == "!" else line.text == wanted and suits(wanted, line.reply)
 
     def _take(self, line: Line) -> None:
-        """Takes a line of this run."""
         if line.kind == "!":
             self._answer(Refused(f"the server refused a line of {self}: {line.text}"))
         elif line.kind == "->" and line.reply == "parked":
@@ -206,13 +212,15 @@ class Case:
     """A test case: its name and its main behaviour. `run` runs it, once."""
 
     def __init__(self, name: str, main: Behaviour, timeout: Optional[float] = None, server: Optional[Server] = None) -> None:
-        self.name, self.main, self.timeout, self.server = name_word(name, "a test case"), main, timeout, server
+        self.name, self.main, self.server = name_word(name, "a test case"), main, server
+        self.timeout = timeout
         self._runs: Dict[int, Run] = {}
         self._lines: List[str] = []
         self._raised: List[Raised] = []
+        self._late: List[Run] = []
         self._hung: Tuple[str, ...] = ()
         self._is_over = self._is_ended = self._is_timed_out = False
-        self._fault = ""
+        self._fault = self._reason = ""
         # How many entries there are that may have stopped somebody.
         self._changes = 0
         # It reports an end, a fault and these entries. Its holder writes nothing: the server may wait for its reader.
@@ -240,21 +248,23 @@ class Case:
         try:
             self._begin(main, functools.partial(self.main, main))
             self._is_timed_out = not self._await(lambda: self._is_over or main.is_done or self._fault, self.timeout)
-            reason = f"the test case took longer than {self.timeout} s"
+            reason = f"the test case took longer than {self.timeout:g} s" if self._is_timed_out else "the main behaviour has returned"
         finally:
             self._stop(reason)
             self._await(lambda: not self._going_on(), grace)
-            self._hung = tuple(str(run) for run in self._going_on())
+            self._hung = tuple(map(str, dict.fromkeys([*self._late, *self._going_on()])))
             self._close()
             reader.join(grace)
 
     def _result(self) -> Result:
-        """What is known at the end."""
         findings = Findings(self._lines)
         fault = self._fault or ("" if self._is_ended else "the bench was interrupted twice")
         verdict = self._lines[-1].split()[1] if self._is_ended else "error"
+        why = findings.why
+        if self._is_timed_out and verdict != "error":  # the server was stuck meanwhile
+            verdict, why = "error", self._reason
         evidence = "".join(f"{line}\n" for line in self._lines)
-        return Result(self.name, verdict, fault or findings.why, findings.locals, findings.names, evidence, tuple(self._raised),
+        return Result(self.name, verdict, fault or why, findings.locals, findings.names, evidence, tuple(self._raised),
                       self._hung, self._is_timed_out, fault)
 
     # What runs do
@@ -280,6 +290,7 @@ class Case:
 
     def _behave(self, run: Run, behaviour: Callable[[], object]) -> None:
         """Runs a behaviour to its end, and reports that to the table."""
+        _OWN.run = run
         try:
             returned = behaviour()
             if isinstance(returned, (Coroutine, Generator)):
@@ -299,12 +310,11 @@ class Case:
             self._raised.append(Raised(run.number, run.behaviour, raised))
         if not isinstance(raised, Ended):
             try:
-                run.stop_case(told(raised))
+                (run.log if run._has_ended else run.stop_case)(told(raised))
             except (Ended, Refused):
                 pass
 
     def _going_on(self) -> List[Run]:
-        """The runs that were started and have not returned."""
         return [run for run in list(self._runs.values()) if run.thread is not None and not run.is_done]
 
     def _send(self, *lines: str, seconds: Optional[float] = None) -> None:
@@ -337,7 +347,6 @@ class Case:
             self._lose(f"the client cannot read on: {told(error)}")
 
     def _take(self, text: str) -> bool:
-        """Takes a line, if it may be here."""
         line = parsed(text)
         run = self._runs.get(line.run) if line else None
         if not self._lines:
@@ -374,23 +383,25 @@ class Case:
     # What the bench does
 
     def _await(self, is_so: Callable[[], object], seconds: Optional[float]) -> bool:
-        """Waits until it is so; False if the seconds passed before."""
+        """Waits until it is so; False if the seconds passed before. They may be more than Python can count."""
         with self._news:
-            return bool(self._news.wait_for(is_so, seconds))
+            return bool(self._news.wait_for(is_so, seconds and min(seconds, threading.TIMEOUT_MAX)))
 
     def _await_change(self, seen: int, deadline: float) -> bool:
         """Waits until something may have been stopped; False if the deadline passed before."""
-        with self._news:
-            return self._news.wait_for(lambda: self._changes != seen, max(0.0, deadline - time.monotonic()))
+        return self._await(lambda: self._changes != seen, max(0.0, deadline - time.monotonic()))
 
     def _stop(self, reason: str) -> None:
         """Ends the test case through the table, with the verdict error, instead of a run that does not wait in it."""
-        hanging = ", ".join(str(run) for run in self._going_on() if not run._is_parked)
+        if self._is_over or self._fault:
+            return
+        self._late = [run for run in self._going_on() if not run._is_parked]
+        self._reason = f"{reason}; not returned: {', '.join(map(str, self._late))}"
         deadline = time.monotonic() + self._grace
         while not self._is_over and not self._fault and time.monotonic() < deadline:
             for run in self._going_on():
                 if not self._is_over:
-                    run._stop_case_from_outside(f"{reason}; not returned: {hanging}", self._grace)
+                    run._stop_case_from_outside(self._reason, self._grace)
             self._await(lambda: self._is_over, 0.01)
 
     def _close(self) -> None:
@@ -407,14 +418,15 @@ class Case:
 class Server:
     """`ttrun serve`, which judges test cases one after the other. If it has ended, the next test case starts it again."""
 
-    def __init__(self, command: Optional[Sequence[str]] = None, evidence: Optional[str] = None, grace: float = GRACE) -> None:
-        """The command is `ttrun serve`, unless another is given. The evidence of each test case is appended to the file.
+    def __init__(self, command: Optional[Sequence[str]] = None, evidence: Optional[str] = None, grace: float = GRACE, append: bool = False) -> None:
+        """The command is `ttrun serve`, unless another is given. The file gets the evidence of each test case. It is emptied first, unless `append`.
 
         A behaviour that does not return for `grace` seconds after the end of its test case is abandoned: its thread keeps running."""
         self._command = list(command) if command is not None else [find_program(), "serve"]
-        if evidence is not None:  # a file that cannot be written is reported before a test case is run
-            open(evidence, "a", encoding="ascii").close()
-        self._evidence, self._grace = evidence, grace
+        self._file = EvidenceFile(evidence, append) if evidence is not None else None
+        self._grace = min(grace, threading.TIMEOUT_MAX)
+        # The names of its test cases so far.
+        self.names: Set[str] = set()
         self._program: Optional[Program] = None
         self._status = 0
         self._judging = threading.Lock()
@@ -438,20 +450,19 @@ class Server:
 
     def _judge(self, case: Case) -> Result:
         """Runs a test case, and keeps its evidence, even if the bench is interrupted."""
+        if hasattr(_OWN, "run"):
+            raise RuntimeError(f"{_OWN.run} cannot run test case {case.name}: a test case is run outside of behaviours")
         with self._judging:
+            self.names.add(case.name)
             self._program = self._program or Program(self._command, self._grace)
             try:
                 case._play(self._program, self._grace)
             finally:
                 result = case._result()
-                self._keep(result)
+                if self._file is not None:
+                    result = dataclasses.replace(result, place=self._file.keep(result.evidence, bool(result.fault)))
+                self._status = max(self._status, 2 * result.is_timed_out)
                 if result.fault:
                     self.close()
                     self._status = 3
         return result
-
-    def _keep(self, result: Result) -> None:
-        """Appends the evidence to the file. A block without its end would spoil the file: it goes into another next to it."""
-        if self._evidence is not None:
-            with open(self._evidence + ".cut" * bool(result.fault), "a", encoding="ascii") as file:
-                file.write(result.evidence)

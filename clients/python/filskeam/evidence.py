@@ -1,6 +1,6 @@
 """Evidence: its lines, what they say together, and the result of a test case."""
-from __future__ import annotations
-
+import contextlib
+import os
 import re
 from dataclasses import dataclass
 from typing import Dict, List, NamedTuple, Optional, Sequence, Tuple, Union
@@ -11,7 +11,6 @@ VERDICTS = ("none", "pass", "inconc", "fail", "error")
 
 
 def worst(verdicts: Sequence[str]) -> str:
-    """The worst of these verdicts."""
     return max(verdicts, key=VERDICTS.index, default="none")
 
 
@@ -30,7 +29,6 @@ _ENTRY = re.compile(r"([0-9]+) ([a-z][a-zA-Z0-9_ ]*) -> ([a-z][a-z0-9 -]*)")
 
 
 def parsed(text: str) -> Optional[Line]:
-    """The line that the text spells."""
     entry = _ENTRY.fullmatch(text)
     if entry:
         return Line("->", int(entry[1]), entry[2], entry[3])
@@ -49,12 +47,10 @@ _SUITS = {verb: re.compile(f"{replies}|ended|error [a-z-]+") for verb, replies i
 
 
 def suits(call: str, reply: str) -> bool:
-    """Whether the table may reply so to this call."""
     return _SUITS[call.partition(" ")[0]].fullmatch(reply) is not None
 
 
 def ends_case(line: Line) -> bool:
-    """Whether the test case is over after this entry."""
     is_end = line.text in ("stopcase", "stop 0", "kill 0") or line.run == 0 and line.text == "finish"
     return line.reply.startswith("error ") or is_end and line.reply == "ok"
 
@@ -80,11 +76,9 @@ class Findings:
                 self._take(line)
 
     def overall(self) -> str:
-        """The worst of the local verdicts."""
         return worst(list(self.locals.values()))
 
     def _take(self, line: Line) -> None:
-        """Takes the next line."""
         if line.kind == "behaviour":
             self.behaviours[line.run] = line.text
         elif line.kind == "#":
@@ -100,7 +94,6 @@ class Findings:
             self._said.pop(line.run, None)
 
     def _judge(self, line: Line, words: List[str]) -> None:
-        """Adds what the entry gives its caller's component."""
         given = "none"
         if line.reply.startswith("error ") or (line.text, line.reply) == ("stopcase", "ok"):
             given = "error"
@@ -124,8 +117,6 @@ class Findings:
 
 @dataclass(frozen=True)
 class Raised:
-    """What a behaviour raised."""
-
     run: int
     behaviour: str
     exception: BaseException
@@ -149,11 +140,14 @@ class Result:
     # The block of evidence that the server wrote. Its last line is missing where the server ended early.
     evidence: str
     raised: Tuple[Raised, ...] = ()
-    # The behaviours that had not returned when the test case was closed. Their threads keep running.
+    # The behaviours that had not returned at the time limit, or some seconds after the end of the test case.
     hung: Tuple[str, ...] = ()
+    # Whether the time limit passed; the verdict is error then, whatever the server wrote.
     is_timed_out: bool = False
     # Why the server ended inside the test case; empty where it did not.
     fault: str = ""
+    # The file with the block, and its first line there, as FILE:LINE; empty where there is no file.
+    place: str = ""
 
     def local(self, which: Union[int, str]) -> str:
         """The local verdict of a component, or the worst of those with this name."""
@@ -172,3 +166,27 @@ class Result:
         entries = self.evidence.splitlines()
         lines += ["evidence:" if len(entries) <= most else f"evidence, the last {most} of {len(entries)} lines:"]
         return "\n".join(lines + [f"  {it}" for it in entries[-most:]])
+
+
+class EvidenceFile:
+    """A file for blocks of evidence. One without its end would spoil it: that goes into another file next to it, FILE.cut."""
+
+    def __init__(self, path: str, append: bool = False) -> None:
+        """Empties the file, unless it is appended to. A file that cannot be written raises `OSError` here, before a test case is run."""
+        self._path = path
+        self._lines: Dict[str, int] = {}
+        if not append:
+            with contextlib.suppress(FileNotFoundError):
+                os.remove(f"{path}.cut")
+        open(path, "a" if append else "w", encoding="latin-1").close()
+
+    def keep(self, block: str, is_cut: bool) -> str:
+        path = self._path + ".cut" * is_cut
+        with open(path, "a+", encoding="latin-1") as file:
+            if path not in self._lines:
+                file.seek(0)
+                self._lines[path] = sum(1 for _ in file)
+            file.write(block)
+        first = self._lines[path] + 1
+        self._lines[path] += block.count("\n")
+        return f"{path}:{first}"

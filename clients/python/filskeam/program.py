@@ -7,6 +7,7 @@ import select
 import shutil
 import subprocess
 import tempfile
+import weakref
 from typing import BinaryIO, Optional, Sequence, cast
 
 from .errors import NoProgram
@@ -16,14 +17,14 @@ MOST_BYTES_OF_A_LINE = 1000
 
 
 def find_program() -> str:
-    """The program: what FILSKEAM_TTRUN names, `ttrun` on the path, or the wrapper of the checkout that this file is in."""
-    named = os.environ.get("FILSKEAM_TTRUN")
+    """The program: what FILSKEAM_TTRUN or TTRUN names, `ttrun` on the path, or the wrapper of the checkout that this file is in."""
+    named = os.environ.get("FILSKEAM_TTRUN") or os.environ.get("TTRUN")
     if named:
         return named
     wrapper = os.path.join(os.path.dirname(os.path.abspath(__file__)), *[os.pardir] * 3, "ttrun")
     found = shutil.which("ttrun") or shutil.which(os.path.normpath(wrapper))
     if found is None:
-        raise NoProgram("there is no ttrun: let FILSKEAM_TTRUN name the program, or put it on the path")
+        raise NoProgram("there is no ttrun: let TTRUN name the program, or put it on the path")
     return found
 
 
@@ -42,6 +43,7 @@ class Program:
             raise NoProgram(f"{command[0]} cannot be started: {error.strerror}") from error
         self._input = cast(BinaryIO, self._process.stdin)
         self._output = io.BufferedReader(cast(io.RawIOBase, self._process.stdout))
+        _PROGRAMS.add(self)
 
     def write(self, text: bytes, seconds: Optional[float] = None) -> None:
         """Gives it lines, unless it takes none for that many seconds. One that has ended is noticed by its reader."""
@@ -74,7 +76,6 @@ class Program:
         return f"the server ended with {how}" + f": {last}" * bool(last)
 
     def kill(self) -> None:
-        """Ends it at once."""
         self._process.kill()
 
     def close(self) -> int:
@@ -88,3 +89,16 @@ class Program:
         self._output.close()
         self._errors.close()
         return status if 0 <= status <= 3 else 3
+
+
+_PROGRAMS: weakref.WeakSet[Program] = weakref.WeakSet()
+
+
+def _close_pipes() -> None:
+    """In a child made by fork: with a copy of the pipe open, the server would not learn of the end of its input."""
+    for it in list(_PROGRAMS):
+        it._input.close()
+        it._output.raw.close()  # the reader's own lock may be held
+
+
+os.register_at_fork(after_in_child=_close_pipes)

@@ -1,6 +1,4 @@
 """The words of a line: what may be in one, and how other texts are made to."""
-from __future__ import annotations
-
 import contextlib
 import functools
 import os
@@ -10,6 +8,7 @@ from typing import Callable, Tuple, Union
 
 MOST_COMPONENT = 4_294_967_295
 MOST_BYTES_OF_A_REMARK = 200
+MOST_BYTES_OF_A_NAME = 32
 GROUPS = ("all", "any", "mtc", "self")
 
 Behaviour = Callable[..., object]
@@ -42,13 +41,16 @@ def plain_text(text: object, most: int = MOST_BYTES_OF_A_REMARK) -> str:
     return plain if len(plain) <= most else plain[:most - 2] + ".."
 
 
+def as_name(text: str, ending: str = "") -> str:
+    name = re.sub("^[^A-Za-z]+", "", re.sub("[^A-Za-z0-9_]", "_", text))[:MOST_BYTES_OF_A_NAME - len(ending)].rstrip("_")
+    return (f"{name or 'behaviour'}_" if name in ("", *GROUPS) else name) + ending
+
+
 def name_of(behaviour: Behaviour) -> str:
     """The name of a behaviour in the evidence, made of that of its function."""
     while isinstance(behaviour, functools.partial):
         behaviour = behaviour.func
-    own = getattr(behaviour, "__name__", type(behaviour).__name__)
-    name = re.sub("^[^A-Za-z]+", "", re.sub("[^A-Za-z0-9_]", "_", own))[:32].rstrip("_")
-    return f"{name or 'behaviour'}_" if name in ("", *GROUPS) else name
+    return as_name(getattr(behaviour, "__name__", type(behaviour).__name__))
 
 
 def told(raised: BaseException) -> str:

@@ -1,13 +1,10 @@
 """The test cases of a session, and the model of what a log shows of each: runs, and their calls."""
-from __future__ import annotations
-
 from bisect import bisect_right
-from collections import Counter
 from dataclasses import dataclass, field
 from typing import Dict, Iterator, List, Optional, Tuple
 
 from .lines import Line
-from .sessions import MAIN, Process, Session
+from .sessions import CALLS, MAIN, Process, Session
 from .table import Op
 
 FOREVER = 1 << 62
@@ -39,7 +36,6 @@ class Call:
 
     @property
     def is_error(self) -> bool:
-        """Whether it is a parallel component's dynamic error."""
         return self.faulty is not None
 
     @property
@@ -48,7 +44,6 @@ class Call:
         return self.reply is None and self.channel is None
 
     def text(self) -> str:
-        """The call as a history has it."""
         if self.channel is not None:
             return f"{self.run} {'sends to' if self.is_sent else 'receives from'} another"
         return f"{self.run} {self.op.text()} -> {self.reply or '?'}"
@@ -70,7 +65,6 @@ class TestCase:
     """One execution of a test case, as its logs have it."""
 
     name: str
-    execution: int
     begin: int
     end: int = FOREVER
     verdict: Optional[str] = None
@@ -79,32 +73,33 @@ class TestCase:
     # The number of each component by its reference, and its name, in the order of their creation.
     numbers: Dict[int, int] = field(default_factory=dict)
     runs: List[Run] = field(default_factory=list)
-    # What is wrong with the logs, what is missing, and what is worth a remark.
+    # What is wrong with the logs, which of it is due to their settings, what is missing, and what is worth a remark.
     faults: List[str] = field(default_factory=list)
+    hidden: List[str] = field(default_factory=list)
     missing: List[str] = field(default_factory=list)
     remarks: List[str] = field(default_factory=list)
     # How many dynamic errors of parallel components there are, and whether one of these components was shot.
     errors: int = 0
     is_shot: bool = False
+    # Whether it was stopped by no call that a log has.
+    is_stopped: bool = False
+    # Which execution of the test case it is, among all that are read.
+    execution: int = 1
 
     @property
     def title(self) -> str:
-        """The name, and which execution it is."""
         return self.name if self.execution == 1 else f"{self.name}#{self.execution}"
 
     @property
     def total(self) -> int:
-        """How many calls there are."""
         return sum(len(it.calls) for it in self.runs)
 
     def lines_of(self, role: int) -> List[Line]:
-        """The lines of a process."""
         return self.main if role == MAIN else self.logs.get(role, [])
 
 
 def cut(session: Session) -> Iterator[TestCase]:
     """The test cases of the main component's log, each with its lines."""
-    counts: Counter = Counter()
     case: Optional[TestCase] = None
     for line in session.main.lines:
         name, words = line.phrase
@@ -112,8 +107,7 @@ def cut(session: Session) -> Iterator[TestCase]:
             if case is not None:
                 case.end = line.stamp
                 yield case
-            counts[words[0]] += 1
-            case = TestCase(words[0] or "", counts[words[0]], line.stamp)
+            case = TestCase(words[0] or "", line.stamp)
         elif name == "case_finished":
             if case is not None and words[0] == case.name:
                 case.verdict, case.end = words[1], line.stamp
@@ -146,17 +140,17 @@ def cases_of(session: Session) -> List[TestCase]:
     cases, owned = list(cut(session)), {}
     for case in cases:
         claim(case, session.components, owned)
-    begins = [it.begin for it in cases]
+    begins, names = [it.begin for it in cases], {it.name for it in cases}
     for reference, process in session.components.items():
         at = bisect_right(begins, process.first) - 1
-        if reference not in owned and at >= 0:
+        if reference not in owned and at >= 0 and (process.case not in names or process.case == cases[at].name):
             cases[at].logs[reference] = process.lines
         elif reference not in owned:
             session.remarks.append(f"{process.file}: this component belongs to no test case that the log has")
-    is_silent = not any(it.phrase.name in ("creating", "terminating", "starting_on") for it in session.main.lines)
+    hidden = session.left_out(CALLS)
     for case in cases:
-        if is_silent:
-            case.faults.append("the log settings leave PARALLEL out: the calls of components are in no log")
+        case.hidden = [text for _, text in hidden]
+        case.faults += [text for name, text in hidden if name == "PARALLEL"]
         if case.verdict is None:
             case.missing.append("the log has no end of this test case: its main component crashed, or the log is cut")
     return cases

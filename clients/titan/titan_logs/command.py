@@ -1,6 +1,4 @@
 """The command ttrun-titan: its words, and what it prints."""
-from __future__ import annotations
-
 import argparse
 import os
 import re
@@ -16,7 +14,7 @@ from .limits import MOST_BYTES_OF_A_SCRIPT, MOST_STATES, MOST_TEST_CASES_OF_A_SC
 from .lines import Refused
 from .program import found_program, page_of
 from .reading import read_case
-from .scripts import script_of
+from .scripts import errors_in, script_of
 from .sessions import read_sessions
 from .table import VERDICTS
 
@@ -41,14 +39,12 @@ class Found(NamedTuple):
 
 
 def states_of(word: str) -> int:
-    """A number of states."""
     if not word.isdigit() or not 1 <= int(word) <= MOST_STATES:
         raise argparse.ArgumentTypeError(f"a number from 1 to {MOST_STATES} is wanted")
     return int(word)
 
 
 def parser() -> Parser:
-    """The words that the command takes."""
     made = Parser(prog="ttrun-titan", description=ABOUT, epilog=STATUSES, allow_abbrev=False)
     commands = made.add_subparsers(dest="command", metavar="COMMAND", parser_class=Parser)
     texts = (("flaky", "which verdicts depended on who came first"), ("audit", "one legal order of all calls that the logs show"),
@@ -69,7 +65,6 @@ def parser() -> Parser:
 
 
 def is_chosen(case: TestCase, only: Sequence[str]) -> bool:
-    """Whether the test case is one of those that were asked for."""
     return not only or case.name in only or case.title in only
 
 
@@ -82,7 +77,7 @@ def read(given: argparse.Namespace) -> Found:
             seen[case.name] += 1
             case.execution = seen[case.name]
             if is_chosen(case, given.only):
-                case.remarks += [f"{text} are in no log: what is named may be excluded by one" for _, text in session.left_out()]
+                case.remarks += [f"{text}: what is named may be excluded by one" for _, text in session.left_out()]
                 found.cases.append(read_case(case))
                 found.sessions.append(os.path.basename(session.name))
         found.remarks.extend(f"{session.name}: {it}" for it in session.remarks)
@@ -92,7 +87,6 @@ def read(given: argparse.Namespace) -> Found:
 
 
 def write(path: Optional[str], text: str) -> None:
-    """Writes a file that was asked for."""
     if path is None:
         return
     try:
@@ -109,14 +103,6 @@ def program_of(given: argparse.Namespace) -> Optional[str]:
     return None if given.unchecked else found_program(given.program)
 
 
-def keep(given: argparse.Namespace, program: Optional[str], blocks: Sequence[str]) -> None:
-    """Writes the histories and the page."""
-    text = "".join(blocks)
-    write(given.history, text)
-    if given.html is not None and program is not None:
-        write(given.html, page_of(program, text))
-
-
 def show(lines: Sequence[str]) -> None:
     """Prints lines; a letter from a log that would move a terminal's cursor is shown as a question mark."""
     print("\n".join(CONTROL.sub("?", it) for it in lines))
@@ -130,7 +116,6 @@ def told(found: Found, program: Optional[str]) -> Iterator[str]:
 
 
 def table(rows: Sequence[Tuple[str, ...]]) -> Iterator[str]:
-    """Rows in columns."""
     widths = [max(len(row[at]) for row in rows) for at in range(len(rows[0]))]
     yield from ("  ".join(f"{cell:<{width}}" for cell, width in zip(row, widths)).rstrip() for row in rows)
 
@@ -147,7 +132,6 @@ def worst(statuses: Sequence[int]) -> int:
 
 
 def seen_verdicts(cases: Sequence[TestCase]) -> Iterator[str]:
-    """Test cases that had several verdicts in these logs."""
     verdicts: Dict[str, Counter] = defaultdict(Counter)
     for case in cases:
         if case.verdict is not None:
@@ -157,68 +141,38 @@ def seen_verdicts(cases: Sequence[TestCase]) -> Iterator[str]:
             yield f"seen: {name} had " + ", ".join(f"{it} {counts[it]} time{'s' * (counts[it] > 1)}" for it in VERDICTS if counts[it])
 
 
-def head_of(one: luck.Luck) -> str:
-    """The first line of a test case."""
-    log = one.case.verdict or "no end"
-    if one.outcome == luck.LUCK:
-        return f"{one.case.title}: {log} in the log, {' or '.join(one.others)} in another order of the same calls"
-    return f"{one.case.title}: {log} in the log, {one.outcome}"
-
-
-def link_of(given: argparse.Namespace, one: luck.Luck, first: int) -> Iterator[str]:
-    """The place at which the page compares two schedules."""
-    if given.html is not None and one.outcome == luck.LUCK:
-        yield from (f"compare {one.case.verdict} and {it}: {given.html}#/{first}/{first + at}" for at, it in enumerate(one.others, 1))
-
-
-def run_flaky(given: argparse.Namespace) -> int:
-    """Says which verdicts depended on luck."""
+def run_judged(given: argparse.Namespace) -> int:
+    """Judges each test case by `flaky` or `audit`, and says what was found."""
     program, found = program_of(given), read(given)
-    results = luck.flaky(found.cases, given.states, program)
-    lines, rows, cases = list(told(found, program)), [("test case", "log", "also", "search", "cut off")], []
-    blocks: List[str] = []
+    by = luck if given.command == "flaky" else audits
+    results = by.judged(found.cases, given.states, program)
+    lines, cases, blocks = list(told(found, program)), [], []
     for one, session in zip(results, found.sessions):
-        details = [*luck.parting(one), *link_of(given, one, len(blocks)), *one.remarks]
+        # The page has the histories by their numbers: the first of this test case, and another one.
+        first = len(blocks)
+        details = one.details(*(f"{given.html}#/{first}/{first + at}" for at in range(len(one.blocks)) if given.html is not None))
         blocks += one.blocks.values()
         if details:
-            lines += [head_of(one), *(f"  {it}" for it in details), ""]
-        cut = sum(it.is_cut for it in one.case.runs)
-        rows.append((one.case.title, one.case.verdict or "no end", " ".join(one.others) if one.outcome == luck.LUCK else "-",
-                     f"{one.found.states} states" if one.outcome in (luck.LUCK, luck.STEADY) else one.outcome, str(cut or "-")))
-        kind = {luck.LUCK: "failure", luck.STEADY: ""}.get(one.outcome, "error")
-        cases.append(junit.Row(one.case.title, session, kind, head_of(one), details))
-    keep(given, program, blocks)
-    write(given.junit, junit.report_of("ttrun-titan flaky", cases))
-    lines += [*table(rows), *seen_verdicts(found.cases), tally([luck.COUNTED[it.outcome] for it in results], tuple(luck.COUNTED.values()))]
-    show(lines)
-    return worst([it.status for it in results])
-
-
-def run_audit(given: argparse.Namespace) -> int:
-    """Looks for one legal order of all calls of each test case."""
-    program, found = program_of(given), read(given)
-    results = audits.audit(found.cases, given.states, program)
-    lines, rows, cases = list(told(found, program)), [("test case", "log", "outcome", "calls", "states")], []
-    for one, session in zip(results, found.sessions):
-        head = f"{one.case.title}: {one.outcome}"
-        if one.remarks:
-            lines += [head, *(f"  {it}" for it in one.remarks), ""]
-        rows.append((one.case.title, one.case.verdict or "no end", one.outcome, str(one.case.total), str(one.answer.states)))
-        kind = {0: "", 1: "failure"}.get(one.status, "error")
-        cases.append(junit.Row(one.case.title, session, kind, head, one.remarks))
-    keep(given, program, [it.block for it in results if it.block])
-    write(given.junit, junit.report_of("ttrun-titan audit", cases))
-    show([*lines, *table(rows), tally([it.outcome for it in results], tuple(audits.STATUS))])
-    return worst([it.status for it in results])
+            lines += [one.head, *(f"  {it}" for it in details), ""]
+        kind = {0: "", 1: "failure"}.get(by.STATUS[one.outcome], "error")
+        cases.append(junit.Row(one.case.title, session, kind, one.head, details))
+    write(given.history, "".join(blocks))
+    if given.html is not None and program is not None:
+        write(given.html, page_of(program, "".join(blocks)))
+    write(given.junit, junit.report_of(f"ttrun-titan {given.command}", cases))
+    lines += [*table([by.COLUMNS, *(it.row() for it in results)]), *(seen_verdicts(found.cases) if by is luck else ())]
+    show([*lines, tally([by.COUNTED[it.outcome] for it in results], tuple(by.COUNTED.values()))])
+    return worst([by.STATUS[it.outcome] for it in results])
 
 
 def run_script(given: argparse.Namespace) -> int:
-    """Writes the test cases as a script."""
     found = read(given)
     scripts = [script_of(it) for it in found.cases]
     for case, (_, why) in zip(found.cases, scripts):
-        if why:
-            print(CONTROL.sub("?", f"ttrun-titan: {case.title}: no script holds it: {why}"), file=sys.stderr)
+        said = [f"no script holds it: {why}"] if why else [
+            f"the error of {it} is written as its kill: explore cannot say error" for it in errors_in(case)]
+        for it in said:
+            print(CONTROL.sub("?", f"ttrun-titan: {case.title}: {it}"), file=sys.stderr)
     texts = [text for text, _ in scripts if text is not None]
     if len(texts) > MOST_TEST_CASES_OF_A_SCRIPT or sum(map(len, texts)) > MOST_BYTES_OF_A_SCRIPT:
         raise Refused(f"a script holds {MOST_TEST_CASES_OF_A_SCRIPT} test cases and {MOST_BYTES_OF_A_SCRIPT} bytes: choose some with --only")
@@ -226,18 +180,14 @@ def run_script(given: argparse.Namespace) -> int:
     return 0 if len(texts) == len(scripts) else 3
 
 
-RUNS = {"flaky": run_flaky, "audit": run_audit, "script": run_script}
-
-
 def main(words: Optional[Sequence[str]] = None) -> int:
-    """Runs the command: its status."""
     for stream in (sys.stdout, sys.stderr):
         stream.reconfigure(errors="backslashreplace")
     try:
         given = parser().parse_args(words)
         if given.command is None:
             raise Refused("a command is missing; ttrun-titan --help says what there is")
-        status = RUNS[given.command](given)
+        status = run_script(given) if given.command == "script" else run_judged(given)
         sys.stdout.flush()
         return status
     except Refused as refusal:

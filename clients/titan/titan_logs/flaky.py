@@ -1,43 +1,44 @@
 """Finds test cases whose verdict depended on luck: another order of the same calls gives another verdict."""
-from __future__ import annotations
-
 import re
 from dataclasses import dataclass, field
-from typing import Dict, Iterator, List, Optional, Sequence, Set
+from typing import Dict, Iterator, List, Optional, Sequence, Set, Tuple
 
 from .cases import Call, Run, TestCase
-from .histories import block_of, side_by_side, verdict_of, why_none
+from .histories import Finding, block_of, show_to_check, side_by_side, verdict_of, why_none
 from .limits import MOST_REMARKS
-from .orders import Verdicts, verdicts_of
 from .playing import Entry
-from .program import checked
+from .search import Verdicts, verdicts_of
 from .table import VERDICTS
 
 LUCK, STEADY, OPEN, UNEXPLAINED = "luck", "one verdict", "undecided", "not judged"
 # What the last line counts.
 COUNTED = {LUCK: "with luck", STEADY: "without", OPEN: OPEN, UNEXPLAINED: UNEXPLAINED}
 STATUS = {LUCK: 1, STEADY: 0, OPEN: 3, UNEXPLAINED: 3}
+COLUMNS = ("test case", "log", "also", "search", "cut off")
 
 
 @dataclass
-class Luck:
-    """What was found of one test case. `blocks` are its histories, the log's verdict first."""
+class Luck(Finding):
+    """What was found of one test case: its histories, the log's verdict first, and the other verdicts."""
 
-    case: TestCase
-    found: Verdicts
-    outcome: str
+    found: Verdicts = field(default_factory=Verdicts)
     others: List[str] = field(default_factory=list)
-    blocks: Dict[str, str] = field(default_factory=dict)
-    remarks: List[str] = field(default_factory=list)
 
     @property
-    def status(self) -> int:
-        """The exit status by only this test case."""
-        return STATUS[self.outcome]
+    def head(self) -> str:
+        """The first line of a test case."""
+        said = f"{' or '.join(self.others)} in another order of the same calls" if self.outcome == LUCK else self.outcome
+        return f"{self.case.title}: {self.case.verdict or 'no end'} in the log, {said}"
 
-    def orders(self) -> Iterator[str]:
-        """The verdicts with a history, the log's first."""
-        yield from (it for it in (self.case.verdict or "", *self.others) if it in self.found.witnesses)
+    def row(self) -> Tuple[str, ...]:
+        cut = sum(it.is_cut for it in self.case.runs)
+        return (self.case.title, self.case.verdict or "no end", " ".join(self.others) if self.outcome == LUCK else "-",
+                f"{self.found.states} states" if self.outcome in (LUCK, STEADY) else self.outcome, str(cut or "-"))
+
+    def details(self, *links: str) -> List[str]:
+        """The lines below the first one, with where a page compares the histories, if one is wanted."""
+        compared = [f"compare {self.case.verdict} and {it}: {link}" for it, link in zip(self.others, links[1:]) if self.outcome == LUCK]
+        return [*parting(self), *compared, *self.remarks]
 
 
 def about(case: TestCase, run: Run) -> str:
@@ -60,7 +61,7 @@ def cut_off(case: TestCase) -> Iterator[str]:
 
 def outcome_of(case: TestCase, found: Verdicts, others: Sequence[str]) -> str:
     """What is said about a test case: another verdict that was found counts, however the search ended, and whatever is missing."""
-    is_judged = not (case.faults or case.is_shot or case.verdict is None or case.verdict not in found.witnesses)
+    is_judged = not (case.faults or case.is_shot or case.is_stopped or case.verdict is None or case.verdict not in found.witnesses)
     if is_judged and others:
         return LUCK
     if not found.is_complete:
@@ -69,11 +70,10 @@ def outcome_of(case: TestCase, found: Verdicts, others: Sequence[str]) -> str:
 
 
 def remarks_on(case: TestCase, found: Verdicts, others: Sequence[str]) -> Iterator[str]:
-    """What is said after the outcome."""
     if case.faults:
-        yield f"the logs disagree, ttrun-titan audit says how: {case.faults[0]}"
+        yield case.hidden[0] if case.hidden else f"the logs disagree, ttrun-titan audit says how: {case.faults[0]}"
     yield from case.missing[:MOST_REMARKS]
-    if case.verdict is not None and case.verdict not in found.witnesses and found.is_complete:
+    if not case.faults and case.verdict is not None and case.verdict not in found.witnesses and found.is_complete:
         yield f"no order that was found gives {case.verdict}, as the log says: ttrun-titan audit says more"
     if not found.is_complete:
         yield f"the search met its limit after {found.states} states: other verdicts may exist"
@@ -88,13 +88,12 @@ def looked_at(case: TestCase, states: int) -> Luck:
     """What the orders of one test case give, not yet shown to `ttrun check`."""
     found = verdicts_of(case, states)
     others = sorted(set(found.witnesses) - {case.verdict}, key=VERDICTS.index)
-    one = Luck(case, found, outcome_of(case, found, others), others)
-    one.remarks += remarks_on(case, found, others)
+    one = Luck(case, outcome_of(case, found, others), {}, [*remarks_on(case, found, others)], found, others)
     why = why_none(case)
     if others and why:
         one.remarks.append(f"its orders are not shown to ttrun check: {why}")
     if not why:
-        one.blocks = {it: block_of(case, found.witnesses[it]) for it in one.orders()}
+        one.blocks = {it: block_of(case, found.witnesses[it]) for it in (case.verdict or "", *others) if it in found.witnesses}
     return one
 
 
@@ -131,13 +130,8 @@ def parting(one: Luck) -> Iterator[str]:
         yield about(one.case, one.case.runs[run])[:-1]
 
 
-def flaky(cases: Sequence[TestCase], states: int, program: Optional[str]) -> List[Luck]:
+def judged(cases: Sequence[TestCase], states: int, program: Optional[str]) -> List[Luck]:
     """What was found of all test cases; each order was shown to `ttrun check`, and those that it refused are left out."""
     found = [looked_at(it, states) for it in cases]
-    shown = [(one, verdict) for one in found for verdict in one.blocks]
-    for (one, verdict), said in zip(shown, checked(program, [one.blocks[verdict] for one, verdict in shown])):
-        if said:
-            one.outcome = UNEXPLAINED
-            del one.blocks[verdict]
-            one.remarks.insert(0, f"ttrun check says of the order for {verdict}: {said}")
+    show_to_check(found, program, UNEXPLAINED)
     return found

@@ -1,18 +1,38 @@
 """Writes orders as histories of format 2, and two of them side by side."""
-from __future__ import annotations
-
 import re
+from dataclasses import dataclass, field
 from itertools import takewhile
-from typing import List, Sequence
+from typing import Dict, List, Optional, Sequence
 
 from .cases import TestCase
 from .limits import MOST_BYTES_OF_A_HISTORY, MOST_BYTES_OF_A_NAME, MOST_ROWS
 from .playing import Entry
+from .program import checked
 from .table import MOST_BEHAVIOURS, MOST_COMPONENTS, Table
 
 COLUMN = 40
 LONGEST_ENTRY = 80
 NO_NAMES = ("all", "any", "mtc", "self")
+
+
+@dataclass
+class Finding:
+    """What was found of a test case. `blocks` are its histories, by the verdicts that they show if there may be several."""
+
+    case: TestCase
+    outcome: str = ""
+    blocks: Dict[str, str] = field(default_factory=dict)
+    remarks: List[str] = field(default_factory=list)
+
+
+def show_to_check(found: Sequence[Finding], program: Optional[str], refused: str) -> None:
+    """Shows all histories to `ttrun check`. One that it refuses is left out, and the test case has this outcome."""
+    shown = [(one, verdict) for one in found for verdict in one.blocks]
+    for (one, verdict), said in zip(shown, checked(program, [one.blocks[verdict] for one, verdict in shown])):
+        if said:
+            one.outcome = refused
+            del one.blocks[verdict]
+            one.remarks.insert(0, f"ttrun check says of the order{f' for {verdict}' * bool(verdict)}: {said}")
 
 
 def name_of(case: TestCase) -> str:
@@ -45,7 +65,6 @@ def verdict_of(case: TestCase, entries: Sequence[Entry]) -> str:
 
 
 def block_of(case: TestCase, entries: Sequence[Entry]) -> str:
-    """The history of an order."""
     lines = [f"history 2 {name_of(case)} {len(case.runs)}", *(it.text() for it in entries), f"end {verdict_of(case, entries)}"]
     return "".join(f"{it}\n" for it in lines)
 

@@ -1,6 +1,4 @@
 """Writes what was found as a JUnit report, which servers of continuous integration read."""
-from __future__ import annotations
-
 import re
 from typing import List, NamedTuple, Sequence
 from xml.sax.saxutils import escape, quoteattr
@@ -22,7 +20,6 @@ def plain(text: str) -> str:
 
 
 def element_of(row: Row) -> List[str]:
-    """The lines of one test case."""
     found = [f"<testcase name={quoteattr(plain(row.name))} classname={quoteattr(plain(row.session))}>"]
     if row.kind:
         found.append(f"<{row.kind} type={quoteattr(row.kind)} message={quoteattr(plain(row.message))}/>")
@@ -32,7 +29,6 @@ def element_of(row: Row) -> List[str]:
 
 
 def report_of(suite: str, rows: Sequence[Row]) -> str:
-    """The whole report."""
     failures, errors = (sum(it.kind == kind for it in rows) for kind in ("failure", "error"))
     counts = f'tests="{len(rows)}" failures="{failures}" errors="{errors}" skipped="0"'
     lines = ['<?xml version="1.0" encoding="UTF-8"?>', f"<testsuites {counts}>", f"<testsuite name={quoteattr(suite)} {counts}>"]

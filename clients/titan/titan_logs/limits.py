@@ -1,5 +1,4 @@
 """Every limit of the command, in one place."""
-from __future__ import annotations
 
 # What is read: all files of a call together, one line, the files of a folder, the lines that are kept of all processes.
 MOST_BYTES = 2_147_483_648

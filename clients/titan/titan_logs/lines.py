@@ -1,13 +1,11 @@
 """The lines of a log: its stamps, its event types, its sources; each file is read once."""
-from __future__ import annotations
-
 import re
 from dataclasses import dataclass
 from datetime import date
 from typing import BinaryIO, Iterator, NamedTuple, Optional, Tuple
 
 from .limits import MOST_BYTES, MOST_BYTES_OF_A_LINE, MOST_FOLLOWING, MOST_LINES
-from .phrases import Phrase, is_unread, recognise
+from .phrases import Phrase, recognise
 
 MONTHS = ("Jan", "Feb", "Mar", "Apr", "May", "Jun", "Jul", "Aug", "Sep", "Oct", "Nov", "Dec")
 SECOND = 1_000_000
@@ -72,7 +70,6 @@ class Layout:
             self.has_kinds, self.has_sources = found[1] != "No", found[2] != "None"
 
     def parts(self, rest: str) -> Tuple[str, str, str]:
-        """Entity, family and text of a line."""
         entity = family = ""
         if self.has_entities:
             entity, _, rest = rest.partition(" ")
@@ -90,13 +87,11 @@ class Budget:
         self.bytes, self.lines = MOST_BYTES, MOST_LINES
 
     def take(self, size: int) -> None:
-        """Takes some bytes."""
         self.bytes -= size
         if self.bytes < 0:
             raise Refused(f"the logs have more than {MOST_BYTES} bytes")
 
     def keep(self) -> None:
-        """Takes a line that is kept."""
         self.lines -= 1
         if self.lines < 0:
             raise Refused(f"the logs have more than {MOST_LINES} lines of components")
@@ -109,7 +104,6 @@ class Clock:
         self.days = self.last = 0
 
     def read(self, found: "re.Match[str]") -> int:
-        """The stamp of a line."""
         if found[8]:
             return int(found[8]) * SECOND + int(found[9])
         inside = ((int(found[4]) * 60 + int(found[5])) * 60 + int(found[6])) * SECOND + int(found[7])
@@ -122,7 +116,6 @@ class Clock:
 
     @staticmethod
     def day_of(found: "re.Match[str]") -> int:
-        """The day of a stamp with a date."""
         month = MONTHS.index(found[2]) + 1 if found[2] in MONTHS else 1
         try:
             return date(int(found[1]), month, int(found[3])).toordinal()
@@ -133,10 +126,7 @@ class Clock:
 def cut_lines(file: BinaryIO, budget: Budget) -> Iterator[Tuple[int, str]]:
     """The numbered lines of a file, none longer than the limit."""
     number, is_rest = 0, False
-    while True:
-        raw = file.readline(MOST_BYTES_OF_A_LINE)
-        if not raw:
-            return
+    for raw in iter(lambda: file.readline(MOST_BYTES_OF_A_LINE), b""):
         budget.take(len(raw))
         if not is_rest:
             number += 1
@@ -146,30 +136,25 @@ def cut_lines(file: BinaryIO, budget: Budget) -> Iterator[Tuple[int, str]]:
 
 def raw_lines(file: BinaryIO, budget: Budget, layout: Optional[Layout] = None) -> Iterator[Tuple[Raw, Layout]]:
     """The lines of a file; lines without a stamp belong to the one before them."""
-    clock, found_layout, held, following = Clock(), layout, None, 0
+    clock, held, following = Clock(), None, 0
     for number, text in cut_lines(file, budget):
         stamp = STAMP.match(text)
         if stamp is None:
             if held is not None and following < MOST_FOLLOWING:
                 held, following = held._replace(text=f"{held.text} {text.strip()}"[:MOST_BYTES_OF_A_LINE]), following + 1
             continue
-        if held is not None and found_layout is not None:
-            yield held, found_layout
+        if held is not None and layout is not None:
+            yield held, layout
         rest = text[stamp.end():]
-        found_layout = found_layout or Layout.guessed(rest)
+        layout = layout or Layout.guessed(rest)
         if "TTCN Logger v" in rest[:200]:
-            found_layout.learn(rest)
-        held, following = Raw(clock.read(stamp), *found_layout.parts(rest), number), 0
-    if held is not None and found_layout is not None:
-        yield held, found_layout
+            layout.learn(rest)
+        held, following = Raw(clock.read(stamp), *layout.parts(rest), number), 0
+    if held is not None and layout is not None:
+        yield held, layout
 
 
 def said(raw: Raw, before: int, name: str) -> Optional[Line]:
     """The line that a raw one is, if it says something."""
     phrase = recognise(raw.text, raw.family)
     return Line(raw.stamp, before, phrase, raw.text, name, raw.number) if phrase else None
-
-
-def is_unknown(raw: Raw) -> bool:
-    """Whether a line that says nothing ought to be known."""
-    return is_unread(raw.text, raw.family)

@@ -1,6 +1,4 @@
 """Titan's sentences: what a line of a log says, by a name and the words in it."""
-from __future__ import annotations
-
 import re
 from typing import Dict, List, NamedTuple, Optional, Pattern, Tuple
 
@@ -24,12 +22,12 @@ FORMS: Tuple[Tuple[str, str, str], ...] = (
     ("was_started", "PARALLEL", r"Function was started\."),
     ("starting", "PARALLEL", r"Starting function (.*)\."),
     ("halting", "PARALLEL", rf"(Stopping|Killing) PTC {WHO}\."),
-    ("halting_all", "PARALLEL", r"(Stopping|Killing) all components\."),
+    ("halting", "PARALLEL", r"(Stopping|Killing) (all) components\."),
     ("stopping_main", "PARALLEL", r"Stopping MTC\..*"),
     ("was_halted", "PARALLEL", rf"PTC {WHO} was (stopped|killed)\."),
-    ("all_halted", "PARALLEL", r"All components were (stopped|killed)\."),
-    ("halted_none", "PARALLEL", r"No PTCs are running\. Operation 'all component\.(stop|kill)' had no effect\.?"),
-    ("halted_none", "PARALLEL", r"There are no alive PTCs\. Operation 'all component\.(stop|kill)' had no effect\.?"),
+    ("was_halted", "PARALLEL", r"(All) components were (stopped|killed)\."),
+    ("halted_in_vain", "PARALLEL", r"No PTCs are running\. Operation '(all) component\.(stop|kill)' had no effect\.?"),
+    ("halted_in_vain", "PARALLEL", r"There are no alive PTCs\. Operation '(all) component\.(stop|kill)' had no effect\.?"),
     ("halted_in_vain", "PARALLEL", rf"PTC {WHO} is not (?:running|alive anymore)\. (Stop|Kill) operation had no effect\.?"),
     ("has_ended", "PARALLEL", rf"PTC {WHO} is (done|killed)\.(?: Return value: .*)?"),
     ("group_has_ended", "MATCHING", r"Operation '(any|all) component\.(done|killed)' (was successful|failed)\b.*"),

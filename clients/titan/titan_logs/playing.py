@@ -1,23 +1,18 @@
 """One call of a log on the component table: the entries that it is in a history, or why it cannot be next."""
-from __future__ import annotations
-
 from bisect import bisect_left, insort
 from dataclasses import dataclass, field
-from typing import Dict, List, NamedTuple, Optional, Tuple, Union
+from typing import Dict, Iterator, List, NamedTuple, Optional, Tuple, Union
 
 from .cases import Call, Channel, TestCase
 from .table import Component, Op, Table
 
 
 class Entry(NamedTuple):
-    """An entry of a history."""
-
     run: int
     op: Op
     reply: str
 
     def text(self) -> str:
-        """The line of the entry."""
         return f"{self.run} {self.op.text()} -> {self.reply}"
 
 
@@ -47,27 +42,15 @@ def state_of(table: Table) -> Tuple[Tuple[object, ...], ...]:
 
 
 def is_over(table: Table) -> bool:
-    """Whether the main component has ended."""
     return table.components[0].phase != "running"
 
 
-def is_destroyed_by_stop(table: Table, op: Op) -> bool:
-    """Whether Titan destroys the component by this stop: an ordinary one that was never started."""
-    if op.verb != "stop" or not isinstance(op.target, int) or op.target >= len(table.components):
-        return False
-    return table.components[op.target].phase == "inactive" and not table.components[op.target].alive_type
-
-
 def as_played(table: Table, op: Op) -> Op:
-    """The operation of the table that does what Titan's does."""
-    return Op("kill", target=op.target) if is_destroyed_by_stop(table, op) else op
-
-
-def in_vain(table: Table, call: Call) -> Union[List[Entry], Reason]:
-    """The call of a run that is not active."""
-    if call.reply in (None, "ended"):
-        return [Entry(call.run, call.op, "ended")]
-    return "table gives ended"
+    """The operation of the table that does what Titan's does, which destroys an ordinary component by a stop if it was never started."""
+    if op.verb != "stop" or not isinstance(op.target, int) or op.target >= len(table.components):
+        return op
+    component = table.components[op.target]
+    return Op("kill", target=op.target) if component.phase == "inactive" and not component.alive_type else op
 
 
 def try_error(table: Table, call: Call) -> Union[List[Entry], Reason]:
@@ -84,7 +67,7 @@ def try_call(table: Table, call: Call) -> Union[List[Entry], Reason]:
     if call.channel is not None:
         return [] if table.is_going_on(call.run) else "table gives ended"
     if not table.is_going_on(call.run):
-        return in_vain(table, call)
+        return [Entry(call.run, call.op, "ended")] if call.reply in (None, "ended") else "table gives ended"
     if call.reply == "ended":
         return "its behaviour is still running"
     if call.is_error:
@@ -97,7 +80,6 @@ def try_call(table: Table, call: Call) -> Union[List[Entry], Reason]:
 
 
 def play(table: Table, entries: List[Entry]) -> None:
-    """Carries entries out that the table was asked about before."""
     for entry in entries:
         table.play(entry.run, entry.op)
 
@@ -113,20 +95,26 @@ class Trail:
         self.table = Table(len(case.runs))
         self.steps: List[Step] = []
         self.places = [0] * len(calls)
-        self.sent: Dict[Channel, int] = {}
+        # How many messages were sent on each channel whose sendings are in the logs; one on another may come at any time.
+        self.sent: Dict[Channel, int] = {it.channel: 0 for its in calls for it in its if it.is_sent and it.channel is not None}
         self.every = max(16, sum(map(len, calls)) // 64)
         self.kept: List[Tuple[int, Table]] = [(0, copy_of(self.table))]
         # The runs that have a call left, by the guess at its time.
         self.heads: List[Tuple[int, int]] = sorted((it[0].guess, run) for run, it in enumerate(calls) if it)
 
     def head(self, run: int) -> Optional[Call]:
-        """The next call of a run."""
         at = self.places[run]
         return self.calls[run][at] if at < len(self.calls[run]) else None
 
-    def move(self, run: int, by: int) -> None:
-        """Moves forward, or back, in a run."""
-        old = self.head(run)
+    def next_calls(self) -> Iterator[Call]:
+        """The next call of each run that has one left, by the guess at their times."""
+        yield from (self.calls[run][self.places[run]] for _, run in tuple(self.heads))
+
+    def move(self, call: Call, by: int) -> None:
+        """Moves over a call in its run, forward or back."""
+        run, old = call.run, self.head(call.run)
+        if call.is_sent and call.channel is not None:
+            self.sent[call.channel] += by
         if old is not None:
             del self.heads[bisect_left(self.heads, (old.guess, run))]
         self.places[run] += by
@@ -140,17 +128,10 @@ class Trail:
             return "its message is not sent yet"
         return try_call(self.table, call)
 
-    def expect(self, channels: Dict[Channel, int]) -> None:
-        """Says of which channels the sendings are in the logs; a message on another may come at any time."""
-        self.sent = dict.fromkeys(channels, 0)
-
     def take(self, call: Call, entries: List[Entry]) -> None:
-        """Takes a call."""
         play(self.table, entries)
-        if call.is_sent and call.channel is not None and call.channel in self.sent:
-            self.sent[call.channel] += 1
         self.steps.append(Step(call, entries))
-        self.move(call.run, 1)
+        self.move(call, 1)
         if len(self.steps) % self.every == 0:
             self.kept.append((len(self.steps), copy_of(self.table)))
 
@@ -159,9 +140,7 @@ class Trail:
         if length == len(self.steps):
             return
         for step in reversed(self.steps[length:]):
-            if step.call.is_sent and step.call.channel is not None and step.call.channel in self.sent:
-                self.sent[step.call.channel] -= 1
-            self.move(step.call.run, -1)
+            self.move(step.call, -1)
         del self.steps[length:]
         while self.kept[-1][0] > length:
             self.kept.pop()
@@ -171,10 +150,7 @@ class Trail:
             play(self.table, step.entries)
 
     def state(self) -> Tuple[object, ...]:
-        """All that the rest depends on."""
         return tuple(self.places), state_of(self.table)
 
     def entries(self) -> List[Entry]:
-        """The entries so far."""
         return [entry for step in self.steps for entry in step.entries]
-

@@ -1,11 +1,8 @@
 """The program ttrun: its place, what it says of a text of histories, and the page that it writes of one."""
-from __future__ import annotations
-
 import os
 import re
 import shutil
 import subprocess
-from dataclasses import dataclass
 from typing import Iterator, List, Optional, Sequence
 
 from .limits import MOST_BYTES_OF_A_HISTORY, SECONDS_OF_A_CALL
@@ -17,32 +14,21 @@ LEGAL = re.compile(r"legal (\w+) (\d+) (\w+)")
 
 
 def found_program(given: Optional[str]) -> str:
-    """The program: the given one, that of FILSKEAM_TTRUN, the one that this checkout built, or `ttrun` on the path."""
-    named = given or os.environ.get("FILSKEAM_TTRUN")
+    """The program: the given one, that of TTRUN or FILSKEAM_TTRUN, the one that this checkout built, or `ttrun` on the path."""
+    named = given or os.environ.get("TTRUN") or os.environ.get("FILSKEAM_TTRUN")
     path = named or (BUILT if os.access(BUILT, os.X_OK) else shutil.which("ttrun"))
     if path is None or not os.access(path, os.X_OK):
-        raise Refused(f"there is no program {path or BUILT}: ./ttrun --help builds it, FILSKEAM_TTRUN=FILE or --program FILE names it,"
+        raise Refused(f"there is no program {path or BUILT}: ./ttrun --help builds it, TTRUN=FILE or --program FILE names it,"
                       " --unchecked does without it")
     return os.path.abspath(path)
 
 
-@dataclass
-class Ran:
-    """What a call of the program gave."""
-
-    output: str
-    errors: str
-    status: int
-
-
-def call(program: str, words: Sequence[str], text: str) -> Ran:
-    """Calls the program with this input."""
+def call(program: str, words: Sequence[str], text: str) -> "subprocess.CompletedProcess[str]":
     try:
-        ran = subprocess.run([program, *words], input=text.encode(), stdout=subprocess.PIPE, stderr=subprocess.PIPE,
-                             timeout=SECONDS_OF_A_CALL, check=False)
+        return subprocess.run([program, *words], input=text, capture_output=True, encoding="utf-8", errors="replace",
+                              timeout=SECONDS_OF_A_CALL, check=False)
     except (OSError, subprocess.TimeoutExpired) as error:
         raise Refused(f"{program} {' '.join(words)}: {error}") from error
-    return Ran(ran.stdout.decode("utf-8", "replace"), ran.stderr.decode("utf-8", "replace"), ran.returncode)
 
 
 def batches(blocks: Sequence[str]) -> Iterator[List[int]]:
@@ -66,20 +52,19 @@ def checked(program: Optional[str], blocks: Sequence[str]) -> List[str]:
         return said
     for places in batches(blocks):
         ran = call(program, ["check"], "".join(blocks[it] for it in places))
-        legal = [it for it in ran.output.splitlines() if LEGAL.fullmatch(it)]
-        if ran.status == 0 and len(legal) == len(places):
+        legal = [it for it in ran.stdout.splitlines() if LEGAL.fullmatch(it)]
+        if ran.returncode == 0 and len(legal) == len(places):
             continue
         for place in places:
             alone = call(program, ["check"], blocks[place])
-            if alone.status != 0 or not LEGAL.fullmatch(alone.output.strip()):
-                said[place] = (alone.output.strip() or alone.errors.strip() or f"status {alone.status}").splitlines()[-1]
+            if alone.returncode != 0 or not LEGAL.fullmatch(alone.stdout.strip()):
+                said[place] = (alone.stdout.strip() or alone.stderr.strip() or f"status {alone.returncode}").splitlines()[-1]
     return said
 
 
 def page_of(program: str, text: str) -> str:
-    """The page that `ttrun report --html` writes of histories."""
     ran = call(program, ["report", "--html"], text)
-    if not ran.output.lstrip()[:9].lower().startswith("<!doctype"):
-        said = (ran.errors.strip() or f"status {ran.status}").splitlines()[0]
+    if not ran.stdout.lstrip()[:9].lower().startswith("<!doctype"):
+        said = (ran.stderr.strip() or f"status {ran.returncode}").splitlines()[0]
         raise Refused(f"this ttrun writes no page: {said}; --history FILE keeps the histories")
-    return ran.output
+    return ran.stdout

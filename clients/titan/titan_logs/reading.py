@@ -1,6 +1,4 @@
 """From the lines of each process to calls, and what the logs of one test case say against one another."""
-from __future__ import annotations
-
 import re
 from collections import Counter, defaultdict
 from dataclasses import replace
@@ -10,7 +8,7 @@ from .cases import FOREVER, Call, Channel, Run, TestCase
 from .limits import MOST_BYTES_OF_A_NAME
 from .lines import Line
 from .sessions import MAIN
-from .table import Op, worst
+from .table import Op, Target, worst
 
 # What a dynamic error of a start is called by the table, by words in its text.
 FAULTS = (("already executing", "already-running"), ("own component reference", "already-running"), ("not alive anymore", "not-startable"),
@@ -20,7 +18,8 @@ NOT_MAIN = re.compile(r"Operation '(any|all) component\.(running|alive|done|kill
 NAME = re.compile(rf"[A-Za-z][A-Za-z0-9_]{{0,{MOST_BYTES_OF_A_NAME - 1}}}")
 NO_NAMES = ("all", "any", "mtc", "self")
 LOST = "control connection"
-HALTS = {"Stopping": "stop", "Killing": "kill", "Stop": "stop", "Kill": "kill", "Terminating": "kill", "stopped": "stop", "killed": "kill"}
+HALTS = {"Stopping": "stop", "Stop": "stop", "stopped": "stop", "stop": "stop", "Killing": "kill", "Kill": "kill", "killed": "kill",
+         "kill": "kill", "Terminating": "kill"}
 # The local verdict of each component, and the line that says it.
 Finals = Dict[int, Tuple[str, Line]]
 MESSAGES = {"Sent": "message", "Called": "call", "Replied": "reply", "Raised": "exception"}
@@ -32,11 +31,6 @@ def reference_of(word: Optional[str]) -> Optional[int]:
     if found is None:
         return None
     return MAIN if found[1] in ("mtc", "1") else int(found[1])
-
-
-def operation(verb: str, target: object) -> Op:
-    """The operation on a component or a group."""
-    return Op(verb, target=target)  # type: ignore[arg-type]
 
 
 class Reader:
@@ -57,13 +51,11 @@ class Reader:
         self.received: Counter = Counter()
 
     def number(self, reference: Optional[int]) -> int:
-        """The number of a component in the test case; one that was never made has a number of none."""
         if reference == MAIN:
             return 0
         return self.case.numbers.get(reference if reference is not None else -1, len(self.case.numbers) + 1)
 
     def disagree(self, text: str) -> None:
-        """Notes a fault of the logs."""
         self.case.faults.append(text)
 
     def add(self, call: Call) -> None:
@@ -75,15 +67,22 @@ class Reader:
         else:
             self.run.calls.append(call)
 
+    def target(self, word: str) -> Target:
+        return word.lower() if word.lower() in ("any", "all") else self.number(reference_of(word))
+
     def made(self, line: Line, op: Op, reply: Optional[str], **more: object) -> Call:
         """A call that is over with this line."""
-        number = self.run.number if self.run else 0
-        return Call(number, op, reply, line, min(line.before, line.stamp), line.stamp, line.stamp, **more)  # type: ignore[arg-type]
+        call = Call(self.run.number if self.run else 0, op, reply, line, min(line.before, line.stamp), line.stamp, line.stamp)
+        return replace(call, **more)  # type: ignore[arg-type]
+
+    def add_late(self, line: Line, op: Op, reply: Optional[str] = "ok", **more: object) -> None:
+        """Adds a call that begins with this line, and may take effect up to the end of the test case."""
+        self.add(self.made(line, op, reply, begin=line.stamp, end=self.case.end, **more))
 
     def begin(self, line: Line, op: Op) -> None:
         """A call whose answer is another line."""
         self.close(is_allowed=False)
-        self.open = replace(self.made(line, op, None), begin=line.stamp, end=FOREVER)
+        self.open = self.made(line, op, None, begin=line.stamp, end=FOREVER)
 
     def answered(self, line: Line, verb: str, reply: str) -> Optional[Call]:
         """The call that the line answers; if there is none the logs disagree."""
@@ -107,7 +106,6 @@ class Reader:
         self.add(call)
 
     def read(self) -> None:
-        """Reads all lines."""
         for line in self.lines:
             handler = getattr(self, f"on_{line.phrase.name}", None)
             if handler is not None:
@@ -127,11 +125,13 @@ class Reader:
         if self.told.get(self.role, ("", None))[0] != "error" or not self.lines:
             self.case.missing.append(f"the log of component {self.role} just ends: it is cut")
             return
+        if self.case.hidden:
+            self.disagree(f"the log of component {self.role} just ends")
+            return
         self.case.missing.append(f"component {self.role} was shot: its log just ends, and the main component got the verdict error of it")
         self.case.is_shot = True
         self.case.errors += 1
-        call = self.made(self.lines[-1], operation("kill", self.number(self.role)), "ok", faulty=Op("stopcase"))
-        self.add(replace(call, begin=call.end, end=self.case.end))
+        self.add_late(self.lines[-1], Op("kill", self.number(self.role)), faulty=Op("stopcase"))
 
     def end_of_value(self, line: Line) -> None:
         """Before a line that only an idle component has: the behaviour has ended, if its function returned a value."""
@@ -141,7 +141,7 @@ class Reader:
         self.returned[name] -= 1
         self.close()
         before = min(line.before, line.stamp)
-        self.add(replace(self.made(line, Op("finish"), "ok"), begin=before, guess=before))
+        self.add(self.made(line, Op("finish"), "ok", begin=before, guess=before))
         self.is_over = True
 
     def on_creating(self, line: Line, alive: Optional[str]) -> None:
@@ -172,31 +172,17 @@ class Reader:
         self.is_over, self.requested = False, None
 
     def on_halting(self, line: Line, verb: str, word: str) -> None:
-        self.begin(line, operation(HALTS[verb], self.number(reference_of(word))))
-
-    def on_halting_all(self, line: Line, verb: str) -> None:
-        self.begin(line, operation(HALTS[verb], "all"))
+        self.begin(line, Op(HALTS[verb], self.target(word)))
 
     def on_was_halted(self, line: Line, word: str, verb: str) -> None:
-        self.answered_halt(line, HALTS[verb], self.number(reference_of(word)))
-
-    def on_all_halted(self, line: Line, verb: str) -> None:
-        self.answered_halt(line, HALTS[verb], "all")
-
-    def answered_halt(self, line: Line, verb: str, target: object) -> None:
-        """The answer to a stop or kill, which names its target again."""
-        if self.open is not None and self.open.op.target != target:
+        # The answer names the target of its call again.
+        if self.open is not None and self.open.op.target != self.target(word):
             self.disagree(f"an answer for another component than its call: {line}")
-        self.answered(line, verb, "ok")
-
-    def on_halted_none(self, line: Line, verb: str) -> None:
-        self.answer_or_make(line, operation(verb, "all"))
+        self.answered(line, HALTS[verb], "ok")
 
     def on_halted_in_vain(self, line: Line, word: str, verb: str) -> None:
-        self.answer_or_make(line, operation(HALTS[verb], self.number(reference_of(word))))
-
-    def answer_or_make(self, line: Line, op: Op) -> None:
-        """A stop or kill that had no effect: an answer where its call is open, otherwise call and answer in one."""
+        # An answer if its call is open, otherwise call and answer in one.
+        op = Op(HALTS[verb], self.target(word))
         if self.open is not None and self.open.op == op:
             self.answered(line, op.verb, "ok")
         else:
@@ -205,7 +191,7 @@ class Reader:
 
     def on_has_ended(self, line: Line, word: str, status: str) -> None:
         number = self.number(reference_of(word))
-        if status == "killed" and self.open is not None and self.open.op == operation("kill", number):
+        if status == "killed" and self.open is not None and self.open.op == Op("kill", number):
             self.answered(line, "kill", "ok")
             return
         self.close(is_allowed=False)
@@ -214,13 +200,12 @@ class Reader:
     def on_group_has_ended(self, line: Line, group: str, status: str, how: str) -> None:
         self.close(is_allowed=False)
         if how == "failed":
-            self.add(self.made(line, operation(status, group), "false"))
+            self.add(self.made(line, Op(status, group), "false"))
         else:
             self.add(self.made(line, Op("wait", target=group, awaited=status), "matched"))
 
     def on_shim_status(self, line: Line, verb: str, word: str, answer: str) -> None:
-        target = word if word in ("any", "all") else self.number(reference_of(word))
-        self.add(self.made(line, operation(verb, target), "true" if answer == "true" else "false"))
+        self.add(self.made(line, Op(verb, self.target(word)), "true" if answer == "true" else "false"))
 
     def on_shim_set(self, line: Line, verdict: str) -> None:
         self.verdict_told = (verdict, line)
@@ -284,15 +269,10 @@ class Reader:
                     faulty = replace(faulty, target=len(self.case.numbers) + 1)
             self.open = None
         elif not_main:
-            faulty, fault = self.not_main(not_main[1], not_main[2]), "not-main"
+            faulty, fault = Op(not_main[2], not_main[1]), "not-main"
         self.close()
         self.add(self.error(line, faulty, fault, begin))
         self.is_over = True
-
-    @staticmethod
-    def not_main(group: str, verb: str) -> Op:
-        """The call on any or all by a component that is not the main one."""
-        return operation(verb, group)
 
     def error(self, line: Line, faulty: Op, fault: str, begin: int) -> Call:
         """A dynamic error: of the main component it ends the test case, of another only that component."""
@@ -300,8 +280,7 @@ class Reader:
             call = self.made(line, faulty, f"error {fault}" if fault else "ok")
             return replace(call, begin=begin, end=self.case.end, guess=self.case.end - 1)
         self.case.errors += 1
-        call = self.made(line, operation("kill", self.number(self.role)), "ok", faulty=faulty, fault=fault)
-        return replace(call, begin=begin, end=self.case.end)
+        return self.made(line, Op("kill", self.number(self.role)), "ok", faulty=faulty, fault=fault, begin=begin, end=self.case.end)
 
     def on_requested(self, line: Line, verb: str, more: str) -> None:
         if "Ignored" in more or "idle" in more:
@@ -314,16 +293,21 @@ class Reader:
             return
         self.close()
         if self.requested is None:
-            call = self.made(line, operation(HALTS[verb], self.number(self.role)), "ok")
-            end = self.case.end
-            self.add(replace(call, begin=line.stamp, end=end, guess=end - 2 if self.role == MAIN else line.stamp))
+            self.add_late(line, Op(HALTS[verb], self.number(self.role)), guess=self.case.end - 2 if self.role == MAIN else line.stamp)
         elif self.role != MAIN:
-            call = self.made(line, Op("getverdict"), "ended", seen=True)
-            self.add(replace(call, begin=self.requested.stamp))
+            self.add(self.made(line, Op("getverdict"), "ended", seen=True, begin=self.requested.stamp))
             self.mark_cut()
         else:
             self.mark_cut()
+            if not any(it.phrase.name == "stopping_main" for lines in self.case.logs.values() for it in lines):
+                self.was_stopped(line)
         self.is_over = True
+
+    def was_stopped(self, line: Line) -> None:
+        """The end of a test case that nobody in it stopped."""
+        self.case.is_stopped = True
+        self.case.missing.append(f"it was stopped from outside, as by an operator, which is written as its own stop: {self.requested}")
+        self.add_late(line, Op("stop", 0), guess=self.case.end - 2)
 
     def mark_cut(self) -> None:
         """Notes that the behaviour was halted by another: what it would have called is in no log."""
@@ -332,18 +316,16 @@ class Reader:
 
     def on_stopping_main(self, line: Line) -> None:
         self.close()
-        if self.role == MAIN:
-            return
-        call = self.made(line, operation("stop", 0), None)
-        self.add(replace(call, begin=line.stamp, end=self.case.end, guess=self.case.end - 2))
-        self.is_over = True
+        if self.role != MAIN:
+            self.add_late(line, Op("stop", 0), None, guess=self.case.end - 2)
+            self.is_over = True
 
     def on_finished(self, line: Line, how: str) -> None:
         self.close()
         if self.is_over:
             self.disagree(f"an end of a behaviour that was over: {line}")
             return
-        self.add(replace(self.made(line, Op("finish"), "ok"), begin=line.stamp, end=self.case.end))
+        self.add_late(line, Op("finish"))
         self.is_over, self.requested = True, None
 
     def on_stopped(self, line: Line, how: str) -> None:
@@ -355,8 +337,7 @@ class Reader:
         self.end_of_value(line)
         if self.role == MAIN and not self.is_over:
             self.close()
-            end = self.case.end
-            self.add(replace(self.made(line, Op("finish"), "ok"), begin=line.stamp, end=end, guess=end - 1))
+            self.add_late(line, Op("finish"), guess=self.case.end - 1)
             self.is_over = True
 
     def on_sent(self, line: Line, what: str, word: str) -> None:

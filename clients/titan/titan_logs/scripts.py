@@ -1,22 +1,27 @@
 """Writes what a log shows as a script, for `ttrun explore`: each behaviour's calls, and the components that it is handed."""
-from __future__ import annotations
-
 from typing import Dict, List, Optional, Set, Tuple
 
 from .cases import Call, Run, TestCase
 from .histories import name_of
 from .limits import MOST_STEPS
-from .orders import visible
+from .search import visible
 from .table import MOST_ARGUMENTS, MOST_BEHAVIOURS, STATUSES, Op
 
 
+# The line above a step for a dynamic error. Titan ends only the component by it, and gives the test case the verdict error.
+ERROR = "  # a dynamic error of this component, which no script has: Titan's verdict is error"
+
+
+def errors_in(case: TestCase) -> List[str]:
+    """The behaviours that ended with a dynamic error of their component."""
+    return [behaviour(run.number) for run in case.runs if any(it.is_error for it in run.calls)]
+
+
 def calls_of(case: TestCase) -> List[List[Call]]:
-    """The calls that a script can say: messages are in none."""
     return [[it for it in its if it.channel is None] for its in visible(case)]
 
 
 def names_in(op: Op) -> List[int]:
-    """The components that the call names."""
     if op.verb in ("start", "stop", "kill", "wait", *STATUSES) and isinstance(op.target, int):
         return [op.target]
     return []
@@ -71,12 +76,10 @@ def named(run: Run, target: object) -> str:
 
 
 def behaviour(number: int) -> str:
-    """The name of a behaviour."""
     return f"r{number}" if number else "main"
 
 
 def step_of(run: Run, call: Call, handed: Dict[int, List[int]]) -> str:
-    """The line of a call."""
     op = call.op
     if op.verb == "create":
         name = call.reply.split()[1] if call.reply else f"of_{len(run.calls)}"
@@ -98,7 +101,7 @@ def lines_of(run: Run, calls: List[Call], handed: Dict[int, List[int]]) -> List[
         if call.op.verb == "finish":
             is_ended = True
             break
-        found.append(f"  {step_of(run, call, handed)}")
+        found += [ERROR] * call.is_error + [f"  {step_of(run, call, handed)}"]
         is_ended = is_ended or call.is_error or call.op.verb in ("stop", "kill") and call.op.target in (0, run.component)
     if not is_ended:
         found.append(f"  wait killed {'self' if run.number else 'mtc'}")
@@ -106,7 +109,6 @@ def lines_of(run: Run, calls: List[Call], handed: Dict[int, List[int]]) -> List[
 
 
 def script_of(case: TestCase) -> Tuple[Optional[str], str]:
-    """The script of a test case, or why there is none."""
     calls = calls_of(case)
     handed = handed_on(case, calls)
     why = why_none(case, handed)

@@ -1,17 +1,18 @@
-"""Looks for one order of all calls of a test case that the component table gives: each process's own order is the law,
-the stamps are the guess at what to try first."""
-from __future__ import annotations
-
+"""Searches through orders of the calls of a test case: for one of all calls that the component table gives, and for every overall
+verdict that they could have had in another order. Each process's own order is the law, the stamps are a guess at what to try first."""
 from dataclasses import dataclass, field
-from typing import Iterator, List, Optional, Set, Tuple
+from typing import Dict, Iterable, Iterator, List, Optional, Set, Tuple
 
 from .cases import Call, TestCase
-from .playing import Entry, Step, Trail
+from .playing import Entry, Step, Trail, is_over
+from .table import STATUSES, VERDICTS
 from .touching import QUIET, Touching
 
 FOUND, NONE, UNDECIDED = "found", "none", "undecided"
 # How many states the first search may look at, next to two for each call.
 QUICK = 1000
+# The calls that change nothing at all.
+ASKING = ("getverdict", "wait", *STATUSES)
 
 
 @dataclass
@@ -22,7 +23,6 @@ class Answer:
     entries: List[Entry] = field(default_factory=list)
     states: int = 0
     taken: int = 0
-    last: List[Step] = field(default_factory=list)
     stuck: List[Tuple[Call, str]] = field(default_factory=list)
 
 
@@ -58,21 +58,13 @@ class Search:
             return True
         return self.touching.is_quiet(self.trail, call) or self.touching.is_harmless_halt(self.trail, call)
 
-    def heads(self) -> Iterator[Call]:
+    def heads(self) -> Iterable[Call]:
         """The next calls, by the guess at their times; with stamps as a law, those that no other must be before."""
         if not self.is_timed:
-            yield from self.next_calls()
-            return
-        found = list(self.next_calls())
+            return self.trail.next_calls()
+        found = list(self.trail.next_calls())
         ends = sorted(it.end for it in found)[:2]
-        yield from (it for it in found if it.begin <= (ends[-1] if it.end == ends[0] else ends[0]))
-
-    def next_calls(self) -> Iterator[Call]:
-        """The next call of each run that has one left."""
-        for _, run in tuple(self.trail.heads):
-            call = self.trail.head(run)
-            if call is not None:
-                yield call
+        return [it for it in found if it.begin <= (ends[-1] if it.end == ends[0] else ends[0])]
 
     def choices(self) -> Iterator[Choice]:
         """The calls that may be taken here, one where it can hurt nobody."""
@@ -124,16 +116,13 @@ class Search:
 
     def failed(self, outcome: str) -> Answer:
         """The answer without an order: the longest that was found, and what could not be next after it."""
-        if not self.best:
-            self.best = list(self.trail.steps)
+        self.best = self.best or list(self.trail.steps)
         self.trail.back_to(0)
         for step in self.best:
             self.trail.take(step.call, step.entries)
-        stuck = []
-        for call in self.heads():
-            entries = self.trail.attempt(call)
-            stuck.append((call, entries if isinstance(entries, str) else "legal, and no order continues after it"))
-        return Answer(outcome, self.trail.entries(), self.states, len(self.best), list(self.best), stuck)
+        tried = [(it, self.trail.attempt(it)) for it in self.heads()]
+        stuck = [(it, why if isinstance(why, str) else "legal, and no order continues after it") for it, why in tried]
+        return Answer(outcome, self.trail.entries(), self.states, len(self.best), stuck)
 
 
 def search(case: TestCase, states: int) -> Answer:
@@ -154,3 +143,96 @@ def overall_of(entries: List[Entry], case: TestCase) -> Optional[str]:
     for entry in entries:
         trail.table.play(entry.run, entry.op)
     return trail.table.overall()
+
+
+@dataclass
+class Verdicts:
+    """What was found: a whole schedule for each overall verdict, whether all orders were looked at, and how many states."""
+
+    witnesses: Dict[str, List[Entry]] = field(default_factory=dict)
+    is_complete: bool = True
+    states: int = 0
+
+
+def visible(case: TestCase) -> List[List[Call]]:
+    """The calls of each run without what is only an observation: in another order that may be another one."""
+    return [[it for it in run.calls if not it.seen] for run in case.runs]
+
+
+class Orders:
+    """A search through all orders, depth first. A state in which several calls may be next is entered once. The order of messages is
+    kept, answers are as the log has them, and no call comes after the end of a behaviour."""
+
+    def __init__(self, case: TestCase, states: int) -> None:
+        calls = visible(case)
+        self.case, self.most = case, states
+        self.trail = Trail(case, calls)
+        self.touching = Touching(calls)
+        self.met: Set[Tuple[object, ...]] = set()
+        self.found = Verdicts()
+
+    def has_error(self) -> bool:
+        return any(it.call.is_error for it in self.trail.steps)
+
+    def overall(self) -> str:
+        """The overall verdict of Titan, to which the error of a component counts."""
+        return "error" if self.case.errors and self.has_error() else self.trail.table.overall()
+
+    def is_safe(self, call: Call) -> bool:
+        """Whether the call can be taken now without a loss of any verdict."""
+        if call.channel is not None or call.op.verb in ASKING:
+            return True
+        if call.reply is None or call.is_error:
+            return False
+        if call.op.verb == "setverdict":
+            if not self.touching.can_be_halted_before(self.trail, call.run):
+                return True
+            return VERDICTS.index(call.op.verdict) <= VERDICTS.index(self.trail.table.overall())
+        return self.touching.is_quiet(self.trail, call)
+
+    def choices(self) -> List[Choice]:
+        """The calls that may be next, one where it can be taken without a loss."""
+        found: List[Choice] = []
+        for call in self.trail.next_calls():
+            entries = self.trail.attempt(call) if self.trail.table.is_going_on(call.run) else ""
+            if isinstance(entries, str):
+                continue
+            if self.is_safe(call):
+                return [(call, entries)]
+            found.append((call, entries))
+        return found
+
+    def next_choices(self) -> Iterator[Choice]:
+        """The same, none if the test case is over, or where this state was met before."""
+        if is_over(self.trail.table):
+            self.found.witnesses.setdefault(self.overall(), self.trail.entries())
+            return
+        choices = self.choices()
+        if len(choices) > 1:
+            state = (*self.trail.state(), bool(self.case.errors) and self.has_error())
+            if state in self.met:
+                return
+            self.met.add(state)
+        yield from choices
+
+    def run(self) -> Verdicts:
+        """Looks at all orders, up to the limit."""
+        frames = [(0, self.next_choices())]
+        while frames:
+            depth, choices = frames[-1]
+            choice = next(choices, None)
+            if choice is None:
+                frames.pop()
+                continue
+            self.trail.back_to(depth)
+            self.found.states += 1
+            if self.found.states > self.most:
+                self.found.is_complete = False
+                break
+            self.trail.take(*choice)
+            frames.append((depth + 1, self.next_choices()))
+        return self.found
+
+
+def verdicts_of(case: TestCase, states: int) -> Verdicts:
+    return Orders(case, states).run()

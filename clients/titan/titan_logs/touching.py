@@ -1,6 +1,4 @@
 """What the calls that are left touch: which of them can hurt nobody, and so need no other order tried."""
-from __future__ import annotations
-
 from bisect import bisect_left
 from collections import defaultdict
 from typing import Dict, List
@@ -14,13 +12,11 @@ QUIET = ("setverdict", "getverdict", "wait", *STATUSES)
 
 
 def target_of(call: Call) -> object:
-    """The component or group that a call is about, or None."""
     op: Op = call.faulty if call.faulty is not None else call.op
     return op.target if op.verb in ("start", "stop", "kill", "wait", *STATUSES) and call.channel is None else None
 
 
 def ends_case(call: Call) -> bool:
-    """Whether the call ends the test case."""
     if call.channel is not None or call.seen:
         return False
     if call.run == 0 and (call.op.verb == "finish" or (call.reply or "").startswith("error ")):
@@ -46,7 +42,6 @@ class Touching:
         self.halting = [run for run, it in enumerate(self.halts) if it]
 
     def note(self, run: int, at: int, call: Call) -> None:
-        """Notes a call at its place."""
         target = target_of(call)
         if isinstance(target, int):
             self.of_component[target][run] = at
@@ -110,6 +105,5 @@ NEVER = 1 << 62
 
 
 def next_at(places: List[int], begin: int) -> int:
-    """The first of these places that is not before."""
     at = bisect_left(places, begin)
     return places[at] if at < len(places) else NEVER

@@ -1,9 +1,9 @@
-//! Test cases of one behaviour, which need no thread, and campaigns of them.
+//! Test cases of one behaviour, which need no thread, campaigns of them, and one of two behaviours.
 ghost use Rattle.std.specs.Prelude.{All, IfSome, ⊤};
 ghost use Rattle.tc_campaign.specs.Prelude.{HasNames};
 
 use crate::cases::call_on;
-use crate::tells::{tell_closed, tell_finished, tell_number};
+use crate::tells::{tell_closed, tell_finished, tell_number, tell_verdicts};
 use crate::trial::Trial;
 use std::alloc::Global;
 use std::io;
@@ -11,20 +11,23 @@ use std::sync::atomic::{AtomicBool, Ordering};
 use std::sync::{Arc, Wait};
 use std::thread::Threads;
 use std::time::{Clock, Duration};
+use tc_answer::have_all;
 use tc_book::{Halt, Pass};
-use tc_campaign::{Case, have_all, run_campaign, run_campaign_with};
+use tc_campaign::{Case, run_campaign, run_campaign_with};
 use tc_entry::{BEHAVIOURS, Name, Pattern};
-use tc_exec::{Back, Callable, CaseError, Job, run_case};
+use tc_exec::{Back, Callable, CaseError, Everyone, Job, run_case, run_case_with};
 use tc_report::{CampaignEnd, Kept, OutFault, Progress, Results};
 use tc_text::read_move;
 
 /// The names of the two test cases.
 const NAMES: [&str; 2] = ["first", "second"];
 
-/// What the behaviour of each of them calls.
-const CALLS: [&str; 2] = [
+/// What the behaviour of each of them calls, and those of a case of two behaviours.
+const CALLS: [&str; 4] = [
     "0 create alive named pump\n0 create\n0 create\n0 setverdict fail\n0 kill 1\n0 getverdict",
     "0 create\n0 running all\n0 setverdict pass",
+    "0 create\n0 start 1 1\n0 wait done 1\n0 setverdict inconc",
+    "1 create\n1 create alive named pump\n1 setverdict pass\n1 kill 2\n1 getverdict",
 ];
 
 /// The behaviour of one of them.
@@ -119,6 +122,28 @@ fn run_idle<R: Threads + Wait + Copy + Send + 'static>(
     }
     trial.end_call();
     trial.end();
+}
+
+/// The behaviours of a case of two, of which the first starts the second on a worker and waits until it is done.
+fn pair<R: Wait + Copy + Send + 'static>(rt: &R, alloc: Global) -> Option<Vec<Caller<R>>> {
+    let mut jobs = Vec::new(alloc);
+    jobs.push(Caller { rt: *rt, at: 2 }).ok()?;
+    jobs.push(Caller { rt: *rt, at: 3 }).ok()?;
+    Some(jobs)
+}
+
+/// The run of a case of two behaviours. That a worker cannot be made is a refusal too. The order of their calls is open,
+/// and the verdicts are not.
+fn run_both<R: Threads + Wait + Copy + Send + 'static>(rt: &R, trial: &mut Trial) {
+    if let Some(jobs) = pair(rt, trial.alloc) {
+        trial.begin("run_case_with");
+        match run_case_with(rt, trial.alloc, jobs, 1, &mut Everyone) {
+            Ok(report) => tell_verdicts(&mut trial.out, report.locals.as_slice()),
+            Err(why) => trial.refuse(matches!(why, CaseError::NoMemory | CaseError::NoThread)),
+        }
+        trial.end_call();
+        trial.end();
+    }
 }
 
 /// The results of the two test cases, and of one after them that had no thread.
@@ -309,9 +334,10 @@ pub(crate) fn ask<R: Threads + Wait + Copy + Send + 'static>(rt: &R, trial: &mut
     run_idle(rt, trial, 3, false);
 }
 
-/// The run of a test case of one behaviour, and of campaigns: of one that has no room for its reports, and of one that is reported.
+/// The run of test cases of one behaviour and of two, and of campaigns: of one that has no room for its reports, and of one that is reported.
 pub(crate) fn run<R: Threads + Wait + Copy + Send + 'static>(rt: &R, trial: &mut Trial) {
     run_idle(rt, trial, 1, true);
+    run_both(rt, trial);
     run_kept(rt, trial);
     run_without_room(rt, trial);
     run_told(rt, trial);

@@ -112,7 +112,8 @@ fn make<R: Threads + Wait + Copy + Send + 'static>(
     }
 }
 
-/// Makes the calls of a kind with nothing refused, and then with each growth refused in turn, until none was.
+/// Makes the calls of a kind with nothing refused, and then with each growth refused in turn, until none was. Each time
+/// all memory that they took is given back.
 fn sweep<R: Threads + Wait + Copy + Send + 'static>(
     rt: &R,
     trial: &mut Trial,
@@ -124,7 +125,9 @@ fn sweep<R: Threads + Wait + Copy + Send + 'static>(
     trial.keep();
     for number in 0..MOST {
         trial.set(Some(number));
+        trial.note_held();
         make(rt, trial, stock, kind);
+        trial.compare_held();
         trial.compare();
         if !trial.is_met {
             return;

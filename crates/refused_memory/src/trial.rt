@@ -10,6 +10,9 @@ const EACH: usize = 0x10_0000;
 /// So much more refuses each growth from then on that asks for the rest, or for more bytes.
 const LARGE: usize = 0x30_0000;
 
+/// So much more notes how many blocks of memory the program holds. One byte more is given only if it holds as many.
+const HELD: usize = 0x40_0000;
+
 /// How many bytes a text has at most.
 const ROOM: usize = 0x10_0000;
 
@@ -127,6 +130,23 @@ impl Trial {
     pub(crate) fn compare(&mut self) {
         let is_wanted = self.is_wanted();
         self.holds(is_wanted);
+    }
+
+    /// Notes how many blocks of memory the program holds.
+    pub(crate) fn note_held(&self) {
+        if self.is_heard {
+            // The number is for the library; it gives nothing.
+            let _ = given(self.alloc, MARK + 1 + HELD);
+        }
+    }
+
+    /// The program must hold as many blocks of memory as were noted: what calls took they have given back.
+    pub(crate) fn compare_held(&mut self) {
+        if self.is_heard {
+            let is_same = given(self.alloc, MARK + 2 + HELD).is_some();
+            self.names = "memory that is not given back";
+            self.holds(is_same);
+        }
     }
 
     /// The growths from here on are counted; the one that is meant is refused to these calls.

@@ -1,14 +1,9 @@
 -- The first line of a block.
-use Rattle.std.proofs.Common.{ℕ, ◌≡◌, ◌≢◌, ◌∙◌, Bool, true, false, List, [], ◌∷◌, ◌++◌, ap, sym, append_assoc, refl}
+use Rattle.std.proofs.Common.{ℕ, ◌≡◌, ◌≢◌, ◌∙◌, Bool, true, false, List, [], ◌∷◌, ◌++◌, ap, sym, append_assoc, refl, arith}
 use Rattle.std.specs.Fmt.{decimal}
-use Rattle.tc_text.specs.Prelude.{lines_of, EndsLine}
+use Rattle.tc_text.specs.Prelude.{lines_of, EndsLine, EndsNumber}
 use Rattle.tc_text.proofs.Lemmas.LinesOf.{line_ended, first_line}
-use Rattle.tc_blocks.specs.declared.header.Header.{Header}
-use Rattle.tc_blocks.specs.declared.header.Kind.{Kind}
-use Rattle.tc_blocks.specs.declared.header.Kind.TheVariants as K
-use Rattle.tc_blocks.specs.Block.{header_text, kind_text}
-use Rattle.tc_blocks.specs.Text.{IsHeader}
-use Rattle.tc_blocks.specs.Inside.{IsFirst}
+use Rattle.tc_blocks.specs.{Block.header_text, Block.kind_text, Inside.IsFirst, Text.IsHeader, declared.header.Header.Header, declared.header.Kind.Kind}
 use Rattle.tc_blocks.proofs.Lemmas.Bytes.{header_quiet, plain_no_lf, quiet_plain}
 
 header_assoc : (h : Header) (rest : List ℕ) → header_text h ++ rest ≡ kind_text h.kind ++ (h.name ++ (32 ∷ (decimal h.behaviours ++ rest)))
@@ -17,9 +12,9 @@ header_assoc h rest =
     ∙ ap (λ l. kind_text h.kind ++ l) (append_assoc h.name (32 ∷ decimal h.behaviours) rest)
 
 some_kind : (k : Kind) (rest : List ℕ) → kind_text k ++ rest ≢ []
-some_kind K.History1 rest = λ e. cc
-some_kind K.History2 rest = λ e. cc
-some_kind K.Evidence rest = λ e. cc
+some_kind Kind.History1 rest = λ e. cc
+some_kind Kind.History2 rest = λ e. cc
+some_kind Kind.Evidence rest = λ e. cc
 
 pub header_spelled : (text r1 r2 r3 r4 behind : List ℕ) (h : Header) → text ≡ kind_text h.kind ++ r1 → r1 ≡ h.name ++ r2 → r2 ≡ 32 ∷ r3 → r3 ≡ decimal h.behaviours ++ r4 → EndsLine r4 behind → IsHeader h →
     lines_of text ≡ header_text h ∷ lines_of behind
@@ -49,7 +44,7 @@ same_header k name n h kind named number =
 
 -- ---- which first lines a text may have
 
-pub is_first : (only_histories : Bool) (h : Header) → IsHeader h → (only_histories ≡ true → h.kind ≢ K.Evidence) → IsFirst only_histories h
+pub is_first : (only_histories : Bool) (h : Header) → IsHeader h → (only_histories ≡ true → h.kind ≢ Kind.Evidence) → IsFirst only_histories h
 is_first false h header may = header
 is_first true h header may = (header, may refl)
 
@@ -57,6 +52,16 @@ pub first_header : (only_histories : Bool) (h : Header) → IsFirst only_histori
 first_header false h first = first
 first_header true h first = first.0
 
-pub first_kind : (only_histories : Bool) (h : Header) → IsFirst only_histories h → only_histories ≡ true → h.kind ≢ K.Evidence
+pub first_kind : (only_histories : Bool) (h : Header) → IsFirst only_histories h → only_histories ≡ true → h.kind ≢ Kind.Evidence
 first_kind false h first only = absurd cc
 first_kind true h first only = first.1
+
+first_is : (x y : ℕ) (xs ys : List ℕ) → x ∷ xs ≡ y ∷ ys → x ≡ y
+first_is x y xs ys e = cc
+
+-- a space ends a name
+pub space_ends : (rest : List ℕ) → EndsNumber (32 ∷ rest)
+space_ends rest = λ b after e. let same : ◌≡◌ {A = ℕ} 32 b = first_is 32 b rest after e in omega (arith, same)
+
+pub behind_space : (xs ys : List ℕ) → 32 ∷ xs ≡ 32 ∷ ys → xs ≡ ys
+behind_space xs ys e = cc

@@ -1,44 +1,38 @@
 -- The lines of entries and the last line of a block.
-use Rattle.std.proofs.Common.{ℕ, ◌≡◌, ◌∙◌, true, false, List, [], ◌∷◌, ◌++◌, codes, ap, sym, refl, append_assoc, arith, rules}
-use Rattle.tc_rules.specs.Prelude.{Run, Verdict, name_of, Entry, Op, Fault, Reply, fault_name}
-use Rattle.tc_verdict.specs.declared.verdict.Verdict.TheVariants as V
-use Rattle.tc_entry.specs.declared.reply.Fault.TheVariants as F
-use Rattle.tc_entry.specs.declared.reply.Reply.TheVariants as R
+use Rattle.std.proofs.Common.{ℕ, ◌≡◌, ◌∙◌, true, false, List, [], ◌∷◌, ◌++◌, codes, ap, sym, refl, append_assoc, arith, rules, subst, reverse}
+use Rattle.tc_rules.specs.Prelude.{Run, Verdict, name_of, Entry, Op, Fault, Reply, fault_name, overall, IsLegal}
 use Rattle.tc_text.specs.declared.short.ShortOp.{ShortOp}
-use Rattle.tc_text.specs.declared.short.ShortOp.TheVariants as H
 use Rattle.tc_text.specs.Prelude.{lines_of, EndsMove, EndsLine, op_of, move_text, reply_text, IsReply}
-use Rattle.tc_text.proofs.Lemmas.LinesOf.{NoLf, no_lf-append, line_ended, first_line, same_behind}
-use Rattle.tc_text.proofs.Lemmas.Plain.{number_plain, move_plain, some_move}
-use Rattle.tc_blocks.specs.HistoryBlock.{entry_text, end_text, outcome_text}
-use Rattle.tc_blocks.specs.HistoryText.{IsEntry, IsUnnamed}
+use Rattle.tc_text.proofs.Lemmas.{LinesOf.NoLf, LinesOf.first_line, LinesOf.line_ended, LinesOf.no_lf-append, LinesOf.same_behind, Plain.move_plain, Plain.number_plain, Plain.some_move}
+use Rattle.tc_blocks.specs.{HistoryBlock.end_text, HistoryBlock.entry_text, HistoryBlock.outcome_text, HistoryText.IsEntry, HistoryText.IsUnnamed, Laws.RemarksSayNothing, Line.entries_of, Line.entry_in, declared.line.Line.Line}
 
 pub verdict_plain : (v : Verdict) → NoLf (name_of v)
-verdict_plain V.None = search rules
-verdict_plain V.Pass = search rules
-verdict_plain V.Inconc = search rules
-verdict_plain V.Fail = search rules
-verdict_plain V.Error = search rules
+verdict_plain Verdict.None = search rules
+verdict_plain Verdict.Pass = search rules
+verdict_plain Verdict.Inconc = search rules
+verdict_plain Verdict.Fail = search rules
+verdict_plain Verdict.Error = search rules
 
 fault_plain : (f : Fault) → NoLf (fault_name f)
-fault_plain F.NoComponent = search rules
-fault_plain F.NotMain = search rules
-fault_plain F.StartMain = search rules
-fault_plain F.AlreadyRunning = search rules
-fault_plain F.NotStartable = search rules
-fault_plain F.NoBehaviour = search rules
-fault_plain F.TooMany = search rules
-fault_plain F.Stuck = search rules
+fault_plain Fault.NoComponent = search rules
+fault_plain Fault.NotMain = search rules
+fault_plain Fault.StartMain = search rules
+fault_plain Fault.AlreadyRunning = search rules
+fault_plain Fault.NotStartable = search rules
+fault_plain Fault.NoBehaviour = search rules
+fault_plain Fault.TooMany = search rules
+fault_plain Fault.Stuck = search rules
 
 pub reply_plain : (r : Reply) → IsReply r → NoLf (reply_text r)
-reply_plain (R.Made c) fits = no_lf-append (codes "made ") _ (search rules) (number_plain c.0 fits)
-reply_plain R.Ok fits = search rules
-reply_plain (R.Answer true) fits = search rules
-reply_plain (R.Answer false) fits = search rules
-reply_plain (R.Local v) fits = verdict_plain v
-reply_plain R.Matched fits = search rules
-reply_plain R.Parked fits = search rules
-reply_plain R.Ended fits = search rules
-reply_plain (R.Fault f) fits = no_lf-append (codes "error ") (fault_name f) (search rules) (fault_plain f)
+reply_plain (Reply.Made c) fits = no_lf-append (codes "made ") _ (search rules) (number_plain c.0 fits)
+reply_plain Reply.Ok fits = search rules
+reply_plain (Reply.Answer true) fits = search rules
+reply_plain (Reply.Answer false) fits = search rules
+reply_plain (Reply.Local v) fits = verdict_plain v
+reply_plain Reply.Matched fits = search rules
+reply_plain Reply.Parked fits = search rules
+reply_plain Reply.Ended fits = search rules
+reply_plain (Reply.Fault f) fits = no_lf-append (codes "error ") (fault_name f) (search rules) (fault_plain f)
 
 -- ---- the last line
 
@@ -178,18 +172,31 @@ same_parts run op reply e caller operation replied =
 
 -- a short operation gives no component a name
 pub short_unnamed : (s : ShortOp) → IsUnnamed (op_of s)
-short_unnamed (H.Create alive) = tt
-short_unnamed (H.Stop g) = tt
-short_unnamed (H.Kill g) = tt
-short_unnamed H.StopCase = tt
-short_unnamed (H.Running t) = tt
-short_unnamed (H.Alive t) = tt
-short_unnamed (H.Done t) = tt
-short_unnamed (H.Killed t) = tt
-short_unnamed (H.WaitDone t) = tt
-short_unnamed (H.WaitKilled t) = tt
-short_unnamed (H.WakeDone t) = tt
-short_unnamed (H.WakeKilled t) = tt
-short_unnamed (H.SetVerdict v) = tt
-short_unnamed H.GetVerdict = tt
-short_unnamed H.Finish = tt
+short_unnamed (ShortOp.Create alive) = tt
+short_unnamed (ShortOp.Stop g) = tt
+short_unnamed (ShortOp.Kill g) = tt
+short_unnamed ShortOp.StopCase = tt
+short_unnamed (ShortOp.Running t) = tt
+short_unnamed (ShortOp.Alive t) = tt
+short_unnamed (ShortOp.Done t) = tt
+short_unnamed (ShortOp.Killed t) = tt
+short_unnamed (ShortOp.WaitDone t) = tt
+short_unnamed (ShortOp.WaitKilled t) = tt
+short_unnamed (ShortOp.WakeDone t) = tt
+short_unnamed (ShortOp.WakeKilled t) = tt
+short_unnamed (ShortOp.SetVerdict v) = tt
+short_unnamed ShortOp.GetVerdict = tt
+short_unnamed ShortOp.Finish = tt
+
+same_entries : (before after : List Line) (l : Line) → entry_in l ≡ [] → entries_of (before ++ l ∷ after) ≡ entries_of (before ++ after)
+same_entries [] after l none = ap (λ x. x ++ entries_of after) none
+same_entries (x ∷ xs) after l none = ap (λ y. entry_in x ++ y) (same_entries xs after l none)
+
+pub remarks_say_nothing : RemarksSayNothing
+remarks_say_nothing n before after l none =
+    let same = same_entries before after l none in
+    record {
+      history = same;
+      legal = (subst (λ (es : List Entry). IsLegal n (reverse es)) same, subst (λ (es : List Entry). IsLegal n (reverse es)) (sym same));
+      verdict = ap (λ (es : List Entry). overall (reverse es)) same;
+    }

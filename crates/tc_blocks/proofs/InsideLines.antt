@@ -1,28 +1,15 @@
 -- How far the lines inside a block are read.
-use Rattle.std.proofs.Common.{ℕ, ◌≡◌, ◌≢◌, ◌∙◌, ◌+◌, ◌<◌, ◌≤◌, None, Some, List, [], ◌∷◌, ◌++◌, length, map, ap, sym, subst, refl, append_assoc, arith}
+use Rattle.std.proofs.Common.{ℕ, ◌≡◌, ◌≢◌, ◌∙◌, ◌+◌, ◌≤◌, List, [], ◌∷◌, ◌++◌, length, map, ap, sym, subst, refl, append_assoc, arith}
 use Rattle.std.proofs.lemmas.List.{append-nil, length-append, map-append}
-use Rattle.std.specs.Borrow.{Bor}
 use Rattle.tc_rules.specs.Prelude.{Verdict}
 use Rattle.tc_text.specs.Prelude.{lines_of}
 use Rattle.tc_text.proofs.Lemmas.LinesOf.{some_line}
-use Rattle.tc_blocks.specs.HistoryBlock.{end_text}
-use Rattle.tc_blocks.specs.declared.header.Header.{Header}
-use Rattle.tc_blocks.specs.declared.header.Kind.{Kind}
-use Rattle.tc_blocks.specs.declared.line.Line.{Line}
-use Rattle.tc_blocks.specs.declared.met.MetRuns.{MetRuns}
-use Rattle.tc_blocks.specs.Line.{line_text}
-use Rattle.tc_blocks.specs.Met.{AreMet}
-use Rattle.tc_blocks.specs.Text.{AreLines, IsLine}
-use Rattle.tc_blocks.specs.Inside.{AreInside, AreTakenBy, IsBadInside, IsLineTakenBy, IsNext, IsNoLine, IsOpenTo, Remains}
+use Rattle.tc_blocks.specs.{HistoryBlock.end_text, Inside.AreInside, Inside.IsBadInside, Inside.IsLineTakenBy, Inside.IsNext, Inside.IsNoLine, Inside.IsOpenTo, Inside.Remains, Line.line_text, Met.AreMet, Text.AreLines, Text.IsLine, declared.header.Header.Header, declared.header.Kind.Kind, declared.line.Line.Line, declared.met.MetRuns.MetRuns}
 use Rattle.tc_blocks.proofs.Lemmas.Meeting.{met_after}
 
 -- the first line is no last line of a block
 abbrev pub IsNoEndLine : List ℕ → Type 0
 IsNoEndLine text = (v : Verdict) (others : List (List ℕ)) → lines_of text ≡ end_text v ∷ others → ⊥
-
--- what reading a last line shows: it is that of this verdict
-abbrev pub IsThatEnd : List ℕ → Verdict → List ℕ → Type 0
-IsThatEnd text v rest = (w : Verdict) (others : List (List ℕ)) → lines_of text ≡ end_text w ∷ others → (v ≡ w) × (lines_of rest ≡ others)
 
 pub head_is : (x y : List ℕ) (xs ys : List (List ℕ)) → x ∷ xs ≡ y ∷ ys → x ≡ y
 head_is x y xs ys e = cc
@@ -104,10 +91,6 @@ open_more opens kind n at h inside new rest after line met met' value value' one
       line_is = omega (arith, here, longer, length-append inside (one.line ∷ []));
     }
 
-pub less_rest : {O : Type 0} (opens : ℕ → Header → List Line → O → Type 0) (kind : Kind) (n : ℕ) (text : List ℕ) (first : ℕ) (met met' met'' : MetRuns) (before value value' : O) (rest after : List ℕ) (line : ℕ) →
-    IsOnTo opens kind n text first met before rest line met' value → IsLineTakenBy opens kind n rest line met' met'' value value' after → length after < length rest
-less_rest opens kind n text first met met' met'' before value value' rest after line so one = let next = one.next so.some so.some_are in next.less
-
 pub on_more : {O : Type 0} (opens : ℕ → Header → List Line → O → Type 0) (kind : Kind) (n : ℕ) (text : List ℕ) (first : ℕ) (met met' met'' : MetRuns) (before value value' : O) (rest after : List ℕ) (line : ℕ) →
     IsOnTo opens kind n text first met before rest line met' value → IsLineTakenBy opens kind n rest line met' met'' value value' after → IsNoEndLine rest → IsOnTo opens kind n text first met before after (line + 1) met'' value'
 on_more opens kind n text first met met' met'' before value value' rest after line so one no_end =
@@ -125,24 +108,6 @@ on_more opens kind n text first met met' met'' before value value' rest after li
       opened = λ at h inside block.
           open_more opens kind n at h (inside ++ so.taken) (inside ++ (so.taken ++ one.line ∷ [])) rest after line met' met'' value value' one (so.opened at h inside block) no_end (sym (append_assoc inside so.taken (one.line ∷ [])));
     }
-
--- a last line comes
-pub on_ended : {O : Type 0} (opens : ℕ → Header → List Line → O → Type 0) (kind : Kind) (n : ℕ) (text : List ℕ) (first : ℕ) (met met' : MetRuns) (before value : O) (rest : List ℕ) (line : ℕ) (end : Verdict × Bor (List ℕ)) →
-    IsOnTo opens kind n text first met before rest line met' value → lines_of rest ≡ end_text end.0 ∷ lines_of end.1.now → IsThatEnd rest end.0 end.1.now → AreTakenBy opens kind n text first met met' before value line (Some end)
-on_ended opens kind n text first met met' before value rest line end so ends only = record {
-  taken = so.taken;
-  spelled = (so.lines ∙ ap (λ x. map line_text so.taken ++ x) ends, λ w same. let two = only w (lines_of end.1.now) (ends ∙ ap (λ (x : List ℕ). x ∷ lines_of end.1.now) same) in two.0);
-  opened = so.opened;
-}
-
--- or the text ends
-pub on_cut : {O : Type 0} (opens : ℕ → Header → List Line → O → Type 0) (kind : Kind) (n : ℕ) (text : List ℕ) (first : ℕ) (met met' : MetRuns) (before value : O) (rest : List ℕ) (line : ℕ) →
-    IsOnTo opens kind n text first met before rest line met' value → rest ≡ [] → AreTakenBy opens kind n text first met met' before value line None
-on_cut opens kind n text first met met' before value rest line so nothing = record {
-  taken = so.taken;
-  spelled = so.lines ∙ (ap (λ r. map line_text so.taken ++ lines_of r) nothing ∙ append-nil (map line_text so.taken));
-  opened = so.opened;
-}
 
 -- or a line that may not come
 pub bad_inside : {O : Type 0} (opens : ℕ → Header → List Line → O → Type 0) (kind : Kind) (n : ℕ) (text : List ℕ) (first : ℕ) (met met' : MetRuns) (before value : O) (rest : List ℕ) (line : ℕ) →

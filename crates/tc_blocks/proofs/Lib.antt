@@ -1,11 +1,8 @@
 -- The lemmas of this crate.
 pub mod Headers
 pub mod InsideLines
-pub mod Judged
 pub mod Lemmas
 pub mod NextLines
 pub mod PartByPart
 pub mod Unfinished
-pub mod HistoryHeaders
 pub mod InnerLines
-pub mod Prefixes

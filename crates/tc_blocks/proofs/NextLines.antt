@@ -3,16 +3,7 @@ use Rattle.std.proofs.Common.{ℕ, ◌≡◌, ◌∙◌, ◌<◌, ◌^◌, Bool,
 use Rattle.std.specs.Borrow.{Bor}
 use Rattle.tc_rules.specs.Prelude.{Run, IsName, Entry}
 use Rattle.tc_text.specs.Prelude.{lines_of}
-use Rattle.tc_blocks.specs.HistoryBlock.{entry_text}
-use Rattle.tc_blocks.specs.HistoryText.{IsEntry}
-use Rattle.tc_blocks.specs.declared.header.Kind.{Kind}
-use Rattle.tc_blocks.specs.declared.header.Kind.TheVariants as K
-use Rattle.tc_blocks.specs.declared.line.Line.{Line}
-use Rattle.tc_blocks.specs.declared.line.Line.TheVariants as L
-use Rattle.tc_blocks.specs.Sentence.{IsSentence}
-use Rattle.tc_blocks.specs.Line.{is_met, line_text, naming_text, said_text}
-use Rattle.tc_blocks.specs.Text.{IsLine, format_of}
-use Rattle.tc_blocks.specs.Inside.{ArePlain, IsFound, IsNext, IsNoEntryLine, IsNone, IsNote, IsSaidBy, line_said}
+use Rattle.tc_blocks.specs.{HistoryBlock.entry_text, HistoryText.IsEntry, Inside.ArePlain, Inside.IsFound, Inside.IsNext, Inside.IsNoEntryLine, Inside.IsNone, Inside.IsNote, Inside.IsSaidBy, Inside.line_said, Line.is_met, Line.line_text, Line.naming_text, Line.said_text, Sentence.IsSentence, Text.IsLine, Text.format_of, declared.header.Kind.Kind, declared.line.Line.Line}
 use Rattle.tc_blocks.proofs.Lemmas.Notes.{entry_not_naming, entry_not_said, said_not_naming, sentence_plain}
 
 head_is : (x y : List ℕ) (xs ys : List (List ℕ)) → x ∷ xs ≡ y ∷ ys → x ≡ y
@@ -32,20 +23,20 @@ abbrev pub IsNoSaid : ℕ → List ℕ → Type 0
 IsNoSaid n text = (r : Bool) (k : ℕ) (sentence : List ℕ) (others : List (List ℕ)) → k < n → ArePlain sentence → lines_of text ≡ said_text r k sentence ∷ others → ⊥
 
 pub said_none : (n : ℕ) (text : List ℕ) → IsNoSaid n text → IsNone (IsSaidBy n) text
-said_none n text none (L.Named run name) others fits lines = absurd fits
-said_none n text none (L.Entry e) others fits lines = absurd fits
-said_none n text none (L.Remark run sentence) others fits lines = none false run.0 sentence others fits.0 (sentence_plain sentence fits.1.plain) lines
-said_none n text none (L.Refused run sentence) others fits lines = none true run.0 sentence others fits.0 (sentence_plain sentence fits.1.plain) lines
+said_none n text none (Line.Named run name) others fits lines = absurd fits
+said_none n text none (Line.Entry e) others fits lines = absurd fits
+said_none n text none (Line.Remark run sentence) others fits lines = none false run.0 sentence others fits.0 (sentence_plain sentence fits.1.plain) lines
+said_none n text none (Line.Refused run sentence) others fits lines = none true run.0 sentence others fits.0 (sentence_plain sentence fits.1.plain) lines
 
 pub no_sentence : (n : ℕ) (text : List ℕ) (run : Run) (refused : Bool) (bytes rest : List ℕ) → IsThatSaid n text run refused bytes rest → (IsSentence bytes → ⊥) → IsNone (IsSaidBy n) text
 no_sentence n text run refused bytes rest only none = said_none_by
   where
     said_none_by : IsNone (IsSaidBy n) text
-    said_none_by (L.Named r name) others fits lines = absurd fits
-    said_none_by (L.Entry e) others fits lines = absurd fits
-    said_none_by (L.Remark r sentence) others fits lines =
+    said_none_by (Line.Named r name) others fits lines = absurd fits
+    said_none_by (Line.Entry e) others fits lines = absurd fits
+    said_none_by (Line.Remark r sentence) others fits lines =
         let that = only false r.0 sentence others fits.0 (sentence_plain sentence fits.1.plain) lines in none (subst IsSentence (sym that.2) fits.1)
-    said_none_by (L.Refused r sentence) others fits lines =
+    said_none_by (Line.Refused r sentence) others fits lines =
         let that = only true r.0 sentence others fits.0 (sentence_plain sentence fits.1.plain) lines in none (subst IsSentence (sym that.2) fits.1)
 
 same_run : (a b : Run) → a.0 ≡ b.0 → a ≡ b
@@ -55,33 +46,33 @@ same_run a b e = ap (λ (k : ℕ). make k) e
     make k = record { 0 = k }
 
 abbrev remark : Run → List ℕ → Line
-remark run sentence = L.Remark run sentence
+remark run sentence = Line.Remark run sentence
 
 abbrev refusal : Run → List ℕ → Line
-refusal run sentence = L.Refused run sentence
+refusal run sentence = Line.Refused run sentence
 
 pub said_next : (n : ℕ) (text : List ℕ) (run : Run) (refused : Bool) (bytes rest : List ℕ) (l : Line) → lines_of text ≡ said_text refused run.0 bytes ∷ lines_of rest → run.0 < n → length rest < length text → IsThatSaid n text run refused bytes rest →
     l ≡ line_said refused run bytes → IsSentence bytes → IsNext (IsSaidBy n) text l rest
 said_next n text run false bytes rest l spelled few less only same is = subst (λ (x : Line). IsNext (IsSaidBy n) text x rest) (sym same) (record { spelled = spelled; fits = (few, is); less = less; only = that })
   where
-    that : (m : Line) (others : List (List ℕ)) → IsSaidBy n m → lines_of text ≡ line_text m ∷ others → (L.Remark run bytes ≡ m) × (lines_of rest ≡ others)
-    that (L.Named r name) others fits lines = absurd fits
-    that (L.Entry e) others fits lines = absurd fits
-    that (L.Remark r sentence) others fits lines =
+    that : (m : Line) (others : List (List ℕ)) → IsSaidBy n m → lines_of text ≡ line_text m ∷ others → (Line.Remark run bytes ≡ m) × (lines_of rest ≡ others)
+    that (Line.Named r name) others fits lines = absurd fits
+    that (Line.Entry e) others fits lines = absurd fits
+    that (Line.Remark r sentence) others fits lines =
         let four = only false r.0 sentence others fits.0 (sentence_plain sentence fits.1.plain) lines in
         (ap (λ x. remark x bytes) (same_run run r four.0) ∙ ap (λ x. remark r x) four.2, four.3)
-    that (L.Refused r sentence) others fits lines =
+    that (Line.Refused r sentence) others fits lines =
         let four = only true r.0 sentence others fits.0 (sentence_plain sentence fits.1.plain) lines in
         let e = four.1 in absurd cc
 said_next n text run true bytes rest l spelled few less only same is = subst (λ (x : Line). IsNext (IsSaidBy n) text x rest) (sym same) (record { spelled = spelled; fits = (few, is); less = less; only = that })
   where
-    that : (m : Line) (others : List (List ℕ)) → IsSaidBy n m → lines_of text ≡ line_text m ∷ others → (L.Refused run bytes ≡ m) × (lines_of rest ≡ others)
-    that (L.Named r name) others fits lines = absurd fits
-    that (L.Entry e) others fits lines = absurd fits
-    that (L.Remark r sentence) others fits lines =
+    that : (m : Line) (others : List (List ℕ)) → IsSaidBy n m → lines_of text ≡ line_text m ∷ others → (Line.Refused run bytes ≡ m) × (lines_of rest ≡ others)
+    that (Line.Named r name) others fits lines = absurd fits
+    that (Line.Entry e) others fits lines = absurd fits
+    that (Line.Remark r sentence) others fits lines =
         let four = only false r.0 sentence others fits.0 (sentence_plain sentence fits.1.plain) lines in
         let e = four.1 in absurd cc
-    that (L.Refused r sentence) others fits lines =
+    that (Line.Refused r sentence) others fits lines =
         let four = only true r.0 sentence others fits.0 (sentence_plain sentence fits.1.plain) lines in
         (ap (λ x. refusal x bytes) (same_run run r four.0) ∙ ap (λ x. refusal r x) four.2, four.3)
 
@@ -95,23 +86,23 @@ pub note_of_said : (n : ℕ) (before : List Line) (text : List ℕ) → IsNoNami
 note_of_said n before text none None is = none_by
   where
     none_by : IsNone (IsNote n before) text
-    none_by (L.Named run name) others fits lines = none run.0 name others fits.1.few fits.1.name_is lines
-    none_by (L.Entry e) others fits lines = absurd fits.0
-    none_by (L.Remark run sentence) others fits lines = is (L.Remark run sentence) others (fits.1.few, fits.1.sentence_is) lines
-    none_by (L.Refused run sentence) others fits lines = is (L.Refused run sentence) others (fits.1.few, fits.1.sentence_is) lines
+    none_by (Line.Named run name) others fits lines = none run.0 name others fits.1.few fits.1.name_is lines
+    none_by (Line.Entry e) others fits lines = absurd fits.0
+    none_by (Line.Remark run sentence) others fits lines = is (Line.Remark run sentence) others (fits.1.few, fits.1.sentence_is) lines
+    none_by (Line.Refused run sentence) others fits lines = is (Line.Refused run sentence) others (fits.1.few, fits.1.sentence_is) lines
 note_of_said n before text none (Some r) is = record { spelled = is.spelled; fits = fits_by r.0 is.fits; less = is.less; only = only_by }
   where
     fits_by : (l : Line) → IsSaidBy n l → IsNote n before l
-    fits_by (L.Named run name) said = absurd said
-    fits_by (L.Entry e) said = absurd said
-    fits_by (L.Remark run sentence) said = (tt, record { evidence = refl; few = said.0; sentence_is = said.1 })
-    fits_by (L.Refused run sentence) said = (tt, record { evidence = refl; few = said.0; sentence_is = said.1 })
+    fits_by (Line.Named run name) said = absurd said
+    fits_by (Line.Entry e) said = absurd said
+    fits_by (Line.Remark run sentence) said = (tt, record { evidence = refl; few = said.0; sentence_is = said.1 })
+    fits_by (Line.Refused run sentence) said = (tt, record { evidence = refl; few = said.0; sentence_is = said.1 })
 
     only_by : (m : Line) (others : List (List ℕ)) → IsNote n before m → lines_of text ≡ line_text m ∷ others → (r.0 ≡ m) × (lines_of r.1.now ≡ others)
-    only_by (L.Named run name) others fits lines = absurd (none run.0 name others fits.1.few fits.1.name_is lines)
-    only_by (L.Entry e) others fits lines = absurd fits.0
-    only_by (L.Remark run sentence) others fits lines = is.only (L.Remark run sentence) others (fits.1.few, fits.1.sentence_is) lines
-    only_by (L.Refused run sentence) others fits lines = is.only (L.Refused run sentence) others (fits.1.few, fits.1.sentence_is) lines
+    only_by (Line.Named run name) others fits lines = absurd (none run.0 name others fits.1.few fits.1.name_is lines)
+    only_by (Line.Entry e) others fits lines = absurd fits.0
+    only_by (Line.Remark run sentence) others fits lines = is.only (Line.Remark run sentence) others (fits.1.few, fits.1.sentence_is) lines
+    only_by (Line.Refused run sentence) others fits lines = is.only (Line.Refused run sentence) others (fits.1.few, fits.1.sentence_is) lines
 
 -- reading a name shows that the first line is no other name
 abbrev pub IsThatNaming : ℕ → List ℕ → Run × List ℕ → List ℕ → Type 0
@@ -133,34 +124,34 @@ late_naming : (n : ℕ) (before : List Line) (text : List ℕ) (p : Run × List 
 late_naming n before text p rest small spelled only met = none_by
   where
     none_by : IsNone (IsNote n before) text
-    none_by (L.Named r name) others fits lines =
+    none_by (Line.Named r name) others fits lines =
         let two = only r.0 name others fits.1.few fits.1.name_is lines in
         other_met (is_met p.0.0 before) (is_met r.0 before) met fits.1.first (ap (λ (x : Run × List ℕ). is_met x.0.0 before) two.0)
-    none_by (L.Entry e) others fits lines = absurd fits.0
-    none_by (L.Remark r sentence) others fits lines = never_said n text p rest small spelled false r.0 sentence others fits.1.few lines
-    none_by (L.Refused r sentence) others fits lines = never_said n text p rest small spelled true r.0 sentence others fits.1.few lines
+    none_by (Line.Entry e) others fits lines = absurd fits.0
+    none_by (Line.Remark r sentence) others fits lines = never_said n text p rest small spelled false r.0 sentence others fits.1.few lines
+    none_by (Line.Refused r sentence) others fits lines = never_said n text p rest small spelled true r.0 sentence others fits.1.few lines
 
 abbrev naming : Run × List ℕ → Line
-naming p = L.Named p.0 p.1
+naming p = Line.Named p.0 p.1
 
 named_next : (n : ℕ) (before : List Line) (text : List ℕ) (p : Run × List ℕ) (rest : List ℕ) → n < 2 ^ 16 → lines_of text ≡ naming_text p.0.0 p.1 ∷ lines_of rest → (p.0.0 < n) × IsName p.1 → length rest < length text → IsThatNaming n text p rest →
-    is_met p.0.0 before ≡ false → IsNext (IsNote n before) text (L.Named p.0 p.1) rest
+    is_met p.0.0 before ≡ false → IsNext (IsNote n before) text (Line.Named p.0 p.1) rest
 named_next n before text p rest small spelled fits less only new =
     record { spelled = spelled; fits = (tt, record { evidence = refl; few = fits.0; name_is = fits.1; first = new }); less = less; only = that }
   where
-    that : (m : Line) (others : List (List ℕ)) → IsNote n before m → lines_of text ≡ line_text m ∷ others → (L.Named p.0 p.1 ≡ m) × (lines_of rest ≡ others)
-    that (L.Named r name) others is lines = let two = only r.0 name others is.1.few is.1.name_is lines in (ap naming two.0, two.1)
-    that (L.Entry e) others is lines = absurd is.0
-    that (L.Remark r sentence) others is lines = absurd (never_said n text p rest small spelled false r.0 sentence others is.1.few lines)
-    that (L.Refused r sentence) others is lines = absurd (never_said n text p rest small spelled true r.0 sentence others is.1.few lines)
+    that : (m : Line) (others : List (List ℕ)) → IsNote n before m → lines_of text ≡ line_text m ∷ others → (Line.Named p.0 p.1 ≡ m) × (lines_of rest ≡ others)
+    that (Line.Named r name) others is lines = let two = only r.0 name others is.1.few is.1.name_is lines in (ap naming two.0, two.1)
+    that (Line.Entry e) others is lines = absurd is.0
+    that (Line.Remark r sentence) others is lines = absurd (never_said n text p rest small spelled false r.0 sentence others is.1.few lines)
+    that (Line.Refused r sentence) others is lines = absurd (never_said n text p rest small spelled true r.0 sentence others is.1.few lines)
 
 -- what is made of a name: a line, unless it comes too late
 pub note_of_naming : (n : ℕ) (before : List Line) (text : List ℕ) (p : Run × List ℕ) (rest : List ℕ) → n < 2 ^ 16 → lines_of text ≡ naming_text p.0.0 p.1 ∷ lines_of rest → (p.0.0 < n) × IsName p.1 → length rest < length text → IsThatNaming n text p rest →
-    (found : Option (Line × Bor (List ℕ))) → MatchOption found (is_met p.0.0 before ≡ true) (λ r. (is_met p.0.0 before ≡ false) × (r.0 ≡ L.Named p.0 p.1) × (r.1.now ≡ rest)) → IsFound (IsNote n before) text found
+    (found : Option (Line × Bor (List ℕ))) → MatchOption found (is_met p.0.0 before ≡ true) (λ r. (is_met p.0.0 before ≡ false) × (r.0 ≡ Line.Named p.0 p.1) × (r.1.now ≡ rest)) → IsFound (IsNote n before) text found
 note_of_naming n before text p rest small spelled fits less only None met = late_naming n before text p rest small spelled only met
 note_of_naming n before text p rest small spelled fits less only (Some r) is =
     subst (λ (l : Line). IsNext (IsNote n before) text l r.1.now) (sym is.1)
-    (subst (λ (x : List ℕ). IsNext (IsNote n before) text (L.Named p.0 p.1) x) (sym is.2) (named_next n before text p rest small spelled fits less only is.0))
+    (subst (λ (x : List ℕ). IsNext (IsNote n before) text (Line.Named p.0 p.1) x) (sym is.2) (named_next n before text p rest small spelled fits less only is.0))
 
 -- ---- any line
 
@@ -168,34 +159,34 @@ abbrev pub IsThatEntry : ℕ → List ℕ → Entry → List ℕ → Type 0
 IsThatEntry f text e rest = (t : Entry) (others : List (List ℕ)) → IsEntry f t → lines_of text ≡ entry_text t ∷ others → (e ≡ t) × (lines_of rest ≡ others)
 
 abbrev entry : Entry → Line
-entry e = L.Entry e
+entry e = Line.Entry e
 
 pub entry_next : (kind : Kind) (n : ℕ) (before : List Line) (text : List ℕ) (e : Entry) (rest : List ℕ) → n < 2 ^ 16 → lines_of text ≡ entry_text e ∷ lines_of rest → IsEntry (format_of kind) e → length rest < length text →
-    IsThatEntry (format_of kind) text e rest → IsNext (IsLine kind n before) text (L.Entry e) rest
+    IsThatEntry (format_of kind) text e rest → IsNext (IsLine kind n before) text (Line.Entry e) rest
 entry_next kind n before text e rest small spelled is less only = record { spelled = spelled; fits = is; less = less; only = that }
   where
-    that : (m : Line) (others : List (List ℕ)) → IsLine kind n before m → lines_of text ≡ line_text m ∷ others → (L.Entry e ≡ m) × (lines_of rest ≡ others)
-    that (L.Named run name) others fits lines =
+    that : (m : Line) (others : List (List ℕ)) → IsLine kind n before m → lines_of text ≡ line_text m ∷ others → (Line.Entry e ≡ m) × (lines_of rest ≡ others)
+    that (Line.Named run name) others fits lines =
         absurd (entry_not_naming (format_of kind) e run.0 name is (head_is (entry_text e) (naming_text run.0 name) (lines_of rest) others (sym spelled ∙ lines)))
-    that (L.Entry t) others fits lines = let two = only t others fits lines in (ap entry two.0, two.1)
-    that (L.Remark run sentence) others fits lines =
+    that (Line.Entry t) others fits lines = let two = only t others fits lines in (ap entry two.0, two.1)
+    that (Line.Remark run sentence) others fits lines =
         absurd (entry_not_said (format_of kind) e false run.0 sentence is (low run.0 n fits.few small) (head_is (entry_text e) (said_text false run.0 sentence) (lines_of rest) others (sym spelled ∙ lines)))
-    that (L.Refused run sentence) others fits lines =
+    that (Line.Refused run sentence) others fits lines =
         absurd (entry_not_said (format_of kind) e true run.0 sentence is (low run.0 n fits.few small) (head_is (entry_text e) (said_text true run.0 sentence) (lines_of rest) others (sym spelled ∙ lines)))
 
 -- if the first line is no entry, only another line of evidence is left
-pub line_of_note : (n : ℕ) (before : List Line) (text : List ℕ) → IsNoEntryLine 2 text → (found : Option (Line × Bor (List ℕ))) → IsFound (IsNote n before) text found → IsFound (IsLine K.Evidence n before) text found
+pub line_of_note : (n : ℕ) (before : List Line) (text : List ℕ) → IsNoEntryLine 2 text → (found : Option (Line × Bor (List ℕ))) → IsFound (IsNote n before) text found → IsFound (IsLine Kind.Evidence n before) text found
 line_of_note n before text none None is = none_by
   where
-    none_by : IsNone (IsLine K.Evidence n before) text
-    none_by (L.Named run name) others fits lines = is (L.Named run name) others (tt, fits) lines
-    none_by (L.Entry e) others fits lines = none e others fits lines
-    none_by (L.Remark run sentence) others fits lines = is (L.Remark run sentence) others (tt, fits) lines
-    none_by (L.Refused run sentence) others fits lines = is (L.Refused run sentence) others (tt, fits) lines
+    none_by : IsNone (IsLine Kind.Evidence n before) text
+    none_by (Line.Named run name) others fits lines = is (Line.Named run name) others (tt, fits) lines
+    none_by (Line.Entry e) others fits lines = none e others fits lines
+    none_by (Line.Remark run sentence) others fits lines = is (Line.Remark run sentence) others (tt, fits) lines
+    none_by (Line.Refused run sentence) others fits lines = is (Line.Refused run sentence) others (tt, fits) lines
 line_of_note n before text none (Some r) is = record { spelled = is.spelled; fits = is.fits.1; less = is.less; only = only_by }
   where
-    only_by : (m : Line) (others : List (List ℕ)) → IsLine K.Evidence n before m → lines_of text ≡ line_text m ∷ others → (r.0 ≡ m) × (lines_of r.1.now ≡ others)
-    only_by (L.Named run name) others fits lines = is.only (L.Named run name) others (tt, fits) lines
-    only_by (L.Entry e) others fits lines = absurd (none e others fits lines)
-    only_by (L.Remark run sentence) others fits lines = is.only (L.Remark run sentence) others (tt, fits) lines
-    only_by (L.Refused run sentence) others fits lines = is.only (L.Refused run sentence) others (tt, fits) lines
+    only_by : (m : Line) (others : List (List ℕ)) → IsLine Kind.Evidence n before m → lines_of text ≡ line_text m ∷ others → (r.0 ≡ m) × (lines_of r.1.now ≡ others)
+    only_by (Line.Named run name) others fits lines = is.only (Line.Named run name) others (tt, fits) lines
+    only_by (Line.Entry e) others fits lines = absurd (none e others fits lines)
+    only_by (Line.Remark run sentence) others fits lines = is.only (Line.Remark run sentence) others (tt, fits) lines
+    only_by (Line.Refused run sentence) others fits lines = is.only (Line.Refused run sentence) others (tt, fits) lines

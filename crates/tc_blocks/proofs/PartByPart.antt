@@ -3,28 +3,11 @@ use Rattle.std.proofs.Common.{ℕ, Bool, ◌≡◌, ◌≢◌, ◌∙◌, ◌+�
 use Rattle.std.proofs.lemmas.List.{append-nil, length-append, length-map, map-append, nil_from_length}
 use Rattle.std.specs.Borrow.{Bor}
 use Rattle.tc_rules.specs.Prelude.{Verdict}
-use Rattle.tc_verdict.specs.declared.verdict.Verdict.TheVariants as V
-use Rattle.tc_text.specs.declared.fault.TextFault.{TextFault}
-use Rattle.tc_text.specs.declared.fault.TextFault.TheVariants as F
-use Rattle.tc_text.specs.declared.fault.TextKind.{TextKind}
-use Rattle.tc_text.specs.declared.fault.TextKind.TheVariants as T
+use Rattle.tc_text.specs.declared.fault.{TextFault.TextFault, TextKind.TextKind}
 use Rattle.tc_text.specs.Prelude.{lines_of}
 use Rattle.tc_text.proofs.Lemmas.LinesOf.{some_line}
-use Rattle.tc_blocks.specs.HistoryBlock.{end_text}
-use Rattle.tc_blocks.specs.declared.block.Block.{Block}
-use Rattle.tc_blocks.specs.declared.header.Header.{Header}
-use Rattle.tc_blocks.specs.declared.header.Kind.{Kind}
-use Rattle.tc_blocks.specs.declared.line.Line.{Line}
-use Rattle.tc_blocks.specs.declared.met.MetRuns.{MetRuns}
-use Rattle.tc_blocks.specs.declared.reading.OpenBlock.{OpenBlock}
-use Rattle.tc_blocks.specs.declared.reading.Reading.{Reading}
-use Rattle.tc_blocks.specs.Line.{line_text}
-use Rattle.tc_blocks.specs.Met.{AreMet}
-use Rattle.tc_blocks.specs.Block.{header_text}
-use Rattle.tc_blocks.specs.Text.{AreBlocks, AreLines, AreWhole, CanContinue, IsBlock, IsFault, IsFaultAfter, IsFaultAt, IsLine, IsTextOf, all_lines, block_lines, open_lines}
-use Rattle.tc_blocks.specs.Inside.{AreInside, AreRead, AreTakenBy, GoesOn, IsBadInside, IsFirst, IsInsideFault, IsOpenTo, IsOpened, IsReadBy, IsReadOn, IsReadTo, IsRefused, IsWholeOf, Others, Refuses, Remains}
-use Rattle.tc_blocks.proofs.InsideLines.{head_is, none_yet, tail_is}
-use Rattle.tc_blocks.proofs.Lemmas.Notes.{line_no_end}
+use Rattle.tc_blocks.specs.{Block.header_text, HistoryBlock.end_text, Inside.AreInside, Inside.AreRead, Inside.AreTakenBy, Inside.GoesOn, Inside.IsBadInside, Inside.IsFirst, Inside.IsInsideFault, Inside.IsOpenTo, Inside.IsOpened, Inside.IsReadBy, Inside.IsReadOn, Inside.IsReadTo, Inside.IsRefused, Inside.IsWholeOf, Inside.Others, Inside.Refuses, Inside.Remains, Line.line_text, Met.AreMet, Text.AreBlocks, Text.AreLines, Text.AreWhole, Text.CanContinue, Text.IsBlock, Text.IsFault, Text.IsFaultAfter, Text.IsFaultAt, Text.IsLine, Text.IsTextOf, Text.all_lines, Text.block_lines, Text.open_lines, declared.block.Block.Block, declared.header.Header.Header, declared.header.Kind.Kind, declared.line.Line.Line, declared.met.MetRuns.MetRuns, declared.reading.OpenBlock.OpenBlock, declared.reading.Reading.Reading}
+use Rattle.tc_blocks.proofs.{InsideLines.head_is, InsideLines.none_yet, InsideLines.tail_is, Lemmas.Notes.line_no_end}
 
 -- the first line is none that a block may have
 abbrev pub IsNoHeaderLine : (Header → Type 0) → List ℕ → Type 0
@@ -35,9 +18,6 @@ abbrev pub IsThatHeader : (Header → Type 0) → List ℕ → Header → List �
 IsThatHeader may text h rest = (g : Header) (others : List (List ℕ)) → may g → lines_of text ≡ header_text g ∷ others → (h ≡ g) × (lines_of rest ≡ others)
 
 -- ---- blocks, one after the other
-
-pub none_read : (may : Header → Type 0) → AreRead may [] 1
-none_read may = record { fits = tt; number = refl; only = λ rest all is whole. record { tail = all; parts = refl; spelled = whole; fits = is } }
 
 -- a block has two lines more than those inside
 block_count : (b : Block) → length (block_lines b) ≡ length b.lines + 2
@@ -165,7 +145,7 @@ begun {H} {O} stands opens may before text rest made line h block so spelled hea
 
 -- no block can begin
 pub bad_header : {H O : Type 0} (stands : List Block → H → Type 0) (opens : ℕ → Header → List Line → O → Type 0) (may : Header → Type 0) (before : List (List ℕ)) (text : List ℕ) (made : H) (line : ℕ) →
-    text ≢ [] → IsNoHeaderLine may text → IsReadTo {O = O} stands opens may before made None line → IsRefused may (before ++ lines_of text) (F.At line T.FirstLine)
+    text ≢ [] → IsNoHeaderLine may text → IsReadTo {O = O} stands opens may before made None line → IsRefused may (before ++ lines_of text) (TextFault.At line TextKind.FirstLine)
 bad_header stands opens may before text made line some none so whole future is = record {
   before = before;
   rest = bad.0 ∷ (bad.1.0 ++ future);
@@ -285,12 +265,12 @@ module _ (may : Header → Type 0) (blocks : List Block) (at : ℕ) (h : Header)
   open_continues : CanContinue may lines_so
   open_continues =
       let number = read.number in
-      let b = make h at inside V.None in (
-        end_text V.None ∷ [],
+      let b = make h at inside Verdict.None in (
+        end_text Verdict.None ∷ [],
         (
           blocks ++ b ∷ [],
           blocks_more may 1 at blocks b read.fits (omega (arith, number)) (record { header = header; inside = so.right; first = refl }),
-          append_assoc (all_lines blocks) (open_lines h inside) (end_text V.None ∷ []) ∙ sym (all_lines-more blocks b),
+          append_assoc (all_lines blocks) (open_lines h inside) (end_text Verdict.None ∷ []) ∙ sym (all_lines-more blocks b),
         ),
       )
 
@@ -313,7 +293,7 @@ module _ (may : Header → Type 0) (blocks : List Block) (at : ℕ) (h : Header)
 
 -- in a line that may not come
 bad_line_refused : (may : Header → Type 0) (blocks : List Block) (at line : ℕ) (h : Header) (inside : List Line) (before : List (List ℕ)) (text : List ℕ) → AreRead may blocks at → may h → ((g : Header) → may g → header_text h ≡ header_text g → h ≡ g) →
-    before ≡ all_lines blocks ++ open_lines h inside → IsBadInside h.kind h.behaviours inside at text line → IsRefused may (before ++ lines_of text) (F.At line T.Entry)
+    before ≡ all_lines blocks ++ open_lines h inside → IsBadInside h.kind h.behaviours inside at text line → IsRefused may (before ++ lines_of text) (TextFault.At line TextKind.Entry)
 bad_line_refused may blocks at line h inside before text read header only before_is bad whole future is = record {
   before = all_lines blocks ++ open_lines h bad.all;
   rest = bad.bad_line ∷ (bad.others ++ future);
@@ -336,15 +316,15 @@ bad_line_refused may blocks at line h inside before text read header only before
 pub bad_line : {H O : Type 0} (stands : List Block → H → Type 0) (opens : ℕ → Header → List Line → O → Type 0) (may : Header → Type 0) (before : List (List ℕ)) (text : List ℕ) (made : H) (line : ℕ) (block : OpenBlock O) (fault : TextFault) →
     ((at : ℕ) (h : Header) (inside : List Line) → IsOpenTo opens block.kind block.behaviours at h inside block.met block.begun line → IsInsideFault block.kind block.behaviours inside at text fault) →
     IsReadTo stands opens may before made (Some block) line → IsRefused may (before ++ lines_of text) fault
-bad_line stands opens may before text made line block (F.At at T.Entry) bad so =
+bad_line stands opens may before text made line block (TextFault.At at TextKind.Entry) bad so =
     let p = so.place in
     let inside = bad so.at p.header p.inside p.open_to in
     bad_line_refused may so.blocks so.at at p.header p.inside before text so.read p.header_is p.header_only p.lines_are
     (subst (λ (m : ℕ). IsBadInside p.header.kind m p.inside so.at text at) p.few (subst (λ (x : Kind). IsBadInside x block.behaviours p.inside so.at text at) p.kind_is inside))
-bad_line stands opens may before text made line block (F.At at T.Early) bad so = let p = so.place in absurd (bad so.at p.header p.inside p.open_to)
-bad_line stands opens may before text made line block (F.At at T.FirstLine) bad so = let p = so.place in absurd (bad so.at p.header p.inside p.open_to)
-bad_line stands opens may before text made line block (F.At at T.Move) bad so = let p = so.place in absurd (bad so.at p.header p.inside p.open_to)
-bad_line stands opens may before text made line block F.NoMemory bad so = λ whole future is. tt
+bad_line stands opens may before text made line block (TextFault.At at TextKind.Early) bad so = let p = so.place in absurd (bad so.at p.header p.inside p.open_to)
+bad_line stands opens may before text made line block (TextFault.At at TextKind.FirstLine) bad so = let p = so.place in absurd (bad so.at p.header p.inside p.open_to)
+bad_line stands opens may before text made line block (TextFault.At at TextKind.Move) bad so = let p = so.place in absurd (bad so.at p.header p.inside p.open_to)
+bad_line stands opens may before text made line block TextFault.NoMemory bad so = λ whole future is. tt
 
 -- ---- part after part
 
@@ -393,7 +373,7 @@ whole_read stands opens may text made line later so = record {
     by_tail all (t ∷ ts) parts spelled = absurd cc
 
 early_none : {H O : Type 0} (stands : List Block → H → Type 0) (opens : ℕ → Header → List Line → O → Type 0) (may : Header → Type 0) (text : List ℕ) (made : H) (line : ℕ) →
-    line ≡ 1 → IsReadTo {O = O} stands opens may (lines_of text) made None line → IsFaultAt may text line T.Early
+    line ≡ 1 → IsReadTo {O = O} stands opens may (lines_of text) made None line → IsFaultAt may text line TextKind.Early
 early_none stands opens may text made line first so = record {
   before = [];
   rest = [];
@@ -404,10 +384,10 @@ early_none stands opens may text made line first so = record {
 }
 
 early_open : {H O : Type 0} (stands : List Block → H → Type 0) (opens : ℕ → Header → List Line → O → Type 0) (may : Header → Type 0) (text : List ℕ) (made : H) (line : ℕ) (block : OpenBlock O) →
-    IsReadTo stands opens may (lines_of text) made (Some block) line → IsFaultAt may text line T.Early
+    IsReadTo stands opens may (lines_of text) made (Some block) line → IsFaultAt may text line TextKind.Early
 early_open {H} {O} stands opens may text made line block so = by_place so.place
   where
-    by_place : IsOpened opens may so.blocks so.at (lines_of text) block line → IsFaultAt may text line T.Early
+    by_place : IsOpened opens may so.blocks so.at (lines_of text) block line → IsFaultAt may text line TextKind.Early
     by_place p = record {
       before = all_lines so.blocks ++ open_lines p.header p.inside;
       rest = [];
@@ -424,29 +404,29 @@ early_open {H} {O} stands opens may text made line block so = by_place so.place
         inside_is = as_header block.kind block.behaviours p.header p.inside p.kind_is p.few p.open_to.read
 
 pub early_if : {H O : Type 0} (stands : List Block → H → Type 0) (opens : ℕ → Header → List Line → O → Type 0) (may : Header → Type 0) (text : List ℕ) (made : H) (line : ℕ) (block : Option (OpenBlock O)) →
-    (is_some block ≡ true) ⊎ (line ≡ 1) → IsReadTo stands opens may (lines_of text) made block line → IsFaultAt may text line T.Early
+    (is_some block ≡ true) ⊎ (line ≡ 1) → IsReadTo stands opens may (lines_of text) made block line → IsFaultAt may text line TextKind.Early
 early_if stands opens may text made line None (inl some) so = absurd cc
 early_if stands opens may text made line None (inr first) so = early_none stands opens may text made line first so
 early_if stands opens may text made line (Some block) which so = early_open stands opens may text made line block so
 
 -- a text with a fault is that of no blocks
-pub fault_only : (may : Header → Type 0) (text : List ℕ) (fault : TextFault) (all : List Block) → IsFault may text fault → IsTextOf may text all → fault ≡ F.NoMemory
-fault_only may text F.NoMemory all bad is = refl
-fault_only may text (F.At line kind) all bad is = absurd (by_rest kind bad.rest (sym bad.lines ∙ is.lines) bad.fault)
+pub fault_only : (may : Header → Type 0) (text : List ℕ) (fault : TextFault) (all : List Block) → IsFault may text fault → IsTextOf may text all → fault ≡ TextFault.NoMemory
+fault_only may text TextFault.NoMemory all bad is = refl
+fault_only may text (TextFault.At line kind) all bad is = absurd (by_rest kind bad.rest (sym bad.lines ∙ is.lines) bad.fault)
   where
     nothing : (blocks : List Block) → blocks ≢ [] → [] ≡ all_lines blocks → ⊥
     nothing [] some none = some refl
     nothing (b ∷ bs) some none = cc
 
     by_rest : (kind : TextKind) (rest : List (List ℕ)) → bad.before ++ rest ≡ all_lines all → IsFaultAfter may bad.before rest kind → ⊥
-    by_rest T.Early [] lines fault = let before_is = sym (append-nil bad.before) ∙ lines in nothing all is.some (sym (fault (all, is.fits, before_is)) ∙ before_is)
-    by_rest T.FirstLine (next ∷ rest) lines fault = fault.1 (rest, (all, is.fits, append_assoc bad.before (next ∷ []) rest ∙ lines))
-    by_rest T.Entry (next ∷ rest) lines fault = fault.1 (rest, (all, is.fits, append_assoc bad.before (next ∷ []) rest ∙ lines))
-    by_rest T.Early (next ∷ rest) lines fault = absurd fault
-    by_rest T.FirstLine [] lines fault = absurd fault
-    by_rest T.Entry [] lines fault = absurd fault
-    by_rest T.Move [] lines fault = absurd fault
-    by_rest T.Move (next ∷ rest) lines fault = absurd fault
+    by_rest TextKind.Early [] lines fault = let before_is = sym (append-nil bad.before) ∙ lines in nothing all is.some (sym (fault (all, is.fits, before_is)) ∙ before_is)
+    by_rest TextKind.FirstLine (next ∷ rest) lines fault = fault.1 (rest, (all, is.fits, append_assoc bad.before (next ∷ []) rest ∙ lines))
+    by_rest TextKind.Entry (next ∷ rest) lines fault = fault.1 (rest, (all, is.fits, append_assoc bad.before (next ∷ []) rest ∙ lines))
+    by_rest TextKind.Early (next ∷ rest) lines fault = absurd fault
+    by_rest TextKind.FirstLine [] lines fault = absurd fault
+    by_rest TextKind.Entry [] lines fault = absurd fault
+    by_rest TextKind.Move [] lines fault = absurd fault
+    by_rest TextKind.Move (next ∷ rest) lines fault = absurd fault
 
 pub whole_if : {H O : Type 0} (stands : List Block → H → Type 0) (opens : ℕ → Header → List Line → O → Type 0) (may : Header → Type 0) (text : List ℕ) (made : H) (line : ℕ) (block : Option (OpenBlock O)) →
     is_some block ≡ false → line ≢ 1 → IsReadTo stands opens may (lines_of text) made block line → IsWholeOf stands may text made
@@ -459,12 +439,6 @@ whole_if stands opens may text made line (Some block) none later so = absurd cc
 pub record IsGoneOn {H O : Type 0} (stands : List Block → H → Type 0) (opens : ℕ → Header → List Line → O → Type 0) (before : Reading H O) (text : List ℕ) (after : Reading H O) (rest : List ℕ) : Type 0 where
   pub on : GoesOn stands opens before text after rest
   pub room : after.line + length rest ≤ before.line + length text
-
-pub gone_none : {H O : Type 0} (stands : List Block → H → Type 0) (opens : ℕ → Header → List Line → O → Type 0) (before : Reading H O) (text : List ℕ) → IsGoneOn stands opens before text before text
-gone_none stands opens before text = record {
-  on = record { same = refl; goes = λ lines so. none_on stands opens (IsFirst before.only_histories) lines text before.made before.block before.line so };
-  room = omega arith;
-}
 
 pub as_first : {H O : Type 0} (stands : List Block → H → Type 0) (opens : ℕ → Header → List Line → O → Type 0) (only other : Bool) (lines : List (List ℕ)) (made : H) (block : Option (OpenBlock O)) (line : ℕ) → other ≡ only →
     IsReadTo stands opens (IsFirst only) lines made block line → IsReadTo stands opens (IsFirst other) lines made block line

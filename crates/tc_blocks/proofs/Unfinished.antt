@@ -1,19 +1,13 @@
 -- Texts that come as bytes, part by part.
 use Rattle.std.proofs.Common.{ℕ, Bool, true, false, ◌≡◌, ◌≢◌, ◌==◌, ◌∙◌, ◌+◌, ◌-◌, ◌<◌, ◌≤◌, if◌then◌else◌, Option, None, Some, Result, Ok, Err, IfOk, IfErr, IfSome, List, [], ◌∷◌, ◌++◌, length, take, drop, slice_index, ap, sym, subst, refl, append_assoc, arith}
-use Rattle.std.specs.List.{onto_first}
-use Rattle.std.specs.Io.KnownBytes.{Consumes, IsAtEnd}
-use Rattle.std.proofs.lemmas.List.{append-nil, length-append, length-take-le, take-append-drop, take_more}
+use Rattle.std.specs.{Io.KnownBytes.Consumes, Io.KnownBytes.IsAtEnd, Io.StartsWith, List.onto_first}
+use Rattle.std.proofs.lemmas.List.{append-nil, length-append, length-take-le, take-append-drop, take_more, take-take}
+use Rattle.std.proofs.Math.Seq.{take-append_seam}
 use Rattle.tc_text.specs.declared.fault.TextFault.{TextFault}
-use Rattle.tc_text.specs.declared.fault.TextFault.TheVariants as F
 use Rattle.tc_text.specs.Prelude.{lines_of}
 use Rattle.tc_text.proofs.Lemmas.LinesOf.{no_line}
 use Rattle.tc_stream.specs.Prelude.{IsRead}
-use Rattle.tc_blocks.specs.declared.block.Block.{Block}
-use Rattle.tc_blocks.specs.declared.header.Header.{Header}
-use Rattle.tc_blocks.specs.declared.line.Line.{Line}
-use Rattle.tc_blocks.specs.declared.reading.Reading.{Reading}
-use Rattle.tc_blocks.specs.Text.{IsFault, IsHeader, IsTextOf}
-use Rattle.tc_blocks.specs.Inside.{GoesOn, IsFirst, IsKnown, IsPending, IsReadBy, IsReadInto, IsWholeOf, Refuses, RefusesPart, TakesPart}
+use Rattle.tc_blocks.specs.{Inside.GoesOn, Inside.IsFirst, Inside.IsKnown, Inside.IsPending, Inside.IsReadBy, Inside.IsReadInto, Inside.IsWholeOf, Inside.Refuses, Inside.RefusesPart, Inside.TakesPart, Text.IsFault, Text.IsHeader, Text.IsTextOf, declared.block.Block.Block, declared.header.Header.Header, declared.line.Line.Line, declared.reading.Reading.Reading}
 use Rattle.tc_blocks.proofs.PartByPart.{as_first, fault_only, on_whole}
 
 -- ---- whole lines
@@ -43,16 +37,6 @@ take_ended xs n some within ended =
     ap (λ k. take k xs) (sym same) ∙ (take_more xs (n - 1) 0 less ∙ ap (λ b. take (n - 1) xs ++ b ∷ []) ended)
 
 -- ---- one part
-
-pub part_kept : {H O : Type 0} (stands : List Block → H → Type 0) (opens : ℕ → Header → List Line → O → Type 0) (reading : Reading H O) (unfinished part unfinished' : List ℕ) → unfinished' ≡ unfinished ++ part → TakesPart stands opens reading unfinished part reading unfinished'
-part_kept stands opens reading unfinished part unfinished' is = record {
-  takes = λ bytes so. record {
-    whole = so.whole;
-    parts = ap (λ x. x ++ part) so.parts ∙ (append_assoc so.whole unfinished part ∙ ap (λ x. so.whole ++ x) (sym is));
-    closed = so.closed;
-    read = so.read;
-  };
-}
 
 -- the bytes are whole lines and a rest; the whole lines are closed, and have these lines
 pub record IsCut (bytes whole batch rest : List ℕ) : Type 0 where
@@ -105,9 +89,6 @@ part_refused {H} {O} stands opens reading unfinished part batch rest end fault s
         bad.refused (lines_of so.whole) so.read ((bytes ++ part) ++ others) (lines_of (rest ++ others))
         (ap (λ x. lines_of (x ++ others)) cut.parts ∙ (ap lines_of (append_assoc (so.whole ++ batch) rest others) ∙ (cut.closed (rest ++ others) ∙ ap (λ x. x ++ lines_of (rest ++ others)) cut.lines)))
 
-pub part_without_memory : {H O : Type 0} (stands : List Block → H → Type 0) (opens : ℕ → Header → List Line → O → Type 0) (reading : Reading H O) (unfinished part : List ℕ) → RefusesPart stands opens reading unfinished part F.NoMemory
-part_without_memory stands opens reading unfinished part = record { refused = λ bytes so others. tt }
-
 -- ---- the end
 
 -- the first fault of a text
@@ -149,10 +130,6 @@ consumes_two (Some x) None c xs ys p q = absurd p
 consumes_two (Some x) (Some y) None xs ys p q = absurd q
 consumes_two (Some x) (Some y) (Some z) xs ys p q = p ∙ (ap (λ l. xs ++ l) q ∙ sym (append_assoc xs ys z))
 
-consumes_none : (a : Option (List ℕ)) → Consumes a a []
-consumes_none None = tt
-consumes_none (Some x) = refl
-
 given_all : (a b : Option (List ℕ)) (xs : List ℕ) → Consumes a b xs → IsAtEnd b → IfSome a (λ given. xs ≡ given)
 given_all None b xs p none = tt
 given_all (Some x) None xs p none = absurd p
@@ -163,9 +140,6 @@ pub record IsConsumed (before now : Option (List ℕ)) (limit left : ℕ) (bytes
   pub consumed : Consumes before now bytes
   pub counted : length bytes + left ≡ limit
 
-pub none_consumed : (before : Option (List ℕ)) (limit : ℕ) → IsConsumed before before limit limit []
-none_consumed before limit = record { consumed = consumes_none before; counted = omega arith }
-
 pub more_consumed : (before now after : Option (List ℕ)) (limit left n : ℕ) (bytes room : List ℕ) → IsConsumed before now limit left bytes → n ≤ length room → n ≤ left → Consumes now after (take n room) → IsConsumed before after limit (left - n) (bytes ++ take n room)
 more_consumed before now after limit left n bytes room so within fits takes = record {
   consumed = consumes_two before now after bytes (take n room) so.consumed takes;
@@ -175,11 +149,6 @@ more_consumed before now after limit left n bytes room so within fits takes = re
 pub end_consumed : (before now after : Option (List ℕ)) (limit left : ℕ) (bytes : List ℕ) → IsConsumed before now limit left bytes → Consumes now after [] → IsConsumed before after limit left bytes
 end_consumed before now after limit left bytes so none =
     record { consumed = subst (λ (x : List ℕ). Consumes before after x) (append-nil bytes) (consumes_two before now after bytes [] so.consumed none); counted = so.counted }
-
-pub long_input : (before now : Option (List ℕ)) (limit left : ℕ) (bytes : List ℕ) → IsConsumed before now limit left bytes → IfSome now (λ xs. left < length xs) → IfSome before (λ xs. limit < length xs)
-long_input None now limit left bytes so long = tt
-long_input (Some x) None limit left bytes so long = absurd so.consumed
-long_input (Some x) (Some y) limit left bytes so long = let counted = so.counted in let whole = ap length so.consumed in omega (arith, counted, whole, long, length-append bytes y)
 
 pub whole_input : {H : Type 0} (stands : List Block → H → Type 0) (before now : Option (List ℕ)) (limit left : ℕ) (bytes : List ℕ) (read : Result H TextFault) → IsConsumed before now limit left bytes → IsAtEnd now → IsReadInto stands bytes read → IsRead limit before (λ text. IsReadInto stands text read)
 whole_input stands before now limit left bytes read so end is = (bytes, let counted = so.counted in omega (arith, counted), given_all before now bytes so.consumed end, is)
@@ -203,17 +172,6 @@ pub record IsReadSoFar {H O : Type 0} (stands : List Block → H → Type 0) (op
   pub known : IsKnown reading.block
   pub any : reading.only_histories ≡ false
 
-pub none_so_far : {H O : Type 0} (stands : List Block → H → Type 0) (opens : ℕ → Header → List Line → O → Type 0) (before : Option (List ℕ)) (limit : ℕ) (reading : Reading H O) (unfinished : List ℕ) → IsReadBy stands opens [] reading → reading.line ≡ 1 → IsKnown reading.block → reading.only_histories ≡ false → unfinished ≡ [] →
-    IsReadSoFar stands opens before before limit limit reading unfinished
-none_so_far stands opens before limit reading unfinished read first known any none = record {
-  bytes = [];
-  consumed = none_consumed before limit;
-  pending = record { whole = []; parts = sym none; closed = λ others. refl; read = read };
-  room = let short = ap length none in omega (arith, first, short);
-  known = known;
-  any = any;
-}
-
 pub more_so_far : {H O : Type 0} (stands : List Block → H → Type 0) (opens : ℕ → Header → List Line → O → Type 0) (before now after : Option (List ℕ)) (limit left n : ℕ) (reading next : Reading H O) (unfinished unfinished' room part : List ℕ) → IsReadSoFar stands opens before now limit left reading unfinished →
     n ≤ length room → n ≤ left → Consumes now after (take n room) → part ≡ take n room → TakesPart stands opens reading unfinished part next unfinished' → next.line + length unfinished' ≤ reading.line + length unfinished + length part → IsKnown next.block → next.only_histories ≡ reading.only_histories →
     IsReadSoFar stands opens before after limit (left - n) next unfinished'
@@ -225,3 +183,8 @@ more_so_far stands opens before now after limit left n reading next unfinished u
   known = known;
   any = same ∙ so.any;
 }
+
+pub starts_before : (old added middle new : List ℕ) → middle ≡ old ++ added → StartsWith new middle → StartsWith new old
+starts_before old added middle new grown starts =
+    let within : length old ≤ length middle = omega (arith, ap length grown, length-append {A = ℕ}) in
+    sym (take-take (length old) (length middle) new within) ∙ (ap (take (length old)) (starts ∙ grown) ∙ take-append_seam old added)

@@ -1,20 +1,14 @@
 -- The text of a block: a history of format 1 or 2, or evidence.
 use Rattle.std.specs.Prelude.{ℕ, List, [], ◌∷◌, ◌++◌, codes}
-use Rattle.std.specs.List.{flat_map}
-use Rattle.std.specs.Fmt.{decimal}
+use Rattle.std.specs.{Fmt.decimal, List.flat_map}
 use Rattle.tc_rules.specs.Prelude.{Verdict}
-use Rattle.tc_blocks.specs.HistoryBlock.{end_text}
-use Rattle.tc_blocks.specs.declared.header.Kind.{Kind}
-use Rattle.tc_blocks.specs.declared.header.Kind.TheVariants as K
-use Rattle.tc_blocks.specs.declared.header.Header.{Header}
-use Rattle.tc_blocks.specs.declared.line.Line.{Line}
-use Rattle.tc_blocks.specs.Line.{line_text}
+use Rattle.tc_blocks.specs.{HistoryBlock.end_text, Line.line_text, declared.header.Header.Header, declared.header.Kind.Kind, declared.line.Line.Line}
 
 -- the words of a first line, which say the kind of the block
 abbrev pub kind_text : Kind → List ℕ
-kind_text K.History1 = codes "history 1 "
-kind_text K.History2 = codes "history 2 "
-kind_text K.Evidence = codes "evidence 1 "
+kind_text Kind.History1 = codes "history 1 "
+kind_text Kind.History2 = codes "history 2 "
+kind_text Kind.Evidence = codes "evidence 1 "
 
 -- the first line, without its LF: the kind, the name of the case, and how many behaviours it has
 abbrev pub header_text : Header → List ℕ

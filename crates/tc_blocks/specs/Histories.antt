@@ -1,17 +1,11 @@
 -- Texts of histories: evidence whose blocks are all histories.
 use Rattle.std.specs.Prelude.{ℕ, ◌≡◌, ◌≢◌, List, [], map}
 use Rattle.std.specs.List.{flat_map}
-use Rattle.tc_blocks.specs.declared.history_block.History.{History}
-use Rattle.tc_blocks.specs.HistoryBlock.{history_text}
-use Rattle.tc_blocks.specs.declared.block.Block.{Block}
-use Rattle.tc_blocks.specs.declared.header.Header.{Header}
-use Rattle.tc_blocks.specs.declared.header.Kind.TheVariants as K
-use Rattle.tc_blocks.specs.Text.{AreBlocks, AreEvidence, IsHeader, IsTextOf}
-use Rattle.tc_blocks.specs.Laws.{history_of}
+use Rattle.tc_blocks.specs.{HistoryBlock.history_text, Laws.history_of, Text.AreBlocks, Text.AreEvidence, Text.IsHeader, Text.IsTextOf, declared.block.Block.Block, declared.header.Header.Header, declared.header.Kind.Kind, declared.history_block.History.History}
 
 -- the first line of a history, which that of evidence is not
 abbrev pub IsHistoryHeader : Header → Type 0
-IsHistoryHeader h = IsHeader h × (h.kind ≢ K.Evidence)
+IsHistoryHeader h = IsHeader h × (h.kind ≢ Kind.Evidence)
 
 -- the text is that of these histories, and there is one
 abbrev pub AreHistories : List ℕ → List History → Type 0

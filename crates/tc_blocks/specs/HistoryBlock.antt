@@ -1,7 +1,6 @@
 -- The text of a test case's history; it is this project's own.
 use Rattle.std.specs.Prelude.{ℕ, ◌==◌, if◌then◌else◌, List, [], ◌∷◌, ◌++◌, codes}
-use Rattle.std.specs.List.{flat_map}
-use Rattle.std.specs.Fmt.{decimal}
+use Rattle.std.specs.{Fmt.decimal, List.flat_map}
 use Rattle.tc_rules.specs.Prelude.{Verdict, name_of, Entry, Reply}
 use Rattle.tc_text.specs.Prelude.{move_text, reply_text}
 

@@ -1,13 +1,12 @@
 -- The entries that a block of a history may have, and its format.
 use Rattle.std.specs.Prelude.{ℕ, ◌≡◌, ◌<◌, ◌≤◌, ◌^◌, ◌⊎◌, Some, List, [], ◌∷◌}
 use Rattle.tc_rules.specs.Prelude.{Run, Entry, Op, Reply}
-use Rattle.tc_entry.specs.declared.op.Op.TheVariants as O
 use Rattle.tc_text.specs.declared.short.ShortOp.{ShortOp}
 use Rattle.tc_text.specs.Prelude.{op_of, IsOp, IsReply}
 
 -- the operation gives no component a name
 abbrev pub IsUnnamed : Op → Type 0
-IsUnnamed (O.Create alive (Some name)) = ⊥
+IsUnnamed (Op.Create alive (Some name)) = ⊥
 IsUnnamed _ = Unit {0}
 
 -- an entry of a block of this format: its numbers are those of their types, and format 1 has no names of components

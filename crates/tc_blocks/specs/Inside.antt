@@ -3,27 +3,8 @@ use Rattle.std.specs.Prelude.{ℕ, ◌≡◌, ◌≢◌, ◌+◌, ◌<◌, false
 use Rattle.std.specs.Borrow.{Bor}
 use Rattle.tc_rules.specs.Prelude.{Run, Verdict, Entry}
 use Rattle.tc_text.specs.Prelude.{is_plain, lines_of}
-use Rattle.tc_text.specs.declared.fault.TextFault.{TextFault}
-use Rattle.tc_text.specs.declared.fault.TextFault.TheVariants as F
-use Rattle.tc_text.specs.declared.fault.TextKind.TheVariants as T
-use Rattle.tc_blocks.specs.HistoryBlock.{end_text, entry_text}
-use Rattle.tc_blocks.specs.HistoryText.{IsEntry}
-use Rattle.tc_blocks.specs.declared.block.Block.{Block}
-use Rattle.tc_blocks.specs.declared.header.Header.{Header}
-use Rattle.tc_blocks.specs.declared.header.Kind.{Kind}
-use Rattle.tc_blocks.specs.declared.header.Kind.TheVariants as K
-use Rattle.tc_blocks.specs.declared.line.Line.{Line}
-use Rattle.tc_blocks.specs.declared.line.Line.TheVariants as L
-use Rattle.tc_blocks.specs.declared.met.MetRuns.{MetRuns}
-use Rattle.tc_blocks.specs.Line.{line_text}
-use Rattle.tc_blocks.specs.Met.{AreMet}
-use Rattle.tc_blocks.specs.Block.{header_text}
-use Rattle.tc_blocks.specs.Sentence.{IsSentence}
-use Rattle.tc_blocks.specs.declared.reading.OpenBlock.{OpenBlock}
-use Rattle.tc_blocks.specs.declared.reading.Reading.{Reading}
-use Rattle.tc_blocks.specs.declared.source.Pending.{Pending}
-use Rattle.tc_blocks.specs.Text.{AreBlocks, AreEvidence, AreLines, HoldsOfBlocks, IsFault, IsHeader, IsLine, IsTextOf, all_lines, open_lines}
-use Rattle.tc_blocks.specs.Histories.{IsHistoryHeader}
+use Rattle.tc_text.specs.declared.fault.{TextFault.TextFault, TextKind.TextKind}
+use Rattle.tc_blocks.specs.{Block.header_text, Histories.IsHistoryHeader, HistoryBlock.end_text, HistoryBlock.entry_text, HistoryText.IsEntry, Line.line_text, Met.AreMet, Sentence.IsSentence, Text.AreBlocks, Text.AreEvidence, Text.AreLines, Text.HoldsOfBlocks, Text.IsFault, Text.IsHeader, Text.IsLine, Text.IsTextOf, Text.all_lines, Text.open_lines, declared.block.Block.Block, declared.header.Header.Header, declared.header.Kind.Kind, declared.line.Line.Line, declared.met.MetRuns.MetRuns, declared.reading.OpenBlock.OpenBlock, declared.reading.Reading.Reading, declared.source.Pending.Pending}
 
 -- what is between a run and its sentence
 abbrev pub mark_text : Bool → List ℕ
@@ -40,23 +21,23 @@ NoPlainFirst text = (b : ℕ) (rest : List ℕ) → text ≡ b ∷ rest → is_p
 
 -- the line is no entry
 abbrev pub IsNoEntry : Line → Type 0
-IsNoEntry (L.Entry e) = ⊥
+IsNoEntry (Line.Entry e) = ⊥
 IsNoEntry _ = Unit {0}
 
 -- what a run says, as a line
 abbrev pub line_said : Bool → Run → List ℕ → Line
-line_said false run sentence = L.Remark run sentence
-line_said true run sentence = L.Refused run sentence
+line_said false run sentence = Line.Remark run sentence
+line_said true run sentence = Line.Refused run sentence
 
 -- the line is what a run of the case says
 abbrev pub IsSaidBy : ℕ → Line → Type 0
-IsSaidBy n (L.Remark run sentence) = (run.0 < n) × IsSentence sentence
-IsSaidBy n (L.Refused run sentence) = (run.0 < n) × IsSentence sentence
+IsSaidBy n (Line.Remark run sentence) = (run.0 < n) × IsSentence sentence
+IsSaidBy n (Line.Refused run sentence) = (run.0 < n) × IsSentence sentence
 IsSaidBy n _ = ⊥
 
 -- the line is no entry, and may come in evidence of n behaviours after these lines
 abbrev pub IsNote : ℕ → List Line → Line → Type 0
-IsNote n before l = IsNoEntry l × IsLine K.Evidence n before l
+IsNote n before l = IsNoEntry l × IsLine Kind.Evidence n before l
 
 -- the first line spells this one, which is one that may come, and no other that may
 pub record IsNext (may : Line → Type 0) (text : List ℕ) (l : Line) (rest : List ℕ) : Type 0 where
@@ -136,11 +117,11 @@ pub record IsBadInside (kind : Kind) (n : ℕ) (inside : List Line) (at : ℕ) (
 
 -- the first fault of a text that continues inside a block that begins in this line
 abbrev pub IsInsideFault : Kind → ℕ → List Line → ℕ → List ℕ → TextFault → Type 0
-IsInsideFault kind n inside at text (F.At line T.Entry) = IsBadInside kind n inside at text line
-IsInsideFault kind n inside at text (F.At line T.Early) = ⊥
-IsInsideFault kind n inside at text (F.At line T.FirstLine) = ⊥
-IsInsideFault kind n inside at text (F.At line T.Move) = ⊥
-IsInsideFault kind n inside at text F.NoMemory = Unit {0}
+IsInsideFault kind n inside at text (TextFault.At line TextKind.Entry) = IsBadInside kind n inside at text line
+IsInsideFault kind n inside at text (TextFault.At line TextKind.Early) = ⊥
+IsInsideFault kind n inside at text (TextFault.At line TextKind.FirstLine) = ⊥
+IsInsideFault kind n inside at text (TextFault.At line TextKind.Move) = ⊥
+IsInsideFault kind n inside at text TextFault.NoMemory = Unit {0}
 
 -- the first lines that the blocks of a text may have: if it has histories only, theirs
 abbrev pub IsFirst : Bool → (Header → Type 0)
@@ -222,7 +203,7 @@ pub record Refuses {H O : Type 0} (stands : List Block → H → Type 0) (opens 
 -- memory ran out
 abbrev pub IsReadInto : {H : Type 0} → (List Block → H → Type 0) → List ℕ → Result H TextFault → Type 0
 IsReadInto {H} stands text read =
-    MatchResult read (λ made. HoldsOfBlocks text (λ all. stands all made)) (λ fault. IsFault IsHeader text fault × ((all : List Block) → AreEvidence text all → fault ≡ F.NoMemory))
+    MatchResult read (λ made. HoldsOfBlocks text (λ all. stands all made)) (λ fault. IsFault IsHeader text fault × ((all : List Block) → AreEvidence text all → fault ≡ TextFault.NoMemory))
 
 -- ---- texts that come as bytes, part by part
 

@@ -3,16 +3,7 @@ use Rattle.std.specs.Prelude.{ℕ, ◌≡◌, ◌↔◌, ◌==◌, ◌||◌, ◌
 use Rattle.std.specs.List.{list_all}
 use Rattle.tc_rules.specs.Prelude.{Verdict, IsBehaviours, overall, IsLegal}
 use Rattle.tc_text.specs.Prelude.{is_plain}
-use Rattle.tc_blocks.specs.declared.history_block.History.{History}
-use Rattle.tc_blocks.specs.HistoryBlock.{end_text}
-use Rattle.tc_blocks.specs.declared.block.Block.{Block}
-use Rattle.tc_blocks.specs.declared.header.Header.{Header}
-use Rattle.tc_blocks.specs.declared.header.Kind.{Kind}
-use Rattle.tc_blocks.specs.declared.line.Line.{Line}
-use Rattle.tc_blocks.specs.declared.line.Line.TheVariants as L
-use Rattle.tc_blocks.specs.Line.{entries_of, entry_in, line_text}
-use Rattle.tc_blocks.specs.Block.{header_text}
-use Rattle.tc_blocks.specs.Text.{AreEvidence, IsHeader, IsLine, format_of}
+use Rattle.tc_blocks.specs.{Block.header_text, HistoryBlock.end_text, Line.entries_of, Line.entry_in, Line.line_text, Text.AreEvidence, Text.IsHeader, Text.IsLine, Text.format_of, declared.block.Block.Block, declared.header.Header.Header, declared.header.Kind.Kind, declared.history_block.History.History, declared.line.Line.Line}
 
 -- the history of a block: its entries, and nothing of what else it says
 abbrev pub history_of : Block → History
@@ -53,8 +44,8 @@ is_quiet_byte b = is_plain b && not (b == 60)
 
 -- somebody's sentence: a remark or a refused line
 abbrev pub IsSaid : Line → Type 0
-IsSaid (L.Remark run sentence) = Unit {0}
-IsSaid (L.Refused run sentence) = Unit {0}
+IsSaid (Line.Remark run sentence) = Unit {0}
+IsSaid (Line.Refused run sentence) = Unit {0}
 IsSaid _ = ⊥
 
 -- which bytes a text of evidence has, and that only a sentence has a `<`

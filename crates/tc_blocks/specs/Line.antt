@@ -1,12 +1,8 @@
 -- The lines inside a block of evidence; their spelling is this project's own.
 use Rattle.std.specs.Prelude.{ℕ, ◌==◌, ◌||◌, Bool, if◌then◌else◌, false, true, List, [], ◌∷◌, ◌++◌, codes}
-use Rattle.std.specs.List.{flat_map, list_any}
-use Rattle.std.specs.Fmt.{decimal}
+use Rattle.std.specs.{Fmt.decimal, List.flat_map, List.list_any}
 use Rattle.tc_rules.specs.Prelude.{Entry, Op}
-use Rattle.tc_entry.specs.declared.op.Op.TheVariants as O
-use Rattle.tc_blocks.specs.HistoryBlock.{entry_text}
-use Rattle.tc_blocks.specs.declared.line.Line.{Line}
-use Rattle.tc_blocks.specs.declared.line.Line.TheVariants as L
+use Rattle.tc_blocks.specs.{HistoryBlock.entry_text, declared.line.Line.Line}
 
 -- the name of the behaviour that a run has
 abbrev pub naming_text : ℕ → List ℕ → List ℕ
@@ -18,22 +14,22 @@ said_text refused run sentence = decimal run ++ ((if refused then codes " ! " el
 
 -- a line, without its LF
 abbrev pub line_text : Line → List ℕ
-line_text (L.Named run name) = naming_text run.0 name
-line_text (L.Entry e) = entry_text e
-line_text (L.Remark run sentence) = said_text false run.0 sentence
-line_text (L.Refused run sentence) = said_text true run.0 sentence
+line_text (Line.Named run name) = naming_text run.0 name
+line_text (Line.Entry e) = entry_text e
+line_text (Line.Remark run sentence) = said_text false run.0 sentence
+line_text (Line.Refused run sentence) = said_text true run.0 sentence
 
 -- the operation starts run k
 abbrev pub starts : ℕ → Op → Bool
-starts k (O.Start c run args) = run.0 == k
+starts k (Op.Start c run args) = run.0 == k
 starts k _ = false
 
 -- the line is one of run k, or an entry that starts it
 abbrev pub is_about : ℕ → Line → Bool
-is_about k (L.Named run name) = run.0 == k
-is_about k (L.Entry e) = (e.caller.0 == k) || starts k e.op
-is_about k (L.Remark run sentence) = run.0 == k
-is_about k (L.Refused run sentence) = run.0 == k
+is_about k (Line.Named run name) = run.0 == k
+is_about k (Line.Entry e) = (e.caller.0 == k) || starts k e.op
+is_about k (Line.Remark run sentence) = run.0 == k
+is_about k (Line.Refused run sentence) = run.0 == k
 
 -- some line is about run k
 abbrev pub is_met : ℕ → List Line → Bool
@@ -41,7 +37,7 @@ is_met k lines = list_any (is_about k) lines
 
 -- the entry that the line is, if it is one
 abbrev pub entry_in : Line → List Entry
-entry_in (L.Entry e) = e ∷ []
+entry_in (Line.Entry e) = e ∷ []
 entry_in _ = []
 
 -- the entries among the lines, in their order

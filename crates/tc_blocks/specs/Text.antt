@@ -1,48 +1,35 @@
 -- Texts of histories and evidence, and what is wrong with other texts.
 use Rattle.std.specs.Prelude.{ℕ, ◌≡◌, ◌≢◌, ◌<◌, ◌+◌, false, List, [], ◌∷◌, ◌++◌, length, map}
 use Rattle.tc_rules.specs.Prelude.{IsBehaviours, IsName}
-use Rattle.tc_text.specs.declared.fault.TextFault.{TextFault}
-use Rattle.tc_text.specs.declared.fault.TextFault.TheVariants as F
-use Rattle.tc_text.specs.declared.fault.TextKind.{TextKind}
-use Rattle.tc_text.specs.declared.fault.TextKind.TheVariants as T
+use Rattle.tc_text.specs.declared.fault.{TextFault.TextFault, TextKind.TextKind}
 use Rattle.tc_text.specs.Prelude.{lines_of}
-use Rattle.tc_blocks.specs.HistoryBlock.{end_text}
-use Rattle.tc_blocks.specs.HistoryText.{IsEntry, IsFormat}
-use Rattle.tc_blocks.specs.declared.block.Block.{Block}
-use Rattle.tc_blocks.specs.declared.header.Header.{Header}
-use Rattle.tc_blocks.specs.declared.header.Kind.{Kind}
-use Rattle.tc_blocks.specs.declared.header.Kind.TheVariants as K
-use Rattle.tc_blocks.specs.declared.line.Line.{Line}
-use Rattle.tc_blocks.specs.declared.line.Line.TheVariants as L
-use Rattle.tc_blocks.specs.Line.{is_met, line_text}
-use Rattle.tc_blocks.specs.Sentence.{IsSentence}
-use Rattle.tc_blocks.specs.Block.{header_text}
+use Rattle.tc_blocks.specs.{Block.header_text, HistoryBlock.end_text, HistoryText.IsEntry, HistoryText.IsFormat, Line.is_met, Line.line_text, Sentence.IsSentence, declared.block.Block.Block, declared.header.Header.Header, declared.header.Kind.Kind, declared.line.Line.Line}
 
 -- the format of a block's entries; those of evidence are spelled as in format 2
 abbrev pub format_of : Kind → ℕ
-format_of K.History1 = 1
-format_of K.History2 = 2
-format_of K.Evidence = 2
+format_of Kind.History1 = 1
+format_of Kind.History2 = 2
+format_of Kind.Evidence = 2
 
 -- the name of run k's behaviour: only in evidence, for a run of the case, and before any line about that run
 pub record IsNaming (kind : Kind) (n : ℕ) (before : List Line) (k : ℕ) (name : List ℕ) : Type 0 where
-  pub evidence : kind ≡ K.Evidence
+  pub evidence : kind ≡ Kind.Evidence
   pub few : k < n
   pub name_is : IsName name
   pub first : is_met k before ≡ false
 
 -- what run k said: only in evidence, by a run of the case
 pub record IsSaying (kind : Kind) (n k : ℕ) (sentence : List ℕ) : Type 0 where
-  pub evidence : kind ≡ K.Evidence
+  pub evidence : kind ≡ Kind.Evidence
   pub few : k < n
   pub sentence_is : IsSentence sentence
 
 -- a line that may come inside a block of this kind and n behaviours, after these lines
 abbrev pub IsLine : Kind → ℕ → List Line → Line → Type 0
-IsLine kind n before (L.Named run name) = IsNaming kind n before run.0 name
-IsLine kind n before (L.Entry e) = IsEntry (format_of kind) e
-IsLine kind n before (L.Remark run sentence) = IsSaying kind n run.0 sentence
-IsLine kind n before (L.Refused run sentence) = IsSaying kind n run.0 sentence
+IsLine kind n before (Line.Named run name) = IsNaming kind n before run.0 name
+IsLine kind n before (Line.Entry e) = IsEntry (format_of kind) e
+IsLine kind n before (Line.Remark run sentence) = IsSaying kind n run.0 sentence
+IsLine kind n before (Line.Refused run sentence) = IsSaying kind n run.0 sentence
 
 -- lines that may come inside a block, one after the other, after these lines
 abbrev pub AreLines : Kind → ℕ → List Line → List Line → Type 0
@@ -100,9 +87,9 @@ CanContinue may lines = (more : List (List ℕ)) × AreWhole may (lines ++ more)
 -- After lines that can be continued, the rest has this fault: it is empty, while a block is open or there is none. Or its
 -- first line can't come there: no block is open, or one is.
 abbrev pub IsFaultAfter : (Header → Type 0) → List (List ℕ) → List (List ℕ) → TextKind → Type 0
-IsFaultAfter may lines [] T.Early = AreWhole may lines → lines ≡ []
-IsFaultAfter may lines (next ∷ rest) T.FirstLine = AreWhole may lines × (CanContinue may (lines ++ next ∷ []) → ⊥)
-IsFaultAfter may lines (next ∷ rest) T.Entry = (AreWhole may lines → ⊥) × (CanContinue may (lines ++ next ∷ []) → ⊥)
+IsFaultAfter may lines [] TextKind.Early = AreWhole may lines → lines ≡ []
+IsFaultAfter may lines (next ∷ rest) TextKind.FirstLine = AreWhole may lines × (CanContinue may (lines ++ next ∷ []) → ⊥)
+IsFaultAfter may lines (next ∷ rest) TextKind.Entry = (AreWhole may lines → ⊥) × (CanContinue may (lines ++ next ∷ []) → ⊥)
 IsFaultAfter may lines rest kind = ⊥
 
 -- the lines of the text before this one can be continued, and after them comes a fault of this kind
@@ -116,8 +103,8 @@ pub record IsFaultAt (may : Header → Type 0) (text : List ℕ) (line : ℕ) (k
 
 -- what a fault says of a text whose blocks may have these first lines; if memory runs out, nothing is said
 abbrev pub IsFault : (Header → Type 0) → List ℕ → TextFault → Type 0
-IsFault may text (F.At line kind) = IsFaultAt may text line kind
-IsFault may text F.NoMemory = Unit {0}
+IsFault may text (TextFault.At line kind) = IsFaultAt may text line kind
+IsFault may text TextFault.NoMemory = Unit {0}
 
 -- the text is that of histories and evidence, and whatever blocks it is of, this holds of them
 pub record HoldsOfBlocks (text : List ℕ) (Holds : List Block → Type 0) : Type 0 where

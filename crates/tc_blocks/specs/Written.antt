@@ -1,9 +1,7 @@
 -- The texts of blocks, as they are written.
 use Rattle.std.specs.Prelude.{ℕ, ◌≢◌, List, []}
 use Rattle.std.specs.List.{flat_map}
-use Rattle.tc_blocks.specs.declared.block.Block.{Block}
-use Rattle.tc_blocks.specs.Block.{block_text}
-use Rattle.tc_blocks.specs.Text.{AreBlocks, AreEvidence, IsHeader}
+use Rattle.tc_blocks.specs.{Block.block_text, Text.AreBlocks, Text.AreEvidence, Text.IsHeader, declared.block.Block.Block}
 
 -- the text of a block
 abbrev pub text_of_block : Block → List ℕ

@@ -1,7 +1,6 @@
 //! A block of a text.
 ghost use Rattle.std.specs.Prelude.{◌≡◌, IfOk, OnOk, ◌++◌, map};
-ghost use Rattle.tc_blocks.specs.Line.{entries_of};
-ghost use Rattle.tc_blocks.specs.Laws.{history_of};
+ghost use Rattle.tc_blocks.specs.{Laws.history_of, Line.entries_of};
 
 use crate::History;
 use crate::header::Header;

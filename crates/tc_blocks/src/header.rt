@@ -2,12 +2,7 @@
 ghost use Rattle.std.specs.Prelude.{◌≡◌, ◌≢◌, ◌<◌, ◌↔◌, ◌++◌, ◌∷◌, ℕ, true, List, length, IfSome, IsTrue};
 ghost use Rattle.tc_text.specs.Prelude.{lines_of, Takes};
 ghost use Rattle.tc_text.specs.Inside.{TakesLine};
-ghost use Rattle.tc_blocks.specs.declared.header.Header.{Header as AnyHeader};
-ghost use Rattle.tc_blocks.specs.declared.header.Kind.{Kind as AnyKind};
-ghost use Rattle.tc_blocks.specs.declared.header.Kind.TheVariants as kinds;
-ghost use Rattle.tc_blocks.specs.Block.{header_text, kind_text};
-ghost use Rattle.tc_blocks.specs.Text.{IsHeader, format_of};
-ghost use Rattle.tc_blocks.specs.Inside.{IsFirst};
+ghost use Rattle.tc_blocks.specs.{Block.header_text, Block.kind_text, Inside.IsFirst, Text.IsHeader, Text.format_of};
 
 use crate::take_behaviours;
 use tc_entry::Name;
@@ -50,7 +45,7 @@ pub struct Header {
 // The kind that the text begins with the words of, and what follows them.
 fn take_kind(text: &[u8]) -> Option<(Kind, &[u8])>
     ensures spelled { IfSome result (λ r. text.now ≡ kind_text r.0 ++ r.1.now) }
-    ensures only { (k : AnyKind) (rest : List ℕ) → text.now ≡ kind_text k ++ rest → Takes result k rest }
+    ensures only { (k : Kind) (rest : List ℕ) → text.now ≡ kind_text k ++ rest → Takes result k rest }
 {
     if let Some(rest) = after(text, b"evidence 1 ") {
         Some((Kind::Evidence, rest))
@@ -68,7 +63,7 @@ fn take_header(text: &[u8]) -> Option<(Header, &[u8])>
     ensures spelled { IfSome result (λ r. lines_of text.now ≡ header_text r.0 ∷ lines_of r.1.now) }
     ensures fits { IfSome result (λ r. IsHeader r.0) }
     ensures less { IfSome result (λ r. length r.1.now < length text.now) }
-    ensures only { (h : AnyHeader) (others : List (List ℕ)) → IsHeader h → lines_of text.now ≡ header_text h ∷ others
+    ensures only { (h : Header) (others : List (List ℕ)) → IsHeader h → lines_of text.now ≡ header_text h ∷ others
         → TakesLine result h others }
 {
     let (kind, rest) = take_kind(text)?;
@@ -88,7 +83,7 @@ fn take_header(text: &[u8]) -> Option<(Header, &[u8])>
 
 // Whether a text may have a block of this kind, if it may have histories only.
 fn may_have(only_histories: bool, kind: Kind) -> bool
-    ensures { IsTrue result ↔ (only_histories ≡ true → kind ≢ kinds.Evidence) }
+    ensures { IsTrue result ↔ (only_histories ≡ true → kind ≢ Kind.Evidence) }
 {
     match kind {
         Kind::Evidence => !only_histories,
@@ -103,7 +98,7 @@ pub(crate) fn take_first_line(only_histories: bool, text: &[u8]) -> Option<(Head
     ensures header { IfSome result (λ r. IsHeader r.0) }
     ensures first { IfSome result (λ r. IsFirst only_histories r.0) }
     ensures less { IfSome result (λ r. length r.1.now < length text.now) }
-    ensures only { (h : AnyHeader) (others : List (List ℕ)) → IsFirst only_histories h → lines_of text.now ≡ header_text h ∷ others
+    ensures only { (h : Header) (others : List (List ℕ)) → IsFirst only_histories h → lines_of text.now ≡ header_text h ∷ others
         → TakesLine result h others }
 {
     let (header, rest) = take_header(text)?;

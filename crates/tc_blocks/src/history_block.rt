@@ -1,7 +1,6 @@
 //! The history of a test case, and writing it.
 ghost use Rattle.std.specs.Prelude.{◌≡◌, ◌++◌, ◌∷◌, [], OnOk, OnErr};
-ghost use Rattle.std.specs.List.{flat_map};
-ghost use Rattle.std.specs.Io.{StartsWith};
+ghost use Rattle.std.specs.{Io.StartsWith, List.flat_map};
 ghost use Rattle.tc_blocks.specs.HistoryBlock.{history_text, end_text, entry_line, history_header_text};
 
 use tc_entry::{Entry, Name, NoMemory, Sequence, Verdict};

@@ -3,8 +3,7 @@ ghost use Rattle.std.specs.Prelude.{◌≡◌, ◌<◌, ◌↔◌, ◌∷◌, �
 ghost use Rattle.tc_rules.specs.Prelude.{Verdict as AnyVerdict, Entry as AnyEntry, Reply as AnyReply};
 ghost use Rattle.tc_text.specs.Prelude.{lines_of, IsLong, IsReply};
 ghost use Rattle.tc_text.specs.Inside.{TakesLine};
-ghost use Rattle.tc_blocks.specs.HistoryBlock.{end_text, entry_text, outcome_text};
-ghost use Rattle.tc_blocks.specs.HistoryText.{IsEntry, IsUnnamed, short_entry};
+ghost use Rattle.tc_blocks.specs.{HistoryBlock.end_text, HistoryBlock.entry_text, HistoryBlock.outcome_text, HistoryText.IsEntry, HistoryText.IsUnnamed, HistoryText.short_entry};
 
 use tc_entry::{Entry, Op, Reply, Run, Verdict};
 use tc_text::{

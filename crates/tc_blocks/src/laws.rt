@@ -1,11 +1,11 @@
 //! Laws of blocks: each function changes nothing, and its contract is the law.
-ghost use Rattle.tc_blocks.specs.Written as written;
-ghost use Rattle.tc_blocks.specs.Histories as histories;
-ghost use Rattle.tc_blocks.specs.Laws as laws;
 ghost use Rattle.std.specs.Prelude.{IfSome};
 ghost use Rattle.tc_rules.specs.Prelude.{IsName};
 ghost use Rattle.tc_text.specs.Prelude.{AreComps, IsComp, IsGroup, IsOp, IsReply, IsTarget};
 ghost use Rattle.tc_blocks.specs.HistoryText.{AreEntries, IsEntry};
+ghost use Rattle.tc_blocks.specs.Written as written;
+ghost use Rattle.tc_blocks.specs.Histories as histories;
+ghost use Rattle.tc_blocks.specs.Laws as laws;
 
 use tc_entry::{Comp, Entry, Group, Name, Op, Reply, Target};
 
@@ -16,7 +16,7 @@ pub fn written_is_read()
 {}
 
 /// Names of behaviours, remarks and refused lines say nothing to the component table.
-#[tactic(auto, using(crate::proofs::Judged::remarks_say_nothing))]
+#[tactic(auto, using(crate::proofs::InnerLines::remarks_say_nothing))]
 pub fn remarks_say_nothing()
     ensures { laws.RemarksSayNothing }
 {}

@@ -1,12 +1,8 @@
 //! The runs that lines are about.
 ghost use Rattle.std.specs.Prelude.{◌≡◌, ◌<◌, ◌||◌, ◌==◌, [], ◌∷◌, ℕ, Bool, List, slice_index_or};
-ghost use Rattle.tc_blocks.specs.declared.line.Line.{Line as AnyLine};
-ghost use Rattle.tc_blocks.specs.declared.line.Line.TheVariants as lines;
-ghost use Rattle.tc_blocks.specs.Line.{is_met as met};
-ghost use Rattle.tc_blocks.specs.Met.{AreMet};
 ghost use Rattle.tc_rules.specs.Prelude.{Reply as AnyReply};
 ghost use Rattle.tc_text.specs.declared.short.ShortOp.{ShortOp as AnyShort};
-ghost use Rattle.tc_blocks.specs.HistoryText.{short_entry};
+ghost use Rattle.tc_blocks.specs.{HistoryText.short_entry, Line.is_met as met, Met.AreMet};
 
 use crate::line::Line;
 use tc_entry::{BEHAVIOURS, Entry, Op, Run};
@@ -39,7 +35,7 @@ impl MetRuns {
 
     /// Adds the caller of the entry, and the run that it starts.
     pub(crate) fn add_entry(&mut self, entry: &Entry)
-        ensures { (ls : List AnyLine) → AreMet self.old ls → AreMet self.new (lines.Entry entry.now ∷ ls) }
+        ensures { (ls : List Line) → AreMet self.old ls → AreMet self.new (Line.Entry entry.now ∷ ls) }
     {
         self.add(entry.caller);
         if let Op::Start { run, .. } = &entry.op {
@@ -50,22 +46,22 @@ impl MetRuns {
     /// Adds the caller of an entry whose operation is a short one.
     #[inline(always)]
     pub(crate) fn add_caller(&mut self, caller: Run)
-        ensures { (ls : List AnyLine) (op : AnyShort) (reply : AnyReply)
-            → AreMet self.old ls → AreMet self.new (lines.Entry (short_entry caller op reply) ∷ ls) }
+        ensures { (ls : List Line) (op : AnyShort) (reply : AnyReply)
+            → AreMet self.old ls → AreMet self.new (Line.Entry (short_entry caller op reply) ∷ ls) }
     {
         self.add(caller);
     }
 
     /// Adds the run of a line that was refused.
     pub fn add_refused(&mut self, run: Run)
-        ensures { (ls : List AnyLine) (sentence : List ℕ) → AreMet self.old ls → AreMet self.new (lines.Refused run sentence ∷ ls) }
+        ensures { (ls : List Line) (sentence : List ℕ) → AreMet self.old ls → AreMet self.new (Line.Refused run sentence ∷ ls) }
     {
         self.add(run);
     }
 
     /// Adds the runs that the line is about.
     pub fn add_line(&mut self, line: &Line)
-        ensures { (ls : List AnyLine) → AreMet self.old ls → AreMet self.new (line.now ∷ ls) }
+        ensures { (ls : List Line) → AreMet self.old ls → AreMet self.new (line.now ∷ ls) }
     {
         match line {
             Line::Entry(entry) => self.add_entry(entry),
@@ -78,7 +74,7 @@ impl MetRuns {
     /// Whether some line is about the run.
     pub fn contains(&self, run: Run) -> bool
         requires { run.0 < 256 }
-        ensures { (ls : List AnyLine) → AreMet self.now ls → result ≡ met run.0 ls }
+        ensures { (ls : List Line) → AreMet self.now ls → result ≡ met run.0 ls }
     {
         self.met[usize::from(run.0)]
     }

@@ -4,12 +4,7 @@ ghost use Rattle.std.specs.Fmt.{decimal};
 ghost use Rattle.tc_rules.specs.Prelude.{IsName};
 ghost use Rattle.tc_text.specs.Prelude.{lines_of, EndsNumber, Takes};
 ghost use Rattle.tc_text.specs.Inside.{TakesLine};
-ghost use Rattle.tc_blocks.specs.declared.line.Line.{Line as AnyLine};
-ghost use Rattle.tc_blocks.specs.declared.line.Line.TheVariants as lines;
-ghost use Rattle.tc_blocks.specs.Line.{is_met, naming_text, said_text};
-ghost use Rattle.tc_blocks.specs.Met.{AreMet};
-ghost use Rattle.tc_blocks.specs.Sentence.{IsSentence};
-ghost use Rattle.tc_blocks.specs.Inside.{ArePlain, IsFound, IsNote, IsSaidBy, NoPlainFirst, line_said, mark_text};
+ghost use Rattle.tc_blocks.specs.{Inside.ArePlain, Inside.IsFound, Inside.IsNote, Inside.IsSaidBy, Inside.NoPlainFirst, Inside.line_said, Inside.mark_text, Line.is_met, Line.naming_text, Line.said_text, Met.AreMet, Sentence.IsSentence};
 
 use crate::line::Line;
 use crate::met::MetRuns;
@@ -129,8 +124,8 @@ fn take_said_line(
 // The line that names the run's behaviour, and what follows it, unless a line before is about the run.
 fn name_run<'a>(met: &MetRuns, naming: (Run, Name), rest: &'a [u8]) -> Option<(Line, &'a [u8])>
     requires { naming.0.0 < 256 }
-    ensures { (before : List AnyLine) → AreMet met.now before → MatchOption result (is_met naming.0.0 before ≡ true)
-        (λ r. (is_met naming.0.0 before ≡ false) × (r.0 ≡ lines.Named naming.0 naming.1) × (r.1.now ≡ rest.now)) }
+    ensures { (before : List Line) → AreMet met.now before → MatchOption result (is_met naming.0.0 before ≡ true)
+        (λ r. (is_met naming.0.0 before ≡ false) × (r.0 ≡ Line.Named naming.0 naming.1) × (r.1.now ≡ rest.now)) }
 {
     let (run, name) = naming;
     if met.contains(run) {
@@ -148,7 +143,7 @@ pub(crate) fn take_note<'a>(
     text: &'a [u8],
 ) -> Result<Option<(Line, &'a [u8])>, NoMemory>
     requires { behaviours ≤ 256 }
-    ensures { IfOk result (λ found. (before : List AnyLine) → AreMet met.now before → IsFound (IsNote behaviours before) text.now found) }
+    ensures { IfOk result (λ found. (before : List Line) → AreMet met.now before → IsFound (IsNote behaviours before) text.now found) }
 {
     match take_naming(behaviours, text) {
         Some((naming, rest)) => Ok(name_run(met, naming, rest)),

@@ -1,8 +1,7 @@
 //! Blocks that are read part by part.
 ghost use Rattle.std.specs.Prelude.{◌≡◌, ◌≢◌, ◌<◌, ◌≤◌, ◌+◌, ℕ, List, [], None, length, IfOk, IfErr, OnOk};
 ghost use Rattle.tc_text.specs.Prelude.{lines_of};
-ghost use Rattle.tc_blocks.specs.Text.{IsFault};
-ghost use Rattle.tc_blocks.specs.Inside.{GoesOn, IsFirst, IsKnown, IsReadBy, IsWholeOf, Refuses};
+ghost use Rattle.tc_blocks.specs.{Inside.GoesOn, Inside.IsFirst, Inside.IsKnown, Inside.IsReadBy, Inside.IsWholeOf, Inside.Refuses, Text.IsFault};
 
 use crate::header::take_first_line;
 use crate::met::MetRuns;

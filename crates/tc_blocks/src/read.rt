@@ -1,13 +1,6 @@
 //! Reading blocks.
 ghost use Rattle.std.specs.Prelude.{◌≡◌, ◌<◌, ◌≤◌, ◌+◌, ℕ, List, length, IfOk, IfErr, OnOk, IfSome, MatchOption, MatchResult};
-ghost use Rattle.tc_blocks.specs.declared.history_block.History.{History as AnyHistory};
-ghost use Rattle.tc_blocks.specs.declared.block.Block.{Block as AnyBlock};
-ghost use Rattle.tc_blocks.specs.declared.header.Header.{Header as AnyHeader};
-ghost use Rattle.tc_blocks.specs.declared.line.Line.{Line as AnyLine};
-ghost use Rattle.tc_blocks.specs.Met.{AreMet};
-ghost use Rattle.tc_blocks.specs.Text.{AreEvidence, IsFault, IsHeader, IsLine, format_of};
-ghost use Rattle.tc_blocks.specs.Histories.{AreHistories, IsHistoryHeader};
-ghost use Rattle.tc_blocks.specs.Inside.{AreTakenBy, IsFirst, IsFound, IsInsideFault, IsLineTakenBy, IsNoEntryLine, IsNoLine, IsOpenTo, IsWholeOf};
+ghost use Rattle.tc_blocks.specs.{Histories.AreHistories, Histories.IsHistoryHeader, Inside.AreTakenBy, Inside.IsFirst, Inside.IsFound, Inside.IsInsideFault, Inside.IsLineTakenBy, Inside.IsNoEntryLine, Inside.IsNoLine, Inside.IsOpenTo, Inside.IsWholeOf, Met.AreMet, Text.AreEvidence, Text.IsFault, Text.IsHeader, Text.IsLine, Text.format_of, declared.header.Header.Header};
 
 use crate::block::{Block, histories_of};
 use crate::header::Kind;
@@ -33,7 +26,7 @@ fn take_other<'a>(
 ) -> Result<Option<(Line, &'a [u8])>, NoMemory>
     requires few { behaviours ≤ 256 }
     requires no_entry { IsNoEntryLine (format_of kind) text.now }
-    ensures { IfOk result (λ found. (before : List AnyLine) → AreMet met.now before → IsFound (IsLine kind behaviours before) text.now found) }
+    ensures { IfOk result (λ found. (before : List Line) → AreMet met.now before → IsFound (IsLine kind behaviours before) text.now found) }
 {
     match kind {
         Kind::Evidence => take_note(alloc, behaviours, met, text),
@@ -106,13 +99,13 @@ pub(crate) fn take_lines<'a, H: TakesEvidence>(
 ) -> Result<(usize, Option<(Verdict, &'a [u8])>), TextFault>
     requires few { behaviours ≤ 256 }
     requires room { first_line + length text.now ≤ usize.MAX }
-    requires met { (some : List AnyLine) × AreMet met.old some }
-    ensures met { OnOk result ((some : List AnyLine) × AreMet met.new some) }
+    requires met { (some : List Line) × AreMet met.old some }
+    ensures met { OnOk result ((some : List Line) × AreMet met.new some) }
     ensures taken { IfOk result (λ r. AreTakenBy H.opens kind behaviours text.now first_line met.old met.new begun.old begun.new r.0 r.1) }
     ensures room { IfOk result (λ r. r.0 ≤ first_line + length text.now) }
     ensures behind { IfOk result (λ r. IfSome r.1 (λ end. r.0 + 1 + length end.1.now ≤ first_line + length text.now)) }
     ensures less { IfOk result (λ r. IfSome r.1 (λ end. length end.1.now < length text.now)) }
-    ensures fault { IfErr result (λ e. (at : ℕ) (h : AnyHeader) (inside : List AnyLine)
+    ensures fault { IfErr result (λ e. (at : ℕ) (h : Header) (inside : List Line)
         → IsOpenTo H.opens kind behaviours at h inside met.old begun.old first_line → IsInsideFault kind behaviours inside at text.now e) }
 {
     let mut rest = text;
@@ -152,9 +145,9 @@ pub fn read_evidence_into<H: TakesEvidence + Drop>(
     alloc: Global,
     text: &[u8],
 ) -> Result<H, TextFault>
-    ensures ok { IfOk result (λ made. (blocks : List AnyBlock) × AreEvidence text.now blocks × H.stands blocks made) }
+    ensures ok { IfOk result (λ made. (blocks : List Block) × AreEvidence text.now blocks × H.stands blocks made) }
     ensures fault { IfErr result (λ e. IsFault IsHeader text.now e) }
-    ensures only { (all : List AnyBlock) → AreEvidence text.now all
+    ensures only { (all : List Block) → AreEvidence text.now all
         → MatchResult result (λ made. H.stands all made) (λ e. e ≡ TextFault.NoMemory) }
 {
     read_into(alloc, false, text)
@@ -165,7 +158,7 @@ pub fn read_evidence_into<H: TakesEvidence + Drop>(
 pub fn read_evidence(alloc: Global, text: &[u8]) -> Result<Sequence<Block>, TextFault>
     ensures ok { IfOk result (λ blocks. AreEvidence text.now blocks) }
     ensures fault { IfErr result (λ e. IsFault IsHeader text.now e) }
-    ensures only { (all : List AnyBlock) → AreEvidence text.now all
+    ensures only { (all : List Block) → AreEvidence text.now all
         → MatchResult result (λ blocks. blocks ≡ all) (λ e. e ≡ TextFault.NoMemory) }
 {
     read_evidence_into(alloc, text)
@@ -176,7 +169,7 @@ pub fn read_evidence(alloc: Global, text: &[u8]) -> Result<Sequence<Block>, Text
 pub fn read_history(alloc: Global, text: &[u8]) -> Result<Vec<History>, TextFault>
     ensures ok { IfOk result (λ found. AreHistories text.now found.items) }
     ensures fault { IfErr result (λ e. IsFault IsHistoryHeader text.now e) }
-    ensures only { (all : List AnyHistory) → AreHistories text.now all
+    ensures only { (all : List History) → AreHistories text.now all
         → MatchResult result (λ found. found.items ≡ all) (λ e. e ≡ TextFault.NoMemory) }
 {
     let blocks: Sequence<Block> = read_into(alloc, true, text)?;

@@ -2,9 +2,7 @@
 ghost use Rattle.std.specs.Prelude.{◌≡◌, ◌≢◌, ◌<◌, ◌≤◌, ◌+◌, ◌-◌, ◌++◌, ℕ, List, length, slice_index, false, IfOk, IfErr, IfSome, OnOk, IsErrOf, MatchResult};
 ghost use Rattle.std.specs.Io.KnownBytes.{Consumes, IsAtEnd};
 ghost use Rattle.tc_stream.specs.Prelude.{IsRead};
-ghost use Rattle.tc_blocks.specs.declared.block.Block.{Block as AnyBlock};
-ghost use Rattle.tc_blocks.specs.Text.{AreEvidence, HoldsOfBlocks, IsFault, IsHeader};
-ghost use Rattle.tc_blocks.specs.Inside.{IsKnown, IsPending, IsReadInto, RefusesIn, TakesIn, reach};
+ghost use Rattle.tc_blocks.specs.{Inside.IsKnown, Inside.IsPending, Inside.IsReadInto, Inside.RefusesIn, Inside.TakesIn, Inside.reach, Text.AreEvidence, Text.HoldsOfBlocks, Text.IsFault, Text.IsHeader, declared.block.Block.Block};
 
 use crate::parts::{finish, take_part};
 use crate::reading::Reading;
@@ -119,7 +117,7 @@ pub fn read_evidence_from<R: Read, H: TakesEvidence + Drop>(
     requires { limit < usize.MAX }
     ensures read { IfOk result (λ read. IsRead limit (R.remaining reader.old) (λ text. MatchResult read
         (λ made. HoldsOfBlocks text (λ all. H.stands all made))
-        (λ e. IsFault IsHeader text e × ((all : List AnyBlock) → AreEvidence text all → e ≡ TextFault.NoMemory)))) }
+        (λ e. IsFault IsHeader text e × ((all : List Block) → AreEvidence text all → e ≡ TextFault.NoMemory)))) }
     ensures end { OnOk result (IsAtEnd (R.remaining reader.new)) }
     ensures long { IsErrOf result InputFault.TooLong → IfSome (R.remaining reader.old) (λ xs. limit < length xs) }
 {

@@ -1,11 +1,6 @@
 //! What is made of blocks as they are read.
 ghost use Rattle.std.specs.Prelude.{◌≡◌, ◌+◌, ◌++◌, ◌∷◌, ℕ, List, [], length, IfOk, OnOk};
-ghost use Rattle.tc_blocks.specs.declared.block.Block.{Block as AnyBlock};
-ghost use Rattle.tc_blocks.specs.declared.header.Header.{Header as AnyHeader};
-ghost use Rattle.tc_blocks.specs.declared.line.Line.{Line as AnyLine};
-ghost use Rattle.tc_blocks.specs.declared.line.Line.TheVariants as lines;
-ghost use Rattle.tc_blocks.specs.Text.{IsHeader};
-ghost use Rattle.tc_blocks.specs.HistoryText.{short_entry};
+ghost use Rattle.tc_blocks.specs.{HistoryText.short_entry, Text.IsHeader, declared.block.Block.Block, declared.header.Header.Header, declared.line.Line.Line};
 
 use crate::block::Block;
 use crate::header::Header;
@@ -20,9 +15,9 @@ pub trait TakesEvidence: Sized {
     type Begun: Drop;
 
     /// The value is what a first line with this number and these lines below it make.
-    ghost opens: { ℕ → AnyHeader → List AnyLine → Self.Begun → Type 0 };
+    ghost opens: { ℕ → Header → List Line → Self.Begun → Type 0 };
     /// The value is what these blocks make.
-    ghost stands: { List AnyBlock → Self → Type 0 };
+    ghost stands: { List Block → Self → Type 0 };
 
     /// What no block makes.
     fn begin(alloc: Global) -> Self
@@ -35,13 +30,13 @@ pub trait TakesEvidence: Sized {
 
     /// Takes the next line of the block, which has this number.
     fn take(begun: &mut Self::Begun, line: usize, taken: Line) -> Result<(), NoMemory>
-        ensures { OnOk result ((first_line : ℕ) (h : AnyHeader) (before : List AnyLine) → line ≡ first_line + length before + 1
+        ensures { OnOk result ((first_line : ℕ) (h : Header) (before : List Line) → line ≡ first_line + length before + 1
             → opens first_line h before begun.old → opens first_line h (before ++ taken ∷ []) begun.new) };
 
     /// Takes the next line of the block, which has this number, if it is an entry.
     fn take_entry(begun: &mut Self::Begun, line: usize, entry: Entry) -> Result<(), NoMemory>
-        ensures { OnOk result ((first_line : ℕ) (h : AnyHeader) (before : List AnyLine) → line ≡ first_line + length before + 1
-            → opens first_line h before begun.old → opens first_line h (before ++ lines.Entry entry ∷ []) begun.new) }
+        ensures { OnOk result ((first_line : ℕ) (h : Header) (before : List Line) → line ≡ first_line + length before + 1
+            → opens first_line h before begun.old → opens first_line h (before ++ Line.Entry entry ∷ []) begun.new) }
     {
         Self::take(begun, line, Line::Entry(entry))
     }
@@ -54,8 +49,8 @@ pub trait TakesEvidence: Sized {
         op: ShortOp,
         reply: Reply,
     ) -> Result<(), NoMemory>
-        ensures { OnOk result ((first_line : ℕ) (h : AnyHeader) (before : List AnyLine) → line ≡ first_line + length before + 1
-            → opens first_line h before begun.old → opens first_line h (before ++ lines.Entry (short_entry caller op reply) ∷ []) begun.new) }
+        ensures { OnOk result ((first_line : ℕ) (h : Header) (before : List Line) → line ≡ first_line + length before + 1
+            → opens first_line h before begun.old → opens first_line h (before ++ Line.Entry (short_entry caller op reply) ∷ []) begun.new) }
     {
         let entry = Entry {
             caller,
@@ -67,7 +62,7 @@ pub trait TakesEvidence: Sized {
 
     /// Takes the block, whose last line has this number and this verdict.
     fn close(&mut self, begun: Self::Begun, line: usize, verdict: Verdict) -> Result<(), NoMemory>
-        ensures { OnOk result ((blocks : List AnyBlock) (b : AnyBlock) → line ≡ b.first_line + length b.lines + 1 → verdict ≡ b.verdict
+        ensures { OnOk result ((blocks : List Block) (b : Block) → line ≡ b.first_line + length b.lines + 1 → verdict ≡ b.verdict
             → opens b.first_line b.header b.lines begun → stands blocks self.old → stands (blocks ++ b ∷ []) self.new) };
 }
 

@@ -1,10 +1,7 @@
 //! Writing blocks.
 ghost use Rattle.std.specs.Prelude.{◌≡◌, ◌++◌, OnOk, OnErr};
-ghost use Rattle.std.specs.List.{flat_map};
-ghost use Rattle.std.specs.Io.{StartsWith};
-ghost use Rattle.tc_blocks.specs.Block.{block_text, with_lf, header_text, kind_text};
-ghost use Rattle.tc_blocks.specs.Line.{line_text, naming_text, said_text};
-ghost use Rattle.tc_blocks.specs.Inside.{mark_text};
+ghost use Rattle.std.specs.{Io.StartsWith, List.flat_map};
+ghost use Rattle.tc_blocks.specs.{Block.block_text, Block.header_text, Block.kind_text, Block.with_lf, Inside.mark_text, Line.line_text, Line.naming_text, Line.said_text};
 
 use crate::header::{Header, Kind};
 use crate::line::Line;
@@ -98,6 +95,7 @@ fn append_lines(out: &mut Vec<u8>, lines: &[Line]) -> Result<(), NoMemory>
 }
 
 /// Appends the text of a block. If memory runs out, nothing is appended.
+#[tactic(auto, using(std::proofs::lemmas::Grind::common_steps))]
 pub fn append_whole_block(
     out: &mut Vec<u8>,
     header: &Header,

@@ -1,15 +1,10 @@
 -- What one more answer does to the answers of a hand.
 use Rattle.std.proofs.Common.{◌≡◌, ◌≢◌, ◌⊎◌, ℕ, Bool, true, false, if◌then◌else◌, nat_lt, List, [], ◌∷◌, ◌++◌, map, refl, sym, ap, ◌∙◌, subst, ⊎_elim, arith}
 use Rattle.std.proofs.lemmas.List.{take-append-le, take_at, append-nil}
-use Rattle.tc_verdict.specs.declared.user_verdict.UserVerdict.{UserVerdict}
-use Rattle.tc_verdict.specs.declared.user_verdict.UserVerdict.TheVariants as U
-use Rattle.tc_verdict.specs.Prelude.{level_of, worse, worst, given, rank_of}
+use Rattle.tc_entry.specs.Prelude.{UserVerdict, level_of, worse, worst, given, rank_of}
 use Rattle.tc_verdict.proofs.Lemmas.Order.{worst-more}
-use Rattle.tc_board.specs.declared.answer.Answer.{Answer}
-use Rattle.tc_board.specs.declared.answer.Answer.TheVariants.{Met, Taken, Found, Shut}
-use Rattle.tc_board.specs.Answers.{taken, worst_answer, FindsWorst, NeverShut, StaysShut}
-use Rattle.tc_board.proofs.Lookup.{got_end}
-use Rattle.tc_board.proofs.Numbers.{level-given}
+use Rattle.tc_board.specs.{Answers.FindsWorst, Answers.NeverShut, Answers.StaysShut, Answers.taken, Answers.worst_answer, declared.answer.Answer.Answer, declared.answer.Answer.TheVariants.Found, declared.answer.Answer.TheVariants.Met, declared.answer.Answer.TheVariants.Shut, declared.answer.Answer.TheVariants.Taken}
+use Rattle.tc_board.proofs.{Lookup.got_end, Numbers.level-given}
 
 taken-end : (answers : List Answer) (x : Answer) → taken (answers ++ x ∷ []) ≡ taken answers ++ taken (x ∷ [])
 taken-end [] x = refl
@@ -34,7 +29,7 @@ worst_of-other u answers x none_taken = ap (λ vs. worst (given u ∷ map given 
 
 -- the worst of settings is a setting
 worst_given : (vs : List UserVerdict) → (w : UserVerdict) × (given w ≡ worst (map given vs))
-worst_given [] = (U.None, refl)
+worst_given [] = (UserVerdict.None, refl)
 worst_given (v ∷ vs) = let w = worst_given vs in by_test (nat_lt (level_of (worst (map given vs))) (level_of (given v))) w
   where
     by_test : (t : Bool) → (w : UserVerdict) × (given w ≡ worst (map given vs)) → (w : UserVerdict) × (given w ≡ (if t then given v else worst (map given vs)))

@@ -2,24 +2,11 @@
 use Rattle.std.proofs.Common.{◌≡◌, ◌≢◌, ℕ, ◌<◌, ◌==◌, if◌then◌else◌, Bool, true, false, List, [], ◌∷◌, ◌++◌, length, set, get_or, inl, inr, refl, sym, ap, ◌∙◌, subst, ⊎_elim, arith, max, length-set}
 use mathlib.Core.Option.{none, some}
 use lib.ListN.{get_elem?}
-use Rattle.tc_verdict.specs.declared.user_verdict.UserVerdict.{UserVerdict}
-use Rattle.tc_verdict.specs.Prelude.{level_of, given, rank_of}
 use Rattle.atomic_table.specs.Table.{step, keeps, stepped, Allows}
 use Rattle.atomic_table.proofs.Lists.{at_set, set_here}
-use Rattle.tc_board.specs.declared.answer.Answer.{Answer}
-use Rattle.tc_board.specs.declared.answer.Answer.TheVariants.{Met, Taken, Found, Shut}
-use Rattle.tc_board.specs.declared.record.Record.{Record}
-use Rattle.tc_board.specs.declared.record.Record.TheVariants.{Unbegun, Open, Closed}
-use Rattle.tc_board.specs.declared.rule.View.{View}
-use Rattle.tc_board.specs.Answers.{worst_answer}
-use Rattle.tc_board.specs.Rule.{Fits}
-use Rattle.tc_board.specs.Inside.Seats.{list, hand_view}
-use Rattle.tc_board.specs.Inside.Table.{Row, row, Knows, Holds}
-use Rattle.tc_board.specs.Inside.Steps.{Seated, set_answer, get_answer, was_set, was_got, was_met}
-use Rattle.tc_board.proofs.Lookup.{at_length}
-use Rattle.tc_board.proofs.Numbers.{verdict_of-rank, rank_less, max-worse, max-closed, set_open, set_closed, get_open, get_closed, begun_open, begun_closed}
-use Rattle.tc_board.proofs.Answers.{worst_of-taken, worst_of-other, rank_in, finds-end, never-end, stays-end}
-use Rattle.tc_board.proofs.Rows.{Board, still_knows, hand_knows, words_fit, lists_stand, stands_on, no_other}
+use Rattle.tc_entry.specs.Prelude.{UserVerdict, level_of, given, rank_of}
+use Rattle.tc_board.specs.{Answers.worst_answer, Inside.Seats.hand_view, Inside.Seats.list, Inside.Steps.Seated, Inside.Steps.get_answer, Inside.Steps.set_answer, Inside.Steps.was_got, Inside.Steps.was_met, Inside.Steps.was_set, Inside.Table.Holds, Inside.Table.Knows, Inside.Table.Row, Inside.Table.row, Rule.Fits, declared.answer.Answer.Answer, declared.answer.Answer.TheVariants.Found, declared.answer.Answer.TheVariants.Met, declared.answer.Answer.TheVariants.Shut, declared.answer.Answer.TheVariants.Taken, declared.record.Record.Record, declared.record.Record.TheVariants.Closed, declared.record.Record.TheVariants.Open, declared.record.Record.TheVariants.Unbegun, declared.rule.View.View}
+use Rattle.tc_board.proofs.{Answers.finds-end, Answers.never-end, Answers.rank_in, Answers.stays-end, Answers.worst_of-other, Answers.worst_of-taken, Lookup.at_length, Numbers.begun_closed, Numbers.begun_open, Numbers.get_closed, Numbers.get_open, Numbers.max-closed, Numbers.max-worse, Numbers.rank_less, Numbers.set_closed, Numbers.set_open, Numbers.verdict_of-rank, Rows.Board, Rows.hand_knows, Rows.lists_stand, Rows.no_other, Rows.stands_on, Rows.still_knows, Rows.words_fit}
 
 -- a hand's answers and its word change, and they fit the record as before
 hand_step : (s : Board) (id k : ℕ) (before after : List Answer) (word : ℕ) → Holds s → get_elem? s.views id ≡ some (hand_view k before) → ((r : Record) → Fits r before (get_or s.words k 0) → Fits r after word)

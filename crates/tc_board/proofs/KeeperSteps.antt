@@ -5,26 +5,11 @@ use Rattle.std.proofs.lemmas.List.{map-set, set-get_or}
 use mathlib.Core.Option.{none, some, some-injective, some-ne-none}
 use native.Mathlib.Decide.{ℕ_discrete}
 use lib.ListN.{get_elem?}
-use Rattle.tc_verdict.specs.declared.user_verdict.UserVerdict.{UserVerdict}
-use Rattle.tc_verdict.specs.declared.user_verdict.UserVerdict.TheVariants as U
-use Rattle.tc_verdict.specs.Prelude.{level_of, given, rank_of}
 use Rattle.atomic_table.specs.Table.{step, keeps, stepped, Allows, Joins}
 use Rattle.atomic_table.proofs.Lists.{at_longer, at_set, set_here, set_else, set_again, at_map, at_last}
-use Rattle.tc_board.specs.declared.answer.Answer.{Answer}
-use Rattle.tc_board.specs.declared.answer.AnswerList.{AnswerList}
-use Rattle.tc_board.specs.declared.record.Record.{Record}
-use Rattle.tc_board.specs.declared.record.Record.TheVariants.{Unbegun, Open, Closed}
-use Rattle.tc_board.specs.declared.rule.View.{View}
-use Rattle.tc_board.specs.Answers.{worst_answer}
-use Rattle.tc_board.specs.Rule.{AnswersAgree, Fits}
-use Rattle.tc_board.specs.Keeper.{carried_in, carried_by}
-use Rattle.tc_board.specs.Inside.Seats.{list, hand_view, keeper_view, spent_view, taken_back}
-use Rattle.tc_board.specs.Inside.Table.{Row, row, record_of, IsAt, Knows, Holds}
-use Rattle.tc_board.specs.Inside.Steps.{Seated, verdict_of, with_record, Counts, was_opened, was_closed, was_seen}
-use Rattle.tc_board.proofs.Lookup.{elem_got, at_end, at_length, at_map_back, contained_at}
-use Rattle.tc_board.proofs.Numbers.{verdict_of-rank, rank_less, or-closed}
-use Rattle.tc_board.proofs.Answers.{rank_in, never-stays}
-use Rattle.tc_board.proofs.Rows.{Board, never, same_records, stays_at, other_run, still_knows, words_fit, words_stay, lists_stand, stands_on, no_other}
+use Rattle.tc_entry.specs.Prelude.{UserVerdict, level_of, given, rank_of}
+use Rattle.tc_board.specs.{Answers.worst_answer, Inside.Seats.hand_view, Inside.Seats.keeper_view, Inside.Seats.list, Inside.Seats.spent_view, Inside.Seats.taken_back, Inside.Steps.Counts, Inside.Steps.Seated, Inside.Steps.verdict_of, Inside.Steps.was_closed, Inside.Steps.was_opened, Inside.Steps.was_seen, Inside.Steps.with_record, Inside.Table.Holds, Inside.Table.IsAt, Inside.Table.Knows, Inside.Table.Row, Inside.Table.record_of, Inside.Table.row, Keeper.carried_by, Keeper.carried_in, Rule.AnswersAgree, Rule.Fits, declared.answer.Answer.Answer, declared.answer.AnswerList.AnswerList, declared.record.Record.Record, declared.record.Record.TheVariants.Closed, declared.record.Record.TheVariants.Open, declared.record.Record.TheVariants.Unbegun, declared.rule.View.View}
+use Rattle.tc_board.proofs.{Answers.never-stays, Answers.rank_in, Lookup.at_end, Lookup.at_length, Lookup.at_map_back, Lookup.contained_at, Lookup.elem_got, Numbers.or-closed, Numbers.rank_less, Numbers.verdict_of-rank, Rows.Board, Rows.lists_stand, Rows.never, Rows.no_other, Rows.other_run, Rows.same_records, Rows.stands_on, Rows.stays_at, Rows.still_knows, Rows.words_fit, Rows.words_stay}
 
 -- a record and its word change, and each list that fitted fits
 keeper_step : (s : Board) (id k : ℕ) (v : View) (r r' : Record) (word : ℕ) → Holds s → get_elem? s.views id ≡ some v → v.is_keeper ≡ true → get_elem? v.records k ≡ some r
@@ -88,10 +73,10 @@ opens slots id k records lists u here s h _ at _ = (
 )
   where
     rank_alone : (u : UserVerdict) → rank_of u ≡ level_of (worst_answer u [])
-    rank_alone U.None = refl
-    rank_alone U.Pass = refl
-    rank_alone U.Inconc = refl
-    rank_alone U.Fail = refl
+    rank_alone UserVerdict.None = refl
+    rank_alone UserVerdict.Pass = refl
+    rank_alone UserVerdict.Inconc = refl
+    rank_alone UserVerdict.Fail = refl
 
     open_empty : (answers : List Answer) → answers ≡ [] → Fits (Open u) answers (rank_of u)
     open_empty answers none_yet = subst (λ l. Fits (Open u) l (rank_of u)) (sym none_yet) (rank_alone u, ((λ i e. cc), (λ i v e. absurd (cc))))

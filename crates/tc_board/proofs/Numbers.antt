@@ -2,14 +2,10 @@
 use Rattle.std.proofs.Common.{◌≡◌, ℕ, zero, suc, ◌+◌, ◌<◌, ◌==◌, if◌then◌else◌, nat_lt, true, false, Some, IfSome, refl, sym, ap, ◌∙◌, arith, max, bit_or}
 use Rattle.std.specs.Prelude.{Option, None as nothing}
 use Rattle.std.proofs.lemmas.Bool.Decides.{nat_tests}
-use Rattle.tc_verdict.specs.declared.verdict.Verdict.{Verdict}
-use Rattle.tc_verdict.specs.declared.user_verdict.UserVerdict.{UserVerdict}
+use Rattle.tc_entry.specs.Prelude.{Verdict, UserVerdict, level_of, worse, given, rank_of}
 use Rattle.tc_verdict.specs.declared.user_verdict.UserVerdict.TheVariants.{None, Pass, Inconc, Fail}
-use Rattle.tc_verdict.specs.Prelude.{level_of, worse, given, rank_of}
 use Rattle.tc_verdict.proofs.Lemmas.Order.{level-worse}
-use Rattle.tc_board.specs.declared.answer.Answer.TheVariants.{Taken, Found, Shut}
-use Rattle.tc_board.specs.Hand.{answer_to_get}
-use Rattle.tc_board.specs.Inside.Steps.{verdict_of, set_answer, get_answer}
+use Rattle.tc_board.specs.{Hand.answer_to_get, Inside.Steps.get_answer, Inside.Steps.set_answer, Inside.Steps.verdict_of, declared.answer.Answer.TheVariants.Found, declared.answer.Answer.TheVariants.Shut, declared.answer.Answer.TheVariants.Taken}
 
 pub verdict_of-rank : (v : UserVerdict) → verdict_of (rank_of v) ≡ v
 verdict_of-rank None = refl

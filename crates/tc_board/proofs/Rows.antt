@@ -6,13 +6,7 @@ use native.Mathlib.Decide.{ℕ_discrete}
 use lib.ListN.{get_elem?}
 use Rattle.atomic_table.specs.Table.{State}
 use Rattle.atomic_table.proofs.Lists.{at_set, set_here, set_else, set_again, at_map}
-use Rattle.tc_board.specs.declared.answer.Answer.{Answer}
-use Rattle.tc_board.specs.declared.answer.AnswerList.{AnswerList}
-use Rattle.tc_board.specs.declared.record.Record.{Record}
-use Rattle.tc_board.specs.declared.rule.View.{View}
-use Rattle.tc_board.specs.Rule.{Fits}
-use Rattle.tc_board.specs.Inside.Seats.{list, hand_view}
-use Rattle.tc_board.specs.Inside.Table.{Row, row, record_of, IsAt, Knows, Stands, Holds}
+use Rattle.tc_board.specs.{Inside.Seats.hand_view, Inside.Seats.list, Inside.Table.Holds, Inside.Table.IsAt, Inside.Table.Knows, Inside.Table.Row, Inside.Table.Stands, Inside.Table.record_of, Inside.Table.row, Rule.Fits, declared.answer.Answer.Answer, declared.answer.AnswerList.AnswerList, declared.record.Record.Record, declared.rule.View.View}
 use Rattle.tc_board.proofs.Lookup.{at_length}
 
 -- a board's table as plain data

@@ -1,8 +1,7 @@
 -- The laws of the rule.
 use Rattle.std.proofs.Common.{◌≡◌, None, refl, sym, ap, ◌∙◌}
 use Rattle.std.specs.Prelude.{slice_get}
-use Rattle.tc_board.specs.declared.record.Record.TheVariants.{Unbegun, Open, Closed}
-use Rattle.tc_board.specs.Laws.{OpenIsNeverShut, ShutIsClosed}
+use Rattle.tc_board.specs.{Rule.OpenIsNeverShut, Rule.ShutIsClosed, declared.record.Record.TheVariants.Closed, declared.record.Record.TheVariants.Open, declared.record.Record.TheVariants.Unbegun}
 
 pub open_is_never_shut : OpenIsNeverShut
 open_is_never_shut carried answers word i fits = fits.1.0 i

@@ -1,10 +1,7 @@
 -- What the answers of a hand say, in the order in which it had them.
 use Rattle.std.specs.Prelude.{◌≡◌, ◌≢◌, ◌⊎◌, ℕ, ◌<◌, List, [], ◌∷◌, map, take, slice_get, Some}
-use Rattle.tc_verdict.specs.declared.verdict.Verdict.{Verdict}
-use Rattle.tc_verdict.specs.declared.user_verdict.UserVerdict.{UserVerdict}
-use Rattle.tc_verdict.specs.Prelude.{worst, given}
-use Rattle.tc_board.specs.declared.answer.Answer.{Answer}
-use Rattle.tc_board.specs.declared.answer.Answer.TheVariants.{Met, Taken, Found, Shut}
+use Rattle.tc_entry.specs.Prelude.{Verdict, UserVerdict, worst, given}
+use Rattle.tc_board.specs.declared.answer.Answer.{Answer, TheVariants.Found, TheVariants.Met, TheVariants.Shut, TheVariants.Taken}
 
 -- the settings that were taken
 abbrev pub taken : List Answer → List UserVerdict

@@ -1,13 +1,8 @@
 -- A new board: the word of run 0 is open with none and its hand has met it, every other word is unbegun.
 use Rattle.std.specs.Prelude.{ℕ, zero, suc, List, [], ◌∷◌}
 use Rattle.atomic_table.specs.Seated.{TableId}
-use Rattle.tc_verdict.specs.declared.user_verdict.UserVerdict.TheVariants as verdict
-use Rattle.tc_board.specs.declared.answer.Answer.{Answer}
-use Rattle.tc_board.specs.declared.answer.Answer.TheVariants.{Met}
-use Rattle.tc_board.specs.declared.record.Record.{Record}
-use Rattle.tc_board.specs.declared.record.Record.TheVariants.{Unbegun, Open}
-use Rattle.tc_board.specs.Hand.{HandView}
-use Rattle.tc_board.specs.Keeper.{KeeperView}
+use Rattle.tc_entry.specs.Prelude.{UserVerdict}
+use Rattle.tc_board.specs.{Hand.HandView, Keeper.KeeperView, declared.answer.Answer.Answer, declared.answer.Answer.TheVariants.Met, declared.record.Record.Record, declared.record.Record.TheVariants.Open, declared.record.Record.TheVariants.Unbegun}
 
 -- the first answers of the hand of a run
 abbrev pub first_answers : ℕ → List Answer
@@ -16,7 +11,7 @@ first_answers (suc run) = []
 
 -- the first record of the word of a run
 abbrev pub first_record : ℕ → Record
-first_record zero = Open verdict.None
+first_record zero = Open UserVerdict.None
 first_record (suc run) = Unbegun
 
 -- the records of n words, from this run on

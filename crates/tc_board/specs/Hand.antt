@@ -1,11 +1,8 @@
 -- What contracts see of a hand, and what a call adds to its answers.
 use Rattle.std.specs.Prelude.{ℕ, Option, Some, None, List, [], ◌∷◌, ◌++◌}
 use Rattle.atomic_table.specs.Seated.{TableId}
-use Rattle.tc_verdict.specs.declared.user_verdict.UserVerdict.{UserVerdict}
-use Rattle.tc_board.specs.declared.answer.Answer.{Answer}
-use Rattle.tc_board.specs.declared.answer.Answer.TheVariants as answer
-use Rattle.tc_board.specs.declared.hand.Said.{Said}
-use Rattle.tc_board.specs.declared.hand.Said.TheVariants.{Taken, Closed}
+use Rattle.tc_entry.specs.Prelude.{UserVerdict}
+use Rattle.tc_board.specs.declared.{answer.Answer.Answer, hand.Said.Said, hand.Said.TheVariants.Closed, hand.Said.TheVariants.Taken}
 
 -- its board, the run whose word it writes, and the answers that it had
 pub record HandView : Type 0 where
@@ -15,13 +12,13 @@ pub record HandView : Type 0 where
 
 -- the answer to a setting
 abbrev pub answer_to_set : UserVerdict → Said → Answer
-answer_to_set v Taken = answer.Taken v
-answer_to_set v Closed = answer.Shut
+answer_to_set v Taken = Answer.Taken v
+answer_to_set v Closed = Answer.Shut
 
 -- the answer to a get
 abbrev pub answer_to_get : Option UserVerdict → Answer
-answer_to_get (Some v) = answer.Found v
-answer_to_get None = answer.Shut
+answer_to_get (Some v) = Answer.Found v
+answer_to_get None = Answer.Shut
 
 -- the hand with one more answer
 abbrev pub answered : HandView → Answer → HandView

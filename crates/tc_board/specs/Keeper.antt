@@ -2,14 +2,9 @@
 use Rattle.std.specs.Prelude.{◌≡◌, ℕ, Contains, Option, Some, slice_get, slice_set, List, [], ◌∷◌, ◌++◌}
 use Rattle.std.specs.Prelude as prelude
 use Rattle.atomic_table.specs.Seated.{TableId}
-use Rattle.tc_verdict.specs.declared.user_verdict.UserVerdict.{UserVerdict}
+use Rattle.tc_entry.specs.Prelude.{UserVerdict, given}
 use Rattle.tc_verdict.specs.declared.user_verdict.UserVerdict.TheVariants.{None}
-use Rattle.tc_verdict.specs.Prelude.{given}
-use Rattle.tc_board.specs.declared.answer.AnswerList.{AnswerList}
-use Rattle.tc_board.specs.declared.record.Record.{Record}
-use Rattle.tc_board.specs.declared.record.Record.TheVariants.{Unbegun, Open, Closed}
-use Rattle.tc_board.specs.Answers.{worst_answer}
-use Rattle.tc_board.specs.Hand.{HandView}
+use Rattle.tc_board.specs.{Answers.worst_answer, Hand.HandView, declared.answer.AnswerList.AnswerList, declared.record.Record.Record, declared.record.Record.TheVariants.Closed, declared.record.Record.TheVariants.Open, declared.record.Record.TheVariants.Unbegun}
 
 -- its board, what it did with each word, and the answers of the hands that it took back
 pub record KeeperView : Type 0 where

@@ -5,6 +5,5 @@ pub mod Hand
 pub mod Keeper
 pub mod Board
 pub mod Inside
-pub mod Laws
 pub mod Prelude
-pub use Rattle.tc_verdict.specs.Prelude as OfVerdict
+pub use Rattle.tc_entry.specs.Prelude as OfEntry

@@ -1,10 +1,7 @@
 -- The rule of the board, for each word: how the number in it, the keeper's record and the answers of its hand fit together.
-use Rattle.std.specs.Prelude.{◌≡◌, ℕ, ◌+◌, List, []}
-use Rattle.tc_verdict.specs.Prelude.{level_of, given, rank_of}
-use Rattle.tc_board.specs.declared.answer.Answer.{Answer}
-use Rattle.tc_board.specs.declared.record.Record.{Record}
-use Rattle.tc_board.specs.declared.record.Record.TheVariants.{Unbegun, Open, Closed}
-use Rattle.tc_board.specs.Answers.{worst_answer, FindsWorst, NeverShut, StaysShut}
+use Rattle.std.specs.Prelude.{◌≡◌, ℕ, ◌+◌, List, [], ◌≢◌, Some, slice_get}
+use Rattle.tc_entry.specs.Prelude.{level_of, given, rank_of, UserVerdict}
+use Rattle.tc_board.specs.{Answers.FindsWorst, Answers.NeverShut, Answers.StaysShut, Answers.worst_answer, declared.answer.Answer.Answer, declared.answer.Answer.TheVariants.Shut, declared.record.Record.Record, declared.record.Record.TheVariants.Closed, declared.record.Record.TheVariants.Open, declared.record.Record.TheVariants.Unbegun}
 
 -- the number in the word: 16 while it is unbegun, the place of the worst while it is open, and 8 more once it is closed
 abbrev pub word_of : Record → List Answer → ℕ
@@ -21,3 +18,14 @@ AnswersAgree (Closed carried counted) answers = (given counted ≡ worst_answer 
 -- the rule for one word
 abbrev pub Fits : Record → List Answer → ℕ → Type 0
 Fits r answers word = (word ≡ word_of r answers) × AnswersAgree r answers
+
+-- if a word is open, no call of its hand was answered that it is closed: no setting is lost while its run continues
+abbrev pub OpenIsNeverShut : Type 0
+OpenIsNeverShut =
+    (carried : UserVerdict) (answers : List Answer) (word i : ℕ) → Fits (Open carried) answers word → slice_get answers i ≢ Some Shut
+
+-- if a call of a hand was answered that its word is closed, the keeper has closed it
+abbrev pub ShutIsClosed : Type 0
+ShutIsClosed =
+    (r : Record) (answers : List Answer) (word i : ℕ) → Fits r answers word → slice_get answers i ≡ Some Shut →
+    (carried : UserVerdict) × (counted : UserVerdict) × (r ≡ Closed carried counted)

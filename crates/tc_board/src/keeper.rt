@@ -1,7 +1,6 @@
 //! The keeper, which opens and closes the words.
 ghost use Rattle.std.specs.Prelude.{◌≡◌, slice_get};
-ghost use Rattle.tc_board.specs.declared.record.Record.{Record};
-ghost use Rattle.tc_board.specs.declared.record.Record.TheVariants.{Unbegun, Open as IsBegun, Closed as IsClosed};
+ghost use Rattle.tc_board.specs.declared.record.Record.{Record, TheVariants.Closed as IsClosed, TheVariants.Open as IsBegun, TheVariants.Unbegun};
 
 use crate::board::Board;
 use crate::hand::Hand;

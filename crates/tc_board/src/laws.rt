@@ -1,5 +1,5 @@
 //! What follows from the rule of the board: each function does nothing, and its contract is the law.
-ghost use Rattle.tc_board.specs.Laws as laws;
+ghost use Rattle.tc_board.specs.Rule as laws;
 
 /// If a word is open, no call of its hand was answered that it is closed.
 #[tactic(auto, using(crate::proofs::RuleLaws::open_is_never_shut))]

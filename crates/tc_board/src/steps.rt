@@ -1,6 +1,5 @@
 //! The kinds of step, by what each shows its caller.
-ghost use Rattle.tc_board.specs.Inside.Seats.{split_off, left_over, taken_back, spent_view};
-ghost use Rattle.tc_board.specs.Inside.Steps.{was_set, was_got, was_met, was_opened, was_closed, was_seen};
+ghost use Rattle.tc_board.specs.Inside.{Seats.left_over, Seats.spent_view, Seats.split_off, Seats.taken_back, Steps.was_closed, Steps.was_got, Steps.was_met, Steps.was_opened, Steps.was_seen, Steps.was_set};
 
 use crate::rule::View;
 use atomic_table::{Join, Play, Split};

@@ -1,17 +1,14 @@
 -- The logs of a case by the numbers of their runs, and what is left of them after a part of a history.
 use Rattle.std.proofs.Common.{ℕ, ◌≡◌, ◌<◌, ◌+◌, ◌==◌, ◌↔◌, if◌then◌else◌, true, List, [], ◌∷◌, ◌++◌, length, get_or, take, drop, set, refl, sym, ap, ◌∙◌, subst, arith, add-one, append_assoc, eq-eqb, inl, inr}
-use Rattle.std.specs.List.{All}
-use Rattle.std.specs.Borrow.{Bor}
+use Rattle.std.specs.{Borrow.Bor, List.All}
 use Rattle.std.proofs.Math.Seq.{take-suc, get_or-append_seam}
-use Rattle.std.proofs.lemmas.Bool.{ne_eqb, cases_eq}
-use Rattle.std.proofs.lemmas.List.{get_or-set_same, get_or-set_other, get_or_append_left, append_cancel_left, append-nil, length-append}
-use Rattle.std.proofs.lemmas.List.Elements.{filter-append}
+use Rattle.std.proofs.lemmas.{Bool.cases_eq, Bool.ne_eqb, List.Elements.filter-append, List.append-nil, List.append_cancel_left, List.get_or-set_other, List.get_or-set_same, List.get_or_append_left, List.length-append}
 use Rattle.tc_rules.specs.Prelude.{Entry, log_of, part, is_by}
 use Rattle.tc_rules.specs.declared.run_log.RunLog.{RunLog}
 use Rattle.tc_merge.proofs.Lemmas.Table.{log_or, log_or-none, log_or-last}
-use Rattle.tc_book.specs.Inside.{KnowsParts}
-use Rattle.tc_book.proofs.Lemmas.PartOf.{part_end}
 use Rattle.tc_rules.proofs.Lemmas.Differing.{parted}
+use Rattle.tc_book.specs.Passes.{LeftState}
+use Rattle.tc_book.proofs.Lemmas.PartOf.{part_end}
 
 -- once these logs too are put in their places, each run below n has its log
 abbrev pub HasAfter : List (List Entry) → List RunLog → ℕ → (ℕ → List Entry) → Type 0
@@ -37,17 +34,17 @@ after_last parts before l n log within has b below =
           ap (λ x. log_or before b x) kept ∙ (sym e ∙ has b below)
     ]
 
-pub within_before : (n : ℕ) (before : List RunLog) (l : RunLog) → All (λ r. r.run.0 < n) (before ++ l ∷ []) → All (λ r. r.run.0 < n) before
+pub within_before : (n : ℕ) (before : List LeftState) (l : LeftState) → All (λ r. r.run.0 < n) (before ++ l ∷ []) → All (λ r. r.run.0 < n) before
 within_before n before l within k d below =
-    subst (λ (r : RunLog). r.run.0 < n) (get_or_append_left before (l ∷ []) d k below) (within k d (omega (arith, length-append before (l ∷ []), below)))
+    subst (λ (r : LeftState). r.run.0 < n) (get_or_append_left before (l ∷ []) d k below) (within k d (omega (arith, length-append before (l ∷ []), below)))
 
-pub within_last : (n : ℕ) (before : List RunLog) (l : RunLog) → All (λ r. r.run.0 < n) (before ++ l ∷ []) → l.run.0 < n
+pub within_last : (n : ℕ) (before : List LeftState) (l : LeftState) → All (λ r. r.run.0 < n) (before ++ l ∷ []) → l.run.0 < n
 within_last n before l within =
-    subst (λ (r : RunLog). r.run.0 < n) (get_or-append_seam before l [] l) (within (length before) l (omega (arith, length-append before (l ∷ []))))
+    subst (λ (r : LeftState). r.run.0 < n) (get_or-append_seam before l [] l) (within (length before) l (omega (arith, length-append before (l ∷ []))))
 
--- after this history so much is left of the parts
-abbrev pub AreLeft : List (List Entry) → List (Bor (List Entry)) → List Entry → Type 0
-AreLeft parts rests h = (b : ℕ) (d : Bor (List Entry)) → b < length parts → get_or parts b [] ≡ part h b ++ (get_or rests b d).now
+-- after this history so much is left of all
+abbrev pub AreLeft : List (Bor (List Entry)) → List (Bor (List Entry)) → List Entry → Type 0
+AreLeft all rests h = (b : ℕ) (d : Bor (List Entry)) → b < length all → (get_or all b d).now ≡ part h b ++ (get_or rests b d).now
 
 part_none : (b : ℕ) → part [] b ≡ []
 unfolding part
@@ -57,14 +54,14 @@ part-append : (g h : List Entry) (b : ℕ) → part (g ++ h) b ≡ part g b ++ p
 unfolding part
 part-append g h b = filter-append (is_by b) g h
 
-pub left_all : (parts : List (List Entry)) (rests : List (Bor (List Entry))) → ((b : ℕ) (d : Bor (List Entry)) → b < length parts → (get_or rests b d).now ≡ get_or parts b []) → AreLeft parts rests []
-left_all parts rests all b d below = sym (all b d below) ∙ ap (λ l. l ++ (get_or rests b d).now) (sym (part_none b))
+pub left_all : (all : List (Bor (List Entry))) → AreLeft all all []
+left_all all b d below = ap (λ l. l ++ (get_or all b d).now) (sym (part_none b))
 
 -- the next entry is taken off
-pub left_next : (parts : List (List Entry)) (rests more : List (Bor (List Entry))) (h : List Entry) (i : ℕ) (e : Entry) → i < length h → e ≡ get_or h i e →
-    ((b : ℕ) (d : Bor (List Entry)) → b < length parts → (get_or rests b d).now ≡ (if is_by b e then e ∷ [] else []) ++ (get_or more b d).now) →
-    AreLeft parts rests (take i h) → AreLeft parts more (take (i + 1) h)
-left_next parts rests more h i e inside here taken left b d below =
+pub left_next : (all rests more : List (Bor (List Entry))) (h : List Entry) (i : ℕ) (e : Entry) → i < length h → e ≡ get_or h i e →
+    ((b : ℕ) (d : Bor (List Entry)) → b < length all → (get_or rests b d).now ≡ (if is_by b e then e ∷ [] else []) ++ (get_or more b d).now) →
+    AreLeft all rests (take i h) → AreLeft all more (take (i + 1) h)
+left_next all rests more h i e inside here taken left b d below =
     let own : List Entry = if is_by b e then e ∷ [] else [] in
     let after : List Entry = (get_or more b d).now in
     let next : take (i + 1) h ≡ take i h ++ (e ∷ []) = rw add-one (take-suc h i e inside) ∙ ap (λ x. take i h ++ (x ∷ [])) (sym here) in
@@ -72,9 +69,9 @@ left_next parts rests more h i e inside here taken left b d below =
     left b d below ∙ (ap (λ l. part (take i h) b ++ l) (taken b d below) ∙ (sym (append_assoc (part (take i h) b) own after) ∙ ap (λ l. l ++ after) (sym end)))
 
 -- if the next entry is not the first of what is left of its run's part, this is not the run's part
-pub no_next : (parts : List (List Entry)) (rests : List (Bor (List Entry))) (h : List Entry) (i : ℕ) (e : Entry) (d : Bor (List Entry)) → i < length h → e ≡ get_or h i e → e.caller.0 < length parts →
-    ((es : List Entry) → (get_or rests e.caller.0 d).now ≡ e ∷ es → ⊥) → AreLeft parts rests (take i h) → KnowsParts parts h → ⊥
-no_next parts rests h i e d inside here below other left known =
+pub no_next : (all rests : List (Bor (List Entry))) (h : List Entry) (i : ℕ) (e : Entry) (d : Bor (List Entry)) → i < length h → e ≡ get_or h i e → e.caller.0 < length all →
+    ((es : List Entry) → (get_or rests e.caller.0 d).now ≡ e ∷ es → ⊥) → AreLeft all rests (take i h) → (get_or all e.caller.0 d).now ≡ part h e.caller.0 → ⊥
+no_next all rests h i e d inside here below other left known =
     let b : ℕ = e.caller.0 in
     let behind : List Entry = part (drop (i + 1) h) b in
     let own : (if is_by b e then e ∷ [] else []) ≡ e ∷ [] = rw (eq-eqb e.caller.0 e.caller.0 refl) refl in
@@ -82,14 +79,15 @@ no_next parts rests h i e d inside here below other left known =
     let end : part (take i h ++ (e ∷ [])) b ≡ part (take i h) b ++ (e ∷ []) = part_end (take i h) e b ∙ ap (λ l. part (take i h) b ++ l) own in
     let whole : part h b ≡ part (take i h) b ++ (e ∷ behind) =
     ap (λ l. part l b) split ∙ (part-append (take i h ++ (e ∷ [])) (drop (i + 1) h) b ∙ (ap (λ l. l ++ behind) end ∙ append_assoc (part (take i h) b) (e ∷ []) behind)) in
-    other behind (append_cancel_left (part (take i h) b) (get_or rests b d).now (e ∷ behind) (sym (left b d below) ∙ (known b below ∙ whole)))
+    other behind (append_cancel_left (part (take i h) b) (get_or rests b d).now (e ∷ behind) (sym (left b d below) ∙ (known ∙ whole)))
 
 -- once nothing is left, and only then, they are the parts
-pub none_left : (parts : List (List Entry)) (rests : List (Bor (List Entry))) (h : List Entry) (d : Bor (List Entry)) → length rests ≡ length parts → AreLeft parts rests h → All (λ r. r.now ≡ []) rests ↔ KnowsParts parts h
-none_left parts rests h d as_many left = (
-  (λ none b below.
+pub none_left : (all rests : List (Bor (List Entry))) (h : List Entry) (d : Bor (List Entry)) → length rests ≡ length all → AreLeft all rests h →
+    All (λ r. r.now ≡ []) rests ↔ ((b : ℕ) (d : Bor (List Entry)) → b < length all → (get_or all b d).now ≡ part h b)
+none_left all rests h d as_many left = (
+  (λ none b d below.
       left b d below ∙ (ap (λ l. part h b ++ l) (none b d (omega (arith, as_many, below))) ∙ append-nil (part h b))),
   (λ known k e below.
-      let within : k < length parts = omega (arith, as_many, below) in
-      append_cancel_left (part h k) (get_or rests k e).now [] (sym (left k e within) ∙ (known k within ∙ sym (append-nil (part h k))))),
+      let within : k < length all = omega (arith, as_many, below) in
+      append_cancel_left (part h k) (get_or rests k e).now [] (sym (left k e within) ∙ (known k e within ∙ sym (append-nil (part h k))))),
 )

@@ -1,24 +1,18 @@
 -- The answers of a hand, as an entry is added to its log.
 use Rattle.std.proofs.Common.{ℕ, ◌≡◌, ◌≢◌, true, false, List, [], ◌∷◌, ◌++◌, length, All, refl, ap, sym, ◌∙◌, append_assoc}
-use Rattle.std.proofs.lemmas.List.{append-nil}
-use Rattle.std.proofs.lemmas.List.Elements.{All-nil, All-cons, All-append}
+use Rattle.std.proofs.lemmas.List.{Elements.All-append, Elements.All-cons, Elements.All-nil, append-nil}
 use Rattle.tc_rules.specs.Prelude.{UserVerdict, given, Entry, Op, Reply, is_verdict_call}
-use Rattle.tc_verdict.specs.declared.user_verdict.UserVerdict.TheVariants as U
-use Rattle.tc_entry.specs.declared.op.Op.TheVariants as O
-use Rattle.tc_entry.specs.declared.reply.Reply.TheVariants as R
 use Rattle.tc_board.specs.declared.answer.Answer.TheVariants.{Met, Found}
 use Rattle.tc_board.specs.Prelude.{HandView}
-use Rattle.tc_book.specs.Hands.{found_by, answer_in, answers_in, IsOneAnswer, IsHandOf}
-use Rattle.tc_book.specs.Inside.{Says}
-use Rattle.tc_book.specs.Replies.{suits}
+use Rattle.tc_book.specs.{Hands.IsHandOf, Hands.IsOneAnswer, Hands.answer_in, Hands.answers_in, Hands.found_by, Inside.Says, Replies.suits}
 
 answers_end : (log : List Entry) (e : Entry) → answers_in (log ++ e ∷ []) ≡ answers_in log ++ answer_in e.op e.reply
 answers_end [] e = append-nil (answer_in e.op e.reply)
 answers_end (x ∷ log) e = ap (λ l. answer_in x.op x.reply ++ l) (answers_end log e) ∙ sym (append_assoc (answer_in x.op x.reply) (answers_in log) (answer_in e.op e.reply))
 
 no_answer : (op : Op) (reply : Reply) → is_verdict_call op ≡ false → answer_in op reply ≡ []
-no_answer (O.SetVerdict v) reply h = absurd cc
-no_answer O.GetVerdict reply h = absurd cc
+no_answer (Op.SetVerdict v) reply h = absurd cc
+no_answer Op.GetVerdict reply h = absurd cc
 no_answer _ reply h = refl
 
 each_end : (log after : List Entry) (e : Entry) → after ≡ log ++ e ∷ [] → IsOneAnswer e → All IsOneAnswer log → All IsOneAnswer after
@@ -46,16 +40,16 @@ pub hand_same : (hand : HandView) (run : ℕ) (log after : List Entry) → after
 hand_same hand run log after same h = rw same h
 
 pub found_given : (v : UserVerdict) → found_by (given v) ≡ Found v ∷ []
-found_given U.None = refl
-found_given U.Pass = refl
-found_given U.Inconc = refl
-found_given U.Fail = refl
+found_given UserVerdict.None = refl
+found_given UserVerdict.Pass = refl
+found_given UserVerdict.Inconc = refl
+found_given UserVerdict.Fail = refl
 
-pub found_suits : (v : UserVerdict) → suits O.GetVerdict (R.Local (given v)) ≡ true
-found_suits U.None = refl
-found_suits U.Pass = refl
-found_suits U.Inconc = refl
-found_suits U.Fail = refl
+pub found_suits : (v : UserVerdict) → suits Op.GetVerdict (Reply.Local (given v)) ≡ true
+found_suits UserVerdict.None = refl
+found_suits UserVerdict.Pass = refl
+found_suits UserVerdict.Inconc = refl
+found_suits UserVerdict.Fail = refl
 
 pub met_then : (hand : HandView) (run : ℕ) (log : List Entry) → IsHandOf hand run log → hand.answers ≢ []
 met_then hand run log h e = let q : Met ∷ answers_in log ≡ [] = sym h.answers ∙ e in absurd cc

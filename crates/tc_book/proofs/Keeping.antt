@@ -1,16 +1,64 @@
--- Rules for what a book keeps, at the opening and after one more entry.
-use Rattle.std.proofs.Common.{ℕ, ◌≡◌, ◌≤◌, ◌∙◌, sym, Option, None, List, [], ◌∷◌, ◌++◌, drop, length, reverse, replicate}
-use Rattle.std.proofs.lemmas.List.{reverse-append, length-replicate}
+-- Rules for what a book keeps, at the opening and after one more entry: its places are counted, and its replies suit.
+use Rattle.std.proofs.Common.{◌≡◌, ℕ, ◌+◌, ◌*◌, ◌<◌, ◌≤◌, Bool, true, false, List, [], ◌∷◌, length, set, replicate, arith, ◌==◌, ◌&&◌, if◌then◌else◌, Option, Some, None, not, ap, refl, ◌∙◌, sym, ◌++◌, drop, reverse}
+use Rattle.std.proofs.lemmas.List.{Folds.sum_by-replicate, Sums.sum_by-cons, Sums.sum_by-set, get_or_past, length-replicate, reverse-append}
+use Rattle.tc_rules.specs.Prelude.{Run, Entry, Op, Reply, Fault, holds, is_stuck, fault, answer, answer_unless, plain_answer, is_active, is_verdict_call, UserVerdict, Comp, Case, past_of}
 use Rattle.tc_entry.specs.declared.limits.TheConstants.{BEHAVIOURS}
-use Rattle.tc_rules.specs.Prelude.{Run, UserVerdict, Comp, Entry, Op, Reply, Case, past_of}
 use Rattle.tc_board.specs.declared.record.Record.{Record}
-use Rattle.tc_book.specs.Words.{WordsAgree, carried_to, carried_to_newest}
-use Rattle.tc_book.specs.declared.places.Places.{Places}
-use Rattle.tc_book.specs.Inside.{IsKept, start_at}
-use Rattle.tc_book.specs.OpenCase.{opening_place}
-use Rattle.tc_book.proofs.Totals.{total_opening, total_bound, one_at_most, total_set, no_place_beyond}
-use Rattle.tc_book.proofs.Suits.{answer_suits}
+use Rattle.tc_book.specs.{Inside.IsKept, Inside.one_if, Inside.size_of, Inside.start_at, Inside.total, OpenCase.no_place, OpenCase.opening_place, OpenCase.places_at, Replies.suits, Words.WordsAgree, Words.carried_to, Words.carried_to_newest, declared.places.Places.Places}
 use Rattle.tc_book.proofs.Lemmas.Starting.{starts_below}
+
+pub one_at_most : (b : Bool) → one_if b ≤ 1
+one_at_most true = omega arith
+one_at_most false = omega arith
+
+-- two places a run at most
+pub total_bound : (ps : List Places) → total ps ≤ 2 * length ps
+total_bound [] = omega arith
+total_bound (p ∷ ps) = omega (arith, sum_by-cons size_of p ps, total_bound ps, one_at_most p.leave, one_at_most p.wake)
+
+pub total_set : (ps : List Places) (run : Run) (p : Places) → run.0 < length ps → total (set ps run.0 p) + size_of (places_at ps run) ≡ total ps + size_of p
+total_set ps run p below = sum_by-set size_of ps run.0 p no_place below
+
+pub no_place_beyond : (ps : List Places) (run : Run) → length ps ≤ run.0 → places_at ps run ≡ no_place
+no_place_beyond ps run beyond = get_or_past ps run.0 no_place beyond
+
+-- one place for each run at the opening
+pub total_opening : (n : ℕ) → total (replicate n opening_place) ≡ n
+total_opening n = omega (arith, sum_by-replicate size_of n opening_place)
+
+wait_suits : (k : Bool) (t : _) (held : Bool) → suits (Op.Wait k t) (if held then Reply.Matched else Reply.Parked) ≡ true
+wait_suits k t true = refl
+wait_suits k t false = refl
+
+wake_suits : (k : Bool) (t : _) (held stuck : Bool) → suits (Op.Wake k t) (if held then Reply.Matched else if stuck then Reply.Fault Fault.Stuck else Reply.Parked) ≡ true
+wake_suits k t true stuck = refl
+wake_suits k t false true = refl
+wake_suits k t false false = refl
+
+plain_suits : (past : List Entry) (b : ℕ) (op : Op) → is_verdict_call op ≡ false → suits op (plain_answer past b op) ≡ true
+plain_suits past b (Op.Wait k t) other = wait_suits k t (holds past (record { killed = k; target = t }))
+plain_suits past b (Op.Wake k t) other = wake_suits k t (holds past (record { killed = k; target = t })) ((b == 0) && is_stuck past)
+plain_suits past b Op.GetVerdict other = absurd cc
+plain_suits past b (Op.Create alive name) other = refl
+plain_suits past b (Op.Start c run args) other = refl
+plain_suits past b (Op.Stop g) other = refl
+plain_suits past b (Op.Kill g) other = refl
+plain_suits past b Op.StopCase other = refl
+plain_suits past b (Op.Running t) other = refl
+plain_suits past b (Op.Alive t) other = refl
+plain_suits past b (Op.Done t) other = refl
+plain_suits past b (Op.Killed t) other = refl
+plain_suits past b (Op.SetVerdict v) other = absurd cc
+plain_suits past b Op.Finish other = refl
+
+by_case : (active : Bool) (f : Option Fault) (op : Op) (plain : Reply) → is_verdict_call op ≡ false → suits op plain ≡ true → suits op (if active then answer_unless f plain else Reply.Ended) ≡ true
+by_case true None op plain other h = h
+by_case true (Some f) op plain other h = ap not other
+by_case false f op plain other h = refl
+
+pub answer_suits : (n : ℕ) (past : List Entry) (b : ℕ) (op : Op) → is_verdict_call op ≡ false → suits op (answer n past b op) ≡ true
+unfolding answer
+answer_suits n past b op other = by_case (is_active past b) (fault n past b op) op (plain_answer past b op) other (plain_suits past b op other)
 
 pub past_more : (h : List Entry) (e : Entry) → reverse (h ++ e ∷ []) ≡ e ∷ reverse h
 past_more h e = reverse-append h (e ∷ [])

@@ -1,16 +1,10 @@
 -- The words after one more entry: they lag at most.
 use Rattle.std.proofs.Common.{ℕ, ◌≡◌, ◌≢◌, ◌<◌, ◌==◌, ◌&&◌, not, if◌then◌else◌, Bool, true, false, Option, Some, None, is_some, List, ◌∷◌, length, set, length-set, refl, ap, sym, ◌∙◌, subst, arith, inl, inr}
-use Rattle.std.proofs.lemmas.Bool.{ne_eqb, cases_eq}
-use Rattle.std.proofs.lemmas.Bool.Decides.{nat_tests}
+use Rattle.std.proofs.lemmas.Bool.{Decides.nat_tests, cases_eq, ne_eqb}
 use Rattle.tc_rules.specs.Prelude.{Run, UserVerdict, Comp, Entry, Op, Reply, is_ok, comp_of, first_some, halts, started_on, last_run, phase, start_in, is_running, answer, is_active, IsLegal}
-use Rattle.tc_entry.specs.declared.op.Op.TheVariants as O
-use Rattle.tc_entry.specs.declared.reply.Reply.TheVariants as R
-use Rattle.tc_rules.proofs.Lemmas.Going.{halted_by_entry, started_by_entry, starts_still, last_on_it, last_stands}
-use Rattle.tc_rules.proofs.Lemmas.Sound.{plain_if, no_special, start_in_range, starts_fresh}
-use Rattle.tc_board.specs.declared.record.Record.{Record}
-use Rattle.tc_board.specs.declared.record.Record.TheVariants.{Unbegun, Open, Closed}
-use Rattle.tc_book.specs.Words.{IsWordOf, WordsAgree, record_at, left_by, closing, is_closed, last_on, run_before, carried, carried_to}
-use Rattle.tc_book.specs.Inside.Words.{Lags, WordsLag, CanBegin, with_start}
+use Rattle.tc_rules.proofs.Lemmas.{Going.halted_by_entry, Going.last_on_it, Going.last_stands, Going.started_by_entry, Going.starts_still, Sound.no_special, Sound.plain_if, Sound.start_in_range, Sound.starts_fresh}
+use Rattle.tc_board.specs.declared.record.Record.{Record, TheVariants.Closed, TheVariants.Open, TheVariants.Unbegun}
+use Rattle.tc_book.specs.{Inside.Words.CanBegin, Inside.Words.Lags, Inside.Words.WordsLag, Inside.Words.with_start, Words.IsWordOf, Words.WordsAgree, Words.carried, Words.carried_to, Words.closing, Words.is_closed, Words.last_on, Words.left_by, Words.record_at, Words.run_before}
 use Rattle.tc_book.proofs.Settling.{at_same, at_other}
 
 first_true : (a b : Bool) → (a && b) ≡ true → a ≡ true
@@ -77,7 +71,7 @@ last_closed n past words c a some legal t still h =
     ap is_closed halted.1
 
 abbrev pub start : Run → Comp → Run → List Comp → Entry
-start caller comp run args = record { caller = caller; op = O.Start comp run args; reply = R.Ok }
+start caller comp run args = record { caller = caller; op = Op.Start comp run args; reply = Reply.Ok }
 
 pub same_test : (m : ℕ) → (m == m) ≡ true
 same_test m = grind (arith, nat_tests)
@@ -88,9 +82,9 @@ partly_started : (n : ℕ) (past : List Entry) (words : List Record) (caller : R
     WordsLag n (start caller comp run args ∷ past) (set words run.0 (Open (left_by words (last_run past comp.0)))) 0
 partly_started n past words caller comp run args legal t =
     let e : Entry = start caller comp run args in
-    let ok : R.Ok ≡ answer n past caller.0 (O.Start comp run args) = legal.0 in
-    let plain = plain_if n past caller.0 (O.Start comp run args) R.Ok refl refl ok in
-    let below : run.0 < n = start_in_range n past comp.0 run.0 (no_special n past caller.0 (O.Start comp run args) plain.no_fault) in
+    let ok : Reply.Ok ≡ answer n past caller.0 (Op.Start comp run args) = legal.0 in
+    let plain = plain_if n past caller.0 (Op.Start comp run args) Reply.Ok refl refl ok in
+    let below : run.0 < n = start_in_range n past comp.0 run.0 (no_special n past caller.0 (Op.Start comp run args) plain.no_fault) in
     let some : 0 < n = omega (arith, below) in
     let begins : start_in e comp.0 ≡ Some run = rw (same_test comp.0) refl in
     let free : comp_of past run.0 ≡ None = (starts_fresh n past e comp.0 run legal.0 begins).1.free in
@@ -144,17 +138,17 @@ entry caller op reply = record { caller = caller; op = op; reply = reply }
 pub after_entry : (n : ℕ) (past : List Entry) (words : List Record) (caller : Run) (op : Op) (reply : Reply) →
     IsLegal n (entry caller op reply ∷ past) → WordsAgree n past words →
     WordsLag n (entry caller op reply ∷ past) (with_start op reply (carried_to words past op) words) 0
-after_entry n past words caller (O.Start c run args) R.Ok legal t = partly_started n past words caller c run args legal t
-after_entry n past words caller (O.Start c run args) reply legal t = partly_after n past (entry caller (O.Start c run args) reply) words legal (λ b. refl) t
+after_entry n past words caller (Op.Start c run args) Reply.Ok legal t = partly_started n past words caller c run args legal t
+after_entry n past words caller (Op.Start c run args) reply legal t = partly_after n past (entry caller (Op.Start c run args) reply) words legal (λ b. refl) t
 after_entry n past words caller op reply legal t = partly_after n past (entry caller op reply) words legal (λ b. if_none (is_ok reply)) t
 
 -- the word of a run that is started is unbegun
 pub can_begin : (n : ℕ) (past : List Entry) (words : List Record) (caller : Run) (op : Op) (reply : Reply) → WordsAgree n past words → reply ≡ answer n past caller.0 op → CanBegin op reply words
-can_begin n past words caller (O.Start c run args) R.Ok t ok =
-    let plain = plain_if n past caller.0 (O.Start c run args) R.Ok refl refl ok in
-    let below : run.0 < n = start_in_range n past c.0 run.0 (no_special n past caller.0 (O.Start c run args) plain.no_fault) in
+can_begin n past words caller (Op.Start c run args) Reply.Ok t ok =
+    let plain = plain_if n past caller.0 (Op.Start c run args) Reply.Ok refl refl ok in
+    let below : run.0 < n = start_in_range n past c.0 run.0 (no_special n past caller.0 (Op.Start c run args) plain.no_fault) in
     let begins : start_in (start caller c run args) c.0 ≡ Some run = rw (same_test c.0) refl in
     let free : comp_of past run.0 ≡ None = (starts_fresh n past (start caller c run args) c.0 run ok begins).1.free in
     (rw t.as_many below, rw free at (t.each run.0 below))
-can_begin n past words caller (O.Start c run args) reply t ok = tt
+can_begin n past words caller (Op.Start c run args) reply t ok = tt
 can_begin n past words caller op reply t ok = tt

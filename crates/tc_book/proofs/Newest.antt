@@ -1,18 +1,11 @@
 -- The words after the newest entry, before any word is closed.
 use Rattle.std.proofs.Common.{ℕ, ◌≡◌, ◌<◌, ◌&&◌, not, Bool, true, false, Some, None, List, [], ◌∷◌, ◌++◌, drop, reverse, refl, ap, sym, ◌∙◌, subst, inl, inr}
-use Rattle.std.proofs.lemmas.Bool.{cases_eq}
-use Rattle.std.proofs.lemmas.List.{reverse-append}
+use Rattle.std.proofs.lemmas.{Bool.cases_eq, List.reverse-append}
 use Rattle.tc_rules.specs.Prelude.{Run, UserVerdict, Comp, Entry, Op, Reply, comp_of, halts, start_in, is_active, may_halt, IsLegal}
-use Rattle.tc_entry.specs.declared.op.Op.TheVariants as O
-use Rattle.tc_entry.specs.declared.reply.Reply.TheVariants as R
-use Rattle.tc_rules.proofs.Lemmas.Going.{halted_by_entry, started_by_entry, others_halt_nothing}
-use Rattle.tc_rules.proofs.Lemmas.Sound.{starts_fresh}
-use Rattle.tc_board.specs.declared.record.Record.{Record}
-use Rattle.tc_board.specs.declared.record.Record.TheVariants.{Open}
-use Rattle.tc_book.specs.Words.{StayClosed, WordsAgree, record_at, is_closed, carried, carried_to, carried_to_newest}
-use Rattle.tc_book.specs.Inside.Words.{is_open, WordsLag, CanBegin, with_start}
-use Rattle.tc_book.proofs.Settling.{all_agree, at_other, open_means, stay_closed}
-use Rattle.tc_book.proofs.Lagging.{after_entry, can_begin, entry, same_test, start}
+use Rattle.tc_rules.proofs.Lemmas.{Going.halted_by_entry, Going.others_halt_nothing, Going.started_by_entry, Sound.starts_fresh}
+use Rattle.tc_board.specs.declared.record.Record.{Record, TheVariants.Open}
+use Rattle.tc_book.specs.{Inside.Words.CanBegin, Inside.Words.WordsLag, Inside.Words.is_open, Inside.Words.with_start, Words.StayClosed, Words.WordsAgree, Words.carried, Words.carried_to, Words.carried_to_newest, Words.is_closed, Words.record_at}
+use Rattle.tc_book.proofs.{Lagging.after_entry, Lagging.can_begin, Lagging.entry, Lagging.same_test, Lagging.start, Settling.all_agree, Settling.at_other, Settling.open_means, Settling.stay_closed}
 
 both : (a h : Bool) → a ≡ true → h ≡ false → (a && not h) ≡ true
 both true false p q = refl
@@ -39,14 +32,14 @@ starts_going n past caller comp run args legal =
 open_go_on : (n : ℕ) (past : List Entry) (words : List Record) (caller : Run) (op : Op) (reply : Reply) (u : UserVerdict) →
     IsLegal n (entry caller op reply ∷ past) → WordsAgree n past words → may_halt op reply ≡ false → (b : ℕ) → b < n →
     is_open (record_at (with_start op reply u words) b) ≡ true → is_active (entry caller op reply ∷ past) b ≡ true
-open_go_on n past words caller (O.Start c run args) R.Ok u legal agree quiet b less h =
+open_go_on n past words caller (Op.Start c run args) Reply.Ok u legal agree quiet b less h =
     elim (cases_eq b run.0) [
       | inl same ↦ subst (λ k. is_active (start caller c run args ∷ past) k ≡ true) (sym same) (starts_going n past caller c run args legal)
       | inr other ↦
           goes_on n past (start caller c run args) words b legal agree quiet less
           (sym (ap is_open (at_other words run.0 b (Open u) other)) ∙ h)
     ]
-open_go_on n past words caller (O.Start c run args) reply u legal agree quiet b less h = goes_on n past (entry caller (O.Start c run args) reply) words b legal agree quiet less h
+open_go_on n past words caller (Op.Start c run args) reply u legal agree quiet b less h = goes_on n past (entry caller (Op.Start c run args) reply) words b legal agree quiet less h
 open_go_on n past words caller op reply u legal agree quiet b less h = goes_on n past (entry caller op reply) words b legal agree quiet less h
 
 -- the words lag at most
@@ -80,8 +73,8 @@ can_begin_newest n whole past e words is legal agree =
 
 -- the word that an entry begins was not closed
 pub begun_stay_closed : (op : Op) (reply : Reply) (u : UserVerdict) (words : List Record) → CanBegin op reply words → StayClosed words (with_start op reply u words)
-begun_stay_closed (O.Start c run args) R.Ok u words can = stay_closed words run.0 (Open u) (ap is_closed can.1)
-begun_stay_closed (O.Start c run args) reply u words can = λ b h. refl
+begun_stay_closed (Op.Start c run args) Reply.Ok u words can = stay_closed words run.0 (Open u) (ap is_closed can.1)
+begun_stay_closed (Op.Start c run args) reply u words can = λ b h. refl
 begun_stay_closed op reply u words can = λ b h. refl
 
 -- one more entry is the newest

@@ -2,11 +2,8 @@
 use Rattle.std.proofs.Common.{ℕ, ◌≡◌, ◌&&◌, not, if◌then◌else◌, Bool, true, false, Option, Some, None, [], ◌∷◌, reverse, refl, ap, subst, sym, ◌∙◌}
 use Rattle.std.proofs.lemmas.List.{reverse-append}
 use Rattle.tc_rules.specs.Prelude.{Run, Entry, Op, Reply, is_ok, first_some, IsLegal, keeps_phases, lets_go_on}
-use Rattle.tc_entry.specs.declared.op.Op.TheVariants as O
 use Rattle.tc_rules.proofs.Lemmas.Quiet.{quiet_wakes_nobody}
-use Rattle.tc_book.specs.OpenCase.{OpenCase, open_past, reply_to, with_entry}
-use Rattle.tc_book.specs.Starts.{started_with, start_of, starts_with}
-use Rattle.tc_book.specs.Waking.{NobodyWakes}
+use Rattle.tc_book.specs.OpenCase.{OpenCase, open_past, reply_to, with_entry, start_of, started_with, starts_with, NobodyWakes}
 
 both : (a b : Bool) → a ≡ true → b ≡ true → (a && b) ≡ true
 both true b h k = k
@@ -21,7 +18,7 @@ first_alone (Some x) = refl
 first_alone None = refl
 
 none_started : (op : Op) (b : ℕ) → keeps_phases op ≡ true → starts_with op b ≡ None
-none_started (O.Start c run args) b h = absurd cc
+none_started (Op.Start c run args) b h = absurd cc
 none_started _ b h = refl
 
 silent_quiet : (before after : OpenCase) (run : Run) (op : Op) (r : Reply) → IsLegal before.behaviours (open_past before) → after.behaviours ≡ before.behaviours → r ≡ reply_to before run op → after.history ≡ with_entry before run op r →

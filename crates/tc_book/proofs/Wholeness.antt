@@ -1,26 +1,43 @@
 -- What came back is whole by the merged history, if it is one of each run and its logs are the parts of that history.
-use Rattle.std.proofs.Common.{ℕ, zero, suc, ◌≡◌, ◌+◌, ◌<◌, ◌≤◌, ◌==◌, cond, if◌then◌else◌, Bool, true, false, Option, List, [], ◌∷◌, length, reverse, map, sum_by, count_by, get_or, refl, sym, ap, ◌∙◌, subst, arith, eq-eqb}
+use Rattle.std.proofs.Common.{ℕ, zero, suc, ◌≡◌, ◌+◌, ◌<◌, ◌≤◌, ◌==◌, cond, if◌then◌else◌, Bool, true, false, Option, None, List, [], ◌∷◌, length, reverse, map, sum_by, count_by, get_or, refl, sym, ap, ◌∙◌, subst, arith, eq-eqb, inl, inr}
 use Rattle.std.specs.List.{All}
-use Rattle.std.proofs.lemmas.Bool.Decides.{nat_tests}
-use Rattle.std.proofs.lemmas.List.Elements.{All-map}
-use Rattle.std.proofs.lemmas.List.Sums.{sum_by-cons}
-use Rattle.tc_rules.specs.Prelude.{Comp, Entry, is_over, log_of, logged, part}
+use Rattle.std.proofs.lemmas.{Bool.Decides.nat_tests, Bool.cases_lt, Bool.ne_eqb, List.Sums.sum_by-cons}
+use Rattle.tc_rules.specs.Prelude.{Comp, Entry, IsLegal, comp_of, log_of, logged, part}
 use Rattle.tc_rules.specs.declared.run_log.RunLog.{RunLog}
-use Rattle.tc_book.specs.OpenCase.{OpenCase}
-use Rattle.tc_book.specs.Passes.{LeftState}
-use Rattle.tc_merge.proofs.Lemmas.Kept.{others-merge}
-use Rattle.tc_book.specs.Closing.{all_started, is_left_of, IsFitting, IsWhole, IsMerged, run_log, merged}
-use Rattle.tc_book.proofs.Skipping.{starts_same}
-use Rattle.tc_book.specs.Inside.{AreLogs, ArePlaced, IsJoined, KnowsStarts, KnowsParts}
-use Rattle.tc_book.proofs.Lemmas.PartOf.{comp_known}
+use Rattle.tc_merge.specs.OneCase.{is_log_of, HaveDistinctRuns}
+use Rattle.tc_merge.proofs.Lemmas.{Kept.others-merge, Length.long_by_parts}
+use Rattle.tc_book.specs.{Closing.IsFitting, Closing.IsMerged, Closing.IsOneEach, Closing.IsWhole, Closing.is_left_of, Closing.merged, Closing.run_log, Inside.AreLogs, Inside.ArePlaced, Inside.IsJoined, Inside.IsSound, Inside.KnowsStarts, OpenCase.OpenCase, Passes.LeftState}
+use Rattle.tc_book.proofs.{Lemmas.PartOf.comp_known, Reporting.no_others, Skipping.starts_same}
 
 logged_map : (lefts : List LeftState) → logged (map run_log lefts) ≡ sum_by (λ l. length l.log) lefts
 logged_map [] = refl
 logged_map (l ∷ lefts) = omega (arith, logged_map lefts, sum_by-cons (λ (r : RunLog). length r.entries) (run_log l) (map run_log lefts), sum_by-cons (λ (m : LeftState). length m.log) l lefts)
 
--- the logs are of runs that there are
-pub within_logs : (n : ℕ) (starts : List (Option (Comp × List Comp))) (lefts : List LeftState) (logs : List RunLog) → ArePlaced n starts lefts → logs ≡ map run_log lefts → All (λ l. l.run.0 < n) logs
-within_logs n starts lefts logs placed are = rw are (All-map (λ (l : RunLog). l.run.0 < n) run_log lefts placed.one_each.within)
+-- no run from n on left anything
+none_counted : (n : ℕ) (lefts : List LeftState) (b : ℕ) → All (λ l. l.run.0 < n) lefts → n ≤ b → count_by (is_left_of b) lefts ≡ 0
+none_counted n [] b within beyond = refl
+none_counted n (l ∷ lefts) b within beyond =
+    let test : (l.run.0 == b) ≡ false = ne_eqb l.run.0 b (let below = within 0 l (omega arith) in omega (arith, below, beyond)) in
+    let this : cond {A = ℕ} (l.run.0 == b) 1 0 ≡ 0 = rw test refl in
+    omega (arith, this, none_counted n lefts b (λ k d q. within (suc k) d (omega (arith, q))) beyond, sum_by-cons (λ (m : LeftState). cond (is_left_of b m) 1 0) l lefts)
+
+pub log_beyond : (n : ℕ) (lefts : List LeftState) (b : ℕ) → All (λ l. l.run.0 < n) lefts → n ≤ b → log_of (map run_log lefts) b ≡ []
+log_beyond n [] b within beyond = refl
+log_beyond n (l ∷ lefts) b within beyond =
+    let test : (l.run.0 == b) ≡ false = ne_eqb l.run.0 b (let below = within 0 l (omega arith) in omega (arith, below, beyond)) in
+    rw test (log_beyond n lefts b (λ k d q. within (suc k) d (omega (arith, q))) beyond)
+
+counted_map : (lefts : List LeftState) (b : ℕ) → count_by (is_log_of b) (map run_log lefts) ≡ count_by (is_left_of b) lefts
+counted_map [] b = refl
+counted_map (l ∷ lefts) b =
+    omega (arith, counted_map lefts b, sum_by-cons (λ (m : RunLog). cond (is_log_of b m) 1 0) (run_log l) (map run_log lefts), sum_by-cons (λ (m : LeftState). cond (is_left_of b m) 1 0) l lefts)
+
+-- no two of one of each run are of one run
+distinct : (n : ℕ) (lefts : List LeftState) → IsOneEach n lefts → HaveDistinctRuns (map run_log lefts)
+distinct n lefts one b = elim (cases_lt b n) [
+  | inl below ↦ omega (arith, counted_map lefts b, one.each b below)
+  | inr beyond ↦ omega (arith, counted_map lefts b, none_counted n lefts b one.within beyond)
+]
 
 -- a run that is there is counted
 counted : (lefts : List LeftState) (k : ℕ) (d : LeftState) → k < length lefts → 1 ≤ count_by (is_left_of (get_or lefts k d).run.0) lefts
@@ -61,25 +78,32 @@ log_of_fits h (l ∷ lefts) b some fits =
     by_test true same before count = let q : l.run.0 ≡ b = grind (arith, nat_tests) in (fits 0 l (omega arith)).part ∙ ap (part h) q
     by_test false other before count = before (omega (arith, some, count))
 
--- if these are what is kept of the merged history, what came back is whole by it
+-- if its history is sound, what came back is whole by it
 pub whole_by : (n : ℕ) (starts : List (Option (Comp × List Comp))) (parts : List (List Entry)) (h : List Entry) (lefts : List LeftState) →
-    IsJoined n starts h lefts → AreLogs n parts lefts → KnowsParts parts h → is_over (reverse h) ≡ true → all_started (reverse h) ≡ true → length h ≡ logged (map run_log lefts) → IsWhole n h lefts
-whole_by n starts parts h lefts joined put parts_known over started as_long =
+    IsJoined n starts parts h lefts → IsSound n parts h → ((b : ℕ) → n ≤ b → comp_of (reverse h) b ≡ None) → IsWhole n h lefts
+whole_by n starts parts h lefts joined sound none =
+    let one = joined.placed.one_each in
+    let parts_known : (b : ℕ) → b < n → log_of (map run_log lefts) b ≡ part h b =
+    λ b below. sym (joined.logs.each b below) ∙ sound.parts b (let q : b < length parts = rw joined.logs.as_many below in q) in
+    let all_parts : (b : ℕ) → part h b ≡ log_of (map run_log lefts) b =
+    λ b. elim (cases_lt b n) [
+      | inl below ↦ sym (parts_known b below)
+      | inr beyond ↦ no_others h b sound.started (none b beyond) ∙ sym (log_beyond n lefts b one.within beyond)
+    ] in
     record {
-      one_each = joined.placed.one_each;
-      over = over;
-      started = started;
+      one_each = one;
+      over = sound.over;
+      started = sound.started;
       fitting = λ k d q.
           let l : LeftState = get_or lefts k d in
           let place = joined.placed.each k d q in
-          let within : l.run.0 < n = joined.placed.one_each.within k d q in
-          let own : log_of (map run_log lefts) l.run.0 ≡ l.log = own_log lefts k d q (joined.placed.one_each.each l.run.0 within) in
+          let within : l.run.0 < n = one.within k d q in
           record {
-            part = sym own ∙ (sym (put.each l.run.0 within) ∙ parts_known l.run.0 (let b : l.run.0 < length parts = rw put.as_many within in b));
+            part = sym (own_log lefts k d q (one.each l.run.0 within)) ∙ parts_known l.run.0 within;
             started = λ some. place.started some ∙ joined.known l.run.0;
             unstarted = λ none. place.unstarted (comp_known starts (reverse h) l.run.0 joined.known ∙ none);
           };
-      as_long = as_long ∙ logged_map lefts;
+      as_long = long_by_parts h (map run_log lefts) all_parts (distinct n lefts one) ∙ logged_map lefts;
     }
 
 -- and only there
@@ -95,10 +119,16 @@ whole_placed n starts h lefts known w = record {
       };
 }
 
-pub whole_parts : (n : ℕ) (parts : List (List Entry)) (h : List Entry) (lefts : List LeftState) → AreLogs n parts lefts → IsWhole n h lefts → KnowsParts parts h
-whole_parts n parts h lefts put w b below =
-    let within : b < n = rw put.as_many at below in
-    put.each b within ∙ log_of_fits h lefts b (omega (arith, w.one_each.each b within)) w.fitting
+-- and its history is sound
+pub sound_by : (n : ℕ) (parts : List (List Entry)) (h : List Entry) (lefts : List LeftState) → AreLogs n parts lefts → IsLegal n (reverse h) → IsWhole n h lefts → IsSound n parts h
+sound_by n parts h lefts logs legal w = record {
+  legal = legal;
+  started = w.started;
+  parts = λ b below.
+      let within : b < n = rw logs.as_many at below in
+      logs.each b within ∙ log_of_fits h lefts b (omega (arith, w.one_each.each b within)) w.fitting;
+  over = w.over;
+}
 
 -- the starts of a book's history are those of the merged one
 pub merged_starts : (starts : List (Option (Comp × List Comp))) (k : List Entry) (lefts : List LeftState) → KnowsStarts starts (reverse k) → KnowsStarts starts (reverse (merged k lefts))

@@ -1,14 +1,24 @@
--- When a case may be closed: what came back is whole.
-use Rattle.std.specs.Prelude.{ℕ, ◌≡◌, ◌<◌, ◌==◌, ◌&&◌, ◌∷◌, [], Bool, true, None, is_some, List, length, map, reverse, All, count_by, sum_by}
-use Rattle.tc_board.specs.declared.record.Record.{Record}
-use Rattle.tc_board.specs.declared.record.Record.TheVariants.{Unbegun}
-use Rattle.tc_rules.specs.Prelude.{Entry, comp_of, is_over, IsLegal, merge, part}
+-- When a case may be closed: what came back is whole, and the close of each word counted the log of its run.
+use Rattle.std.specs.Prelude.{◌≡◌, ◌++◌, List, [], ◌∷◌, map, ℕ, ◌<◌, ◌==◌, ◌&&◌, Bool, true, None, is_some, length, reverse, All, count_by, sum_by}
+use Rattle.tc_rules.specs.Prelude.{worst, given, UserVerdict, Entry, Op, Reply, comp_of, is_over, IsLegal, merge, part}
+use Rattle.tc_board.specs.declared.record.Record.{Record, TheVariants.Closed, TheVariants.Unbegun}
 use Rattle.tc_rules.specs.declared.run_log.RunLog.{RunLog}
-use Rattle.tc_book.specs.Words.{record_at}
-use Rattle.tc_book.specs.Counting.{Counts}
-use Rattle.tc_book.specs.OpenCase.{OpenCase}
-use Rattle.tc_book.specs.Passes.{LeftState}
-use Rattle.tc_book.specs.Starts.{start_of}
+use Rattle.tc_book.specs.{OpenCase.OpenCase, OpenCase.start_of, Passes.LeftState, Words.record_at}
+
+-- the setting of an entry, if it was replied Ok
+abbrev pub setting_in : Op → Reply → List UserVerdict
+setting_in (Op.SetVerdict v) Reply.Ok = v ∷ []
+setting_in _ _ = []
+
+-- the settings of a log that were replied Ok
+abbrev pub settings : List Entry → List UserVerdict
+settings [] = []
+settings (e ∷ es) = setting_in e.op e.reply ++ settings es
+
+-- the word was closed, and its close counted the carried verdict and exactly the settings of this log that were replied Ok
+abbrev pub Counts : Record → List Entry → Type 0
+Counts (Closed carried counted) log = given counted ≡ worst (given carried ∷ map given (settings log))
+Counts _ log = ⊥
 
 -- this was left of run b
 abbrev pub is_left_of : ℕ → LeftState → Bool

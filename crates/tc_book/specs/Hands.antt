@@ -1,29 +1,24 @@
 -- The answers that the hand of a pass had, by the verdict entries of its log.
 use Rattle.std.specs.Prelude.{ℕ, ◌≡◌, true, List, [], ◌∷◌, ◌++◌, length, All}
-use Rattle.tc_rules.specs.Prelude.{Verdict, Entry, Op, Reply, is_verdict_call}
-use Rattle.tc_verdict.specs.declared.verdict.Verdict.TheVariants as V
-use Rattle.tc_verdict.specs.declared.user_verdict.UserVerdict.TheVariants as U
-use Rattle.tc_entry.specs.declared.op.Op.TheVariants as O
-use Rattle.tc_entry.specs.declared.reply.Reply.TheVariants as R
-use Rattle.tc_board.specs.declared.answer.Answer.{Answer}
-use Rattle.tc_board.specs.declared.answer.Answer.TheVariants.{Met, Taken, Found, Shut}
+use Rattle.tc_rules.specs.Prelude.{Verdict, Entry, Op, Reply, is_verdict_call, UserVerdict}
+use Rattle.tc_board.specs.declared.answer.Answer.{Answer, TheVariants.Found, TheVariants.Met, TheVariants.Shut, TheVariants.Taken}
 use Rattle.tc_board.specs.Prelude.{HandView}
 
 -- a verdict that was found; error is never in a word
 abbrev pub found_by : Verdict → List Answer
-found_by V.None = Found U.None ∷ []
-found_by V.Pass = Found U.Pass ∷ []
-found_by V.Inconc = Found U.Inconc ∷ []
-found_by V.Fail = Found U.Fail ∷ []
-found_by V.Error = []
+found_by Verdict.None = Found UserVerdict.None ∷ []
+found_by Verdict.Pass = Found UserVerdict.Pass ∷ []
+found_by Verdict.Inconc = Found UserVerdict.Inconc ∷ []
+found_by Verdict.Fail = Found UserVerdict.Fail ∷ []
+found_by Verdict.Error = []
 
 -- what the hand was answered for an entry: a setting replied Ok was taken, a get found its reply, and a call replied
 -- Ended found the word closed. For any other entry the hand is not asked.
 abbrev pub answer_in : Op → Reply → List Answer
-answer_in (O.SetVerdict v) R.Ok = Taken v ∷ []
-answer_in (O.SetVerdict v) R.Ended = Shut ∷ []
-answer_in O.GetVerdict (R.Local v) = found_by v
-answer_in O.GetVerdict R.Ended = Shut ∷ []
+answer_in (Op.SetVerdict v) Reply.Ok = Taken v ∷ []
+answer_in (Op.SetVerdict v) Reply.Ended = Shut ∷ []
+answer_in Op.GetVerdict (Reply.Local v) = found_by v
+answer_in Op.GetVerdict Reply.Ended = Shut ∷ []
 answer_in _ _ = []
 
 -- the same for the entries of a log, in their order

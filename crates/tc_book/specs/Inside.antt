@@ -1,28 +1,14 @@
 -- What only the way a book is kept needs: no public clause names a word of this file.
 pub mod Waiting
 pub mod Words
-use Rattle.std.specs.Prelude.{ℕ, zero, suc, ◌++◌, ◌∷◌, ◌≡◌, ◌+◌, ◌≤◌, ◌<◌, ◌==◌, Bool, if◌then◌else◌, option_map, Option, Some, None, List, [], length, map, filter, reverse, sum_by, slice_index_or, All, true, false, ◌||◌, not, is_some}
-use Rattle.std.specs.Borrow.{Bor}
-use Rattle.std.specs.Option.{option_map_or}
+use Rattle.std.specs.Prelude.{ℕ, zero, suc, ◌++◌, ◌∷◌, ◌≡◌, ◌+◌, ◌≤◌, ◌<◌, ◌==◌, ◌↔◌, Bool, if◌then◌else◌, option_map, Option, Some, None, List, [], length, map, filter, reverse, sum_by, slice_index_or, All, true, false, ◌||◌, not, is_some}
+use Rattle.std.specs.{Borrow.Bor, Option.option_map_or}
 use Rattle.tc_entry.specs.declared.limits.TheConstants.{BEHAVIOURS}
-use Rattle.tc_rules.specs.Prelude.{Comp, Entry, Op, Reply, IsLegal, part, logs_below, is_by, is_other, log_of, merge, Run, is_over, is_parked}
-use Rattle.tc_entry.specs.declared.op.Op.TheVariants as O
-use Rattle.tc_entry.specs.declared.reply.Reply.TheVariants as R
-use Rattle.tc_rules.specs.declared.run_log.RunLog.{RunLog}
-use Rattle.tc_book.specs.declared.places.Places.{Places}
-use Rattle.tc_book.specs.Closing.{IsOneEach, IsWhole, run_log}
-use Rattle.tc_book.specs.OpenCase.{AreOthers, has_leave, has_wake, OpenCase, open_past, reply_to}
-use Rattle.tc_book.specs.Words.{WordsAgree}
+use Rattle.tc_rules.specs.declared.{awaited.Awaited.Awaited, closed.CloseFault.CloseFault, run_log.RunLog.RunLog}
+use Rattle.tc_rules.specs.Prelude.{Comp, Entry, Op, Reply, IsLegal, answer, comp_of, ends_case, started_on, waiting, part, is_by, is_other, log_of, merge, Run, is_over, is_parked, Kept, StandsFor, Target}
 use Rattle.tc_board.specs.Prelude.{HandView, answered}
-use Rattle.tc_board.specs.declared.record.Record.{Record}
-use Rattle.tc_book.specs.Passes.{LeftState, ended_by, entry_of}
-use Rattle.tc_book.specs.Starts.{start_of}
-use Rattle.tc_board.specs.declared.answer.Answer.{Answer}
-use Rattle.tc_book.specs.Hands.{answer_in}
-use Rattle.tc_book.specs.declared.until.Until.{Until}
-use Rattle.tc_book.specs.declared.until.Until.TheVariants as U
-use Rattle.tc_book.specs.declared.until.Lack.{Lack}
-use Rattle.tc_book.specs.declared.until.Lack.TheVariants as L
+use Rattle.tc_board.specs.declared.{answer.Answer.Answer, record.Record.Record}
+use Rattle.tc_book.specs.{Closing.IsOneEach, Closing.IsWhole, Closing.all_started, Closing.merged, Closing.run_log, Hands.answer_in, OpenCase.AreOthers, OpenCase.OpenCase, OpenCase.WouldPark, OpenCase.has_leave, OpenCase.has_wake, OpenCase.open_past, OpenCase.reply_to, OpenCase.start_of, Passes.LeftState, Passes.ended_by, Passes.entry_of, Words.WordsAgree, declared.logged_book.Started.Started, declared.places.Places.Places, declared.until.Lack.Lack, declared.until.Until.Until}
 
 -- one if it is so
 abbrev pub one_if : Bool → ℕ
@@ -85,21 +71,60 @@ pub record ArePlaced (n : ℕ) (starts : List (Option (Comp × List Comp))) (lef
   pub one_each : IsOneEach n lefts
   pub each : All (IsPlaced starts) lefts
 
--- What came back of a case with this merged history, before it is known whether it is whole. It is one of each run as
--- these starts have it, and they are the starts of the history. If it is whole, the history is a merge of itself.
-pub record IsJoined (n : ℕ) (starts : List (Option (Comp × List Comp))) (history : List Entry) (lefts : List LeftState) : Type 0 where
-  pub placed : ArePlaced n starts lefts
-  pub known : KnowsStarts starts (reverse history)
-  pub itself : IsWhole n history lefts → history ≡ merge (filter is_other history) (logs_below history n)
-
 -- these lists are the logs that came back, each at the number of its run
 pub record AreLogs (n : ℕ) (parts : List (List Entry)) (lefts : List LeftState) : Type 0 where
   pub as_many : length parts ≡ n
   pub each : (b : ℕ) → b < n → slice_index_or parts b [] ≡ log_of (map run_log lefts) b
 
+-- these logs are those lists, by the numbers of their runs
+abbrev pub AreLogsOf : List (List Entry) → List RunLog → Type 0
+AreLogsOf parts logs = (b : ℕ) → log_of logs b ≡ slice_index_or parts b []
+
+-- an entry can follow these: its caller was started, and its reply is the table's
+abbrev pub CanFollow : ℕ → List Entry → Entry → Type 0
+CanFollow n past e = (is_some (comp_of past e.caller.0) ≡ true) × (e.reply ≡ answer n past e.caller.0 e.op)
+
+-- whatever entries the state represents, this says whether the entry can follow them
+abbrev pub SaysWhether : Kept → Entry → Bool → Type 0
+SaysWhether k e said = (past : List Entry) → StandsFor k past → said ≡ true ↔ CanFollow k.behaviours past e
+
+-- a history is walked whole: each entry can follow those before it, and the entries of each run are what there is of it
+pub record IsWalk (n : ℕ) (rests : List (Bor (List Entry))) (history : List Entry) : Type 0 where
+  pub legal : IsLegal n (reverse history)
+  pub started : all_started (reverse history) ≡ true
+  pub parts : (b : ℕ) (d : Bor (List Entry)) → b < length rests → (slice_index_or rests b d).now ≡ part history b
+
+-- a merged history of which these are the runs' parts is that of a case that is over
+pub record IsSound (n : ℕ) (logs : List (List Entry)) (history : List Entry) : Type 0 where
+  pub legal : IsLegal n (reverse history)
+  pub started : all_started (reverse history) ≡ true
+  pub parts : KnowsParts logs history
+  pub over : is_over (reverse history) ≡ true
+
+-- What came back of a case, with the history under its lock. It is one of each run as these starts have it. They are the
+-- starts of the history, which has no entries of verdict calls.
+pub record CameBack (n : ℕ) (starts : List (Option (Comp × List Comp))) (parts : List (List Entry)) (history : List Entry) (lefts : List LeftState) : Type 0 where
+  pub placed : ArePlaced n starts lefts
+  pub logs : AreLogs n parts lefts
+  pub known : KnowsStarts starts (reverse history)
+  pub others : AreOthers (reverse history)
+
+-- The same with this merged history: these starts are its starts too, and it is a merge of itself with any list of the same
+-- logs.
+pub record IsJoined (n : ℕ) (starts : List (Option (Comp × List Comp))) (parts : List (List Entry)) (history : List Entry) (lefts : List LeftState) : Type 0 where
+  pub placed : ArePlaced n starts lefts
+  pub logs : AreLogs n parts lefts
+  pub known : KnowsStarts starts (reverse history)
+  pub itself : (logs : List RunLog) → AreLogsOf parts logs → history ≡ merge (filter is_other history) logs
+
+-- if the fault is Torn, the merge of this history with the logs that came back is not legal, or not whole by them
+abbrev pub IsTornRightly : ℕ → List Entry → List LeftState → CloseFault → Type 0
+IsTornRightly n history lefts fault =
+    fault ≡ CloseFault.Torn → IsLegal n (reverse (merged history lefts)) → IsWhole n (merged history lefts) lefts → ⊥
+
 -- a run that is started by this call is one of the first n
 abbrev pub StartsBelow : Op → Reply → ℕ → Type 0
-StartsBelow (O.Start c run args) R.Ok n = run.0 < n
+StartsBelow (Op.Start c run args) Reply.Ok n = run.0 < n
 StartsBelow _ _ n = Unit {0}
 
 -- What a book keeps. Its history is legal and has no entries of verdict calls. What it knows of starts is the
@@ -120,47 +145,58 @@ pub record IsKept (n : ℕ) (past : List Entry) (starts : List (Option (Comp × 
 abbrev pub Says : Op → Reply → HandView → HandView → Type 0
 Says op reply before after = (x : Answer) × (answer_in op reply ≡ x ∷ []) × (after ≡ answered before x)
 
--- the log of a started run: the run, the component that it was started on, its entries, the oldest first, and how many more have their place
+-- the log of a started run: what the run was started with, its entries, the oldest first, and how many more have their place
 pub record LogState : Type 0 where
-  pub run : Run
-  pub own : Comp
+  pub started : Started
   pub entries : List Entry
   pub room : ℕ
 
 -- an entry of the run has ended it
 abbrev pub is_closed : LogState → Bool
-is_closed l = ended_by l.own l.entries
+is_closed l = ended_by l.started.comp l.entries
 
 -- the entries with one more of the run's
 abbrev pub with_own : LogState → Op → Reply → List Entry
-with_own l op reply = l.entries ++ entry_of l.run op reply ∷ []
+with_own l op reply = l.entries ++ entry_of l.started.run op reply ∷ []
 
 -- the reply is Ended, or a dynamic error
 abbrev pub is_halt : Reply → Bool
-is_halt R.Ended = true
-is_halt (R.Fault f) = true
+is_halt Reply.Ended = true
+is_halt (Reply.Fault f) = true
 is_halt _ = false
 
 -- a run that waits for this continues: its run was started, or the case is over; or its Wake would not be parked again
 abbrev pub goes_on : OpenCase → Run → Until → Bool
-goes_on b run U.Start = is_some (start_of (open_past b) run.0) || is_over (open_past b)
-goes_on b run (U.Wake killed target) = not (is_parked (reply_to b run (O.Wake killed target)))
+goes_on b run Until.Start = is_some (start_of (open_past b) run.0) || is_over (open_past b)
+goes_on b run (Until.Wake killed target) = not (is_parked (reply_to b run (Op.Wake killed target)))
 
--- a run that waits continues; of one that does not wait there is nothing to say
-abbrev pub wakes : OpenCase → Run → Option Until → Bool
-wakes b run (Some until) = goes_on b run until
-wakes b run None = false
+-- the newest entry ends the case, or starts the run
+abbrev pub newest_wakes : List Entry → ℕ → Bool
+newest_wakes [] b = false
+newest_wakes (e ∷ past) b = ends_case e || is_some (started_on e b)
+
+-- the run is parked for this, and its Wake would not be parked again
+abbrev pub parked_goes_on : OpenCase → Run → Option Awaited → Bool
+parked_goes_on b run (Some a) = goes_on b run (Until.Wake a.killed a.target)
+parked_goes_on b run None = false
+
+-- a run is woken after an entry: by the entry itself, or since it can continue after its parked wait
+abbrev pub wakes : OpenCase → Run → Bool
+wakes b run = newest_wakes (open_past b) run.0 || parked_goes_on b run (waiting (open_past b) run.0)
 
 -- the run lacks this by the book: no place is kept for its Wake, or for its leaving; or it was started, so its word is what it
 -- waits for
 abbrev pub lacks : OpenCase → Run → Lack → Bool
-lacks b run L.PlaceForWake = not (has_wake b run)
-lacks b run L.PlaceForLeaving = not (has_leave b run)
-lacks b run L.Word = is_some (start_of (open_past b) run.0)
+lacks b run Lack.PlaceForWake = not (has_wake b run)
+lacks b run Lack.PlaceForLeaving = not (has_leave b run)
+lacks b run Lack.Word = is_some (start_of (open_past b) run.0)
 
--- a run that waits for the start of run b is answered so after these entries: by its start, or by none if the case is
--- over without one
-pub record IsAwaitedIn (n : ℕ) (past : List Entry) (b : ℕ) (start : Option (Comp × List Comp)) : Type 0 where
-  pub legal : IsLegal n past
-  pub first : start ≡ start_of past b
-  pub over : start ≡ None → is_over past ≡ true
+-- a ticket of this run is answered so by the case: by its start, or by none if the case is over without one
+pub record IsAwaitedIn (b : OpenCase) (run : Run) (start : Option (Comp × List Comp)) : Type 0 where
+  pub legal : IsLegal b.behaviours (open_past b)
+  pub first : start ≡ start_of (open_past b) run.0
+  pub over : start ≡ None → is_over (open_past b) ≡ true
+
+-- the run's Wake would be parked again, if a place is kept for it
+abbrev pub StaysParked : OpenCase → Run → Bool → Target → Type 0
+StaysParked b run killed target = has_wake b run ≡ true → WouldPark b run killed target

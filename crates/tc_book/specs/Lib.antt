@@ -1,15 +1,12 @@
 -- The definitions that the contracts of this crate cite.
 pub mod Replies
-pub mod Starts
 pub mod OpenCase
-pub mod Waking
 pub mod Passes
 pub mod Hands
 pub mod Closing
 pub mod Fault
 pub mod Inside
 pub mod Words
-pub mod Counting
 pub mod Prelude
 pub use Rattle.tc_rules.specs.Prelude as OfRules
 pub use Rattle.tc_board.specs.Prelude as OfBoard

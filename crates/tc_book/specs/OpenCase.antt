@@ -1,6 +1,6 @@
--- What contracts see of a book, and the places that it keeps.
-use Rattle.std.specs.Prelude.{ℕ, ◌≡◌, ◌++◌, ◌∷◌, [], if◌then◌else◌, Bool, true, false, List, reverse, set, slice_index_or}
-use Rattle.tc_rules.specs.Prelude.{Run, Entry, Op, Reply, is_verdict_call, answer, is_parked}
+-- What contracts see of a book: the places that it keeps, what each run was started with, and the runs that an entry wakes.
+use Rattle.std.specs.Prelude.{ℕ, ◌≡◌, ◌++◌, ◌∷◌, [], if◌then◌else◌, Bool, true, false, List, reverse, set, slice_index_or, ◌==◌, Option, Some, None}
+use Rattle.tc_rules.specs.Prelude.{Run, Entry, Op, Reply, is_verdict_call, answer, is_parked, Comp, is_ok, first_some, Target, is_over}
 use Rattle.tc_board.specs.declared.record.Record.{Record}
 use Rattle.tc_book.specs.declared.places.Places.{Places}
 
@@ -60,3 +60,28 @@ without_wake b run = set b.places run.0 (record (places_at b.places run) { wake 
 -- the places once the run has left
 abbrev pub without_leave : OpenCase → Run → List Places
 without_leave b run = set b.places run.0 (record (places_at b.places run) { leave = false })
+
+-- the component and the arguments with which this operation starts run b
+abbrev pub starts_with : Op → ℕ → Option (Comp × List Comp)
+starts_with (Op.Start c run args) b = if run.0 == b then Some (c, args) else None
+starts_with _ b = None
+
+-- the same, if the reply is Ok
+abbrev pub started_with : Op → Reply → ℕ → Option (Comp × List Comp)
+started_with op reply b = if is_ok reply then starts_with op b else None
+
+-- the component and the arguments of the first Start of run b that was replied Ok
+abbrev pub start_of : List Entry → ℕ → Option (Comp × List Comp)
+start_of [] b = None
+start_of (e ∷ past) b = first_some (start_of past b) (started_with e.op e.reply b)
+
+-- the run's Wake would be parked again, if it were made now
+abbrev pub WouldPark : OpenCase → Run → Bool → Target → Type 0
+WouldPark b run killed target = reply_to b run (Op.Wake killed target) ≡ Reply.Parked
+
+-- a run that waited still waits: the Wake that would be parked again still would be, no run is started, and the case is
+-- over if it was
+pub record NobodyWakes (before after : OpenCase) : Type 0 where
+  pub parked : (run : Run) (killed : Bool) (target : Target) → WouldPark before run killed target → WouldPark after run killed target
+  pub starts : (b : ℕ) → start_of (open_past after) b ≡ start_of (open_past before) b
+  pub over : is_over (open_past after) ≡ is_over (open_past before)

@@ -2,10 +2,7 @@
 use Rattle.std.specs.Prelude.{◌≡◌, ◌++◌, ◌∷◌, [], ◌⊎◌, Bool, true, false, Option, Some, None, MatchOption, List, Result, Ok, Err}
 use Rattle.std.specs.List.{list_any}
 use Rattle.tc_rules.specs.Prelude.{Run, Comp, Entry, Op, Target, Reply, ends_pass}
-use Rattle.tc_entry.specs.declared.op.Op.TheVariants as O
-use Rattle.tc_entry.specs.declared.reply.Reply.TheVariants as R
 use Rattle.tc_book.specs.declared.halt.Halt.{Halt}
-use Rattle.tc_book.specs.declared.halt.Halt.TheVariants as H
 
 -- a pass: its run, the component and the arguments that the run was started with, and its entries, the oldest first
 pub record PassState : Type 0 where
@@ -39,21 +36,21 @@ with_own_entry p op reply = record p { log = p.log ++ entry_of p.run op reply �
 -- the reply that a call got, by its answer; none if memory ran out
 abbrev pub reply_of : {A : Type 0} → (A → Reply) → Result A Halt → Option Reply
 reply_of said (Ok a) = Some (said a)
-reply_of said (Err H.Ended) = Some R.Ended
-reply_of said (Err (H.Fault f)) = Some (R.Fault f)
-reply_of said (Err H.NoMemory) = None
+reply_of said (Err Halt.Ended) = Some Reply.Ended
+reply_of said (Err (Halt.Fault f)) = Some (Reply.Fault f)
+reply_of said (Err Halt.NoMemory) = None
 
 -- a call adds its entry with the reply, or nothing if there is none; an ended pass answers Ended, and stays as it is
 pub record IsCall {A : Type 0} (said : A → Reply) (op : Op) (before after : PassState) (result : Result A Halt) : Type 0 where
-  pub ended : has_ended before ≡ true → (after ≡ before) × (result ≡ Err H.Ended)
+  pub ended : has_ended before ≡ true → (after ≡ before) × (result ≡ Err Halt.Ended)
   pub replied : has_ended before ≡ false → MatchOption (reply_of said result) (after ≡ before) (λ r. after ≡ with_own_entry before op r)
 
 -- a wait adds its Wait with the reply, or, if that is parked, the Wait and one Wake with the reply
 abbrev pub Waits : Bool → Target → PassState → PassState → Reply → Type 0
 Waits killed target p q r =
-    (q ≡ with_own_entry p (O.Wait killed target) r) ⊎ (q ≡ with_own_entry (with_own_entry p (O.Wait killed target) R.Parked) (O.Wake killed target) r)
+    (q ≡ with_own_entry p (Op.Wait killed target) r) ⊎ (q ≡ with_own_entry (with_own_entry p (Op.Wait killed target) Reply.Parked) (Op.Wake killed target) r)
 
 -- a wait is answered if its target holds, and is otherwise as a call
 pub record IsWait (killed : Bool) (target : Target) (before after : PassState) (result : Result (Unit {0}) Halt) : Type 0 where
-  pub ended : has_ended before ≡ true → (after ≡ before) × (result ≡ Err H.Ended)
-  pub replied : has_ended before ≡ false → MatchOption (reply_of (λ _. R.Matched) result) (after ≡ before) (Waits killed target before after)
+  pub ended : has_ended before ≡ true → (after ≡ before) × (result ≡ Err Halt.Ended)
+  pub replied : has_ended before ≡ false → MatchOption (reply_of (λ _. Reply.Matched) result) (after ≡ before) (Waits killed target before after)

@@ -2,10 +2,7 @@
 -- `past` lists the entries so far, the newest first, and `words` has the record of each run's word, by its number.
 use Rattle.std.specs.Prelude.{ℕ, ◌≡◌, ◌<◌, if◌then◌else◌, Bool, true, false, Option, Some, None, is_some, List, [], ◌∷◌, length, slice_index_or}
 use Rattle.tc_rules.specs.Prelude.{Run, UserVerdict, Comp, Entry, Op, comp_of, started_on, last_run, is_active}
-use Rattle.tc_verdict.specs.declared.user_verdict.UserVerdict.TheVariants as U
-use Rattle.tc_entry.specs.declared.op.Op.TheVariants as O
-use Rattle.tc_board.specs.declared.record.Record.{Record}
-use Rattle.tc_board.specs.declared.record.Record.TheVariants.{Unbegun, Open, Closed}
+use Rattle.tc_board.specs.declared.record.Record.{Record, TheVariants.Closed, TheVariants.Open, TheVariants.Unbegun}
 
 -- the word was begun and closed
 abbrev pub is_closed : Record → Bool
@@ -15,7 +12,7 @@ is_closed _ = false
 -- the verdict that the close of a word gave
 abbrev pub closing : Record → UserVerdict
 closing (Closed carried counted) = counted
-closing _ = U.None
+closing _ = UserVerdict.None
 
 -- what was done with the word of run b
 abbrev pub record_at : List Record → ℕ → Record
@@ -24,7 +21,7 @@ record_at words b = slice_index_or words b Unbegun
 -- what the close of this run's word gave: none if there is no run
 abbrev pub left_by : List Record → Option Run → UserVerdict
 left_by words (Some run) = closing (record_at words run.0)
-left_by words None = U.None
+left_by words None = UserVerdict.None
 
 -- the last run on this component, if there is one
 abbrev pub last_on : List Entry → Option Comp → Option Run
@@ -60,10 +57,10 @@ StayClosed before after = (b : ℕ) → is_closed (record_at before b) ≡ true 
 
 -- what the component carries on which this call would start a run
 abbrev pub carried_to : List Record → List Entry → Op → UserVerdict
-carried_to words past (O.Start c run args) = left_by words (last_run past c.0)
-carried_to words past _ = U.None
+carried_to words past (Op.Start c run args) = left_by words (last_run past c.0)
+carried_to words past _ = UserVerdict.None
 
 -- what the component carried on which the newest entry would start a run
 abbrev pub carried_to_newest : List Record → List Entry → UserVerdict
-carried_to_newest words [] = U.None
+carried_to_newest words [] = UserVerdict.None
 carried_to_newest words (e ∷ past) = carried_to words past e.op

@@ -1,18 +1,12 @@
 //! What the lock of a case holds.
-ghost use Rattle.std.specs.Prelude.{◌≡◌, ◌≤◌, ◌≢◌, ℕ, [], Some, None, IfOk, OnErr, IfSome, IfNone, OnSome, IsTrue, IsFalse, true, false, length, replicate};
-ghost use Rattle.tc_book.specs.Inside.{start_at};
-ghost use Rattle.tc_entry.specs.declared.limits.TheConstants.{BEHAVIOURS};
-ghost use Rattle.tc_entry.specs.declared.op.Op.TheVariants as ops;
-ghost use Rattle.tc_entry.specs.declared.reply.Reply.TheVariants as replies;
-ghost use Rattle.tc_rules.specs.History as history;
-ghost use Rattle.tc_rules.specs.Prelude.{IsLegal, is_verdict_call};
-ghost use Rattle.tc_book.specs.OpenCase.{AreOthers, has_leave, has_wake, opening_place, open_past, places_after, reply_to, with_entry, without_leave, without_wake};
-ghost use Rattle.tc_book.specs.Replies.{suits};
-ghost use Rattle.tc_book.specs.Starts as starts;
-ghost use Rattle.tc_book.specs.Waking.{WouldPark};
-ghost use Rattle.tc_book.specs.Words.{WordsAgree, record_at};
-ghost use Rattle.tc_board.specs.Prelude.{new_keeper};
+ghost use Rattle.std.specs.Prelude.{◌≡◌, ◌≤◌, ◌≢◌, ◌++◌, ◌∷◌, ℕ, List, [], Some, None, IfOk, OnErr, OnOk, IfSome, IfNone, OnSome, IsTrue, IsFalse, true, false, length, replicate};
 ghost use Rattle.std.specs.Arc.{arc_value};
+ghost use Rattle.tc_entry.specs.declared.limits.TheConstants.{BEHAVIOURS};
+ghost use Rattle.tc_rules.specs.Prelude.{IsLegal, is_verdict_call};
+ghost use Rattle.tc_board.specs.Prelude.{new_keeper};
+ghost use Rattle.tc_rules.specs.History as history;
+ghost use Rattle.tc_book.specs.{Inside.StaysParked, Inside.start_at, OpenCase.AreOthers, OpenCase.has_leave, OpenCase.has_wake, OpenCase.open_past, OpenCase.opening_place, OpenCase.places_after, OpenCase.reply_to, OpenCase.with_entry, OpenCase.without_leave, OpenCase.without_wake, Replies.suits, Words.StayClosed, Words.WordsAgree, Words.record_at};
+ghost use Rattle.tc_book.specs.OpenCase as cases;
 
 mod closing;
 mod waking;
@@ -24,7 +18,7 @@ use std::alloc::Global;
 use std::marker::Model;
 use std::sync::Arc;
 use tc_board::{Board, Keeper, Record};
-use tc_entry::{Args, Comp, Op, Reply, Target};
+use tc_entry::{Args, Comp, Entry, Op, Reply, Target};
 use tc_rules::Table;
 use tc_verdict::{NoMemory, Run, UserVerdict};
 
@@ -101,6 +95,15 @@ fn at_opening(alloc: Global, behaviours: u16) -> Result<Opening, NoMemory>
     }
 }
 
+/// The newest entry of a table that has one.
+fn newest(table: &Table) -> &Entry
+    requires { 1 ≤ length table.now.history }
+    ensures { (h : List Entry) (e : Entry) → table.now.history ≡ h ++ e ∷ [] → result.now ≡ e }
+{
+    let history = table.history();
+    &history[history.len() - 1]
+}
+
 #[tactic(auto, using(crate::proofs::Keeping::book_rules))]
 impl Book {
     /// The book of a case at its opening, which keeps a place for each run and the words of a new board.
@@ -139,13 +142,14 @@ impl Book {
         ensures suits { IfOk result (λ r. suits op r ≡ true) }
         ensures history { IfOk result (λ r. self.new.history ≡ with_entry self.old run op r) }
         ensures places { IfOk result (λ r. self.new.places ≡ places_after self.old run r) }
+        ensures closed { OnOk result (StayClosed self.old.words self.new.words) }
         ensures refused { OnErr result (self.new ≡ self.old) }
     {
         self.table.make_room(self.count + 2)?;
         let carried = self.words.carried_to(&self.table, &op);
-        let reply = self.table.play(run, op.copy())?;
+        let reply = self.table.play(run, op)?;
         self.words.follow(&self.table, carried);
-        note_start(&mut self.starts, &op, reply);
+        note_start(&mut self.starts, &newest(&self.table).op, reply);
         if matches!(reply, Reply::Parked) {
             let now = Places {
                 leave: places_of(&self.places, run).leave,
@@ -160,13 +164,14 @@ impl Book {
     pub fn wake(&mut self, run: Run, killed: bool, target: Target) -> Option<Reply>
         ensures behaviours { self.new.behaviours ≡ self.old.behaviours }
         ensures none { IfNone result (self.new ≡ self.old) }
-        ensures asleep { IfNone result (IsTrue (has_wake self.old run) → WouldPark self.old run killed target) }
+        ensures asleep { IfNone result (StaysParked self.old run killed target) }
         ensures kept { OnSome result (IsTrue (has_wake self.old run)) }
-        ensures awake { IfSome result (λ r. r ≢ replies.Parked) }
-        ensures reply { IfSome result (λ r. r ≡ reply_to self.old run (ops.Wake killed target)) }
-        ensures suits { IfSome result (λ r. suits (ops.Wake killed target) r ≡ true) }
-        ensures history { IfSome result (λ r. self.new.history ≡ with_entry self.old run (ops.Wake killed target) r) }
+        ensures awake { IfSome result (λ r. r ≢ Reply.Parked) }
+        ensures reply { IfSome result (λ r. r ≡ reply_to self.old run (Op.Wake killed target)) }
+        ensures suits { IfSome result (λ r. suits (Op.Wake killed target) r ≡ true) }
+        ensures history { IfSome result (λ r. self.new.history ≡ with_entry self.old run (Op.Wake killed target) r) }
         ensures places { OnSome result (self.new.places ≡ without_wake self.old run) }
+        ensures closed { OnSome result (StayClosed self.old.words self.new.words) }
     {
         let was = places_of(&self.places, run);
         let op = Op::Wake { killed, target };
@@ -194,9 +199,10 @@ impl Book {
         ensures places { OnSome result (self.new.places ≡ without_leave self.old run) }
         ensures quiet { IfSome result (λ f. IfNone f (IsTrue ended × (self.new.history ≡ self.old.history))) }
         ensures finish { IfSome result (λ f. IfSome f (λ _. IsFalse ended)) }
-        ensures reply { IfSome result (λ f. IfSome f (λ r. r ≡ reply_to self.old run ops.Finish)) }
-        ensures history { IfSome result (λ f. IfSome f (λ r. self.new.history ≡ with_entry self.old run ops.Finish r)) }
-        ensures suits { IfSome result (λ f. IfSome f (λ r. suits ops.Finish r ≡ true)) }
+        ensures reply { IfSome result (λ f. IfSome f (λ r. r ≡ reply_to self.old run Op.Finish)) }
+        ensures history { IfSome result (λ f. IfSome f (λ r. self.new.history ≡ with_entry self.old run Op.Finish r)) }
+        ensures suits { IfSome result (λ f. IfSome f (λ r. suits Op.Finish r ≡ true)) }
+        ensures closed { OnSome result (StayClosed self.old.words self.new.words) }
     {
         let was = places_of(&self.places, run);
         if !was.leave {
@@ -219,6 +225,14 @@ impl Book {
         Some(reply)
     }
 
+    /// The newest entry of a book that has one.
+    pub(crate) fn newest(&self) -> &Entry
+        requires { 1 ≤ length self.now.history }
+        ensures { (h : List Entry) (e : Entry) → self.now.history ≡ h ++ e ∷ [] → result.now ≡ e }
+    {
+        newest(&self.table)
+    }
+
     /// Whether a place is still kept for the leaving of a run.
     pub(crate) fn has_place(&self, run: Run) -> bool
         ensures { result ≡ has_leave self.now run }
@@ -228,7 +242,7 @@ impl Book {
 
     /// The component and the arguments with which a run was started.
     pub fn start_of(&self, run: Run) -> Option<(Comp, Args)>
-        ensures start { result ≡ starts.start_of (open_past self.now) run.0 }
+        ensures start { result ≡ cases.start_of (open_past self.now) run.0 }
         ensures legal { IsLegal self.now.behaviours (open_past self.now) }
     {
         start_of(&self.starts, run)

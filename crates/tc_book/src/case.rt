@@ -1,16 +1,14 @@
 //! The opening and the close of a case.
 ghost use Rattle.std.specs.Prelude.{◌≡◌, ◌<◌, ◌≤◌, ◌+◌, ◌-◌, ℕ, [], IfOk, Err, length, slice_index_or};
-ghost use Rattle.std.specs.Vec.{vec_len, vec_capacity};
-ghost use Rattle.std.specs.Arc.{arc_value};
+ghost use Rattle.std.specs.{Arc.arc_value, Vec.vec_capacity, Vec.vec_len};
 ghost use Rattle.tc_entry.specs.declared.limits.TheConstants.{BEHAVIOURS};
 ghost use Rattle.tc_board.specs.Prelude.{new_hand, new_hands, new_keeper};
 ghost use Rattle.tc_rules.specs.Prelude.{Run, IsOneHistory};
-ghost use Rattle.tc_rules.specs.declared.closed.CloseFault.TheVariants as faults;
-ghost use Rattle.tc_book.specs.Closing.{IsOneEach, IsWhole};
-ghost use Rattle.tc_book.specs.Inside.Waiting.{waiting_places};
+ghost use Rattle.tc_book.specs.{Closing.IsOneEach, Closing.IsWhole, Inside.Waiting.waiting_places};
 
 use crate::book::Book;
 use crate::left::Left;
+use crate::logged_book::Started;
 use crate::logged_book::log::Log;
 use crate::pass::Pass;
 use crate::run_hand::RunHand;
@@ -19,7 +17,7 @@ use crate::ticket::Ticket;
 use std::alloc::{AllocError, Global};
 use std::sync::{Arc, Wait};
 use tc_board::{Board, Hand, Keeper};
-use tc_entry::{Args, Comp, Entry};
+use tc_entry::Entry;
 use tc_rules::{CloseFault, Closed};
 use tc_verdict::{NoMemory, Run};
 
@@ -92,8 +90,8 @@ fn main_pass(
     ensures { IfOk result (λ p. p ≡ record { run = record { 0 = 0 }; me = record { 0 = 0 }; args = []; log = [] }) }
 {
     let hand = RunHand::new(another(board)?, hand);
-    let log = Log::new(Run(0), Comp(0), place(alloc)?, hand);
-    Ok(Pass::new(shared.another()?, log, Args::new()))
+    let log = Log::new(Started::at_opening(), place(alloc)?, hand);
+    Ok(Pass::new(shared.another()?, log))
 }
 
 /// The shared book of a case at its opening.
@@ -162,7 +160,7 @@ pub fn close_case<R: Wait>(
     lefts: Vec<Left>,
 ) -> Result<Closed, CloseFault>
     ensures whole { IfOk result (λ c. IsWhole c.behaviours c.history lefts.items) }
-    ensures runs { result ≡ Err faults.NoMemory → IsOneEach (length lefts.items) lefts.items }
+    ensures runs { result ≡ Err CloseFault.NoMemory → IsOneEach (length lefts.items) lefts.items }
     ensures report { IfOk result (λ c. IsOneHistory c) }
 {
     shared.close(rt, alloc, lefts)

@@ -1,15 +1,12 @@
 //! Whether what came back of a case is whole.
 ghost use Rattle.std.specs.Prelude.{◌≡◌, ◌↔◌, ℕ, ◌<◌, [], None, All, IsTrue, count_by};
-ghost use Rattle.tc_book.specs.Inside.{IsPlaced, ArePlaced};
-ghost use Rattle.tc_book.specs.Closing.{is_left_of, IsOneEach, Agrees, IsAgreed};
-ghost use Rattle.tc_rules.specs.Prelude.{logged};
+ghost use Rattle.tc_book.specs.{Closing.Agrees, Closing.IsAgreed, Closing.IsOneEach, Closing.is_left_of, Inside.ArePlaced, Inside.IsPlaced};
 
 use crate::left::Left;
 use crate::starts::{comp_of, start_of};
 use crate::{Words, counts};
 use tc_board::Record;
 use tc_entry::{Args, Comp, Entry};
-use tc_rules::RunLog;
 
 fn count_of(lefts: &[Left], run: u16) -> usize
     ensures { result ≡ count_by (is_left_of run) lefts.now }
@@ -84,20 +81,6 @@ pub(crate) fn are_placed(behaviours: u16, starts: &[Option<(Comp, Args)>], lefts
     ensures { IsTrue result ↔ ArePlaced behaviours starts.now lefts.now }
 {
     is_one_each(lefts, behaviours) && all_placed(starts, lefts)
-}
-
-/// Whether the logs have that many entries together.
-pub(crate) fn have_together(logs: &[RunLog], count: usize) -> bool
-    ensures { IsTrue result ↔ (count ≡ logged logs.now) }
-{
-    let mut rest = count;
-    for log in logs {
-        let Some(less) = rest.checked_sub(log.entries.as_slice().len()) else {
-            return false;
-        };
-        rest = less;
-    }
-    rest == 0
 }
 
 /// Whether the word of a run agrees with the run's log.

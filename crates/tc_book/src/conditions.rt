@@ -4,8 +4,9 @@ ghost use Rattle.tc_book.specs.declared.conditions.condition.Condition.{Conditio
 
 pub(crate) mod condition;
 
-use crate::conditions::condition::{Condition, Told};
+use crate::conditions::condition::Condition;
 use crate::logged_book::LoggedBook;
+use crate::told::Told;
 use std::alloc::Global;
 use tc_verdict::{NoMemory, Run};
 

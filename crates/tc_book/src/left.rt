@@ -1,11 +1,10 @@
 //! What a run leaves.
 ghost use Rattle.std.specs.Prelude.{◌≡◌, ◌↔◌, IsTrue, MatchOption, Some, None};
-ghost use Rattle.tc_book.specs.Closing.{run_log};
 
 use crate::logged_book::GivenUp;
+use crate::logged_book::log::Log;
 use std::marker::Model;
 use tc_entry::{Args, Comp, Entry, Sequence};
-use tc_rules::RunLog;
 use tc_verdict::Run;
 
 /// What a run leaves: its log, and what it was started with.
@@ -26,9 +25,10 @@ impl Model for Left {
 
 impl Left {
     /// What the pass of a started run leaves.
-    pub(crate) fn new(given_up: GivenUp, log: Vec<Entry>, comp: Comp, args: Args) -> Left
-        ensures { result ≡ record { run = given_up.run; log = log.items; started = Some (comp, args) } }
+    pub(crate) fn new(given_up: GivenUp, log: Log) -> Left
+        ensures { result ≡ record { run = given_up.run; log = log.entries; started = Some (log.started.comp, log.started.args) } }
     {
+        let (log, comp, args) = log.into_parts();
         Left {
             run: given_up.run(),
             log,
@@ -71,15 +71,11 @@ impl Left {
         }
     }
 
-    /// The log, as the merge takes it.
-    pub(crate) fn into_run_log(self) -> RunLog
-        ensures { result ≡ run_log self }
+    /// The run and its log.
+    pub(crate) fn into_log(self) -> (Run, Sequence<Entry>)
+        ensures { (result.0 ≡ self.run) × (result.1 ≡ self.log) }
     {
-        RunLog {
-            run: self.run,
-            comp: Comp(0),
-            entries: Sequence::new(self.log),
-        }
+        (self.run, Sequence::new(self.log))
     }
 
     /// Whether the run was started so.

@@ -2,7 +2,6 @@
 #![tactic(auto)]
 
 mod book;
-mod callers;
 mod case;
 mod close;
 mod conditions;
@@ -19,8 +18,10 @@ mod run_hand;
 mod shared;
 mod starts;
 mod ticket;
+mod told;
 mod until;
 mod wake_up;
+mod walk;
 mod words;
 
 pub use case::{close_case, open_case};

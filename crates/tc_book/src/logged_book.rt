@@ -1,18 +1,11 @@
 //! The book under the lock. Whatever is added to its history is added to the log of its caller in the same call.
-ghost use Rattle.std.specs.Prelude.{◌≡◌, ◌≢◌, ◌≤◌, ◌+◌, true, false, IfOk, OnOk, OnErr, IfErr, IfSome, IfNone, OnSome, IsTrue, IsFalse, Some, None, Err, All, is_none, not, replicate, set, slice_index_or};
-ghost use Rattle.tc_entry.specs.declared.op.Op.TheVariants as ops;
-ghost use Rattle.tc_entry.specs.declared.reply.Reply.TheVariants as replies;
-ghost use Rattle.tc_rules.specs.History as history;
-ghost use Rattle.tc_rules.specs.declared.closed.CloseFault.TheVariants as why;
-ghost use Rattle.tc_book.specs.Closing.{IsAgreed, IsMerged, IsOneEach, merged};
-ghost use Rattle.tc_book.specs.Inside.{IsAwaitedIn, goes_on, is_closed, with_own, wakes};
+ghost use Rattle.std.specs.Prelude.{◌≡◌, ◌≢◌, ◌≤◌, ◌+◌, true, false, IfOk, OnOk, OnErr, IfErr, IfSome, IfNone, OnSome, IsTrue, IsFalse, Some, None, [], Err, All, is_none, not};
 ghost use Rattle.tc_rules.specs.Prelude.{IsLegal, IsOneHistory, is_verdict_call};
-ghost use Rattle.tc_book.specs.OpenCase.{AreOthers, has_leave, has_wake, open_past, places_after, reply_to, with_entry, without_leave, without_wake};
-ghost use Rattle.tc_book.specs.Replies.{suits};
-ghost use Rattle.tc_book.specs.Starts as starts;
-ghost use Rattle.tc_book.specs.Waking.{NobodyWakes, WouldPark};
 ghost use Rattle.tc_board.specs.Prelude.{answered};
 ghost use Rattle.tc_board.specs.declared.answer.Answer.TheVariants.{Met};
+ghost use Rattle.tc_rules.specs.History as history;
+ghost use Rattle.tc_book.specs.{Closing.IsAgreed, Closing.IsMerged, Closing.IsOneEach, Closing.merged, Inside.IsAwaitedIn, Inside.StaysParked, Inside.goes_on, Inside.is_closed, Inside.wakes, Inside.with_own, OpenCase.AreOthers, OpenCase.NobodyWakes, OpenCase.has_leave, OpenCase.has_wake, OpenCase.open_past, OpenCase.places_after, OpenCase.reply_to, OpenCase.with_entry, OpenCase.without_leave, OpenCase.without_wake, Replies.suits};
+ghost use Rattle.tc_book.specs.OpenCase as cases;
 
 pub(crate) mod log;
 
@@ -26,6 +19,29 @@ use std::alloc::Global;
 use tc_entry::{Args, Comp, Op, Reply, Target};
 use tc_rules::{CloseFault, Closed};
 use tc_verdict::{NoMemory, Run};
+
+/// What a run was started with. Only the book that started it makes one, and the opening that of run 0.
+#[derive(Drop)]
+pub(crate) struct Started {
+    run: Run,
+    comp: Comp,
+    args: Args,
+}
+
+impl Started {
+    /// The start of run 0, on the main component.
+    pub(crate) fn at_opening() -> Started
+        ensures run { result.run.0 ≡ 0 }
+        ensures comp { result.comp.0 ≡ 0 }
+        ensures args { result.args ≡ [] }
+    {
+        Started {
+            run: Run(0),
+            comp: Comp(0),
+            args: Args::new(),
+        }
+    }
+}
 
 /// That a run was never started in a case that is over. Only the book that says so makes one.
 #[derive(Drop)]
@@ -57,56 +73,31 @@ impl GivenUp {
     }
 }
 
-/// A book, each of whose entries is in the log of its caller as well, and what each run waits for under the lock.
+/// A book, each of whose entries is in the log of its caller as well.
 #[derive(Drop)]
 pub(crate) struct LoggedBook {
     book: Book,
-    waiting: Vec<Option<Until>>,
 }
 
 impl LoggedBook {
-    /// A book of a case of that many behaviours, in which no run waits.
-    pub(crate) fn new(alloc: Global, book: Book, behaviours: u16) -> Result<LoggedBook, NoMemory>
-        requires { book.behaviours ≡ behaviours }
-        ensures book { IfOk result (λ b. b.book ≡ book) }
-        ensures none { IfOk result (λ b. b.waiting.items ≡ replicate behaviours None) }
+    pub(crate) fn new(book: Book) -> LoggedBook
+        ensures { result.book ≡ book }
     {
-        let waiting = vec![in alloc; None; usize::from(behaviours)]?;
-        Ok(LoggedBook { book, waiting })
+        LoggedBook { book }
     }
 
-    /// Notes what a run waits for, or that it waits no longer.
-    fn note(&mut self, run: Run, until: Option<Until>)
-        ensures book { self.new.book ≡ self.old.book }
-        ensures noted { self.new.waiting.items ≡ set self.old.waiting.items run.0 until }
-    {
-        if let Some(waits) = self.waiting.get_mut(usize::from(run.0)) {
-            *waits = until;
-        }
-    }
-
-    /// Whether a run waits and can continue now.
+    /// Whether a run is woken by the newest entry, or could now continue after its parked wait.
     pub(crate) fn wakes(&self, run: Run) -> bool
-        ensures { result ≡ wakes self.now.book run (slice_index_or self.now.waiting.items run.0 None) }
+        ensures { result ≡ wakes self.now.book run }
     {
-        match self.waiting.get(usize::from(run.0)) {
-            Some(Some(until)) => self.book.goes_on(run, *until),
-            _ => false,
-        }
+        self.book.wakes(run)
     }
 
-    /// Whether a run keeps waiting under the lock; then it is noted what it waits for.
-    pub(crate) fn waits(&mut self, run: Run, until: Until) -> bool
-        ensures book { self.new.book ≡ self.old.book }
-        ensures waits { result ≡ not (goes_on self.old.book run until) }
-        ensures noted { IsTrue result → self.new.waiting.items ≡ set self.old.waiting.items run.0 (Some until) }
-        ensures goes_on { IsFalse result → self.new.waiting.items ≡ self.old.waiting.items }
+    /// Whether a run keeps waiting under the lock.
+    pub(crate) fn waits(&self, run: Run, until: Until) -> bool
+        ensures { result ≡ not (goes_on self.now.book run until) }
     {
-        let waits = !self.book.goes_on(run, until);
-        if waits {
-            self.note(run, Some(until));
-        }
-        waits
+        !self.book.goes_on(run, until)
     }
 
     /// Adds a call of the log's run to the history and to the log, with the places for its Wake and the Finish. Returns
@@ -114,15 +105,13 @@ impl LoggedBook {
     pub(crate) fn call(&mut self, op: Op, log: &mut Log) -> Result<(Reply, WakeUp), NoMemory>
         requires other { is_verdict_call op ≡ false }
         requires going_on { is_closed log.old ≡ false }
-        ensures run { log.new.run ≡ log.old.run }
-        ensures own { log.new.own ≡ log.old.own }
-        ensures waiting { self.new.waiting.items ≡ self.old.waiting.items }
+        ensures started { log.new.started ≡ log.old.started }
         ensures behaviours { self.new.book.behaviours ≡ self.old.book.behaviours }
-        ensures reply { IfOk result (λ r. r.0 ≡ reply_to self.old.book log.old.run op) }
+        ensures reply { IfOk result (λ r. r.0 ≡ reply_to self.old.book log.old.started.run op) }
         ensures suits { IfOk result (λ r. suits op r.0 ≡ true) }
-        ensures places { IfOk result (λ r. self.new.book.places ≡ places_after self.old.book log.old.run r.0) }
+        ensures places { IfOk result (λ r. self.new.book.places ≡ places_after self.old.book log.old.started.run r.0) }
         ensures silent { IfOk result (λ r. r.1.anyone ≡ false → NobodyWakes self.old.book self.new.book) }
-        ensures history { IfOk result (λ r. self.new.book.history ≡ with_entry self.old.book log.old.run op r.0) }
+        ensures history { IfOk result (λ r. self.new.book.history ≡ with_entry self.old.book log.old.started.run op r.0) }
         ensures entries { IfOk result (λ r. log.new.entries ≡ with_own log.old op r.0) }
         ensures room { OnOk result (2 ≤ log.new.room) }
         ensures refused { OnErr result (self.new.book ≡ self.old.book) }
@@ -130,8 +119,8 @@ impl LoggedBook {
         ensures refused_room { OnErr result (log.old.room ≤ log.new.room) }
     {
         log.make_room()?;
-        let (reply, tells) = self.book.call(log.run(), op.copy())?;
-        log.add(op, reply);
+        let (reply, tells) = self.book.call(log.run(), op)?;
+        log.add(self.book.newest());
         Ok((reply, WakeUp::new(tells)))
     }
 
@@ -145,25 +134,21 @@ impl LoggedBook {
         requires room { 1 ≤ log.old.room }
         ensures none { IfNone result (self.new.book ≡ self.old.book) }
         ensures none_logged { IfNone result (log.new ≡ log.old) }
-        ensures waits_still { IfNone result (self.new.waiting.items ≡ self.old.waiting.items) }
-        ensures asleep { IfNone result (IsTrue (has_wake self.old.book log.old.run) → WouldPark self.old.book log.old.run killed target) }
-        ensures waits_no_more { OnSome result (self.new.waiting.items ≡ set self.old.waiting.items log.old.run.0 None) }
+        ensures asleep { IfNone result (StaysParked self.old.book log.old.started.run killed target) }
         ensures behaviours { self.new.book.behaviours ≡ self.old.book.behaviours }
-        ensures kept { OnSome result (IsTrue (has_wake self.old.book log.old.run)) }
-        ensures places { OnSome result (self.new.book.places ≡ without_wake self.old.book log.old.run) }
-        ensures run { log.new.run ≡ log.old.run }
-        ensures own { log.new.own ≡ log.old.own }
-        ensures awake { IfSome result (λ r. r.0 ≢ replies.Parked) }
-        ensures reply { IfSome result (λ r. r.0 ≡ reply_to self.old.book log.old.run (ops.Wake killed target)) }
-        ensures suits { IfSome result (λ r. suits (ops.Wake killed target) r.0 ≡ true) }
+        ensures kept { OnSome result (IsTrue (has_wake self.old.book log.old.started.run)) }
+        ensures places { OnSome result (self.new.book.places ≡ without_wake self.old.book log.old.started.run) }
+        ensures started { log.new.started ≡ log.old.started }
+        ensures awake { IfSome result (λ r. r.0 ≢ Reply.Parked) }
+        ensures reply { IfSome result (λ r. r.0 ≡ reply_to self.old.book log.old.started.run (Op.Wake killed target)) }
+        ensures suits { IfSome result (λ r. suits (Op.Wake killed target) r.0 ≡ true) }
         ensures silent { IfSome result (λ r. r.1.anyone ≡ false → NobodyWakes self.old.book self.new.book) }
-        ensures history { IfSome result (λ r. self.new.book.history ≡ with_entry self.old.book log.old.run (ops.Wake killed target) r.0) }
-        ensures entries { IfSome result (λ r. log.new.entries ≡ with_own log.old (ops.Wake killed target) r.0) }
+        ensures history { IfSome result (λ r. self.new.book.history ≡ with_entry self.old.book log.old.started.run (Op.Wake killed target) r.0) }
+        ensures entries { IfSome result (λ r. log.new.entries ≡ with_own log.old (Op.Wake killed target) r.0) }
         ensures room { IfSome result (λ _. log.new.room + 1 ≡ log.old.room) }
     {
         let (reply, tells) = self.book.call_wake(log.run(), killed, target)?;
-        self.note(log.run(), None);
-        log.add(Op::Wake { killed, target }, reply);
+        log.add(self.book.newest());
         Some((reply, WakeUp::new(tells)))
     }
 
@@ -172,25 +157,23 @@ impl LoggedBook {
         requires room { 1 ≤ log.old.room }
         ensures none { IfNone result (self.new.book ≡ self.old.book) }
         ensures none_logged { IfNone result (log.new ≡ log.old) }
-        ensures gone { IfNone result (IsFalse (has_leave self.old.book log.old.run)) }
-        ensures run { log.new.run ≡ log.old.run }
-        ensures own { log.new.own ≡ log.old.own }
+        ensures gone { IfNone result (IsFalse (has_leave self.old.book log.old.started.run)) }
+        ensures started { log.new.started ≡ log.old.started }
         ensures silent { IfSome result (λ f. f.1.anyone ≡ false → NobodyWakes self.old.book self.new.book) }
         ensures ended { IfSome result (λ f. is_none f.0 ≡ is_closed log.old) }
-        ensures waiting { self.new.waiting.items ≡ self.old.waiting.items }
         ensures behaviours { self.new.book.behaviours ≡ self.old.book.behaviours }
-        ensures kept { OnSome result (IsTrue (has_leave self.old.book log.old.run)) }
-        ensures places { OnSome result (self.new.book.places ≡ without_leave self.old.book log.old.run) }
-        ensures given_up { IfSome result (λ f. f.2.run ≡ log.old.run) }
+        ensures kept { OnSome result (IsTrue (has_leave self.old.book log.old.started.run)) }
+        ensures places { OnSome result (self.new.book.places ≡ without_leave self.old.book log.old.started.run) }
+        ensures given_up { IfSome result (λ f. f.2.run ≡ log.old.started.run) }
         ensures quiet { IfSome result (λ f. IfNone f.0 ((self.new.book.history ≡ self.old.book.history) × (log.new ≡ log.old))) }
-        ensures reply { IfSome result (λ f. IfSome f.0 (λ r. r ≡ reply_to self.old.book log.old.run ops.Finish)) }
-        ensures suits { IfSome result (λ f. IfSome f.0 (λ r. suits ops.Finish r ≡ true)) }
-        ensures history { IfSome result (λ f. IfSome f.0 (λ r. self.new.book.history ≡ with_entry self.old.book log.old.run ops.Finish r)) }
-        ensures entries { IfSome result (λ f. IfSome f.0 (λ r. log.new.entries ≡ with_own log.old ops.Finish r)) }
+        ensures reply { IfSome result (λ f. IfSome f.0 (λ r. r ≡ reply_to self.old.book log.old.started.run Op.Finish)) }
+        ensures suits { IfSome result (λ f. IfSome f.0 (λ r. suits Op.Finish r ≡ true)) }
+        ensures history { IfSome result (λ f. IfSome f.0 (λ r. self.new.book.history ≡ with_entry self.old.book log.old.started.run Op.Finish r)) }
+        ensures entries { IfSome result (λ f. IfSome f.0 (λ r. log.new.entries ≡ with_own log.old Op.Finish r)) }
     {
         let finish = self.book.leave(log.run(), log.is_ended())?;
-        if let Some(reply) = finish {
-            log.add(Op::Finish, reply);
+        if finish.is_some() {
+            log.add(self.book.newest());
         }
         let given_up = GivenUp { run: log.run() };
         Some((finish, WakeUp::new(finish.is_some()), given_up))
@@ -204,7 +187,6 @@ impl LoggedBook {
         ensures places { OnSome result (self.new.book.places ≡ without_leave self.old.book unstarted.run) }
         ensures gone { IfNone result (IsFalse (has_leave self.old.book unstarted.run)) }
         ensures none { IfNone result (self.new.book ≡ self.old.book) }
-        ensures waiting { self.new.waiting.items ≡ self.old.waiting.items }
     {
         let run = unstarted.run();
         self.book.leave(run, true)?;
@@ -229,40 +211,36 @@ impl LoggedBook {
     /// The answer to a wait for a run's start: the start, once its hand has met its word; or that the run was not
     /// started, if the case is over without that. There is none before.
     pub(crate) fn start_or_end(
-        &mut self,
+        &self,
         run: Run,
         hand: &mut RunHand,
-    ) -> Option<Result<(Comp, Args), Unstarted>>
-        ensures book { self.new.book ≡ self.old.book }
-        ensures waits { IfNone result (starts.start_of (open_past self.old.book) run.0 ≡ None → history.is_over (open_past self.old.book) ≡ false) }
+    ) -> Option<Result<Started, Unstarted>>
+        ensures waits { IfNone result (cases.start_of (open_past self.now.book) run.0 ≡ None → history.is_over (open_past self.now.book) ≡ false) }
         ensures unmet { IfNone result (hand.new ≡ hand.old) }
-        ensures waits_still { IfNone result (self.new.waiting.items ≡ self.old.waiting.items) }
-        ensures waits_no_more { OnSome result (self.new.waiting.items ≡ set self.old.waiting.items run.0 None) }
         ensures met { IfSome result (λ s. OnOk s (hand.new ≡ answered hand.old Met)) }
-        ensures started { IfSome result (λ s. IfOk s (λ c. IsAwaitedIn self.old.book.behaviours (open_past self.old.book) run.0 (Some c))) }
-        ensures unstarted { IfSome result (λ s. OnErr s (IsAwaitedIn self.old.book.behaviours (open_past self.old.book) run.0 None)) }
-        ensures run { IfSome result (λ s. IfErr s (λ u. u.run ≡ run)) }
+        ensures started { IfSome result (λ s. IfOk s (λ c. IsAwaitedIn self.now.book run (Some (c.comp, c.args)))) }
+        ensures unstarted { IfSome result (λ s. OnErr s (IsAwaitedIn self.now.book run None)) }
+        ensures run { IfSome result (λ s. IfOk s (λ c. c.run ≡ run)) }
+        ensures run_unstarted { IfSome result (λ s. IfErr s (λ u. u.run ≡ run)) }
     {
-        let start = self.book.start_of(run);
-        let goes_on = if start.is_some() {
-            hand.meet()
-        } else {
-            self.book.is_over()
-        };
-        if goes_on {
-            self.note(run, None);
-            Some(start.ok_or(Unstarted { run }))
-        } else {
-            None
+        match self.book.start_of(run) {
+            Some((comp, args)) => {
+                if !hand.meet() {
+                    return None;
+                }
+                Some(Ok(Started { run, comp, args }))
+            }
+            None if self.book.is_over() => Some(Err(Unstarted { run })),
+            None => None,
         }
     }
 
     /// Closes the case.
     pub(crate) fn close(&self, alloc: Global, lefts: Vec<Left>) -> Result<Closed, CloseFault>
         ensures whole { IfOk result (λ _. IsMerged self.now.book lefts.items) }
-        ensures torn { IfErr result (λ f. f ≡ why.Torn → IsMerged self.now.book lefts.items → ⊥) }
-        ensures runs { result ≡ Err why.NoMemory → IsOneEach self.now.book.behaviours lefts.items }
-        ensures words { result ≡ Err why.NoMemory → All (IsAgreed self.now.book.words) lefts.items }
+        ensures torn { IfErr result (λ f. f ≡ CloseFault.Torn → IsMerged self.now.book lefts.items → ⊥) }
+        ensures runs { result ≡ Err CloseFault.NoMemory → IsOneEach self.now.book.behaviours lefts.items }
+        ensures words { result ≡ Err CloseFault.NoMemory → All (IsAgreed self.now.book.words) lefts.items }
         ensures behaviours { IfOk result (λ c. c.behaviours ≡ self.now.book.behaviours) }
         ensures history { IfOk result (λ c. c.history ≡ merged self.now.book.history lefts.items) }
         ensures report { IfOk result (λ c. IsOneHistory c) }

@@ -1,13 +1,7 @@
 //! The pass of a started run: what its behaviour calls the case by.
 ghost use Rattle.std.specs.Prelude.{◌≡◌, ◌<◌, ◌≤◌, [], true, false, IfOk, Some, None};
-ghost use Rattle.tc_entry.specs.declared.op.Op.TheVariants as ops;
-ghost use Rattle.tc_rules.specs.Prelude.{Reply, is_verdict_call};
-ghost use Rattle.tc_entry.specs.declared.reply.Reply.TheVariants as replies;
-ghost use Rattle.tc_book.specs.Hands.{IsHandOf};
-ghost use Rattle.tc_book.specs.Passes.{has_ended, with_own_entry, reply_of, IsCall, IsWait};
-ghost use Rattle.tc_book.specs.Replies.{suits};
-ghost use Rattle.tc_book.specs.Inside.Waiting.{waiting_places};
-ghost use Rattle.tc_book.specs.Inside.{is_halt};
+ghost use Rattle.tc_rules.specs.Prelude.{Reply, is_ok, is_verdict_call};
+ghost use Rattle.tc_book.specs.{Hands.IsHandOf, Inside.Waiting.waiting_places, Inside.is_halt, Passes.IsCall, Passes.IsWait, Passes.has_ended, Passes.reply_of, Passes.with_own_entry, Replies.is_answer, Replies.suits, Replies.suits_plainly};
 
 use crate::halt::Halt;
 use crate::left::Left;
@@ -23,7 +17,6 @@ use tc_verdict::{NoMemory, Run, UserVerdict, Verdict};
 #[derive(Drop)]
 pub struct Pass {
     shared: Shared,
-    args: Args,
     log: Log,
 }
 
@@ -34,9 +27,9 @@ impl Model for Pass {
 
     ghost Value = { PassState };
 
-    ghost view = { λ p. record { run = p.log.run; me = p.log.own; args = p.args; log = p.log.entries } };
+    ghost view = { λ p. record { run = p.log.started.run; me = p.log.started.comp; args = p.log.started.args; log = p.log.entries } };
 
-    ghost invariant = { λ p. (1 ≤ p.log.room) × (p.log.run.0 < waiting_places p.shared) };
+    ghost invariant = { λ p. (1 ≤ p.log.room) × (p.log.started.run.0 < waiting_places p.shared) };
 }
 
 /// The answer by a reply.
@@ -53,13 +46,13 @@ fn heard(reply: Reply) -> Result<Reply, Halt>
 
 impl Pass {
     /// The pass of a run with its log, in which nothing is yet.
-    pub(crate) fn new(shared: Shared, log: Log, args: Args) -> Pass
-        requires waits { log.run.0 < waiting_places shared }
+    pub(crate) fn new(shared: Shared, log: Log) -> Pass
+        requires waits { log.started.run.0 < waiting_places shared }
         requires empty { log.entries ≡ [] }
         requires room { 1 ≤ log.room }
-        ensures { result ≡ record { run = log.run; me = log.own; args = args; log = [] } }
+        ensures { result ≡ record { run = log.started.run; me = log.started.comp; args = log.started.args; log = [] } }
     {
-        Pass { shared, args, log }
+        Pass { shared, log }
     }
 
     /// The run.
@@ -80,7 +73,7 @@ impl Pass {
     pub fn args(&self) -> &[Comp]
         ensures { result.now ≡ self.now.args }
     {
-        self.args.as_slice()
+        self.log.args()
     }
 
     /// The entries of the run so far, the oldest first.
@@ -109,7 +102,7 @@ impl Pass {
     fn call<R: Wait>(&mut self, rt: &R, op: Op) -> Result<Reply, Halt>
         requires other { is_verdict_call op ≡ false }
         ensures call { IsCall (λ r. r) op self.old self.new result }
-        ensures plain { IfOk result (λ r. (is_halt r ≡ false) × (suits op r ≡ true)) }
+        ensures plain { IfOk result (λ r. suits_plainly op r ≡ true) }
     {
         if self.log.is_ended() {
             return Err(Halt::Ended);
@@ -120,9 +113,33 @@ impl Pass {
         }
     }
 
+    /// Makes a call that is replied Ok.
+    fn give<R: Wait>(&mut self, rt: &R, op: Op) -> Result<(), Halt>
+        requires other { is_verdict_call op ≡ false }
+        requires plain { (r : Reply) → suits_plainly op r ≡ is_ok r }
+        ensures { IsCall (λ _. Reply.Ok) op self.old self.new result }
+    {
+        match self.call(rt, op)? {
+            Reply::Ok => Ok(()),
+            _ => unreachable!(),
+        }
+    }
+
+    /// Makes a call that is replied yes or no.
+    fn ask<R: Wait>(&mut self, rt: &R, op: Op) -> Result<bool, Halt>
+        requires other { is_verdict_call op ≡ false }
+        requires plain { (r : Reply) → suits_plainly op r ≡ is_answer r }
+        ensures { IsCall Reply.Answer op self.old self.new result }
+    {
+        match self.call(rt, op)? {
+            Reply::Answer(answer) => Ok(answer),
+            _ => unreachable!(),
+        }
+    }
+
     // Creates a component with this name, or without one.
     fn make<R: Wait>(&mut self, rt: &R, alive: bool, name: Option<Name>) -> Result<Comp, Halt>
-        ensures { IsCall replies.Made (ops.Create alive name) self.old self.new result }
+        ensures { IsCall Reply.Made (Op.Create alive name) self.old self.new result }
     {
         match self.call(rt, Op::Create { alive, name })? {
             Reply::Made(comp) => Ok(comp),
@@ -132,7 +149,7 @@ impl Pass {
 
     /// Creates a component, ordinary or alive-type, without a name (ES 201 873-1, the create operation).
     pub fn create<R: Wait>(&mut self, rt: &R, alive: bool) -> Result<Comp, Halt>
-        ensures { IsCall replies.Made (ops.Create alive None) self.old self.new result }
+        ensures { IsCall Reply.Made (Op.Create alive None) self.old self.new result }
     {
         self.make(rt, alive, None)
     }
@@ -140,101 +157,73 @@ impl Pass {
     /// Creates a component, ordinary or alive-type, with a name (ES 201 873-1, the create operation). The name is in
     /// the log, the report and the history; several components may have the same, and no call takes it for a component.
     pub fn create_named<R: Wait>(&mut self, rt: &R, alive: bool, name: Name) -> Result<Comp, Halt>
-        ensures { IsCall replies.Made (ops.Create alive (Some name)) self.old self.new result }
+        ensures { IsCall Reply.Made (Op.Create alive (Some name)) self.old self.new result }
     {
         self.make(rt, alive, Some(name))
     }
 
     /// Starts a run on a component (ES 201 873-1, the start test component operation).
     pub fn start<R: Wait>(&mut self, rt: &R, comp: Comp, run: Run, args: &Args) -> Result<(), Halt>
-        ensures { IsCall (λ _. replies.Ok) (ops.Start comp run args.now) self.old self.new result }
+        ensures { IsCall (λ _. Reply.Ok) (Op.Start comp run args.now) self.old self.new result }
     {
-        let op = Op::Start {
-            comp,
-            run,
-            args: args.copy(),
-        };
-        match self.call(rt, op)? {
-            Reply::Ok => Ok(()),
-            _ => unreachable!(),
-        }
+        let args = args.copy();
+        self.give(rt, Op::Start { comp, run, args })
     }
 
     /// Stops a component, or all parallel ones (ES 201 873-1, the stop test component operation).
     pub fn stop<R: Wait>(&mut self, rt: &R, group: Group) -> Result<(), Halt>
-        ensures { IsCall (λ _. replies.Ok) (ops.Stop group) self.old self.new result }
+        ensures { IsCall (λ _. Reply.Ok) (Op.Stop group) self.old self.new result }
     {
-        match self.call(rt, Op::Stop(group))? {
-            Reply::Ok => Ok(()),
-            _ => unreachable!(),
-        }
+        self.give(rt, Op::Stop(group))
     }
 
     /// Kills a component, or all parallel ones (ES 201 873-1, the kill test component operation).
     pub fn kill<R: Wait>(&mut self, rt: &R, group: Group) -> Result<(), Halt>
-        ensures { IsCall (λ _. replies.Ok) (ops.Kill group) self.old self.new result }
+        ensures { IsCall (λ _. Reply.Ok) (Op.Kill group) self.old self.new result }
     {
-        match self.call(rt, Op::Kill(group))? {
-            Reply::Ok => Ok(()),
-            _ => unreachable!(),
-        }
+        self.give(rt, Op::Kill(group))
     }
 
     /// Ends the test case with the verdict error (ES 201 873-1, the test case stop operation), as an end of the main
     /// component does: all components are killed, and the caller's local verdict is error.
     pub fn stop_case<R: Wait>(&mut self, rt: &R) -> Result<(), Halt>
-        ensures { IsCall (λ _. replies.Ok) ops.StopCase self.old self.new result }
+        ensures { IsCall (λ _. Reply.Ok) Op.StopCase self.old self.new result }
     {
-        match self.call(rt, Op::StopCase)? {
-            Reply::Ok => Ok(()),
-            _ => unreachable!(),
-        }
+        self.give(rt, Op::StopCase)
     }
 
     /// Whether components are running (ES 201 873-1, the running operation).
     pub fn running<R: Wait>(&mut self, rt: &R, target: Target) -> Result<bool, Halt>
-        ensures { IsCall replies.Answer (ops.Running target) self.old self.new result }
+        ensures { IsCall Reply.Answer (Op.Running target) self.old self.new result }
     {
-        match self.call(rt, Op::Running(target))? {
-            Reply::Answer(answer) => Ok(answer),
-            _ => unreachable!(),
-        }
+        self.ask(rt, Op::Running(target))
     }
 
     /// Whether components are alive (ES 201 873-1, the alive operation).
     pub fn alive<R: Wait>(&mut self, rt: &R, target: Target) -> Result<bool, Halt>
-        ensures { IsCall replies.Answer (ops.Alive target) self.old self.new result }
+        ensures { IsCall Reply.Answer (Op.Alive target) self.old self.new result }
     {
-        match self.call(rt, Op::Alive(target))? {
-            Reply::Answer(answer) => Ok(answer),
-            _ => unreachable!(),
-        }
+        self.ask(rt, Op::Alive(target))
     }
 
     /// Whether components are done (ES 201 873-1, the done operation as a boolean).
     pub fn done<R: Wait>(&mut self, rt: &R, target: Target) -> Result<bool, Halt>
-        ensures { IsCall replies.Answer (ops.Done target) self.old self.new result }
+        ensures { IsCall Reply.Answer (Op.Done target) self.old self.new result }
     {
-        match self.call(rt, Op::Done(target))? {
-            Reply::Answer(answer) => Ok(answer),
-            _ => unreachable!(),
-        }
+        self.ask(rt, Op::Done(target))
     }
 
     /// Whether components are killed (ES 201 873-1, the killed operation as a boolean).
     pub fn killed<R: Wait>(&mut self, rt: &R, target: Target) -> Result<bool, Halt>
-        ensures { IsCall replies.Answer (ops.Killed target) self.old self.new result }
+        ensures { IsCall Reply.Answer (Op.Killed target) self.old self.new result }
     {
-        match self.call(rt, Op::Killed(target))? {
-            Reply::Answer(answer) => Ok(answer),
-            _ => unreachable!(),
-        }
+        self.ask(rt, Op::Killed(target))
     }
 
     /// Makes the caller's local verdict no better than this (ES 201 873-1, verdict operations): one step on the word of the
     /// run, without the lock.
     pub fn set_verdict(&mut self, value: UserVerdict) -> Result<(), Halt>
-        ensures { IsCall (λ _. replies.Ok) (ops.SetVerdict value) self.old self.new result }
+        ensures { IsCall (λ _. Reply.Ok) (Op.SetVerdict value) self.old self.new result }
     {
         if self.log.is_ended() {
             return Err(Halt::Ended);
@@ -250,7 +239,7 @@ impl Pass {
 
     /// The caller's local verdict (ES 201 873-1, verdict operations): one step on the word of the run, without the lock.
     pub fn get_verdict(&mut self) -> Result<Verdict, Halt>
-        ensures { IsCall replies.Local ops.GetVerdict self.old self.new result }
+        ensures { IsCall Reply.Local Op.GetVerdict self.old self.new result }
     {
         if self.log.is_ended() {
             return Err(Halt::Ended);
@@ -303,15 +292,11 @@ impl Pass {
         ensures run { result.run ≡ self.run }
         ensures started { result.started ≡ Some (self.me, self.args) }
         ensures ended { has_ended self ≡ true → result.log ≡ self.log }
-        ensures finished { has_ended self ≡ false → (r : Reply) × (result.log ≡ (with_own_entry self ops.Finish r).log) × (suits ops.Finish r ≡ true) }
+        ensures finished { has_ended self ≡ false → (r : Reply)
+            × (result.log ≡ (with_own_entry self Op.Finish r).log) × (suits Op.Finish r ≡ true) }
     {
-        let Pass {
-            shared,
-            args,
-            mut log,
-        } = self;
+        let Pass { shared, mut log } = self;
         let (_, given_up) = shared.leave(rt, &mut log);
-        let me = log.own();
-        Left::new(given_up, log.into_entries(), me, args)
+        Left::new(given_up, log)
     }
 }

@@ -2,8 +2,7 @@
 ghost use Rattle.std.specs.Prelude.{◌≡◌, ◌+◌, ◌≤◌, set};
 ghost use Rattle.std.specs.Vec.{vec_len};
 ghost use Rattle.tc_entry.specs.declared.limits.TheConstants.{BEHAVIOURS};
-ghost use Rattle.tc_book.specs.OpenCase.{places_at};
-ghost use Rattle.tc_book.specs.Inside.{size_of, total};
+ghost use Rattle.tc_book.specs.{Inside.size_of, Inside.total, OpenCase.places_at};
 
 use tc_verdict::Run;
 
@@ -34,7 +33,7 @@ pub(crate) fn places_of(all: &[Places], run: Run) -> Places
 }
 
 /// Changes the places of a run, and returns how many are kept then.
-#[tactic(auto, using(crate::proofs::Totals::total_bound, crate::proofs::Totals::one_at_most, crate::proofs::Totals::total_set, crate::proofs::Totals::no_place_beyond))]
+#[tactic(auto, using(crate::proofs::Keeping::total_bound, crate::proofs::Keeping::one_at_most, crate::proofs::Keeping::total_set, crate::proofs::Keeping::no_place_beyond))]
 pub(crate) fn put(all: &mut Vec<Places>, count: usize, run: Run, now: Places) -> usize
     requires counted { count ≡ total all.old.items }
     requires few { vec_len all.old ≤ BEHAVIOURS }

@@ -1,8 +1,8 @@
 //! The report of a case whose runs came back whole.
 ghost use Rattle.std.specs.Prelude.{◌≡◌, ◌≤◌, ◌++◌, true, IfOk, OnOk, filter, length, reverse};
 ghost use Rattle.tc_entry.specs.declared.limits.TheConstants.{BEHAVIOURS};
-ghost use Rattle.tc_rules.specs.Prelude.{is_over, StandsFor, IsLegal, is_other, merge, logged, logs_below, IsOneHistory};
-ghost use Rattle.tc_book.specs.Inside.{KnowsStarts, KnowsParts, log_on, logs_from};
+ghost use Rattle.tc_rules.specs.Prelude.{is_over, StandsFor, is_other, merge, logs_below, IsOneHistory};
+ghost use Rattle.tc_book.specs.{Closing.all_started, Inside.KnowsParts, Inside.KnowsStarts, Inside.log_on, Inside.logs_from};
 
 use crate::starts::comp_of;
 use std::alloc::Global;
@@ -44,7 +44,7 @@ fn logs_of(
     Ok(logs)
 }
 
-/// The report of a case that is over, by its history and what is kept after it, if its logs have all its entries.
+/// The report of a case that is over, by its history, what is kept after it, and the log of each run.
 #[tactic(auto, using(crate::proofs::Reporting::one_history, crate::proofs::Reporting::logs_known))]
 pub(crate) fn report(
     alloc: Global,
@@ -56,12 +56,11 @@ pub(crate) fn report(
     requires behaviours { length parts.items ≡ state.now.behaviours }
     requires few { length parts.items ≤ BEHAVIOURS }
     requires stands { StandsFor state.now (reverse history.items) }
-    requires legal { IsLegal state.now.behaviours (reverse history.items) }
     requires starts { KnowsStarts starts.now (reverse history.items) }
     requires parts { KnowsParts parts.items history.items }
+    requires started { all_started (reverse history.items) ≡ true }
     requires over { is_over (reverse history.items) ≡ true }
     requires merged { history.items ≡ merge (filter is_other history.items) (logs_below history.items (length parts.items)) }
-    requires as_long { length history.items ≡ logged (logs_below history.items (length parts.items)) }
     ensures behaviours { IfOk result (λ c. c.behaviours ≡ state.now.behaviours) }
     ensures history { IfOk result (λ c. c.history ≡ history.items) }
     ensures report { IfOk result (λ c. IsOneHistory c) }

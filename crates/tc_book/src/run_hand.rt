@@ -3,9 +3,8 @@ ghost use Rattle.std.specs.Prelude.{◌≡◌, ◌≢◌, [], true, MatchBool};
 ghost use Rattle.std.specs.Arc.{arc_value};
 ghost use Rattle.tc_board.specs.Prelude.{answered};
 ghost use Rattle.tc_board.specs.declared.answer.Answer.TheVariants.{Met};
-ghost use Rattle.tc_entry.specs.declared.op.Op.TheVariants as ops;
-ghost use Rattle.tc_book.specs.Inside.{Says};
-ghost use Rattle.tc_book.specs.Replies.{suits};
+ghost use Rattle.tc_rules.specs.Prelude.{Op};
+ghost use Rattle.tc_book.specs.{Inside.Says, Replies.suits};
 
 use std::marker::Model;
 use std::sync::Arc;
@@ -57,8 +56,8 @@ impl RunHand {
     /// Sets a verdict on the word of the run, in one step, and returns the reply of the setting.
     pub(crate) fn set(&mut self, value: UserVerdict) -> Reply
         requires met { self.old.answers ≢ [] }
-        ensures answer { Says (ops.SetVerdict value) result self.old self.new }
-        ensures suits { suits (ops.SetVerdict value) result ≡ true }
+        ensures answer { Says (Op.SetVerdict value) result self.old self.new }
+        ensures suits { suits (Op.SetVerdict value) result ≡ true }
     {
         match self.hand.set(&self.board, value) {
             Said::Taken => Reply::Ok,
@@ -70,8 +69,8 @@ impl RunHand {
     #[tactic(auto, using(crate::proofs::Handed::found_given, crate::proofs::Handed::found_suits))]
     pub(crate) fn get(&mut self) -> Reply
         requires met { self.old.answers ≢ [] }
-        ensures answer { Says ops.GetVerdict result self.old self.new }
-        ensures suits { suits ops.GetVerdict result ≡ true }
+        ensures answer { Says Op.GetVerdict result self.old self.new }
+        ensures suits { suits Op.GetVerdict result ≡ true }
     {
         match self.hand.get(&self.board) {
             Some(verdict) => Reply::Local(from_user(verdict)),

@@ -1,29 +1,22 @@
 //! The lock and the conditions of a case: each entry but those of verdict calls is added in one hold.
 ghost use Rattle.std.specs.Prelude.{◌≡◌, ◌≢◌, ◌≤◌, ◌<◌, ◌+◌, true, false, IfOk, OnOk, OnErr, IfErr, IfSome, IfNone, IsTrue, Err, All, is_none, length};
-ghost use Rattle.tc_entry.specs.declared.op.Op.TheVariants as ops;
-ghost use Rattle.tc_entry.specs.declared.reply.Reply.TheVariants as replies;
-ghost use Rattle.tc_book.specs.Replies.{suits};
-ghost use Rattle.tc_rules.specs.declared.closed.CloseFault.TheVariants as faults;
-ghost use Rattle.tc_book.specs.Closing.{IsAgreed, IsMerged, IsOneEach, IsWhole, merged};
-ghost use Rattle.tc_rules.specs.Prelude.{IsOneHistory, IsLegal, is_verdict_call};
-ghost use Rattle.tc_book.specs.Inside.{goes_on, is_closed, with_own};
-ghost use Rattle.tc_book.specs.Inside.Waiting.{waiting_places};
 ghost use Rattle.std.specs.Sync.Mutex.{mutex_guard_value};
-ghost use Rattle.tc_book.specs.OpenCase.{AreOthers, has_leave, open_past};
+ghost use Rattle.tc_rules.specs.Prelude.{IsOneHistory, IsLegal, is_verdict_call};
 ghost use Rattle.tc_board.specs.Prelude.{answered};
 ghost use Rattle.tc_board.specs.declared.answer.Answer.TheVariants.{Met};
+ghost use Rattle.tc_book.specs.{Closing.IsAgreed, Closing.IsMerged, Closing.IsOneEach, Closing.IsWhole, Closing.merged, Inside.Waiting.waiting_places, Inside.goes_on, Inside.is_closed, Inside.with_own, OpenCase.AreOthers, OpenCase.has_leave, OpenCase.open_past, Replies.suits};
 
 use crate::book::Book;
 use crate::conditions::Conditions;
 use crate::left::Left;
 use crate::logged_book::log::Log;
-use crate::logged_book::{GivenUp, LoggedBook, Unstarted};
+use crate::logged_book::{GivenUp, LoggedBook, Started, Unstarted};
 use crate::run_hand::RunHand;
 use crate::until::{Lack, Until};
 use std::alloc::{AllocError, Global};
 use std::marker::Model;
 use std::sync::{Arc, Mutex, MutexGuard, Wait};
-use tc_entry::{Args, Comp, Op, Reply, Target};
+use tc_entry::{Op, Reply, Target};
 use tc_rules::{CloseFault, Closed};
 use tc_verdict::{NoMemory, Run};
 
@@ -61,9 +54,9 @@ impl Look<'_> {
     /// came back, or the word of one does not agree with its log, that is Torn, whatever memory there is.
     pub fn close(&self, alloc: Global, lefts: Vec<Left>) -> Result<Closed, CloseFault>
         ensures whole { IfOk result (λ _. IsMerged self.now lefts.items) }
-        ensures torn { IfErr result (λ f. f ≡ faults.Torn → IsMerged self.now lefts.items → ⊥) }
-        ensures runs { result ≡ Err faults.NoMemory → IsOneEach self.now.behaviours lefts.items }
-        ensures words { result ≡ Err faults.NoMemory → All (IsAgreed self.now.words) lefts.items }
+        ensures torn { IfErr result (λ f. f ≡ CloseFault.Torn → IsMerged self.now lefts.items → ⊥) }
+        ensures runs { result ≡ Err CloseFault.NoMemory → IsOneEach self.now.behaviours lefts.items }
+        ensures words { result ≡ Err CloseFault.NoMemory → All (IsAgreed self.now.words) lefts.items }
         ensures behaviours { IfOk result (λ c. c.behaviours ≡ self.now.behaviours) }
         ensures history { IfOk result (λ c. c.history ≡ merged self.now.history lefts.items) }
         ensures report { IfOk result (λ c. IsOneHistory c) }
@@ -85,7 +78,7 @@ impl Shared {
         ensures { IfOk result (λ s. waiting_places s ≡ behaviours) }
     {
         let held = Held {
-            book: Mutex::new(LoggedBook::new(alloc, book, behaviours)?),
+            book: Mutex::new(LoggedBook::new(book)),
             changed: Conditions::new(alloc, behaviours)?,
         };
         match Arc::new(alloc, held) {
@@ -117,8 +110,7 @@ impl Shared {
     pub(crate) fn record<R: Wait>(&self, rt: &R, op: Op, log: &mut Log) -> Result<Reply, NoMemory>
         requires other { is_verdict_call op ≡ false }
         requires going_on { is_closed log.old ≡ false }
-        ensures run { log.new.run ≡ log.old.run }
-        ensures own { log.new.own ≡ log.old.own }
+        ensures started { log.new.started ≡ log.old.started }
         ensures suits { IfOk result (λ r. suits op r ≡ true) }
         ensures entries { IfOk result (λ r. log.new.entries ≡ with_own log.old op r) }
         ensures room { OnOk result (2 ≤ log.new.room) }
@@ -133,13 +125,12 @@ impl Shared {
 
     /// Records the Wake of a parked wait in the first hold in which it is not parked again, in its place in the log.
     pub(crate) fn wake<R: Wait>(&self, rt: &R, killed: bool, target: Target, log: &mut Log) -> Reply
-        requires waits { log.old.run.0 < waiting_places self.now }
+        requires waits { log.old.started.run.0 < waiting_places self.now }
         requires room { 1 ≤ log.old.room }
-        ensures run { log.new.run ≡ log.old.run }
-        ensures own { log.new.own ≡ log.old.own }
-        ensures suits { suits (ops.Wake killed target) result ≡ true }
-        ensures awake { result ≢ replies.Parked }
-        ensures entries { log.new.entries ≡ with_own log.old (ops.Wake killed target) result }
+        ensures started { log.new.started ≡ log.old.started }
+        ensures suits { suits (Op.Wake killed target) result ≡ true }
+        ensures awake { result ≢ Reply.Parked }
+        ensures entries { log.new.entries ≡ with_own log.old (Op.Wake killed target) result }
         ensures room { log.new.room + 1 ≡ log.old.room }
     {
         let mut book = self.wait(rt, log.run(), Until::Wake { killed, target });
@@ -156,15 +147,14 @@ impl Shared {
 
     /// Gives up the place of the log's run, and records its Finish if the run has not ended.
     pub(crate) fn leave<R: Wait>(&self, rt: &R, log: &mut Log) -> (Option<Reply>, GivenUp)
-        requires waits { log.old.run.0 < waiting_places self.now }
+        requires waits { log.old.started.run.0 < waiting_places self.now }
         requires room { 1 ≤ log.old.room }
-        ensures run { log.new.run ≡ log.old.run }
-        ensures own { log.new.own ≡ log.old.own }
+        ensures started { log.new.started ≡ log.old.started }
         ensures none { is_none result.0 ≡ is_closed log.old }
         ensures quiet { IfNone result.0 (log.new ≡ log.old) }
-        ensures suits { IfSome result.0 (λ r. suits ops.Finish r ≡ true) }
-        ensures entries { IfSome result.0 (λ r. log.new.entries ≡ with_own log.old ops.Finish r) }
-        ensures given_up { result.1.run ≡ log.old.run }
+        ensures suits { IfSome result.0 (λ r. suits Op.Finish r ≡ true) }
+        ensures entries { IfSome result.0 (λ r. log.new.entries ≡ with_own log.old Op.Finish r) }
+        ensures given_up { result.1.run ≡ log.old.started.run }
     {
         let mut book = self.held.book.lock(rt);
         let Some((finish, wake_up, given_up)) = book.leave(log) else {
@@ -202,12 +192,13 @@ impl Shared {
         rt: &R,
         run: Run,
         hand: &mut RunHand,
-    ) -> Result<(Comp, Args), Unstarted>
+    ) -> Result<Started, Unstarted>
         requires waits { run.0 < waiting_places self.now }
         ensures met { OnOk result (hand.new ≡ answered hand.old Met) }
+        ensures run { IfOk result (λ s. s.run ≡ run) }
         ensures unstarted { IfErr result (λ u. u.run ≡ run) }
     {
-        let mut book = self.wait(rt, run, Until::Start);
+        let book = self.wait(rt, run, Until::Start);
         let Some(start) = book.start_or_end(run, hand) else {
             self.held.changed.of(run).stay(rt, book, Lack::Word);
             unreachable!()
@@ -233,7 +224,7 @@ impl Shared {
         lefts: Vec<Left>,
     ) -> Result<Closed, CloseFault>
         ensures whole { IfOk result (λ c. IsWhole c.behaviours c.history lefts.items) }
-        ensures runs { result ≡ Err faults.NoMemory → IsOneEach (length lefts.items) lefts.items }
+        ensures runs { result ≡ Err CloseFault.NoMemory → IsOneEach (length lefts.items) lefts.items }
         ensures report { IfOk result (λ c. IsOneHistory c) }
     {
         self.look(rt).close(alloc, lefts)

@@ -1,9 +1,7 @@
 //! What each run was started with.
 ghost use Rattle.std.specs.Prelude.{◌≡◌, ℕ, IfOk, None, length};
 ghost use Rattle.tc_rules.specs.Prelude.{first_some};
-ghost use Rattle.tc_book.specs.Inside.{start_at};
-ghost use Rattle.tc_book.specs.Starts.{started_with};
-ghost use Rattle.tc_book.specs.Inside.{comp_by, StartsBelow};
+ghost use Rattle.tc_book.specs.{Inside.StartsBelow, Inside.comp_by, Inside.start_at, OpenCase.started_with};
 
 use std::alloc::Global;
 use tc_entry::{Args, Comp, Op, Reply};

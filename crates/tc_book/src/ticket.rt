@@ -33,7 +33,8 @@ impl Model for Ticket {
 
     ghost view = { λ t. t.run };
 
-    ghost invariant = { λ t. (0 < t.run.0) × (t.run.0 < waiting_places t.shared) × (t.log.items ≡ []) × (vec_len t.log < vec_capacity t.log) × IsNewHand t.hand t.run.0 };
+    ghost invariant = { λ t. (0 < t.run.0) × (t.run.0 < waiting_places t.shared)
+        × (t.log.items ≡ []) × (vec_len t.log < vec_capacity t.log) × IsNewHand t.hand t.run.0 };
 }
 
 impl Ticket {
@@ -75,7 +76,7 @@ impl Ticket {
             mut hand,
         } = self;
         match shared.await_start(rt, run, &mut hand) {
-            Ok((comp, args)) => Ok(Pass::new(shared, Log::new(run, comp, log, hand), args)),
+            Ok(started) => Ok(Pass::new(shared, Log::new(started, log, hand))),
             Err(unstarted) => Err(Left::never_started(shared.give_up(rt, unstarted), log)),
         }
     }

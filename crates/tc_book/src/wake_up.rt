@@ -2,8 +2,8 @@
 ghost use Rattle.std.specs.Prelude.{◌≡◌, true, length};
 
 use crate::conditions::Conditions;
-use crate::conditions::condition::Told;
 use crate::logged_book::LoggedBook;
+use crate::told::Told;
 
 /// Whether somebody who waits can continue. It is no `Drop`: its holder gives it to those that wait.
 pub(crate) struct WakeUp {

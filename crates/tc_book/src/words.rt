@@ -4,11 +4,10 @@ ghost use Rattle.std.specs.Arc.{arc_value};
 ghost use Rattle.tc_rules.specs.Prelude.{past_of};
 ghost use Rattle.tc_board.specs.Prelude.{new_keeper};
 ghost use Rattle.tc_board.specs.declared.record.Record.TheVariants.{Unbegun, Open as IsOpen, Closed as IsClosed};
-ghost use Rattle.tc_book.specs.Words as rules;
-ghost use Rattle.tc_book.specs.Words.{StayClosed, WordsAgree};
-ghost use Rattle.tc_book.specs.Inside.Words as inside;
-ghost use Rattle.tc_book.specs.Inside.Words.{CanBegin, WordsLag, opening, with_start};
 ghost use Rattle.tc_rules.specs.Laws as laws;
+ghost use Rattle.tc_book.specs.{Inside.Words.CanBegin, Inside.Words.WordsLag, Inside.Words.opening, Inside.Words.with_start, Words.StayClosed, Words.WordsAgree};
+ghost use Rattle.tc_book.specs.Words as rules;
+ghost use Rattle.tc_book.specs.Inside.Words as inside;
 
 use std::alloc::Global;
 use std::marker::Model;

@@ -4,21 +4,15 @@ use Rattle.std.specs.Prelude.{IfSome, slice_get}
 use Rattle.std.proofs.lemmas.List.Elements.{All-nil}
 use Rattle.tc_rules.specs.Prelude.{Verdict}
 use Rattle.tc_book.specs.Prelude.{PassState}
-use Rattle.tc_rules.specs.declared.refusal.CaseError.TheVariants as C
+use Rattle.tc_rules.specs.declared.refusal.CaseError.{CaseError}
 use Rattle.tc_exec.specs.Prelude.{IsHandedBack}
-use Rattle.tc_exec.specs.declared.job.Back.{Back}
-use Rattle.tc_report.specs.declared.results.CampaignEnd.{CampaignEnd}
-use Rattle.tc_report.specs.declared.results.CampaignEnd.TheVariants as E
-use Rattle.tc_report.specs.declared.results.Finished.{Finished}
+use Rattle.tc_exec.specs.declared.{job.Back.Back, test_case.Case.Case}
+use Rattle.tc_report.specs.declared.results.{CampaignEnd.CampaignEnd, Finished.Finished}
 use Rattle.tc_report.specs.Prelude.{AreTaken}
-use Rattle.tc_report.proofs.Lemmas.Observing.{taken_more}
-use Rattle.tc_campaign.specs.declared.case.Case.{Case}
-use Rattle.tc_campaign.specs.declared.step.Step.TheVariants as S
-use Rattle.tc_campaign.specs.Outline.{outline_of}
-use Rattle.tc_campaign.specs.Campaign.{IsCalled, IsRefusal}
-use Rattle.tc_campaign.specs.Inside.{HasThreads, IsGoing, IsOf, IsSoFar, IsStep, WasRun}
-use Rattle.tc_campaign.proofs.Places.{slice_get-behind}
-use Rattle.tc_campaign.proofs.Lemmas.Running.{done_begin, done_more, done_none, run_aborted, run_complete, run_cut, run_stopped, so_far_more, so_far_none, threads_more}
+use Rattle.tc_report.proofs.Lemmas.Keeping.{taken_more}
+use Rattle.tc_exec.proofs.Lemmas.Taking.{done_more, done_none}
+use Rattle.tc_campaign.specs.{Campaign.IsCalled, Campaign.IsRefusal, Inside.HasThreads, Inside.IsGoing, Inside.IsOf, Inside.IsSoFar, Inside.IsStep, Inside.WasRun, Outline.outline_of, declared.step.Step.Step}
+use Rattle.tc_campaign.proofs.{Lemmas.Running.done_begin, Lemmas.Running.run_aborted, Lemmas.Running.run_complete, Lemmas.Running.run_cut, Lemmas.Running.run_stopped, Lemmas.Running.so_far_more, Lemmas.Running.so_far_none, Lemmas.Running.threads_more, Places.slice_get-behind}
 
 module _ {B O : Type 0} (outcome : B → PassState → Back → Type 0) (takes : O → Finished → O → Bool → Type 0)
     (stop_on : Option Verdict) (threads : ℕ) (cases : List (Case B)) where
@@ -33,7 +27,7 @@ module _ {B O : Type 0} (outcome : B → PassState → Back → Type 0) (takes :
 
   module _ (left : List (Case B)) (c : Case B) (rest : List (Case B)) (before between after : O)
       (going : IsGoing outcome takes stop_on threads cases left before between) (at : left ≡ c ∷ rest) where
-    pub going_more : IsStep outcome takes stop_on threads c between after S.GoesOn → IsGoing outcome takes stop_on threads cases rest before after
+    pub going_more : IsStep outcome takes stop_on threads c between after Step.GoesOn → IsGoing outcome takes stop_on threads cases rest before after
     going_more step = record {
       finished = going.finished ++ step.0 ∷ [];
       so = so_far_more _ _ _ _ _ _ step.0 _ going.so (ap (map outline_of) at) step.1.is step.2 refl;
@@ -42,7 +36,7 @@ module _ {B O : Type 0} (outcome : B → PassState → Back → Type 0) (takes :
       taken = taken_more takes going.finished step.0 before between after going.taken step.3;
     }
 
-    pub was_stopped : (ending : CampaignEnd) → IsStep outcome takes stop_on threads c between after (S.Stops ending)
+    pub was_stopped : (ending : CampaignEnd) → IsStep outcome takes stop_on threads c between after (Step.Stops ending)
         → WasRun outcome takes stop_on threads cases before after (Some ending)
     was_stopped ending step = record {
       finished = going.finished ++ step.0 ∷ [];
@@ -50,7 +44,7 @@ module _ {B O : Type 0} (outcome : B → PassState → Back → Type 0) (takes :
       called = done_begin _ _ _ _ (done_more (IsCalled outcome) cases left c rest going.finished step.0 _ going.called at step.1.called refl);
       threads_are = threads_more threads going.finished step.0 _ going.threads_are step.1.threads_are refl;
       why = rw step.2.0 tt;
-      torn = λ name is. let bad : E.StoppedAfter step.0.name ≡ E.Aborted name C.Torn = sym step.2.0 ∙ is in absurd cc;
+      torn = λ name is. let bad : CampaignEnd.StoppedAfter step.0.name ≡ CampaignEnd.Aborted name CaseError.Torn = sym step.2.0 ∙ is in absurd cc;
       given = taken_more takes going.finished step.0 before between after going.taken step.3;
     }
 
@@ -61,7 +55,7 @@ module _ {B O : Type 0} (outcome : B → PassState → Back → Type 0) (takes :
     case_next : slice_get cases (length going.finished) ≡ Some c
     case_next = slice_get-behind (IsCalled outcome) cases going.called.done left going.finished going.called.prefix going.called.each ∙ ap (λ l. slice_get l 0) at
 
-    pub was_refused : (ending : CampaignEnd) → IsStep outcome takes stop_on threads c between after (S.Refused ending)
+    pub was_refused : (ending : CampaignEnd) → IsStep outcome takes stop_on threads c between after (Step.Refused ending)
         → WasRun outcome takes stop_on threads cases before after (Some ending)
     was_refused ending step = record {
       finished = going.finished;
@@ -70,13 +64,13 @@ module _ {B O : Type 0} (outcome : B → PassState → Back → Type 0) (takes :
       threads_are = going.threads_are;
       why = rw step.0.aborted (subst (λ o. IfSome o (IsRefusal threads step.0.why)) (sym outline_next) step.0.cause);
       torn = λ name is.
-          let both : E.Aborted c.name step.0.why ≡ E.Aborted name C.Torn = sym step.0.aborted ∙ is in
-          let why : step.0.why ≡ C.Torn = cc in
+          let both : CampaignEnd.Aborted c.name step.0.why ≡ CampaignEnd.Aborted name CaseError.Torn = sym step.0.aborted ∙ is in
+          let why : step.0.why ≡ CaseError.Torn = cc in
           subst (λ o. IfSome o (λ k. IsHandedBack outcome k.jobs.items)) (sym case_next) (step.0.torn why);
       given = subst (AreTaken takes going.finished before) (sym step.1) going.taken;
     }
 
-    pub was_cut : IsStep outcome takes stop_on threads c between after S.CutShort → WasRun outcome takes stop_on threads cases before after None
+    pub was_cut : IsStep outcome takes stop_on threads c between after Step.CutShort → WasRun outcome takes stop_on threads cases before after None
     was_cut step = record {
       finished = going.finished ++ step.0 ∷ [];
       run = run_cut _ _ _ _ _ going.finished step.0 going.so (ap (map outline_of) at) step.1.is;
@@ -88,7 +82,7 @@ module _ {B O : Type 0} (outcome : B → PassState → Back → Type 0) (takes :
     }
 
   pub was_complete : (left : List (Case B)) (before now : O) → IsGoing outcome takes stop_on threads cases left before now → length left ≡ 0
-      → WasRun outcome takes stop_on threads cases before now (Some E.Complete)
+      → WasRun outcome takes stop_on threads cases before now (Some CampaignEnd.Complete)
   was_complete left before now going none = record {
     finished = going.finished;
     run = run_complete outline_of _ _ _ _ going.so none;

@@ -3,4 +3,3 @@ pub mod Lemmas
 pub mod Going
 pub mod Places
 pub mod Rightness
-pub mod Sharding

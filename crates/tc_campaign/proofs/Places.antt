@@ -3,16 +3,7 @@ use Rattle.std.proofs.Common.{ℕ, zero, suc, ◌≡◌, ◌∙◌, ◌-◌, ◌
 use Rattle.std.specs.Prelude.{IfSome, slice_get}
 use Rattle.std.specs.List.{AllZip}
 use Rattle.std.proofs.Math.Seq.{take-append_seam}
-use Rattle.std.proofs.lemmas.List.{length-append}
-use Rattle.std.proofs.lemmas.List.Elements.{All-head, All-tail}
-use Rattle.std.proofs.lemmas.Slice.Zip.{AllZip-long}
-
--- two lists that agree, with one more element each that agree
-pub AllZip-pushed : {A B : Type 0} (R : A → B → Type 0) (xs : List A) (ys : List B) (x : A) (y : B) → AllZip R xs ys → R x y → AllZip R (xs ++ x ∷ []) (ys ++ y ∷ [])
-AllZip-pushed R [] [] x y each one = (one, tt)
-AllZip-pushed R [] (b ∷ ys) x y each one = absurd each
-AllZip-pushed R (a ∷ xs) [] x y each one = absurd each
-AllZip-pushed R (a ∷ xs) (b ∷ ys) x y each one = (each.0, AllZip-pushed R xs ys x y each.1 one)
+use Rattle.std.proofs.lemmas.{List.Elements.All-head, List.Elements.All-tail, List.length-append, Slice.Zip.AllZip-long}
 
 pub AllZip-weaker : {A B : Type 0} (Q R : A → B → Type 0) → ((x : A) (y : B) → Q x y → R x y) → (xs : List A) (ys : List B) → AllZip Q xs ys → AllZip R xs ys
 AllZip-weaker Q R weaker [] [] each = tt

@@ -4,15 +4,10 @@ use Rattle.std.specs.List.{AllZip}
 use Rattle.tc_rules.specs.Prelude.{IsBehaviours, Verdict}
 use Rattle.tc_entry.specs.declared.limits.TheConstants.{BEHAVIOURS}
 use Rattle.tc_book.specs.Prelude.{PassState}
-use Rattle.tc_rules.specs.declared.refusal.CaseError.{CaseError}
-use Rattle.tc_rules.specs.declared.refusal.CaseError.TheVariants as C
-use Rattle.tc_rules.specs.declared.refusal.CaseError.TheVariants.{NoMemory}
-use Rattle.tc_exec.specs.declared.job.Back.{Back}
+use Rattle.tc_rules.specs.declared.refusal.CaseError.{CaseError, TheVariants.NoMemory}
+use Rattle.tc_exec.specs.declared.{job.Back.Back, test_case.Case.Case}
 use Rattle.tc_exec.specs.Prelude.{IsCaseReport, AreCalled, IsHandedBack, IsMadeOf}
-use Rattle.tc_report.specs.declared.results.CampaignEnd.{CampaignEnd}
-use Rattle.tc_report.specs.declared.results.CampaignEnd.TheVariants as E
-use Rattle.tc_report.specs.declared.results.Finished.{Finished}
-use Rattle.tc_campaign.specs.declared.case.Case.{Case}
+use Rattle.tc_report.specs.declared.results.{CampaignEnd.CampaignEnd, Finished.Finished}
 use Rattle.tc_report.specs.Prelude.{AreTaken, IsMet}
 use Rattle.tc_campaign.specs.Outline.{Outline, outline_of}
 
@@ -30,22 +25,22 @@ IsCalled outcome c f = AreCalled outcome c.jobs.items f.report × IsMadeOf outco
 -- last finished case exactly if that one stops it. Otherwise no case is left, or it was aborted at the next case, which
 -- can be refused so.
 abbrev pub IsEnding : (Finished → Type 0) → (CaseError → Outline → Type 0) → Option Finished → Option Outline → CampaignEnd → Type 0
-IsEnding Stops Refuses last next (E.StoppedAfter name) = IsSomeAnd last (λ f. (name ≡ f.name) × Stops f)
-IsEnding Stops Refuses last next (E.Aborted name why) = IfSome last (λ f. Stops f → ⊥) × IsSomeAnd next (λ c. (name ≡ c.name) × Refuses why c)
-IsEnding Stops Refuses last next E.Complete = IfSome last (λ f. Stops f → ⊥) × IsNone next
+IsEnding Stops Refuses last next (CampaignEnd.StoppedAfter name) = IsSomeAnd last (λ f. (name ≡ f.name) × Stops f)
+IsEnding Stops Refuses last next (CampaignEnd.Aborted name why) = IfSome last (λ f. Stops f → ⊥) × IsSomeAnd next (λ c. (name ≡ c.name) × Refuses why c)
+IsEnding Stops Refuses last next CampaignEnd.Complete = IfSome last (λ f. Stops f → ⊥) × IsNone next
 
 -- a run of this case with that many worker threads can be refused so: if they are too few for 1 to 256 behaviours, only
 -- by NoThread
 abbrev pub IsRefusal : ℕ → CaseError → Outline → Type 0
-IsRefusal threads C.NoBehaviours c = c.jobs ≡ 0
-IsRefusal threads C.TooManyBehaviours c = BEHAVIOURS < c.jobs
-IsRefusal threads C.NoThread c = (1 < c.jobs) × (c.jobs ≤ BEHAVIOURS)
+IsRefusal threads CaseError.NoBehaviours c = c.jobs ≡ 0
+IsRefusal threads CaseError.TooManyBehaviours c = BEHAVIOURS < c.jobs
+IsRefusal threads CaseError.NoThread c = (1 < c.jobs) × (c.jobs ≤ BEHAVIOURS)
 IsRefusal threads why c = IsBehaviours c.jobs × (c.jobs ≤ threads + 1)
 
 -- if the campaign was aborted for what the jobs of the next case handed back, each was called, did not run out of
 -- memory, and handed it back
 abbrev pub IsTornAt : {B : Type 0} → (B → PassState → Back → Type 0) → Option (Case B) → CampaignEnd → Type 0
-IsTornAt outcome next ending = (name : List ℕ) → ending ≡ E.Aborted name C.Torn → IfSome next (λ c. IsHandedBack outcome c.jobs.items)
+IsTornAt outcome next ending = (name : List ℕ) → ending ≡ CampaignEnd.Aborted name CaseError.Torn → IfSome next (λ c. IsHandedBack outcome c.jobs.items)
 
 module _ {C : Type 0} (outline : C → Outline) (called : C → Finished → Type 0) (cases : List C) (stop_on : Option Verdict) (threads : ℕ) where
   -- these test cases were finished, the first of the list, and none except the last ended the campaign

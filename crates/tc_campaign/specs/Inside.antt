@@ -1,25 +1,15 @@
 -- What the functions inside of a campaign say, which no public clause names.
-use Rattle.std.specs.Prelude.{ℕ, ◌≡◌, ◌≤◌, ◌+◌, ◌++◌, ◌∷◌, [], ⊤, Option, Some, None, Bool, true, false, Result, Ok, Err, List, All, IfSome, filter, length, map, take, slice_get}
+use Rattle.std.specs.Prelude.{ℕ, ◌≡◌, ◌≤◌, ◌+◌, ◌++◌, ◌∷◌, [], ⊤, Option, Some, None, Bool, true, false, Result, Ok, Err, List, All, IfSome, length, map, take, slice_get}
+use Rattle.std.specs.List.{AllZip}
 use Rattle.tc_rules.specs.Prelude.{IsBehaviours, Verdict}
 use Rattle.tc_entry.specs.declared.limits.TheConstants.{BEHAVIOURS}
-use Rattle.tc_rules.specs.declared.closed.Closed.{Closed}
-use Rattle.std.specs.List.{AllZip}
-use Rattle.tc_rules.specs.declared.refusal.CaseError.{CaseError}
-use Rattle.tc_rules.specs.declared.refusal.CaseError.TheVariants as C
+use Rattle.tc_rules.specs.declared.{closed.Closed.Closed, refusal.CaseError.CaseError}
 use Rattle.tc_exec.specs.Prelude.{IsCaseReport, IsHandedBack}
-use Rattle.tc_exec.specs.declared.job.Back.{Back}
+use Rattle.tc_exec.specs.{Inside.AreDone, declared.job.Back.Back, declared.test_case.Case.Case}
 use Rattle.tc_book.specs.Prelude.{PassState}
-use Rattle.tc_report.specs.declared.results.CampaignEnd.{CampaignEnd}
-use Rattle.tc_report.specs.declared.results.CampaignEnd.TheVariants as E
-use Rattle.tc_report.specs.declared.results.Finished.{Finished}
+use Rattle.tc_report.specs.{Inside.IsEndedAt, declared.results.CampaignEnd.CampaignEnd, declared.results.Finished.Finished}
 use Rattle.tc_report.specs.Prelude.{AreTaken, IsMet}
-use Rattle.tc_campaign.specs.declared.case.Case.{Case}
-use Rattle.tc_campaign.specs.declared.step.Step.{Step}
-use Rattle.tc_campaign.specs.declared.step.Step.TheVariants as S
-use Rattle.tc_campaign.specs.Choosing.{is_asked}
-use Rattle.tc_campaign.specs.Outline.{Outline, outline_of}
-use Rattle.tc_report.specs.Inside.{IsEndedAt}
-use Rattle.tc_campaign.specs.Campaign.{IsCalled, IsOfCase, IsRefusal, IsTornAt}
+use Rattle.tc_campaign.specs.{Campaign.IsCalled, Campaign.IsOfCase, Campaign.IsRefusal, Campaign.IsTornAt, Outline.Outline, Outline.outline_of, declared.step.Step.Step}
 
 -- the stopping rule is not met
 abbrev pub IsBetter : Option Verdict → Verdict → Type 0
@@ -27,12 +17,8 @@ IsBetter stop_on v = IsMet stop_on v → ⊥
 
 -- if the campaign was aborted, a run of the next case can be refused so
 abbrev pub IsWhy : ℕ → Option Outline → CampaignEnd → Type 0
-IsWhy threads next (E.Aborted name why) = IfSome next (IsRefusal threads why)
+IsWhy threads next (CampaignEnd.Aborted name why) = IfSome next (IsRefusal threads why)
 IsWhy threads next ending = ⊤
-
--- those whose names are asked for, in their order
-abbrev pub named : {C : Type 0} → (C → List ℕ) → List (List ℕ) → List C → List C
-named name_of only cs = filter (λ c. is_asked only (name_of c)) cs
 
 -- the report of a finished case is one of a case with as many behaviours as this case has jobs
 abbrev pub IsReported : Outline → Finished → Type 0
@@ -59,25 +45,19 @@ pub record IsOf (c : Outline) (f : Finished) : Type 0 where
 -- the campaign was aborted at this case
 pub record IsAbortedAt (c : Outline) (ending : CampaignEnd) : Type 0 where
   pub why : CaseError
-  pub aborted : ending ≡ E.Aborted c.name why
+  pub aborted : ending ≡ CampaignEnd.Aborted c.name why
 
 -- a run of this case was refused so
 pub record IsRefused {B : Type 0} (outcome : B → PassState → Back → Type 0) (threads : ℕ) (c : Case B) (ending : CampaignEnd) : Type 0 where
   pub why : CaseError
-  pub aborted : ending ≡ E.Aborted c.name why
+  pub aborted : ending ≡ CampaignEnd.Aborted c.name why
   pub cause : IsRefusal threads why (outline_of c)
-  pub torn : why ≡ C.Torn → IsHandedBack outcome c.jobs.items
+  pub torn : why ≡ CaseError.Torn → IsHandedBack outcome c.jobs.items
 
 -- what becomes of a case by the answer to its run
 abbrev pub ended_by : List ℕ → List (List ℕ) → Result Closed CaseError → Result Finished CampaignEnd
 ended_by name names (Ok report) = Ok (record { name = name; names = names; report = report })
-ended_by name names (Err why) = Err (E.Aborted name why)
-
--- these are done, each with the one at its place, and these are left
-pub record AreDone {A B : Type 0} (R : A → B → Type 0) (all left : List A) (ys : List B) : Type 0 where
-  pub done : List A
-  pub prefix : all ≡ done ++ left
-  pub each : AllZip R done ys
+ended_by name names (Err why) = Err (CampaignEnd.Aborted name why)
 
 -- these cases were finished, each better than stop_on, and these are left
 pub record IsSoFar (cases : List Outline) (stop_on : Option Verdict) (left : List Outline) (finished : List Finished) : Type 0 where
@@ -88,19 +68,19 @@ pub record IsSoFar (cases : List Outline) (stop_on : Option Verdict) (left : Lis
 
 -- how a run ends: with an ending, or with none if the observer ended it at the last case
 pub data IsRun (cases : List Outline) (stop_on : Option Verdict) : List Finished → Option CampaignEnd → Type 0 where
-  complete : (finished : List Finished) → IsSoFar cases stop_on [] finished → IsRun cases stop_on finished (Some E.Complete)
+  complete : (finished : List Finished) → IsSoFar cases stop_on [] finished → IsRun cases stop_on finished (Some CampaignEnd.Complete)
   aborted : (finished : List Finished) (c : Outline) (left : List Outline) (ending : CampaignEnd)
       → IsSoFar cases stop_on (c ∷ left) finished → IsAbortedAt c ending → IsRun cases stop_on finished (Some ending)
   stopped : (finished : List Finished) (f : Finished) (c : Outline) (left : List Outline)
       → IsSoFar cases stop_on (c ∷ left) finished → IsOf c f → IsMet stop_on f.report.verdict
-      → IsRun cases stop_on (finished ++ f ∷ []) (Some (E.StoppedAfter f.name))
+      → IsRun cases stop_on (finished ++ f ∷ []) (Some (CampaignEnd.StoppedAfter f.name))
   cut : (finished : List Finished) (f : Finished) (c : Outline) (left : List Outline)
       → IsSoFar cases stop_on (c ∷ left) finished → IsOf c f → IsRun cases stop_on (finished ++ f ∷ []) None
 
 -- how a campaign ends that runs none of these cases because memory ran out
 abbrev pub IsUnrun : List Outline → CampaignEnd → Type 0
-IsUnrun [] ending = ending ≡ E.Complete
-IsUnrun (c ∷ left) ending = ending ≡ E.Aborted c.name C.NoMemory
+IsUnrun [] ending = ending ≡ CampaignEnd.Complete
+IsUnrun (c ∷ left) ending = ending ≡ CampaignEnd.Aborted c.name CaseError.NoMemory
 
 -- the test case was run to its end
 pub record IsFinished {B : Type 0} (outcome : B → PassState → Back → Type 0) (threads : ℕ) (c : Case B) (f : Finished) : Type 0 where
@@ -113,11 +93,11 @@ module _ {B O : Type 0} (outcome : B → PassState → Back → Type 0) (takes :
   -- what the run of one test case leaves. It was finished and taken, and the campaign continues, or stops after it; or
   -- it was refused; or it was finished, and the observer has ended the campaign.
   abbrev pub IsStep : Case B → O → O → Step → Type 0
-  IsStep c before after S.GoesOn = (f : Finished) × IsFinished outcome threads c f × IsBetter stop_on f.report.verdict × takes before f after true
-  IsStep c before after (S.Stops ending) =
-      (f : Finished) × IsFinished outcome threads c f × ((ending ≡ E.StoppedAfter f.name) × IsMet stop_on f.report.verdict) × takes before f after true
-  IsStep c before after (S.Refused ending) = IsRefused outcome threads c ending × (after ≡ before)
-  IsStep c before after S.CutShort = (f : Finished) × IsFinished outcome threads c f × takes before f after false
+  IsStep c before after Step.GoesOn = (f : Finished) × IsFinished outcome threads c f × IsBetter stop_on f.report.verdict × takes before f after true
+  IsStep c before after (Step.Stops ending) =
+      (f : Finished) × IsFinished outcome threads c f × ((ending ≡ CampaignEnd.StoppedAfter f.name) × IsMet stop_on f.report.verdict) × takes before f after true
+  IsStep c before after (Step.Refused ending) = IsRefused outcome threads c ending × (after ≡ before)
+  IsStep c before after Step.CutShort = (f : Finished) × IsFinished outcome threads c f × takes before f after false
 
   -- so far these test cases were finished and taken, each better than stop_on, and these are left
   pub record IsGoing (cases left : List (Case B)) (before now : O) : Type 0 where

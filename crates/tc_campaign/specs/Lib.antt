@@ -1,7 +1,6 @@
 -- The definitions that the contracts of this crate cite.
-pub mod Outline
 pub mod Campaign
-pub mod Choosing
+pub mod Outline
 pub mod Inside
 pub mod Prelude
 pub use Rattle.tc_rules.specs.Prelude as OfRules

@@ -1,7 +1,7 @@
 -- Test cases without what their jobs do.
 use Rattle.std.specs.Prelude.{ℕ, ◌≡◌, List}
 use Rattle.std.specs.Vec.{vec_len}
-use Rattle.tc_campaign.specs.declared.case.Case.{Case}
+use Rattle.tc_exec.specs.declared.test_case.Case.{Case}
 
 -- a case has as many names of behaviours as jobs
 abbrev pub HasNames : {B : Type 0} → Case B → Type 0

@@ -2,11 +2,8 @@
 ghost use Rattle.std.specs.Prelude.{◌≡◌, ◌≤◌, [], All, IfOk, IfErr, IfSome, IfNone, Option, length, map, slice_get, ℕ};
 ghost use Rattle.std.specs.Vec.{vec_capacity, vec_len};
 ghost use Rattle.tc_rules.specs.Prelude.{Verdict as AnyVerdict};
-ghost use Rattle.tc_campaign.specs.Outline.{HasNames, outline_of};
-ghost use Rattle.tc_campaign.specs.Campaign.{IsCalled, IsCutShort, IsObserved, IsRunTo, IsTornAt};
-ghost use Rattle.tc_campaign.specs.Inside.{HasThreads, IsOf, IsRefused, IsStep, IsUnrun, WasRun, ended_by};
+ghost use Rattle.tc_campaign.specs.{Campaign.IsCalled, Campaign.IsCutShort, Campaign.IsObserved, Campaign.IsRunTo, Campaign.IsTornAt, Inside.HasThreads, Inside.IsOf, Inside.IsRefused, Inside.IsStep, Inside.IsUnrun, Inside.WasRun, Inside.ended_by, Outline.HasNames, Outline.outline_of};
 
-use crate::case::Case;
 use crate::step::Step;
 use crate::stopping::stop_after;
 use std::alloc::Global;
@@ -14,7 +11,7 @@ use std::sync::Wait;
 use std::thread::Threads;
 use tc_book::Sequence;
 use tc_entry::{Name, Verdict};
-use tc_exec::{Callable, CaseError, CaseReport, Everyone, run_case_with};
+use tc_exec::{Callable, Case, CaseError, CaseReport, Everyone, run_case_with};
 use tc_report::{CampaignEnd, Finished, Kept, Observer, Results};
 
 /// What becomes of a test case by the answer to its run: it is finished with the report, or the campaign is aborted at its name, for the

@@ -2,16 +2,12 @@
 #![tactic(auto)]
 
 mod campaign;
-mod case;
-mod choosing;
-pub mod laws;
 mod step;
 mod stopping;
 
 pub use campaign::{run_campaign, run_campaign_with, without_room};
-pub use case::Case;
-pub use choosing::{choose, have_all};
 pub use tc_entry::Shard;
+pub use tc_exec::Case;
 pub use tc_report::{
     CampaignEnd, Finished, Kept, LiveForm, LiveWriter, Observer, OutFault, Progress, Results,
     Tally, status_of, tally, write_abort, write_csv, write_evidence, write_history, write_text,

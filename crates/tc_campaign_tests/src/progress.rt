@@ -1,16 +1,16 @@
 //! What is printed about test cases as they finish, to a writer that fails.
 ghost use Rattle.std.specs.Prelude.{⊤};
 
-use crate::checks::is;
+use crate::checks::{holds, is};
 use crate::devices::FAILURES;
 use crate::results::{CASES, finished, name};
 use std::alloc::Global;
 use std::cell::Cell;
-use std::io;
 use std::io::Write;
 use std::process::Abort;
 use std::test::Fail;
 use std::time::{Clock, Duration};
+use std::{io, str};
 use tc_campaign::{Finished, Observer, OutFault, Progress};
 use tc_entry::{Name, Verdict};
 use tc_stream::devices::{NarrowWriter, WriteFailure};
@@ -20,14 +20,14 @@ const TOLD: &str = "1/3 a ..
 2/3 b ..
 2/3 b fail 0.041 s: run 0 on component 0: setverdict fail -> ok
 3/3 c ..
-3/3 c inconc 75.343 s: run 0 on component 0: setverdict inconc -> ok
+3/3 c inconc 75.100 s: run 0 on component 0: setverdict inconc -> ok
 failed: b fail: run 0 on component 0: setverdict fail -> ok
 failed: c inconc: run 0 on component 0: setverdict inconc -> ok
 ";
 
 // What a clock says one time after the other, in thousandths of a second: when each test case begins, and when it has
 // ended.
-const TIMES: [u64; 6] = [60_000, 60_007, 60_007, 60_048, 60_048, 135_391];
+const TIMES: [u64; 6] = [60_000, 60_007, 60_007, 60_048, 60_048, 135_148];
 
 /// A clock that says these times. After the last it fails.
 #[derive(Drop)]
@@ -163,6 +163,19 @@ fn told_of(
     let (_, answer) = tell(alloc, stop_on, times, &mut lines)?;
     answer?;
     Ok(lines)
+}
+
+const SHORT: [u64; 6] = [0, 9, 9, 19, 19, 118];
+
+// Each time has three digits after its point.
+#[test]
+fn thousandths_of_a_second(rt: HostRuntime) -> Result<(), Fail> {
+    let told = told_of(rt.alloc(), None, &SHORT)?;
+    let text = str::from_utf8(told.as_slice())?;
+    for time in ["pass 0.009 s\n", "fail 0.010 s: ", "inconc 0.099 s: "] {
+        holds(&rt, time, text.contains(time));
+    }
+    Ok(())
 }
 
 // A clock that fails leaves out its time: here as the second test case ends, and as the third begins.

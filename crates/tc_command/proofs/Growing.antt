@@ -7,9 +7,7 @@ use Rattle.clap.specs.Words.{AddsArg, AddsSubcommand, App, Rule, app_of, rule_of
 use Rattle.clap.specs.declared.builder.arg.Arg.{Arg}
 use Rattle.clap.specs.declared.builder.command.Command.{Command}
 use Rattle.clap.specs.declared.builder.command.Command.TheViews.{out-Command}
-use Rattle.tc_command.specs.Inside.{GrowsBy, app_of_subcommand, rule_of_row, with_each, with_rows}
-use Rattle.tc_command.specs.declared.command.OptionRow.{OptionRow}
-use Rattle.tc_command.specs.declared.command.Subcommand.{Subcommand}
+use Rattle.tc_command.specs.{Inside.GrowsBy, Inside.app_of_subcommand, Inside.rule_of_row, Inside.with_each, Inside.with_rows, declared.command.OptionRow.OptionRow, declared.command.Subcommand.Subcommand}
 
 -- an option of this rule more
 pub grows_by_one : {old new : Command} {a : Arg} {rule : Rule} → AddsArg old a new → a.global ≡ false → rule_of a ≡ rule

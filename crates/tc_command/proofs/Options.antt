@@ -1,22 +1,16 @@
 -- The options among the words, as the matches hold them.
 use Rattle.std.proofs.Common.{ℕ, ◌≡◌, ◌∙◌, ◌+◌, ◌<◌, ◌++◌, ◌∷◌, refl, All, ap, get_or, length, map, subst, sym, take, Option, Some, None, List, []}
-use Rattle.std.proofs.lemmas.List.{get_or-map, length-map, map-append, take_more}
-use Rattle.std.proofs.lemmas.List.Elements.{All-push}
-use Rattle.tc_entry.specs.Prelude.{IsPattern}
-use Rattle.std.specs.Prelude.{find, option_map, option_and_then, unwrap_or}
-use Rattle.std.specs.Borrow.{Bor}
-use Rattle.std.specs.Str.{bytes_eq}
+use Rattle.std.proofs.lemmas.List.{Elements.All-push, get_or-map, length-map, map-append, take_more}
+use Rattle.std.specs.Prelude.{find, option_map, option_and_then, unwrap_or, ◌||◌, Bool, false, is_none, true}
+use Rattle.std.specs.{Borrow.Bor, Str.bytes_eq}
 use Rattle.clap.specs.Facts.{Entry}
 use Rattle.clap.specs.Matches.{first_value, matched_of, raw_values}
 use Rattle.clap.specs.Walk.{Row, Text, first_of, row_of, rows_of, texts}
 use Rattle.clap.specs.declared.parser.matches.Found.{Found}
 use Rattle.clap.specs.declared.parser.matches.MatchedArg.{MatchedArg}
 use Rattle.clap.proofs.WalkLemmas.{find_row, first_value-rows, raw_values-rows}
-use Rattle.std.specs.Prelude.{◌||◌, Bool, false, is_none, true}
-use Rattle.tc_command.specs.Asked.{lacks_junit, lacks_option, lacks_script, report_form_of, option_values}
-use Rattle.tc_command.specs.Inside.{lacks_form, lacks_script_of}
-use Rattle.tc_command.specs.declared.command.Subcommand.{Subcommand}
-use Rattle.tc_command.specs.declared.command.Subcommand.TheVariants as S
+use Rattle.tc_entry.specs.Prelude.{IsPattern}
+use Rattle.tc_command.specs.{Asked.lacks_junit, Asked.lacks_option, Asked.lacks_script, Asked.option_values, Asked.report_form_of, Inside.lacks_form, Inside.lacks_script_of, declared.command.Subcommand.Subcommand}
 
 -- the source of an option's value, by its row
 pub source_of : (f : Found) (id : Text) → option_and_then (λ (a : MatchedArg). a.source) (matched_of f id)
@@ -58,15 +52,15 @@ name_at words i d within all = subst IsPattern (get_or-map (λ (w : Bor Text). w
 
 -- which option is lacking, whatever the subcommand is
 pub lacks_rules : (s : Subcommand) (rows : List Row) → lacks_option s rows ≡ lacks_script_of s rows || (lacks_form s rows || lacks_junit rows)
-lacks_rules S.Run rows = refl
-lacks_rules S.Serve rows = refl
-lacks_rules S.Explore rows = refl
-lacks_rules S.Check rows = refl
-lacks_rules S.Report rows = refl
-lacks_rules S.Replay rows = refl
+lacks_rules Subcommand.Run rows = refl
+lacks_rules Subcommand.Serve rows = refl
+lacks_rules Subcommand.Explore rows = refl
+lacks_rules Subcommand.Check rows = refl
+lacks_rules Subcommand.Report rows = refl
+lacks_rules Subcommand.Replay rows = refl
 
 -- a report that lacks no option has a form
-pub has_form : (s : Subcommand) (rows : List Row) → s ≡ S.Report → lacks_option s rows ≡ false → is_none (report_form_of rows) ≡ false
+pub has_form : (s : Subcommand) (rows : List Row) → s ≡ Subcommand.Report → lacks_option s rows ≡ false → is_none (report_form_of rows) ≡ false
 has_form s rows is taken = go (lacks_script rows) (is_none (report_form_of rows)) (lacks_junit rows) (subst (λ t. lacks_option t rows ≡ false) is taken)
   where
     go : (a b d : Bool) → (a || (b || d)) ≡ false → b ≡ false

@@ -5,14 +5,7 @@ use Rattle.clap.specs.Kinds.{Kinds, or_else}
 use Rattle.clap.specs.Words.{App, HasKind, Row, Text, fault_of, is_simple_and_free, kind_of}
 use Rattle.clap.specs.declared.error.Error.{Error}
 use Rattle.clap.proofs.FaultLemmas.{first_fails, past}
-use Rattle.tc_command.specs.Asked.{Asks, HasBadWord, IsReadAs, option_faults}
-use Rattle.tc_command.specs.Inside.{IsRefusedBy, IsTaken, IsToldBy}
-use Rattle.tc_command.specs.declared.command.Subcommand.{Subcommand}
-use Rattle.tc_command.specs.declared.read.Refused.{Refused}
-use Rattle.tc_command.specs.declared.read.Refused.TheVariants as Told
-use Rattle.tc_command.specs.declared.refusal.Refusal.{Refusal}
-use Rattle.tc_command.specs.declared.refusal.Refusal.TheVariants as R
-use Rattle.tc_command.specs.declared.task.Task.{Task}
+use Rattle.tc_command.specs.{Asked.Asks, Asked.HasBadWord, Asked.IsReadAs, Asked.option_faults, Inside.IsRefusedBy, Inside.IsTaken, Inside.IsToldBy, declared.command.Subcommand.Subcommand, declared.read.Refused.Refused, declared.refusal.Refusal.Refusal, declared.task.Task.Task}
 
 -- what a command reads is what the application that it is reads
 pub carried : {T : Type 0} {x : T} (read : App → T) (fits : App → Bool) {command app : App} → command ≡ app → fits app ≡ true
@@ -21,7 +14,7 @@ carried read fits is fit same = same (ap fits is ∙ fit) ∙ ap read is
 
 -- what the parse refuses is refused, for the same reason
 pub parse_refuses : (at : Bool) {command app : App} (words : List Text) (line : Subcommand × List Row) (e : Error) → command ≡ app → is_simple_and_free app ≡ true
-    → (is_simple_and_free command ≡ true → HasKind (fault_of command words) e) → IsReadAs at (fault_of app words) line (Err (Told.Line e))
+    → (is_simple_and_free command ≡ true → HasKind (fault_of command words) e) → IsReadAs at (fault_of app words) line (Err (Refused.Line e))
 parse_refuses at {command} {app} words line e is fit kinds =
     first_fails (fault_of app words) _ (kind_of e) (subst (λ a. HasKind (fault_of a words) e) is (kinds (ap is_simple_and_free is ∙ fit)))
 
@@ -36,20 +29,20 @@ module _ (at : Bool) (found : Kinds) (line given : Subcommand × List Row) (none
 
   -- what is known of its options is why the words are refused
   pub refusal_read : (refusal : Refusal) (refused : Refused) → IsRefusedBy line refusal → IsToldBy refusal refused → IsReadAs at found given (Err refused)
-  refusal_read (R.Conflict first second) (Told.Line e) why told = subst (λ k. HasKind k e) (sym (faults_are ∙ why)) (inr (inl told))
-  refusal_read (R.Conflict first second) (Told.Word f) why told = absurd told
-  refusal_read R.NoForm (Told.Line e) why told = subst (λ k. HasKind k e) (sym (faults_are ∙ why)) (inr (inl told))
-  refusal_read R.NoForm (Told.Word f) why told = absurd told
-  refusal_read R.NoScript (Told.Line e) why told = subst (λ k. HasKind k e) (sym (faults_are ∙ why)) (inr (inl told))
-  refusal_read R.NoScript (Told.Word f) why told = absurd told
-  refusal_read R.NoJunit (Told.Line e) why told = subst (λ k. HasKind k e) (sym (faults_are ∙ why)) (inr (inl told))
-  refusal_read R.NoJunit (Told.Word f) why told = absurd told
-  refusal_read (R.Word fault) (Told.Line e) why told = absurd told
-  refusal_read (R.Word fault) (Told.Word f) why told = (faults_are ∙ why.0, subst (λ g. HasBadWord given.1 g) (sym told) (subst (λ l. HasBadWord l.1 fault) line_is why.1))
-  refusal_read R.NoMemory refused why told = absurd told
+  refusal_read (Refusal.Conflict first second) (Refused.Line e) why told = subst (λ k. HasKind k e) (sym (faults_are ∙ why)) (inr (inl told))
+  refusal_read (Refusal.Conflict first second) (Refused.Word f) why told = absurd told
+  refusal_read Refusal.NoForm (Refused.Line e) why told = subst (λ k. HasKind k e) (sym (faults_are ∙ why)) (inr (inl told))
+  refusal_read Refusal.NoForm (Refused.Word f) why told = absurd told
+  refusal_read Refusal.NoScript (Refused.Line e) why told = subst (λ k. HasKind k e) (sym (faults_are ∙ why)) (inr (inl told))
+  refusal_read Refusal.NoScript (Refused.Word f) why told = absurd told
+  refusal_read Refusal.NoJunit (Refused.Line e) why told = subst (λ k. HasKind k e) (sym (faults_are ∙ why)) (inr (inl told))
+  refusal_read Refusal.NoJunit (Refused.Word f) why told = absurd told
+  refusal_read (Refusal.Word fault) (Refused.Line e) why told = absurd told
+  refusal_read (Refusal.Word fault) (Refused.Word f) why told = (faults_are ∙ why.0, subst (λ g. HasBadWord given.1 g) (sym told) (subst (λ l. HasBadWord l.1 fault) line_is why.1))
+  refusal_read Refusal.NoMemory refused why told = absurd told
 
 -- an answer that is this error is read as it is
-pub fails_so : (at : Bool) (found : Kinds) (line : Subcommand × List Row) (r : Result Task Refused) (e : Error) → IsErrAnd r (λ x. x ≡ Told.Line e)
-    → IsReadAs at found line (Err (Told.Line e)) → IsReadAs at found line r
+pub fails_so : (at : Bool) (found : Kinds) (line : Subcommand × List Row) (r : Result Task Refused) (e : Error) → IsErrAnd r (λ x. x ≡ Refused.Line e)
+    → IsReadAs at found line (Err (Refused.Line e)) → IsReadAs at found line r
 fails_so at found line (Ok x) e is reads = absurd is
 fails_so at found line (Err x) e is reads = subst (λ r. IsReadAs at found line (Err r)) (sym is) reads

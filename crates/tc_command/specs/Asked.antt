@@ -1,31 +1,13 @@
 -- What the arguments ask for.
-use Rattle.std.specs.Prelude.{◌≡◌, Bool, true, false, ◌&&◌, ◌||◌, not, List, [], ◌∷◌, Option, Some, None, Result, Ok, Err, All, IfSome, codes, find}
-use Rattle.std.specs.Prelude.{if◌then◌else◌, is_none, option_and_then, unwrap_or}
-use Rattle.std.specs.List.{list_any}
-use Rattle.std.specs.Str.{bytes_eq}
+use Rattle.std.specs.Prelude.{◌≡◌, Bool, true, false, ◌&&◌, ◌||◌, not, List, [], ◌∷◌, Option, Some, None, Result, Ok, Err, All, IfSome, codes, find, if◌then◌else◌, is_none, option_and_then, unwrap_or}
+use Rattle.std.specs.{List.list_any, Str.bytes_eq}
 use Rattle.clap.specs.Words.{HasKind, Row, Text, all_of, first_of, fault_of, matches_of, subcommand_of}
 use Rattle.clap.specs.Kinds.{Kinds, or_else}
 use Rattle.clap.specs.declared.error.kind.ErrorKind.TheVariants.{ArgumentConflict, MissingRequiredArgument}
 use Rattle.clap.specs.declared.parser.matches.ValueSource.{ValueSource}
 use Rattle.clap.specs.declared.parser.matches.ValueSource.TheVariants.{CommandLine}
 use Rattle.tc_entry.specs.Prelude.{IsName, IsPattern}
-use Rattle.tc_command.specs.declared.command.Subcommand.{Subcommand}
-use Rattle.tc_command.specs.declared.command.Subcommand.TheVariants as S
-use Rattle.tc_command.specs.declared.read.Refused.{Refused}
-use Rattle.tc_command.specs.declared.read.Refused.TheVariants as R
-use Rattle.tc_command.specs.declared.task.Choice.{Choice}
-use Rattle.tc_command.specs.declared.task.ExploreOptions.{ExploreOptions}
-use Rattle.tc_command.specs.declared.task.Form.{Form}
-use Rattle.tc_command.specs.declared.task.Form.TheVariants as form
-use Rattle.tc_command.specs.declared.task.ReportForm.{ReportForm}
-use Rattle.tc_command.specs.declared.task.ReportForm.TheVariants as report_form
-use Rattle.tc_command.specs.declared.task.RunOptions.{RunOptions}
-use Rattle.tc_command.specs.declared.task.Task.{Task}
-use Rattle.tc_command.specs.declared.task.Task.TheVariants as T
-use Rattle.tc_command.specs.declared.word.WordFault.{WordFault}
-use Rattle.tc_command.specs.declared.word.WordFault.TheVariants as W
-use Rattle.tc_command.specs.Command.{cases_app, ttrun}
-use Rattle.tc_command.specs.Words.{IsGood, IsRuleOf, IsShardOf, IsStatesOf}
+use Rattle.tc_command.specs.{Command.IsGood, Command.IsRuleOf, Command.IsShardOf, Command.IsStatesOf, Command.cases_app, Command.ttrun, declared.command.Subcommand.Subcommand, declared.read.Refused.Refused, declared.task.Choice.Choice, declared.task.ExploreOptions.ExploreOptions, declared.task.Form.Form, declared.task.ReportForm.ReportForm, declared.task.RunOptions.RunOptions, declared.task.Task.Task, declared.word.WordFault.WordFault}
 
 -- the value comes from the arguments, and is no default
 abbrev pub is_from_words : Option ValueSource → Bool
@@ -43,27 +25,27 @@ option_values option rows = unwrap_or (all_of option rows) []
 -- the subcommand of this name; any other word that the command line takes is `run`
 abbrev pub subcommand_named : Text → Subcommand
 subcommand_named name =
-    if bytes_eq name (codes "check") then S.Check
-    else (if bytes_eq name (codes "replay") then S.Replay
-    else (if bytes_eq name (codes "explore") then S.Explore
-    else (if bytes_eq name (codes "report") then S.Report
-    else (if bytes_eq name (codes "serve") then S.Serve else S.Run))))
+    if bytes_eq name (codes "check") then Subcommand.Check
+    else (if bytes_eq name (codes "replay") then Subcommand.Replay
+    else (if bytes_eq name (codes "explore") then Subcommand.Explore
+    else (if bytes_eq name (codes "report") then Subcommand.Report
+    else (if bytes_eq name (codes "serve") then Subcommand.Serve else Subcommand.Run))))
 
 -- the subcommand and its options; no subcommand is `run` without options
 abbrev pub command_line_of : Option (Text × List Row) → Subcommand × List Row
-command_line_of None = (S.Run, [])
+command_line_of None = (Subcommand.Run, [])
 command_line_of (Some p) = (subcommand_named p.0, p.1)
 
 -- options of this subcommand of which each two exclude each other
 abbrev pub apart : Subcommand → List (Text × Text)
-apart S.Run =
+apart Subcommand.Run =
     (codes "csv", codes "history") ∷ (codes "csv", codes "evidence") ∷ (codes "csv", codes "junit")
     ∷ (codes "history", codes "evidence") ∷ (codes "history", codes "junit") ∷ (codes "evidence", codes "junit")
     ∷ (codes "list", codes "csv") ∷ (codes "list", codes "history") ∷ (codes "list", codes "evidence") ∷ (codes "list", codes "junit")
     ∷ (codes "list", codes "live") ∷ (codes "list", codes "progress") ∷ (codes "list", codes "stop-on") ∷ (codes "junit", codes "live") ∷ []
-apart S.Check = (codes "script", codes "failed") ∷ []
-apart S.Explore = (codes "history", codes "details") ∷ (codes "history", codes "locals") ∷ []
-apart S.Report =
+apart Subcommand.Check = (codes "script", codes "failed") ∷ []
+apart Subcommand.Explore = (codes "history", codes "details") ∷ (codes "history", codes "locals") ∷ []
+apart Subcommand.Report =
     (codes "csv", codes "junit") ∷ (codes "csv", codes "html") ∷ (codes "csv", codes "summary")
     ∷ (codes "junit", codes "html") ∷ (codes "junit", codes "summary") ∷ (codes "html", codes "summary")
     ∷ (codes "html", codes "failed") ∷ (codes "script", codes "failed") ∷ []
@@ -72,18 +54,18 @@ apart subcommand = []
 -- the form that the options of `run` ask for
 abbrev pub form_of : List Row → Form
 form_of rows =
-    if is_given rows (codes "csv") then form.Csv
-    else (if is_given rows (codes "history") then form.History
-    else (if is_given rows (codes "evidence") then form.Evidence
-    else (if is_given rows (codes "junit") then form.Junit (first_of (codes "suite") rows) else form.Text)))
+    if is_given rows (codes "csv") then Form.Csv
+    else (if is_given rows (codes "history") then Form.History
+    else (if is_given rows (codes "evidence") then Form.Evidence
+    else (if is_given rows (codes "junit") then Form.Junit (first_of (codes "suite") rows) else Form.Text)))
 
 -- the form that the options of `report` ask for, if they ask for one
 abbrev pub report_form_of : List Row → Option ReportForm
 report_form_of rows =
-    if is_given rows (codes "csv") then Some report_form.Csv
-    else (if is_given rows (codes "junit") then Some (report_form.Junit (first_of (codes "suite") rows))
-    else (if is_given rows (codes "html") then Some report_form.Html
-    else (if is_given rows (codes "summary") then Some report_form.Summary else None)))
+    if is_given rows (codes "csv") then Some ReportForm.Csv
+    else (if is_given rows (codes "junit") then Some (ReportForm.Junit (first_of (codes "suite") rows))
+    else (if is_given rows (codes "html") then Some ReportForm.Html
+    else (if is_given rows (codes "summary") then Some ReportForm.Summary else None)))
 
 -- a shard is chosen, or what is on a page, and there is no script
 abbrev pub lacks_script : List Row → Bool
@@ -95,8 +77,8 @@ lacks_junit rows = is_given rows (codes "suite") && not (is_given rows (codes "j
 
 -- options are given without one that they need: their script, a form of the report, or the report that a suite is of
 abbrev pub lacks_option : Subcommand → List Row → Bool
-lacks_option S.Check rows = lacks_script rows || lacks_junit rows
-lacks_option S.Report rows = lacks_script rows || (is_none (report_form_of rows) || lacks_junit rows)
+lacks_option Subcommand.Check rows = lacks_script rows || lacks_junit rows
+lacks_option Subcommand.Report rows = lacks_script rows || (is_none (report_form_of rows) || lacks_junit rows)
 lacks_option subcommand rows = lacks_junit rows
 
 -- why options are refused; none if they are taken
@@ -137,15 +119,15 @@ pub record AsksExplore (at_terminal : Bool) (rows : List Row) (o : ExploreOption
 
 -- the subcommand with its options asks for this task
 abbrev pub Asks : Bool → Subcommand × List Row → Task → Type 0
-Asks at (S.Check, rows) (T.Check c explains) = (is_given rows (codes "script") ≡ false) × AsksFor at rows c explains
-Asks at (S.Check, rows) (T.Compare None c explains) = (is_given rows (codes "script") ≡ true) × AsksFor at rows c explains
-Asks at (S.Replay, rows) (T.Replay explains) = explains ≡ is_explained at rows
-Asks at (S.Report, rows) (T.Report f c explains) = (is_given rows (codes "script") ≡ false) × (report_form_of rows ≡ Some f) × AsksFor at rows c explains
-Asks at (S.Report, rows) (T.Compare (Some f) c explains) = (is_given rows (codes "script") ≡ true) × (report_form_of rows ≡ Some f) × AsksFor at rows c explains
-Asks at (S.Explore, rows) (T.Explore o) = AsksExplore at rows o
-Asks at (S.Run, rows) (T.Run o) = (is_given rows (codes "list") ≡ false) × AsksRun at rows o
-Asks at (S.Run, rows) (T.List c explains) = (is_given rows (codes "list") ≡ true) × AsksFor at rows c explains
-Asks at (S.Serve, rows) T.Serve = Unit {0}
+Asks at (Subcommand.Check, rows) (Task.Check c explains) = (is_given rows (codes "script") ≡ false) × AsksFor at rows c explains
+Asks at (Subcommand.Check, rows) (Task.Compare None c explains) = (is_given rows (codes "script") ≡ true) × AsksFor at rows c explains
+Asks at (Subcommand.Replay, rows) (Task.Replay explains) = explains ≡ is_explained at rows
+Asks at (Subcommand.Report, rows) (Task.Report f c explains) = (is_given rows (codes "script") ≡ false) × (report_form_of rows ≡ Some f) × AsksFor at rows c explains
+Asks at (Subcommand.Report, rows) (Task.Compare (Some f) c explains) = (is_given rows (codes "script") ≡ true) × (report_form_of rows ≡ Some f) × AsksFor at rows c explains
+Asks at (Subcommand.Explore, rows) (Task.Explore o) = AsksExplore at rows o
+Asks at (Subcommand.Run, rows) (Task.Run o) = (is_given rows (codes "list") ≡ false) × AsksRun at rows o
+Asks at (Subcommand.Run, rows) (Task.List c explains) = (is_given rows (codes "list") ≡ true) × AsksFor at rows c explains
+Asks at (Subcommand.Serve, rows) Task.Serve = Unit {0}
 Asks at line task = ⊥
 
 -- the values of --shard and --only name something
@@ -155,19 +137,19 @@ HasGoodChoice rows = IsGood IsShardOf (first_of (codes "shard") rows) × All IsP
 -- a value of these options names nothing, and it is the first: that of --shard, then those of --only, then that of
 -- --suite, and then that of --stop-on or --states
 abbrev pub HasBadWord : List Row → WordFault → Type 0
-HasBadWord rows W.Shard = IsGood IsShardOf (first_of (codes "shard") rows) → ⊥
-HasBadWord rows W.Only = IsGood IsShardOf (first_of (codes "shard") rows) × (All IsPattern (option_values (codes "only") rows) → ⊥)
-HasBadWord rows W.Suite = HasGoodChoice rows × (IfSome (first_of (codes "suite") rows) IsName → ⊥)
-HasBadWord rows W.StopOn = HasGoodChoice rows × IfSome (first_of (codes "suite") rows) IsName × (IsGood IsRuleOf (first_of (codes "stop-on") rows) → ⊥)
-HasBadWord rows W.States = HasGoodChoice rows × (IsGood IsStatesOf (first_of (codes "states") rows) → ⊥)
+HasBadWord rows WordFault.Shard = IsGood IsShardOf (first_of (codes "shard") rows) → ⊥
+HasBadWord rows WordFault.Only = IsGood IsShardOf (first_of (codes "shard") rows) × (All IsPattern (option_values (codes "only") rows) → ⊥)
+HasBadWord rows WordFault.Suite = HasGoodChoice rows × (IfSome (first_of (codes "suite") rows) IsName → ⊥)
+HasBadWord rows WordFault.StopOn = HasGoodChoice rows × IfSome (first_of (codes "suite") rows) IsName × (IsGood IsRuleOf (first_of (codes "stop-on") rows) → ⊥)
+HasBadWord rows WordFault.States = HasGoodChoice rows × (IsGood IsStatesOf (first_of (codes "states") rows) → ⊥)
 
 -- What a line is read as, in which the command finds these faults: the task that it asks for, or clap's error. Its kind is that
 -- of its first fault, or that it asks for help or the version: the command's, or if it has none the options'. If it has none, it may be an
 -- option value that names nothing.
 abbrev pub IsReadAs : Bool → Kinds → Subcommand × List Row → Result Task Refused → Type 0
 IsReadAs at_terminal found line (Ok task) = (or_else found (option_faults line) ≡ []) × Asks at_terminal line task
-IsReadAs at_terminal found line (Err (R.Line e)) = HasKind (or_else found (option_faults line)) e
-IsReadAs at_terminal found line (Err (R.Word fault)) = (or_else found (option_faults line) ≡ []) × HasBadWord line.1 fault
+IsReadAs at_terminal found line (Err (Refused.Line e)) = HasKind (or_else found (option_faults line)) e
+IsReadAs at_terminal found line (Err (Refused.Word fault)) = (or_else found (option_faults line) ≡ []) × HasBadWord line.1 fault
 
 -- what the arguments of the program are read as
 abbrev pub IsReading : Bool → List Text → Result Task Refused → Type 0
@@ -175,4 +157,4 @@ IsReading at_terminal words = IsReadAs at_terminal (fault_of ttrun words) (comma
 
 -- what those of a program with test cases of its own are read as: as those of `run`
 abbrev pub IsCasesReading : List Text → Result Task Refused → Type 0
-IsCasesReading words = IsReadAs false (fault_of cases_app words) (S.Run, matches_of cases_app words)
+IsCasesReading words = IsReadAs false (fault_of cases_app words) (Subcommand.Run, matches_of cases_app words)

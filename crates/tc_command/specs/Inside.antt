@@ -5,39 +5,27 @@ use Rattle.clap.specs.Words.{App, Row, Rule, Text, app_of, kind_of, new_app, wit
 use Rattle.clap.specs.declared.builder.command.Command.{Command}
 use Rattle.clap.specs.declared.builder.command.Command.TheViews.{out-Command}
 use Rattle.clap.specs.declared.error.kind.ErrorKind.TheVariants.{ArgumentConflict, MissingRequiredArgument}
-use Rattle.tc_command.specs.Asked.{Asks, HasBadWord, is_given, lacks_script, option_faults, report_form_of}
-use Rattle.tc_command.specs.Command.{check, explore, flag_rule, replay, report, run, word_rule, words_rule}
-use Rattle.tc_command.specs.declared.command.OptionRow.{OptionRow}
-use Rattle.tc_command.specs.declared.command.Subcommand.{Subcommand}
-use Rattle.tc_command.specs.declared.command.Subcommand.TheVariants as S
-use Rattle.tc_command.specs.declared.command.Takes.{Takes}
-use Rattle.tc_command.specs.declared.command.Takes.TheVariants as T
-use Rattle.tc_command.specs.declared.read.Refused.{Refused}
-use Rattle.tc_command.specs.declared.read.Refused.TheVariants as Told
-use Rattle.tc_command.specs.declared.refusal.Refusal.{Refusal}
-use Rattle.tc_command.specs.declared.refusal.Refusal.TheVariants as R
-use Rattle.tc_command.specs.declared.task.Task.{Task}
-use Rattle.tc_command.specs.declared.word.WordFault.{WordFault}
+use Rattle.tc_command.specs.{Asked.Asks, Asked.HasBadWord, Asked.is_given, Asked.lacks_script, Asked.option_faults, Asked.report_form_of, Command.check, Command.explore, Command.flag_rule, Command.replay, Command.report, Command.run, Command.word_rule, Command.words_rule, declared.command.OptionRow.OptionRow, declared.command.Subcommand.Subcommand, declared.command.Takes.Takes, declared.read.Refused.Refused, declared.refusal.Refusal.Refusal, declared.task.Task.Task, declared.word.WordFault.WordFault}
 
 -- a script may come before histories, and there is none though one is needed
 abbrev pub lacks_script_of : Subcommand → List Row → Bool
-lacks_script_of S.Check rows = lacks_script rows
-lacks_script_of S.Report rows = lacks_script rows
+lacks_script_of Subcommand.Check rows = lacks_script rows
+lacks_script_of Subcommand.Report rows = lacks_script rows
 lacks_script_of subcommand rows = false
 
 -- a form is needed, and none is given
 abbrev pub lacks_form : Subcommand → List Row → Bool
-lacks_form S.Report rows = is_none (report_form_of rows)
+lacks_form Subcommand.Report rows = is_none (report_form_of rows)
 lacks_form subcommand rows = false
 
 -- options are refused for this reason; if memory runs out, nothing is said about them
 abbrev pub IsRefusedBy : Subcommand × List Row → Refusal → Type 0
-IsRefusedBy line (R.Conflict first second) = option_faults line ≡ ArgumentConflict ∷ []
-IsRefusedBy line R.NoForm = option_faults line ≡ MissingRequiredArgument ∷ []
-IsRefusedBy line R.NoScript = option_faults line ≡ MissingRequiredArgument ∷ []
-IsRefusedBy line R.NoJunit = option_faults line ≡ MissingRequiredArgument ∷ []
-IsRefusedBy line (R.Word fault) = (option_faults line ≡ []) × HasBadWord line.1 fault
-IsRefusedBy line R.NoMemory = Unit {0}
+IsRefusedBy line (Refusal.Conflict first second) = option_faults line ≡ ArgumentConflict ∷ []
+IsRefusedBy line Refusal.NoForm = option_faults line ≡ MissingRequiredArgument ∷ []
+IsRefusedBy line Refusal.NoScript = option_faults line ≡ MissingRequiredArgument ∷ []
+IsRefusedBy line Refusal.NoJunit = option_faults line ≡ MissingRequiredArgument ∷ []
+IsRefusedBy line (Refusal.Word fault) = (option_faults line ≡ []) × HasBadWord line.1 fault
+IsRefusedBy line Refusal.NoMemory = Unit {0}
 
 -- both options of this pair are given
 abbrev pub gives_both : List Row → Bor Text × Bor Text → Bool
@@ -45,26 +33,26 @@ gives_both rows p = is_given rows p.0.now && is_given rows p.1.now
 
 -- two options clash, if some do
 abbrev pub IsClash : Bool → Refusal → Type 0
-IsClash some (R.Conflict first second) = some ≡ true
+IsClash some (Refusal.Conflict first second) = some ≡ true
 IsClash some refusal = ⊥
 
 -- options are given without one that they need, if some are
 abbrev pub IsLack : Bool → Refusal → Type 0
-IsLack some R.NoForm = some ≡ true
-IsLack some R.NoScript = some ≡ true
-IsLack some R.NoJunit = some ≡ true
+IsLack some Refusal.NoForm = some ≡ true
+IsLack some Refusal.NoScript = some ≡ true
+IsLack some Refusal.NoJunit = some ≡ true
 IsLack some refusal = ⊥
 
 -- a value is refused for this reason, or memory ran out
 abbrev pub IsBadWord : Type 0 → WordFault → Refusal → Type 0
-IsBadWord Why fault (R.Word f) = (f ≡ fault) × Why
-IsBadWord Why fault R.NoMemory = Unit {0}
+IsBadWord Why fault (Refusal.Word f) = (f ≡ fault) × Why
+IsBadWord Why fault Refusal.NoMemory = Unit {0}
 IsBadWord Why fault refusal = ⊥
 
 -- the first value that names nothing is refused, or memory ran out
 abbrev pub IsWordRefused : List Row → Refusal → Type 0
-IsWordRefused rows (R.Word fault) = HasBadWord rows fault
-IsWordRefused rows R.NoMemory = Unit {0}
+IsWordRefused rows (Refusal.Word fault) = HasBadWord rows fault
+IsWordRefused rows Refusal.NoMemory = Unit {0}
 IsWordRefused rows refusal = ⊥
 
 -- options are taken, and ask for this task
@@ -73,18 +61,18 @@ IsTaken at_terminal line task = (option_faults line ≡ []) × Asks at_terminal 
 
 -- how the refusal is said: by an error of its kind, or as a value that names nothing
 abbrev pub IsToldBy : Refusal → Refused → Type 0
-IsToldBy (R.Conflict first second) (Told.Line e) = kind_of e ≡ ArgumentConflict
-IsToldBy R.NoForm (Told.Line e) = kind_of e ≡ MissingRequiredArgument
-IsToldBy R.NoScript (Told.Line e) = kind_of e ≡ MissingRequiredArgument
-IsToldBy R.NoJunit (Told.Line e) = kind_of e ≡ MissingRequiredArgument
-IsToldBy (R.Word fault) (Told.Word f) = f ≡ fault
+IsToldBy (Refusal.Conflict first second) (Refused.Line e) = kind_of e ≡ ArgumentConflict
+IsToldBy Refusal.NoForm (Refused.Line e) = kind_of e ≡ MissingRequiredArgument
+IsToldBy Refusal.NoScript (Refused.Line e) = kind_of e ≡ MissingRequiredArgument
+IsToldBy Refusal.NoJunit (Refused.Line e) = kind_of e ≡ MissingRequiredArgument
+IsToldBy (Refusal.Word fault) (Refused.Word f) = f ≡ fault
 IsToldBy refusal refused = ⊥
 
 -- an option of this name, which takes that many values
 abbrev pub rule_taking : Takes → Text → Rule
-rule_taking T.Nothing name = flag_rule name
-rule_taking (T.Word word) name = word_rule name
-rule_taking (T.Words word) name = words_rule name
+rule_taking Takes.Nothing name = flag_rule name
+rule_taking (Takes.Word word) name = word_rule name
+rule_taking (Takes.Words word) name = words_rule name
 
 -- the option of a row
 abbrev pub rule_of_row : OptionRow → Rule
@@ -102,12 +90,12 @@ pub record GrowsBy (more : App → App) (old : Command) (new : Command) : Type 0
 
 -- what each subcommand offers
 abbrev pub app_of_subcommand : Subcommand → App
-app_of_subcommand S.Run = run
-app_of_subcommand S.Serve = new_app (codes "serve")
-app_of_subcommand S.Explore = explore
-app_of_subcommand S.Check = check
-app_of_subcommand S.Report = report
-app_of_subcommand S.Replay = replay
+app_of_subcommand Subcommand.Run = run
+app_of_subcommand Subcommand.Serve = new_app (codes "serve")
+app_of_subcommand Subcommand.Explore = explore
+app_of_subcommand Subcommand.Check = check
+app_of_subcommand Subcommand.Report = report
+app_of_subcommand Subcommand.Replay = replay
 
 -- an application with these subcommands more, in their order
 abbrev pub with_each : List Subcommand → App → App

@@ -1,6 +1,5 @@
 -- The definitions that the contracts of this crate cite.
 pub mod Command
-pub mod Words
 pub mod Asked
 pub mod Inside
 pub mod Prelude

@@ -1,8 +1,7 @@
 //! The arguments of a program with test cases of its own.
 ghost use Rattle.std.specs.Prelude.{◌≡◌, IfOk, map, string_bytes, true};
 ghost use Rattle.clap.specs.Words.{FailsBy, app_of, fault_of, found_of, is_simple, is_simple_and_free, matches_of, rows_of};
-ghost use Rattle.tc_command.specs.Command.{cases_app};
-ghost use Rattle.tc_command.specs.Asked.{IsCasesReading};
+ghost use Rattle.tc_command.specs.{Asked.IsCasesReading, Command.cases_app};
 
 use crate::command::{RUN_OPTIONS, Subcommand, VERSION, with_options};
 use crate::read::{Refused, subcommand_task};

@@ -1,9 +1,8 @@
 //! The program's command, with its subcommands and their options.
-ghost use Rattle.std.specs.Prelude.{◌≡◌, IfOk, codes, false};
+ghost use Rattle.std.specs.Prelude.{◌≡◌, IfOk, false};
 ghost use Rattle.clap.specs.Words.{app_of, kind_of, new_app, rule_of, with_subcommand as and_subcommand};
 ghost use Rattle.clap.specs.declared.builder.command.Command.TheViews.{out-Command};
-ghost use Rattle.tc_command.specs.Command.{check, explore, flag_rule, replay, report, run, ttrun, word_rule, words_rule};
-ghost use Rattle.tc_command.specs.Inside.{GrowsBy, app_of_subcommand, rule_of_row, with_each, with_rows};
+ghost use Rattle.tc_command.specs.{Command.run, Command.ttrun, Inside.GrowsBy, Inside.app_of_subcommand, Inside.rule_of_row, Inside.with_each, Inside.with_rows};
 
 use clap::error::ErrorKind;
 use clap::{Arg, ArgAction, Command, Error};
@@ -26,31 +25,39 @@ Status of explore: 0 if each test case has one verdict, 1 if one has several.
 its limit; or that the arguments or the input were refused, memory ran out, or
 standard input or output failed: standard error says which.";
 
-// What the help of `run` says at its end.
-const RUN_HELP: &str = "\
+// What the help says of `run`, and at its end.
+const RUN_HELP: (&str, &str) = (
+    "runs the campaign of a script, and writes its report",
+    "\
 Standard input is a script: ttrun run < FILE. Standard output is the report.
 With --failed it is a script, and after it histories or evidence of its test
-cases: cat FILE EVIDENCE | ttrun run --failed runs those that are missing, or
-have a verdict other than none and pass.
+cases: cat FILE EVIDENCE | ttrun run --failed runs those that are missing, are
+not legal, or have a verdict other than none and pass.
 
 VERDICT is none, pass, inconc, fail or error. A * in NAME stands for any
 letters, or none: --only 't_*'. --shard K/N runs every N-th of the chosen test
 cases, from the K-th on. --list takes no form, no --live, no --progress and no
 --stop-on, and --junit is not taken with --live.
 Status: 0 for none and pass, 1 for inconc and fail, 2 for error, 3 for an
-abort or a refusal.";
+abort or a refusal.",
+);
 
-// What the help of `explore` says at its end.
-const EXPLORE_HELP: &str = "\
+// What the help says of `explore`, and at its end.
+const EXPLORE_HELP: (&str, &str) = (
+    "looks for every overall verdict that a test case can have",
+    "\
 Standard input is a script: ttrun explore < FILE. Standard output is a line
 for each test case: its name, the verdicts found, and how the search ended.
 N is from 1 to 1000000, and 100000 without --states. --only, --shard and
 --failed choose test cases as those of run do.
 Status: 0 if each test case has one verdict, 1 if one has several, 3 if a
-search met its limit, or for a refusal.";
+search met its limit, or for a refusal.",
+);
 
-// What the help of `report` says at its end.
-const REPORT_HELP: &str = "\
+// What the help says of `report`, and at its end.
+const REPORT_HELP: (&str, &str) = (
+    "reads histories, and writes them in one of these forms",
+    "\
 Standard input is histories or evidence: ttrun report --csv < FILE. Nothing is
 written to standard output if one of them is not legal. --only and --failed
 choose as those of check do, but not for --html. With --script the input is
@@ -59,17 +66,23 @@ that are missing come last, and the lines of check --script go to standard
 error.
 Status: 0 for none and pass, 1 for inconc and fail, 2 for error and for a test
 case that is not over, 3 if a history is not legal, for such a line, or for a
-refusal.";
+refusal.",
+);
 
-// What the help of `replay` says at its end.
-const REPLAY_HELP: &str = "\
+// What the help says of `replay`, and at its end.
+const REPLAY_HELP: (&str, &str) = (
+    "replays a list of moves, and prints each reply and the verdict",
+    "\
 Standard input is a list of moves: ttrun replay < FILE. Standard output is a
 line for each reply, and then the overall verdict.
 Status: 0 for none and pass, 1 for inconc and fail, 2 for error, 3 for a
-refusal.";
+refusal.",
+);
 
-// What the help of `check` says at its end.
-const CHECK_HELP: &str = "\
+// What the help says of `check`, and at its end.
+const CHECK_HELP: (&str, &str) = (
+    "replays histories and evidence, and says which are legal",
+    "\
 Standard input is histories or evidence: ttrun check < FILE. Standard output
 has a line for each, and none after the first that is not legal. --only, as
 for run, and --failed leave out lines of legal ones.
@@ -83,10 +96,13 @@ taken with it. After the lines of check a line says
   no course NAME     this is no complete course of the scripts of NAME
   missing NAME       there is nothing of NAME
 Status: 0 if each history is legal, and with --script no such line is printed;
-otherwise 3.";
+otherwise 3.",
+);
 
-// What the help of `serve` says at its end.
-const SERVE_HELP: &str = "\
+// What the help says of `serve`, and at its end.
+const SERVE_HELP: (&str, &str) = (
+    "answers moves line by line, and writes evidence of the test cases",
+    "\
 Standard input is lines, each answered as soon as it has come:
   case NAME N       opens a test case of N behaviours, 1 to 256
   behaviour K NAME  names the behaviour of run K
@@ -96,7 +112,8 @@ Standard input is lines, each answered as soon as it has come:
 Standard output is evidence of the test cases. A refused line changes nothing;
 outside a test case it ends the service.
 Status: 0 for none and pass, 1 for inconc and fail, 2 for error and for a test
-case that is not over, 3 for a refused line or a fault.";
+case that is not over, 3 for a refused line or a fault.",
+);
 
 // The values that an option takes, by what the help calls one: none, one, or one each time that the option is given.
 #[derive(Clone, Copy)]
@@ -277,50 +294,16 @@ const REPORT_OPTIONS: [OptionRow; 11] = [
     NO_EXPLAIN,
 ];
 
-// An option that takes no value.
-fn flag<'a>(alloc: Global, name: &'a str, help: &'a str) -> Arg<'a>
-    ensures rule { rule_of result ≡ flag_rule name.entry.now }
-    ensures local { result.global ≡ false }
-{
-    Arg::new(alloc, name)
-        .long(name)
-        .help(help)
-        .action(ArgAction::SetTrue)
-}
-
-// An option that takes one value.
-fn option<'a>(alloc: Global, name: &'a str, word: &'a str, help: &'a str) -> Arg<'a>
-    ensures rule { rule_of result ≡ word_rule name.entry.now }
-    ensures local { result.global ≡ false }
-{
-    Arg::new(alloc, name)
-        .long(name)
-        .help(help)
-        .value_name(word)
-        .action(ArgAction::Set)
-}
-
-// An option that takes one value, and may be given several times.
-fn repeated_option<'a>(alloc: Global, name: &'a str, word: &'a str, help: &'a str) -> Arg<'a>
-    ensures rule { rule_of result ≡ words_rule name.entry.now }
-    ensures local { result.global ≡ false }
-{
-    Arg::new(alloc, name)
-        .long(name)
-        .help(help)
-        .value_name(word)
-        .action(ArgAction::Append)
-}
-
 fn option_of<'a>(alloc: Global, row: OptionRow) -> Arg<'a>
     ensures rule { rule_of result ≡ rule_of_row row }
     ensures local { result.global ≡ false }
 {
     let OptionRow(name, takes, help) = row;
+    let option = Arg::new(alloc, name).long(name).help(help);
     match takes {
-        Takes::Nothing => flag(alloc, name, help),
-        Takes::Word(word) => option(alloc, name, word, help),
-        Takes::Words(word) => repeated_option(alloc, name, word, help),
+        Takes::Nothing => option.action(ArgAction::SetTrue),
+        Takes::Word(word) => option.value_name(word).action(ArgAction::Set),
+        Takes::Words(word) => option.value_name(word).action(ArgAction::Append),
     }
 }
 
@@ -338,89 +321,26 @@ pub(crate) fn with_options<'a>(
     Ok(command)
 }
 
-// A command of this name, with what the help says of it.
-fn described<'a>(alloc: Global, name: &'a str, about: &'a str) -> Command<'a>
-    ensures app { app_of result ≡ new_app name.entry.now }
-    ensures local { (out-Command result).has_globals ≡ false }
+// A command of this name with these options. The help says the first text of it, and the other at its end.
+fn offered<'a>(
+    alloc: Global,
+    name: &'a str,
+    help: (&'a str, &'a str),
+    rows: &[OptionRow],
+) -> Result<Command<'a>, AllocError>
+    ensures options { IfOk result (λ c. app_of c ≡ with_rows rows.now (new_app name.entry.now)) }
+    ensures local { IfOk result (λ c. (out-Command c).has_globals ≡ false) }
 {
-    Command::new(alloc, name).about(about)
+    let command = Command::new(alloc, name).about(help.0).after_help(help.1);
+    with_options(alloc, command, rows)
 }
 
 fn run_command<'a>(alloc: Global) -> Result<Command<'a>, AllocError>
     ensures options { IfOk result (λ c. app_of c ≡ run) }
     ensures local { IfOk result (λ c. (out-Command c).has_globals ≡ false) }
 {
-    let command = described(
-        alloc,
-        "run",
-        "runs the campaign of a script, and writes its report",
-    );
-    let command = with_options(alloc, command.after_help(RUN_HELP), &RUN_OPTIONS)?;
+    let command = offered(alloc, "run", RUN_HELP, &RUN_OPTIONS)?;
     with_options(alloc, command, &RUN_SCRIPT_OPTIONS)
-}
-
-fn explore_command<'a>(alloc: Global) -> Result<Command<'a>, AllocError>
-    ensures options { IfOk result (λ c. app_of c ≡ explore) }
-    ensures local { IfOk result (λ c. (out-Command c).has_globals ≡ false) }
-{
-    let command = described(
-        alloc,
-        "explore",
-        "looks for every overall verdict that a test case can have",
-    );
-    with_options(alloc, command.after_help(EXPLORE_HELP), &EXPLORE_OPTIONS)
-}
-
-fn report_command<'a>(alloc: Global) -> Result<Command<'a>, AllocError>
-    ensures options { IfOk result (λ c. app_of c ≡ report) }
-    ensures local { IfOk result (λ c. (out-Command c).has_globals ≡ false) }
-{
-    let command = described(
-        alloc,
-        "report",
-        "reads histories, and writes them in one of these forms",
-    );
-    with_options(alloc, command.after_help(REPORT_HELP), &REPORT_OPTIONS)
-}
-
-fn check_command<'a>(alloc: Global) -> Result<Command<'a>, AllocError>
-    ensures options { IfOk result (λ c. app_of c ≡ check) }
-    ensures local { IfOk result (λ c. (out-Command c).has_globals ≡ false) }
-{
-    let command = described(
-        alloc,
-        "check",
-        "replays histories and evidence, and says which are legal",
-    );
-    with_options(alloc, command.after_help(CHECK_HELP), &CHECK_OPTIONS)
-}
-
-fn replay_command<'a>(alloc: Global) -> Result<Command<'a>, AllocError>
-    ensures options { IfOk result (λ c. app_of c ≡ replay) }
-    ensures local { IfOk result (λ c. (out-Command c).has_globals ≡ false) }
-{
-    let command = described(
-        alloc,
-        "replay",
-        "replays a list of moves, and prints each reply and the verdict",
-    );
-    with_options(
-        alloc,
-        command.after_help(REPLAY_HELP),
-        &[EXPLAIN, NO_EXPLAIN],
-    )
-}
-
-fn serve_command<'a>(alloc: Global) -> Command<'a>
-    ensures options { app_of result ≡ new_app (codes "serve") }
-    ensures local { (out-Command result).has_globals ≡ false }
-{
-    described(
-        alloc,
-        "serve",
-        "answers moves line by line, and writes evidence of the test cases",
-    )
-    .after_help(SERVE_HELP)
 }
 
 /// What the program does, by its subcommands.
@@ -476,11 +396,11 @@ fn subcommand_of<'a>(alloc: Global, subcommand: Subcommand) -> Result<Command<'a
 {
     match subcommand {
         Subcommand::Run => run_command(alloc),
-        Subcommand::Serve => Ok(serve_command(alloc)),
-        Subcommand::Explore => explore_command(alloc),
-        Subcommand::Check => check_command(alloc),
-        Subcommand::Report => report_command(alloc),
-        Subcommand::Replay => replay_command(alloc),
+        Subcommand::Serve => offered(alloc, "serve", SERVE_HELP, &[]),
+        Subcommand::Explore => offered(alloc, "explore", EXPLORE_HELP, &EXPLORE_OPTIONS),
+        Subcommand::Check => offered(alloc, "check", CHECK_HELP, &CHECK_OPTIONS),
+        Subcommand::Report => offered(alloc, "report", REPORT_HELP, &REPORT_OPTIONS),
+        Subcommand::Replay => offered(alloc, "replay", REPLAY_HELP, &[EXPLAIN, NO_EXPLAIN]),
     }
 }
 

@@ -3,13 +3,7 @@ ghost use Rattle.std.specs.Prelude.{◌≡◌, ◌&&◌, ◌∷◌, All, IfOk, I
 ghost use Rattle.std.specs.List.{list_any};
 ghost use Rattle.clap.specs.Words.{FailsBy, Row, app_of, fault_of, first_of, found_of, is_simple, is_simple_and_free, rows_of, subcommand_of, subcommand_rows_of};
 ghost use Rattle.tc_entry.specs.Prelude.{IsName, IsPattern};
-ghost use Rattle.tc_command.specs.Command.{ttrun};
-ghost use Rattle.tc_command.specs.Asked.{Asks, AsksRun, Chooses, IsReading, apart as spec_apart, form_of, is_explained, is_given, command_line_of};
-ghost use Rattle.tc_command.specs.Asked.{lacks_option, report_form_of, subcommand_named as spec_named, option_values};
-ghost use Rattle.tc_command.specs.Words.{IsGood, IsShardOf};
-ghost use Rattle.tc_command.specs.Inside.{IsBadWord, IsClash, IsLack, IsRefusedBy, IsTaken, IsWordRefused, gives_both, lacks_form as spec_lacks_form, lacks_script_of as spec_lacks};
-ghost use Rattle.tc_command.specs.declared.command.Subcommand.TheVariants.{Check, Explore, Report, Run};
-ghost use Rattle.tc_command.specs.declared.word.WordFault.TheVariants as fault;
+ghost use Rattle.tc_command.specs.{Asked.Asks, Asked.AsksRun, Asked.Chooses, Asked.IsReading, Asked.apart as spec_apart, Asked.command_line_of, Asked.form_of, Asked.is_explained, Asked.is_given, Asked.lacks_option, Asked.option_values, Asked.report_form_of, Asked.subcommand_named as spec_named, Command.IsGood, Command.IsShardOf, Command.ttrun, Inside.IsBadWord, Inside.IsClash, Inside.IsLack, Inside.IsRefusedBy, Inside.IsTaken, Inside.IsWordRefused, Inside.gives_both, Inside.lacks_form as spec_lacks_form, Inside.lacks_script_of as spec_lacks, declared.command.Subcommand.TheVariants.Check, declared.command.Subcommand.TheVariants.Explore, declared.command.Subcommand.TheVariants.Report, declared.command.Subcommand.TheVariants.Run, declared.read.Refused.Refused};
 
 use crate::command::{Subcommand, command};
 use crate::refusal::{Refusal, told_of};
@@ -31,10 +25,7 @@ pub enum Refused {
 }
 
 impl From<Error> for Refused {
-    ghost use Rattle.std.specs.Prelude.{◌≡◌};
-    ghost use Rattle.tc_command.specs.declared.read.Refused.TheVariants as refused;
-
-    ghost from_gives = { λ error r. r ≡ refused.Line error };
+    ghost from_gives = { λ error r. r ≡ Refused.Line error };
 
     fn from(error: Error) -> Refused {
         Refused::Line(error)
@@ -128,7 +119,7 @@ fn word_of<'a>(options: &ArgMatches<'a>, id: &str) -> Option<&'a str>
 fn suite(options: &ArgMatches<'_>) -> Result<Option<Name>, WordFault>
     ensures taken { IfOk result (λ name. name ≡ first_of (codes "suite") (rows_of (found_of options.now))) }
     ensures good { OnOk result (IfSome (first_of (codes "suite") (rows_of (found_of options.now))) IsName) }
-    ensures refused { IfErr result (λ f. (f ≡ fault.Suite)
+    ensures refused { IfErr result (λ f. (f ≡ WordFault.Suite)
         × (IfSome (first_of (codes "suite") (rows_of (found_of options.now))) IsName → ⊥)) }
 {
     word::suite(word_of(options, "suite"))
@@ -175,7 +166,7 @@ fn report_form(options: &ArgMatches<'_>, suite: Option<Name>) -> Option<ReportFo
 fn patterns(alloc: Global, options: &ArgMatches<'_>) -> Result<Vec<Pattern>, Refusal>
     ensures taken { IfOk result (λ v. v.items ≡ option_values (codes "only") (rows_of (found_of options.now))) }
     ensures good { OnOk result (All IsPattern (option_values (codes "only") (rows_of (found_of options.now)))) }
-    ensures refused { IfErr result (IsBadWord (All IsPattern (option_values (codes "only") (rows_of (found_of options.now))) → ⊥) fault.Only) }
+    ensures refused { IfErr result (IsBadWord (All IsPattern (option_values (codes "only") (rows_of (found_of options.now))) → ⊥) WordFault.Only) }
 {
     match options.get_strs("only") {
         Some(words) => {
@@ -359,6 +350,7 @@ fn refuse_lack(subcommand: Subcommand, options: &ArgMatches<'_>) -> Result<(), R
 }
 
 /// What a subcommand with its options asks for.
+#[tactic(auto, using(crate::proofs::Options::has_form))]
 pub(crate) fn subcommand_task(
     alloc: Global,
     subcommand: Subcommand,

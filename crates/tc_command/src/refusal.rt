@@ -2,7 +2,7 @@
 ghost use Rattle.std.specs.Prelude.{◌≡◌, IfOk};
 ghost use Rattle.clap.specs.Words.{kind_of};
 ghost use Rattle.clap.specs.declared.error.kind.ErrorKind.TheVariants.{ArgumentConflict, MissingRequiredArgument};
-ghost use Rattle.tc_command.specs.Inside.{IsToldBy};
+ghost use Rattle.tc_command.specs.{Inside.IsToldBy, declared.refusal.Refusal.Refusal};
 
 use crate::command::{Subcommand, usage_command};
 use crate::read::Refused;
@@ -29,10 +29,7 @@ pub(crate) enum Refusal {
 }
 
 impl From<AllocError> for Refusal {
-    ghost use Rattle.std.specs.Prelude.{◌≡◌};
-    ghost use Rattle.tc_command.specs.declared.refusal.Refusal.TheVariants as refusals;
-
-    ghost from_gives = { λ _ r. r ≡ refusals.NoMemory };
+    ghost from_gives = { λ _ r. r ≡ Refusal.NoMemory };
 
     fn from(_: AllocError) -> Refusal {
         Refusal::NoMemory
@@ -40,10 +37,7 @@ impl From<AllocError> for Refusal {
 }
 
 impl<T: Drop> From<AllocFailed<T>> for Refusal {
-    ghost use Rattle.std.specs.Prelude.{◌≡◌};
-    ghost use Rattle.tc_command.specs.declared.refusal.Refusal.TheVariants as refusals;
-
-    ghost from_gives = { λ _ r. r ≡ refusals.NoMemory };
+    ghost from_gives = { λ _ r. r ≡ Refusal.NoMemory };
 
     fn from(_: AllocFailed<T>) -> Refusal {
         Refusal::NoMemory
@@ -51,10 +45,7 @@ impl<T: Drop> From<AllocFailed<T>> for Refusal {
 }
 
 impl From<WordFault> for Refusal {
-    ghost use Rattle.std.specs.Prelude.{◌≡◌};
-    ghost use Rattle.tc_command.specs.declared.refusal.Refusal.TheVariants as refusals;
-
-    ghost from_gives = { λ fault r. r ≡ refusals.Word fault };
+    ghost from_gives = { λ fault r. r ≡ Refusal.Word fault };
 
     fn from(fault: WordFault) -> Refusal {
         Refusal::Word(fault)

@@ -2,9 +2,7 @@
 ghost use Rattle.std.specs.Prelude.{◌≡◌, ◌≤◌, All, IfOk, IfErr, IfSome, IfNone, OnOk, map, option_copied, ℕ};
 ghost use Rattle.std.specs.Fmt.{decimal};
 ghost use Rattle.tc_entry.specs.Prelude.{IsName, IsPattern, ShardView};
-ghost use Rattle.tc_command.specs.Words.{IsGood, IsRuleOf, IsShardOf, IsShardWord, IsStatesOf, word_fault_text};
-ghost use Rattle.tc_command.specs.Inside.{IsBadWord};
-ghost use Rattle.tc_command.specs.declared.word.WordFault.TheVariants as fault;
+ghost use Rattle.tc_command.specs.{Command.IsGood, Command.IsRuleOf, Command.IsShardOf, Command.IsShardWord, Command.IsStatesOf, Command.word_fault_text, Inside.IsBadWord};
 
 use crate::refusal::Refusal;
 use std::alloc::Global;
@@ -61,7 +59,7 @@ fn read_shard(word: &str) -> Option<Shard>
 /// The shard of `--shard`, if there is one.
 pub(crate) fn shard(word: Option<&str>) -> Result<Option<Shard>, WordFault>
     ensures taken { IfOk result (IsShardOf (option_copied word.entry)) }
-    ensures refused { IfErr result (λ f. (f ≡ fault.Shard) × (IsGood IsShardOf (option_copied word.entry) → ⊥)) }
+    ensures refused { IfErr result (λ f. (f ≡ WordFault.Shard) × (IsGood IsShardOf (option_copied word.entry) → ⊥)) }
 {
     match word {
         Some(word) => match read_shard(word) {
@@ -75,7 +73,7 @@ pub(crate) fn shard(word: Option<&str>) -> Result<Option<Shard>, WordFault>
 /// The verdict of `--stop-on`, if there is one.
 pub(crate) fn stop_on(word: Option<&str>) -> Result<Option<Verdict>, WordFault>
     ensures taken { IfOk result (IsRuleOf (option_copied word.entry)) }
-    ensures refused { IfErr result (λ f. (f ≡ fault.StopOn) × (IsGood IsRuleOf (option_copied word.entry) → ⊥)) }
+    ensures refused { IfErr result (λ f. (f ≡ WordFault.StopOn) × (IsGood IsRuleOf (option_copied word.entry) → ⊥)) }
 {
     match word {
         Some(word) => match read_name(word) {
@@ -90,7 +88,7 @@ pub(crate) fn stop_on(word: Option<&str>) -> Result<Option<Verdict>, WordFault>
 pub(crate) fn suite(word: Option<&str>) -> Result<Option<Name>, WordFault>
     ensures taken { IfOk result (λ name. name ≡ option_copied word.entry) }
     ensures good { OnOk result (IfSome (option_copied word.entry) IsName) }
-    ensures refused { IfErr result (λ f. (f ≡ fault.Suite) × (IfSome (option_copied word.entry) IsName → ⊥)) }
+    ensures refused { IfErr result (λ f. (f ≡ WordFault.Suite) × (IfSome (option_copied word.entry) IsName → ⊥)) }
 {
     match word {
         Some(word) => match Name::read(word) {
@@ -117,7 +115,7 @@ fn read_states(word: &str) -> Option<usize>
 /// The number of states of `--states`, or the one without it.
 pub(crate) fn states(word: Option<&str>) -> Result<usize, WordFault>
     ensures taken { IfOk result (IsStatesOf (option_copied word.entry)) }
-    ensures refused { IfErr result (λ f. (f ≡ fault.States) × (IsGood IsStatesOf (option_copied word.entry) → ⊥)) }
+    ensures refused { IfErr result (λ f. (f ≡ WordFault.States) × (IsGood IsStatesOf (option_copied word.entry) → ⊥)) }
 {
     match word {
         Some(word) => match read_states(word) {
@@ -132,7 +130,7 @@ pub(crate) fn states(word: Option<&str>) -> Result<usize, WordFault>
 pub(crate) fn patterns(alloc: Global, words: &[&str]) -> Result<Vec<Pattern>, Refusal>
     ensures taken { IfOk result (λ v. v.items ≡ map (λ w. w.now) words.now) }
     ensures good { OnOk result (All IsPattern (map (λ w. w.now) words.now)) }
-    ensures refused { IfErr result (IsBadWord (All IsPattern (map (λ w. w.now) words.now) → ⊥) fault.Only) }
+    ensures refused { IfErr result (IsBadWord (All IsPattern (map (λ w. w.now) words.now) → ⊥) WordFault.Only) }
 {
     let mut patterns = Vec::new(alloc);
     for word in words {

@@ -1,14 +1,10 @@
 -- Following a history: each entry is the next turn of its caller, or the history is no course.
-use Rattle.std.proofs.Common.{ℕ, ◌≡◌, ◌↔◌, ◌∙◌, ◌+◌, ◌<◌, ◌≤◌, nat_lt, Bool, true, false, Some, None, List, [], ◌∷◌, ◌++◌, length, take, drop, get_or, reverse, refl, sym, ap, subst, arith}
-use Rattle.std.proofs.lemmas.Bool.Decides.{nat_tests}
+use Rattle.std.proofs.Common.{ℕ, ◌≡◌, ◌↔◌, ◌∙◌, ◌+◌, ◌<◌, ◌≤◌, Bool, true, false, Some, None, List, [], ◌∷◌, ◌++◌, length, take, drop, get_or, reverse, refl, sym, ap, subst, arith}
 use Rattle.std.proofs.lemmas.List.{reverse-append, take_all, take-append-drop}
 use Rattle.tc_rules.specs.Prelude.{Verdict, Entry, Op, answer, Case, past_of, overall}
 use Rattle.tc_step.specs.Prelude.{ScriptView}
-use Rattle.tc_course.specs.Course.{turn, IsComplete, IsCourse, IsTurn}
-use Rattle.tc_course.specs.Witnesses.{IsWitness}
-use Rattle.tc_course.specs.Cases.{CannotGo, IsNext, IsOn}
-use Rattle.tc_course.proofs.Lemmas.Histories.{course_legal, reverse_more}
-use Rattle.tc_course.proofs.Lemmas.Standings.{has_turn, run_in_range, stand_comp}
+use Rattle.tc_course.specs.{Course.CannotGo, Course.IsComplete, Course.IsCourse, Course.IsNext, Course.IsOn, Course.IsTurn, Course.turn, Witnesses.IsWitness}
+use Rattle.tc_course.proofs.Lemmas.{below_more, course_legal, reverse_more, has_turn, run_in_range, stand_comp}
 
 -- ---- one entry
 
@@ -67,11 +63,7 @@ pub none_left : (scripts : List ScriptView) (past : List Entry) → AreLeft scri
 none_left scripts past b less = absurd (omega arith)
 
 pub one_more_left : (scripts : List ScriptView) (past : List Entry) (n : ℕ) → AreLeft scripts past n → turn scripts past n ≡ None → AreLeft scripts past (n + 1)
-one_more_left scripts past n left none b less = by_place (nat_lt b n) refl
-  where
-    by_place : (t : Bool) → nat_lt b n ≡ t → turn scripts past b ≡ None
-    by_place true k = left b (grind (arith, nat_tests))
-    by_place false k = let same : n ≡ b = grind (arith, nat_tests) in subst (λ x. turn scripts past x ≡ None) same none
+one_more_left scripts past n left none = below_more (λ b. turn scripts past b ≡ None) n left none
 
 pub all_left : (scripts : List ScriptView) (past : List Entry) (n : ℕ) → length scripts ≤ n → AreLeft scripts past n → IsComplete scripts past
 all_left scripts past n whole left b less = left b (omega arith)

@@ -1,10 +1,8 @@
 -- What one more entry says of the runs: something of its caller, and of the run that it starts.
 use Rattle.std.proofs.Common.{ℕ, ◌≡◌, ◌==◌, if◌then◌else◌, Bool, true, false, Option, Some, None, List, length, slice_index_or, refl, ap, sym, ◌∙◌, arith}
 use Rattle.tc_rules.specs.Prelude.{Run, Comp, Entry, Op, is_ok, started_on, starts_run}
-use Rattle.tc_entry.specs.declared.op.Op.TheVariants as O
 use Rattle.tc_rules.proofs.Lemmas.Deciding.{self_equal, equal_if, if_same}
-use Rattle.tc_course.specs.Course.{CourseState, next, after_other_by}
-use Rattle.tc_course.specs.Inside.Kept.{next_for, TakesIn, TakesInFor}
+use Rattle.tc_course.specs.{Course.CourseState, Course.after_other_by, Course.next, Inside.TakesIn, Inside.TakesInFor, Inside.next_for}
 
 untouched_by : (o : Option Comp) (e : Entry) (b : ℕ) (s : CourseState) → started_on e b ≡ None → after_other_by o e b s ≡ s
 untouched_by (Some c) e b s h = refl
@@ -44,10 +42,10 @@ taken_both e run before between after as_many other only one two = λ b d less.
     by_tests b d false true j k = refl
     by_tests b d false false j k = sym (untouched e b (slice_index_or before b d) k (started_not e run b only j))
 
-only_start : (c : Comp) (run : Run) (args : List Comp) (b : ℕ) → (run.0 == b) ≡ false → starts_run (O.Start c run args) b ≡ None
+only_start : (c : Comp) (run : Run) (args : List Comp) (b : ℕ) → (run.0 == b) ≡ false → starts_run (Op.Start c run args) b ≡ None
 only_start c run args b h = rw h refl
 
-pub only_this : (op : Op) (c : Comp) (run : Run) (args : List Comp) → op ≡ O.Start c run args → (b : ℕ) → (run.0 == b) ≡ false → starts_run op b ≡ None
+pub only_this : (op : Op) (c : Comp) (run : Run) (args : List Comp) → op ≡ Op.Start c run args → (b : ℕ) → (run.0 == b) ≡ false → starts_run op b ≡ None
 only_this op c run args is b h = ap (λ o. starts_run o b) is ∙ only_start c run args b h
 
 pub ruleset taking_rules = (taken_one, taken_both, only_this)

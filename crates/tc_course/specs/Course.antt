@@ -2,9 +2,7 @@
 -- component table's definitions `past` lists entries, the newest first, and runs are numbers.
 use Rattle.std.specs.Prelude.{ℕ, ◌≡◌, ◌==◌, ◌<◌, ◌+◌, ◌++◌, ◌&&◌, ◌||◌, if◌then◌else◌, Bool, true, false, Option, Some, None, is_some, List, [], ◌∷◌, length, slice_get}
 use Rattle.std.specs.Option.{option_map_or, option_to_list, unwrap_or}
-use Rattle.tc_rules.specs.Prelude.{Comp, Entry, Op, Reply, created, started_on, ends_pass, answer, is_wake}
-use Rattle.tc_entry.specs.declared.op.Op.TheVariants as O
-use Rattle.tc_entry.specs.declared.reply.Reply.TheVariants as R
+use Rattle.tc_rules.specs.Prelude.{Comp, Entry, Op, Reply, created, started_on, ends_pass, answer, is_wake, Run, Case, past_of}
 use Rattle.tc_step.specs.declared.step.Step.{Step}
 use Rattle.tc_step.specs.Prelude.{operation, ScriptView}
 
@@ -25,13 +23,13 @@ opening_state b = record { comp = if b == 0 then Some (record { 0 = 0 }) else No
 
 -- the Wake to come after a call with this reply: after a wait that was parked, and after a Wake that was parked again
 abbrev pub wake_after : Reply → Op → Option Op
-wake_after R.Parked (O.Wait killed target) = Some (O.Wake killed target)
-wake_after R.Parked (O.Wake killed target) = Some (O.Wake killed target)
+wake_after Reply.Parked (Op.Wait killed target) = Some (Op.Wake killed target)
+wake_after Reply.Parked (Op.Wake killed target) = Some (Op.Wake killed target)
 wake_after _ _ = None
 
 -- the arguments with which this operation starts run b
 abbrev pub arguments : Op → ℕ → List Comp
-arguments (O.Start c run args) b = if run.0 == b then args else []
+arguments (Op.Start c run args) b = if run.0 == b then args else []
 arguments _ b = []
 
 -- after an entry of its own
@@ -59,8 +57,8 @@ stand (e ∷ past) b = next e b (stand past b)
 
 -- after this reply the caller has continued, or the case is over
 abbrev pub goes_on : Reply → Bool
-goes_on R.Ended = false
-goes_on R.Parked = false
+goes_on Reply.Ended = false
+goes_on Reply.Parked = false
 goes_on _ = true
 
 -- how many calls run b has carried out: its steps, and its end, without calls that are answered ended, and waits that
@@ -73,7 +71,7 @@ carried_on (e ∷ past) b = if (e.caller.0 == b) && goes_on e.reply then carried
 
 -- what a run on this component calls next: the Wake to come, or the call of the next of its steps, and after the last the end of its behaviour
 abbrev pub turn_on : Option Comp → List Step → CourseState → Option Op
-turn_on (Some me) steps s = if s.left then None else Some (unwrap_or s.wake (option_map_or (operation me s.bound) (slice_get steps s.called) O.Finish))
+turn_on (Some me) steps s = if s.left then None else Some (unwrap_or s.wake (option_map_or (operation me s.bound) (slice_get steps s.called) Op.Finish))
 turn_on None steps s = None
 
 -- the steps of the script of run b
@@ -88,7 +86,7 @@ turn scripts past b = let s = stand past b in turn_on s.comp (steps_of scripts b
 
 -- a Wake that is parked again; none is recorded
 abbrev pub is_idle : Op → Reply → Bool
-is_idle op R.Parked = is_wake op
+is_idle op Reply.Parked = is_wake op
 is_idle op _ = false
 
 -- the entry is what its caller calls next, with the component table's reply
@@ -105,3 +103,20 @@ IsCourse scripts (e ∷ past) = IsTurn scripts past e × IsCourse scripts past
 -- it is complete: no run has a call left
 abbrev pub IsComplete : List ScriptView → List Entry → Type 0
 IsComplete scripts past = (b : ℕ) → b < length scripts → turn scripts past b ≡ None
+
+-- the entry of this call, with the component table's reply
+abbrev pub entry_made : ℕ → List Entry → Run → Op → Entry
+entry_made n past run op = record { caller = run; op = op; reply = answer n past run.0 op }
+
+-- a case that is at a course of these scripts
+pub record IsOn (scripts : List ScriptView) (t : Case) : Type 0 where
+  pub behaviours : t.behaviours ≡ length scripts
+  pub course : IsCourse scripts (past_of t)
+
+-- in a case at a course of these scripts the run makes this call next
+abbrev pub IsNext : List ScriptView → Case → Run → Op → Type 0
+IsNext scripts t run op = IsTurn scripts (past_of t) (entry_made t.behaviours (past_of t) run op)
+
+-- run b has no call left, or only a Wake that would be parked again
+abbrev pub CannotGo : List ScriptView → List Entry → ℕ → Type 0
+CannotGo scripts past b = (e : Entry) → e.caller.0 ≡ b → IsTurn scripts past e → ⊥

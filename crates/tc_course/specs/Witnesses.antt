@@ -1,10 +1,9 @@
--- Complete courses and the overall verdicts with which they end.
-use Rattle.std.specs.Prelude.{◌≡◌, ◌==◌, Bool, true, List, reverse, All}
+-- Complete courses and the verdicts with which they end.
+use Rattle.std.specs.Prelude.{ℕ, ◌≡◌, ◌==◌, ◌+◌, ◌*◌, Bool, true, false, List, length, reverse, slice_index_or, All}
 use Rattle.std.specs.List.{list_any}
-use Rattle.tc_rules.specs.Prelude.{Verdict, level_of, Entry, overall}
+use Rattle.tc_rules.specs.Prelude.{Verdict, level_of, Entry, IsLegal, overall}
 use Rattle.tc_step.specs.Prelude.{ScriptView}
-use Rattle.tc_course.specs.declared.witness.Witness.{Witness}
-use Rattle.tc_course.specs.Course.{IsCourse, IsComplete}
+use Rattle.tc_course.specs.{Course.IsComplete, Course.IsCourse, declared.witness.Witness.Witness}
 
 -- this list, the oldest entry first, is a complete course that ends with this verdict
 pub record IsWitness (scripts : List ScriptView) (history : List Entry) (v : Verdict) : Type 0 where
@@ -23,3 +22,11 @@ is_found found v = list_any (λ w. level_of w.verdict == level_of v) found
 -- the verdict of each complete course is found
 abbrev pub AllFound : List ScriptView → List Witness → Type 0
 AllFound scripts found = (history : List Entry) (v : Verdict) → IsWitness scripts history v → is_found found v ≡ true
+
+-- each is a history in which each reply is the component table's
+abbrev pub AreLegal : List ScriptView → List Witness → Type 0
+AreLegal scripts found = All (λ w. IsLegal (length scripts) (reverse w.history)) found
+
+-- in a list that has five places for each component, one for each verdict, component c is found with this one
+abbrev pub is_local : List Bool → ℕ → Verdict → Bool
+is_local found c v = slice_index_or found (c * 5 + level_of v) false

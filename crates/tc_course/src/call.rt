@@ -1,6 +1,6 @@
 //! The call of a step.
 ghost use Rattle.std.specs.Prelude.{◌≡◌, slice_get};
-ghost use Rattle.tc_course.specs.Inside.Standing.{call_of};
+ghost use Rattle.tc_course.specs.Inside.{call_of};
 
 use tc_entry::{Comp, Op};
 use tc_step::Step;

@@ -7,9 +7,8 @@ ghost use Rattle.tc_rules.specs.Local as verdicts;
 ghost use Rattle.tc_rules.specs.History as history;
 ghost use Rattle.tc_rules.specs.Phases as phases;
 ghost use Rattle.tc_rules.specs.Faults as faults;
+ghost use Rattle.tc_course.specs.{Course.entry_made, Inside.CountsOn, Inside.TakesIn, Inside.TakesInFor};
 ghost use Rattle.tc_course.specs.Course as courses;
-ghost use Rattle.tc_course.specs.Cases.{entry_made};
-ghost use Rattle.tc_course.specs.Inside.Kept.{CountsOn, TakesIn, TakesInFor};
 
 use crate::entries::has_gone_on;
 use crate::standing::Standing;
@@ -30,7 +29,7 @@ pub struct Course {
 
 impl Model for Course {
     ghost use Rattle.tc_rules.specs.Prelude.{Case};
-    ghost use Rattle.tc_course.specs.Inside.Kept.{IsKept, IsCounted};
+    ghost use Rattle.tc_course.specs.Inside.{IsKept, IsCounted};
 
     ghost Value = { Case };
 

@@ -1,8 +1,8 @@
 //! What one entry says of its caller and of the run that it starts.
 ghost use Rattle.std.specs.Prelude.{◌≡◌};
-ghost use Rattle.tc_course.specs.Course as courses;
-ghost use Rattle.tc_course.specs.Inside.Standing.{ends as own_ends};
 ghost use Rattle.tc_entry.specs.Reply as replies;
+ghost use Rattle.tc_course.specs.Inside.{ends as own_ends};
+ghost use Rattle.tc_course.specs.Course as courses;
 
 use tc_entry::{Comp, Entry, Op, Reply};
 use tc_rules::ends_pass;

@@ -2,9 +2,7 @@
 ghost use Rattle.std.specs.Prelude.{◌≡◌, ◌↔◌, ◌≤◌, ◌∷◌, true, IfOk, IfNone, IfSome, length};
 ghost use Rattle.tc_entry.specs.declared.limits.TheConstants.{BEHAVIOURS};
 ghost use Rattle.tc_rules.specs.Prelude.{past_of, overall};
-ghost use Rattle.tc_course.specs.Course.{IsComplete, IsTurn};
-ghost use Rattle.tc_course.specs.Witnesses.{IsWitness};
-ghost use Rattle.tc_course.specs.Cases.{IsOn};
+ghost use Rattle.tc_course.specs.{Course.IsComplete, Course.IsOn, Course.IsTurn, Witnesses.IsWitness};
 
 use crate::course::Course;
 use crate::next::next_call;
@@ -14,7 +12,7 @@ use tc_step::Script;
 use tc_verdict::{NoMemory, Run, Verdict};
 
 // The course with this entry, if it is what its caller calls next, with the table's reply.
-#[tactic(auto, using(crate::proofs::Lemmas::Turning::turn_rules, crate::proofs::Followed::following_rules))]
+#[tactic(auto, using(crate::proofs::Lemmas::turn_rules, crate::proofs::Followed::following_rules))]
 fn with_entry(course: Course, scripts: &[Script], entry: &Entry) -> Result<Option<Course>, NoMemory>
     requires some { 1 ≤ length scripts.now }
     requires on { IsOn scripts.now course }

@@ -1,8 +1,8 @@
 //! What a run calls next.
 ghost use Rattle.std.specs.Prelude.{◌≡◌, ◌<◌, IfNone, IfSome, length};
-ghost use Rattle.tc_rules.specs.Answers as answers;
 ghost use Rattle.tc_rules.specs.Prelude.{past_of};
-ghost use Rattle.tc_course.specs.Cases.{CannotGo, IsNext, IsOn};
+ghost use Rattle.tc_rules.specs.Answers as answers;
+ghost use Rattle.tc_course.specs.Course.{CannotGo, IsNext, IsOn};
 ghost use Rattle.tc_course.specs.Course as courses;
 
 use crate::course::Course;
@@ -12,7 +12,7 @@ use tc_step::Script;
 use tc_verdict::Run;
 
 // Whether the call would be a Wake that is parked again.
-#[tactic(auto, using(crate::proofs::Lemmas::Turning::other_not_idle))]
+#[tactic(auto, using(crate::proofs::Lemmas::other_not_idle))]
 fn is_idle(course: &Course, run: Run, op: &Op) -> bool
     ensures { result ≡ courses.is_idle op.now (answers.answer course.now.behaviours (past_of course.now) run.0 op.now) }
 {
@@ -26,7 +26,7 @@ fn is_idle(course: &Course, run: Run, op: &Op) -> bool
 }
 
 /// What the run calls next, if it can continue.
-#[tactic(auto, using(crate::proofs::Lemmas::Turning::turn_rules))]
+#[tactic(auto, using(crate::proofs::Lemmas::turn_rules))]
 pub fn next_call(course: &Course, scripts: &[Script], run: Run) -> Option<Op>
     requires on { IsOn scripts.now course.now }
     ensures some { IfSome result (λ op. IsNext scripts.now course.now run op) }

@@ -1,9 +1,6 @@
 //! The arguments of a Start.
 ghost use Rattle.std.specs.Prelude.{◌≡◌, ◌<◌, ◌≤◌, [], ◌∷◌, ◌++◌, length, IsTrue, ◌↔◌, nat_eq};
-ghost use Rattle.std.specs.Bool.{OnTrue, OnFalse};
-ghost use Rattle.std.specs.Cmp.{on_equiv, on_per, nat_eq_equiv, partial_equiv_from_equiv};
-ghost use Rattle.std.specs.Cmp.Lexicographic.{pointwise, lists_equiv, lists_per};
-ghost use Rattle.std.specs.Ordering.{on};
+ghost use Rattle.std.specs.{Bool.OnFalse, Bool.OnTrue, Cmp.Lexicographic.lists_equiv, Cmp.Lexicographic.lists_per, Cmp.Lexicographic.pointwise, Cmp.nat_eq_equiv, Cmp.on_equiv, Cmp.on_per, Cmp.partial_equiv_from_equiv, Ordering.on};
 ghost use Rattle.tc_entry.specs.declared.limits.TheConstants.{ARGUMENTS};
 
 use crate::comp::{Comp, same_comps};

@@ -1,6 +1,6 @@
 //! The operations of a behaviour, and which components they are about.
 ghost use Rattle.std.specs.Prelude.{◌≡◌, IsTrue, ◌↔◌};
-ghost use Rattle.tc_entry.specs.Group as group;
+ghost use Rattle.tc_entry.specs.Limits as limits;
 
 use crate::args::Args;
 use crate::comp::Comp;
@@ -48,7 +48,7 @@ pub enum Op {
 impl Group {
     /// Whether the component of this number is of the group: `All` is all parallel components, that is all except 0.
     pub fn is_of(self, comp: u32) -> bool
-        ensures { result ≡ group.is_of self comp }
+        ensures { result ≡ limits.is_of self comp }
     {
         match self {
             Group::One(one) => one.0 == comp,

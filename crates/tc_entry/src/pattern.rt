@@ -1,12 +1,7 @@
 //! The patterns of names.
 ghost use Rattle.std.specs.Prelude.{◌≡◌, ◌==◌, ◌+◌, ◌<◌, ◌≤◌, ◌∷◌, ◌↔◌, ◌||◌, [], All, IsSome, IfSome, IsTrue, false, true, length, map, nat_eq};
-ghost use Rattle.std.specs.Cmp.{partial_equiv_from_equiv};
-ghost use Rattle.std.specs.Cmp.Lexicographic.{pointwise, nat_list_eq_equiv};
-ghost use Rattle.std.specs.List.{list_any};
-ghost use Rattle.tc_entry.specs.Inside.{any_of, behind, passed};
-ghost use Rattle.tc_entry.specs.Name.{is_name_byte as is_allowed};
-ghost use Rattle.tc_entry.specs.Pattern.{IsPattern, IsWild, matches as spec_matches};
-ghost use Rattle.tc_entry.specs.declared.pattern.TheConstants.{PLACES};
+ghost use Rattle.std.specs.{Cmp.Lexicographic.nat_list_eq_equiv, Cmp.Lexicographic.pointwise, Cmp.partial_equiv_from_equiv, List.list_any};
+ghost use Rattle.tc_entry.specs.{Inside.any_of, Inside.behind, Inside.passed, Name.IsPattern, Name.IsWild, Name.is_name_byte as is_allowed, Name.matches as spec_matches, declared.pattern.TheConstants.PLACES};
 
 use crate::limits::NAME_BYTES;
 use crate::name::{Name, is_name_byte};
@@ -30,7 +25,7 @@ pub struct Pattern {
 
 impl Model for Pattern {
     ghost use Rattle.std.specs.Prelude.{List, ℕ};
-    ghost use Rattle.tc_entry.specs.Pattern.{IsPattern};
+    ghost use Rattle.tc_entry.specs.Name.{IsPattern};
 
     ghost Value = { List ℕ };
 
@@ -123,6 +118,7 @@ fn places_of(pattern: &[u8], name: &[u8]) -> Places
 }
 
 // Whether the last of these places of the name is reached.
+#[tactic(auto, using(crate::proofs::Patterns::at_end))]
 fn is_at_end(places: &[bool], name: &[u8]) -> bool
     requires { length places.now ≡ length name.now + 1 }
     ensures { result ≡ any_of (spec_matches []) places.now name.now }

@@ -1,7 +1,7 @@
 //! The replies, and the dynamic errors among them.
 ghost use Rattle.std.specs.Prelude.{◌≡◌, IsTrue, ◌↔◌};
-ghost use Rattle.tc_entry.specs.Reply as reply;
 ghost use Rattle.tc_entry.specs.Reply.{fault_name};
+ghost use Rattle.tc_entry.specs.Reply as reply;
 
 use crate::comp::Comp;
 use tc_verdict::Verdict;

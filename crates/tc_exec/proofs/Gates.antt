@@ -3,8 +3,7 @@ use Rattle.std.proofs.Common.{ℕ, suc, ◌≡◌, ◌<◌, ◌+◌, ◌-◌, �
 use Rattle.std.proofs.Math.Seq.{get_or-append_seam}
 use Rattle.std.proofs.lemmas.List.{length-append, length-map}
 use Rattle.tc_rules.specs.Prelude.{Run}
-use Rattle.tc_exec.specs.Gates.{IsPassed, IsStopped}
-use Rattle.tc_exec.specs.Inside.{AreAbove}
+use Rattle.tc_exec.specs.{Gates.IsPassed, Gates.IsStopped, Inside.AreAbove}
 
 -- the run after those of the workers that were made
 pub next_above : {W : Type 0} (run : W → Run) (ws : List W) (rest left all : List Run) (next : Run) → AreAbove all → map run ws ++ rest ≡ all → rest ≡ next ∷ left →

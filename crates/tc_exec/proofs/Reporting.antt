@@ -1,7 +1,6 @@
 -- What the logs of a closed case say of the starts of their runs.
 use Rattle.std.proofs.Common.{ℕ, zero, suc, ◌≡◌, ◌<◌, ◌==◌, if◌then◌else◌, option_map, Bool, true, false, Option, Some, None, List, [], All, reverse, refl, sym, ◌∙◌, arith}
-use Rattle.std.proofs.lemmas.Bool.Decides.{nat_tests}
-use Rattle.std.proofs.lemmas.List.Elements.{All-append, All-cons, All-nil}
+use Rattle.std.proofs.lemmas.{Bool.Decides.nat_tests, List.Elements.All-append, List.Elements.All-cons, List.Elements.All-nil}
 use Rattle.tc_rules.specs.Prelude.{Comp, Entry, comp_of, part, log_if, logs_below, IsOneHistory}
 use Rattle.tc_rules.specs.declared.closed.Closed.{Closed}
 use Rattle.tc_book.specs.Inside.{comp_by}

@@ -1,11 +1,9 @@
 -- What the report of a case says.
-use Rattle.std.specs.Prelude.{ℕ, ◌≡◌, ◌≢◌, ◌<◌, Some, None, List, length, reverse, All, slice_index_or}
+use Rattle.std.specs.Prelude.{ℕ, ◌≡◌, ◌≢◌, ◌<◌, ◌⊎◌, Some, None, List, length, reverse, All, slice_index_or}
 use Rattle.tc_rules.specs.Prelude.{Comp, Entry, comp_of, IsOneHistory}
-use Rattle.tc_rules.specs.declared.closed.Closed.{Closed}
-use Rattle.tc_rules.specs.declared.run_log.RunLog.{RunLog}
-use Rattle.tc_book.specs.Prelude.{IsWhole, PassState, LeftState, start_of}
-use Rattle.tc_exec.specs.declared.job.Back.{Back}
-use Rattle.tc_exec.specs.Workers.{WasCalledFor, IsLeftBy}
+use Rattle.tc_rules.specs.declared.{closed.Closed.Closed, run_log.RunLog.RunLog}
+use Rattle.tc_book.specs.Prelude.{IsOneEach, IsWhole, PassState, LeftState, start_of}
+use Rattle.tc_exec.specs.{Workers.IsLeftBy, Workers.WasCalledFor, declared.job.Back.Back, declared.job.Ending.Ending}
 
 -- a Start of this log's run, on the log's component, was replied Ok in the history
 abbrev pub WasStartedIn : List Entry → RunLog → Type 0
@@ -44,3 +42,9 @@ pub record IsHandedBack {B : Type 0} (outcome : B → PassState → Back → Typ
 pub record IsMadeOf {B : Type 0} (outcome : B → PassState → Back → Type 0) (jobs : List B) (c : Closed) : Type 0 where
   pub handed : IsHandedBack outcome jobs
   pub whole : IsWhole c.behaviours c.history handed.lefts
+
+-- Why a case is out of memory after all its workers were made. The behaviour of run k was called, and came back because
+-- memory ran out. Or what was handed back is one of each run, and memory ran out as the case was closed.
+abbrev pub IsOutOfMemory : {B : Type 0} → (B → PassState → Back → Type 0) → List B → Type 0
+IsOutOfMemory outcome jobs =
+    ((k : ℕ) × (k < length jobs) × ((b : _) → WasCalledFor (record { 0 = k }) (λ p back. outcome (slice_index_or jobs k b) p back × (back.ending ≡ Ending.Starved)))) ⊎ ((h : IsHandedBack outcome jobs) × IsOneEach (length jobs) h.lefts)

@@ -1,16 +1,10 @@
 -- What the functions inside of a case say, which no public clause names.
-use Rattle.std.specs.Prelude.{ℕ, ◌≡◌, ◌≢◌, ◌<◌, ◌+◌, ◌++◌, Bool, true, false, None, List, [], ◌∷◌, Result, Ok, Err, length, map, slice_index_or}
+use Rattle.std.specs.List.{AllZip}
+use Rattle.std.specs.Prelude.{ℕ, ◌≡◌, ◌≢◌, ◌<◌, ◌+◌, ◌++◌, ◌⊎◌, Bool, true, false, None, List, [], ◌∷◌, Result, Ok, Err, length, map, slice_index_or}
 use Rattle.tc_rules.specs.Prelude.{Run, of_close}
-use Rattle.tc_rules.specs.declared.closed.Closed.{Closed}
-use Rattle.tc_rules.specs.declared.closed.CloseFault.{CloseFault}
+use Rattle.tc_rules.specs.declared.{closed.CloseFault.CloseFault, closed.Closed.Closed, refusal.CaseError.CaseError}
 use Rattle.tc_book.specs.Prelude.{PassState, LeftState}
-use Rattle.tc_rules.specs.declared.refusal.CaseError.{CaseError}
-use Rattle.tc_exec.specs.declared.job.Back.{Back}
-use Rattle.tc_exec.specs.declared.job.Ending.{Ending}
-use Rattle.tc_exec.specs.declared.job.Ending.TheVariants as E
-use Rattle.tc_exec.specs.declared.gathered.Gathered.{Gathered}
-use Rattle.tc_exec.specs.declared.worker.Worker.{Worker}
-use Rattle.tc_exec.specs.Workers.{IsLeftBy}
+use Rattle.tc_exec.specs.{Workers.IsLeftBy, Workers.WasCalledFor, declared.gathered.Gathered.Gathered, declared.job.Back.Back, declared.job.Ending.Ending, declared.worker.Worker.Worker}
 
 -- what the close of a case is answered by: the report as it is, or the refusal
 abbrev pub handed_on : Result Closed CloseFault → Result Closed CaseError
@@ -19,8 +13,8 @@ handed_on (Err fault) = Err (of_close fault)
 
 -- memory ran out in the behaviour
 abbrev pub is_starved : Ending → Bool
-is_starved E.Starved = true
-is_starved E.Returned = false
+is_starved Ending.Starved = true
+is_starved Ending.Returned = false
 
 -- the runs of these workers
 abbrev pub runs_of : {B : Type 0} → List (Worker B) → List Run
@@ -49,12 +43,28 @@ module _ {B : Type 0} (outcome : B → PassState → Back → Type 0) where
   AreLeftBy (run ∷ runs) (b ∷ bs) (l ∷ ls) = IsLeftBy outcome run b l × AreLeftBy runs bs ls
   AreLeftBy _ _ _ = ⊥
 
-  -- unless memory ran out in a behaviour, what was gathered is what the workers of these runs left, each with its own
-  -- behaviour
-  abbrev pub Gathers : List Run → List B → Gathered → Type 0
-  Gathers runs behaviours g = g.starved ≡ false → AreLeftBy runs behaviours g.lefts.items
+  -- the behaviour of this run was called, and memory ran out in it
+  abbrev pub HasStarved : Run → B → Type 0
+  HasStarved run b = WasCalledFor run (λ p back. outcome b p back × (back.ending ≡ Ending.Starved))
+
+  -- memory ran out in the behaviour of one of these runs
+  abbrev pub IsOneStarved : List Run → List B → Type 0
+  IsOneStarved (run ∷ runs) (b ∷ bs) = HasStarved run b ⊎ IsOneStarved runs bs
+  IsOneStarved _ _ = ⊥
+
+  -- what was gathered is what the workers of these runs left, each with its own behaviour; or memory ran out in one of
+  -- these
+  pub record Gathers (runs : List Run) (behaviours : List B) (g : Gathered) : Type 0 where
+    pub lefts : g.starved ≡ false → AreLeftBy runs behaviours g.lefts.items
+    pub one_starved : g.starved ≡ true → IsOneStarved runs behaviours
 
   -- what these runs left, with their behaviours, was added to what was gathered, whichever runs that was of
   abbrev pub GathersMore : List Run → List B → Gathered → Gathered → Type 0
   GathersMore runs behaviours before after =
       (others : List Run) (theirs : List B) → Gathers others theirs before → Gathers (others ++ runs) (theirs ++ behaviours) after
+
+-- these are done, each with the one at its place, and these are left
+pub record AreDone {A B : Type 0} (R : A → B → Type 0) (all left : List A) (ys : List B) : Type 0 where
+  pub done : List A
+  pub prefix : all ≡ done ++ left
+  pub each : AllZip R done ys

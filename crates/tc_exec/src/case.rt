@@ -1,13 +1,10 @@
 //! The run of a case.
-ghost use Rattle.std.specs.Prelude.{◌≡◌, ◌≢◌, ◌↔◌, ◌<◌, ◌≤◌, ◌+◌, ◌-◌, ◌∷◌, ◌⊎◌, [], true, IfOk, OnOk, Err};
+ghost use Rattle.std.specs.Prelude.{◌≡◌, ◌≢◌, ◌↔◌, ◌<◌, ◌≤◌, ◌+◌, ◌-◌, ◌∷◌, ◌⊎◌, [], true, false, IfOk, OnOk, Err, length};
 ghost use Rattle.std.specs.Vec.{vec_len, vec_capacity};
 ghost use Rattle.tc_entry.specs.declared.limits.TheConstants.{BEHAVIOURS};
-ghost use Rattle.tc_book.specs.Prelude.{IsWhole};
-ghost use Rattle.tc_exec.specs.Inside.{AreAbove, Gathers, IsFirstStarted, handed_on, jobs_of, runs_of};
-ghost use Rattle.tc_exec.specs.Workers.{opening_pass};
-ghost use Rattle.tc_exec.specs.Gates.{IsPassed, IsStopped};
-ghost use Rattle.tc_exec.specs.Case.{IsCaseReport, AreCalled, IsHandedBack, IsMadeOf};
+ghost use Rattle.tc_book.specs.Prelude.{IsOneEach, IsWhole};
 ghost use Rattle.tc_rules.specs.declared.refusal.CaseError.TheVariants.{NoBehaviours, TooManyBehaviours, NoMemory, NoThread, Torn};
+ghost use Rattle.tc_exec.specs.{Case.AreCalled, Case.IsCaseReport, Case.IsHandedBack, Case.IsMadeOf, Case.IsOutOfMemory, Gates.IsPassed, Gates.IsStopped, Inside.AreAbove, Inside.Gathers, Inside.IsFirstStarted, Inside.handed_on, Inside.jobs_of, Inside.runs_of, Workers.opening_pass};
 
 use crate::callable::Callable;
 use crate::gate::{Everyone, Gate};
@@ -58,6 +55,7 @@ fn close<R: Wait>(
     gathered: Gathered,
 ) -> Result<Closed, CaseError>
     ensures starved { gathered.starved ≡ true → result ≡ Err NoMemory }
+    ensures runs { result ≡ Err NoMemory → gathered.starved ≡ false → IsOneEach (length gathered.lefts.items) gathered.lefts.items }
     ensures kind { (result ≢ Err NoBehaviours) × (result ≢ Err TooManyBehaviours) × (result ≢ Err NoThread) }
     ensures whole { IfOk result (λ c. IsWhole c.behaviours c.history gathered.lefts.items) }
     ensures report { IfOk result (IsCaseReport (vec_len gathered.lefts)) }
@@ -78,6 +76,7 @@ fn gather<R: Threads + Wait, B: Callable>(
 ) -> Gathered
     requires main { pass ≡ opening_pass }
     requires empty { gathered.lefts.items ≡ [] }
+    requires fed { gathered.starved ≡ false }
     requires room { vec_len workers < vec_capacity gathered.lefts }
     ensures all { vec_len result.lefts ≡ vec_len workers + 1 }
     ensures first { IsFirstStarted result.lefts.items }
@@ -118,6 +117,7 @@ fn run_made<R: Threads + Wait, B: Callable>(
 ) -> Result<Closed, CaseError>
     requires main { pass ≡ opening_pass }
     requires empty { gathered.lefts.items ≡ [] }
+    requires fed { gathered.starved ≡ false }
     requires room { vec_len workers < vec_capacity gathered.lefts }
     requires runs { AreAbove (runs_of workers.items) }
     ensures kind { (result ≢ Err NoBehaviours) × (result ≢ Err TooManyBehaviours) × (result ≢ Err NoThread) }
@@ -125,6 +125,7 @@ fn run_made<R: Threads + Wait, B: Callable>(
     ensures called { IfOk result (AreCalled B.outcome (first ∷ jobs_of workers.items)) }
     ensures made { IfOk result (IsMadeOf B.outcome (first ∷ jobs_of workers.items)) }
     ensures torn { result ≡ Err Torn → IsHandedBack B.outcome (first ∷ jobs_of workers.items) }
+    ensures memory { result ≡ Err NoMemory → IsOutOfMemory B.outcome (first ∷ jobs_of workers.items) }
 {
     let gathered = gather(rt, pass, first, workers, gathered);
     close(rt, alloc, shared, gathered)
@@ -137,6 +138,7 @@ fn room_for<B: Callable>(
 ) -> Result<(Vec<Worker<B>>, Gathered), tc_verdict::NoMemory>
     ensures workers { IfOk result (λ r. r.0.items ≡ []) }
     ensures lefts { IfOk result (λ r. r.1.lefts.items ≡ []) }
+    ensures fed { IfOk result (λ r. r.1.starved ≡ false) }
     ensures room_of_workers { IfOk result (λ r. runs ≤ vec_capacity r.0) }
     ensures room_of_lefts { IfOk result (λ r. vec_capacity r.1.lefts ≡ runs) }
 {
@@ -167,6 +169,7 @@ fn run_jobs<R: Threads + Wait + Copy + Send + 'static, B: Callable, G: Gate>(
     ensures torn { result ≡ Err Torn → IsHandedBack B.outcome jobs.items }
     ensures asked_torn { result ≡ Err Torn → IsPassed G.asks (behaviours - 1) gate.old gate.new }
     ensures asked_refused { result ≡ Err NoMemory → (gate.new ≡ gate.old) ⊎ IsPassed G.asks (behaviours - 1) gate.old gate.new }
+    ensures memory { result ≡ Err NoMemory → (gate.new ≡ gate.old) ⊎ IsOutOfMemory B.outcome jobs.items }
 {
     let count = usize::from(behaviours);
     let (shared, pass, tickets) = open_case(alloc, behaviours)?;
@@ -230,6 +233,7 @@ pub fn run_case_with<R: Threads + Wait + Copy + Send + 'static, B: Callable, G: 
     ensures torn { result ≡ Err Torn → IsHandedBack B.outcome jobs.items }
     ensures asked_torn { result ≡ Err Torn → IsPassed G.asks (vec_len jobs - 1) gate.old gate.new }
     ensures asked_refused { result ≡ Err NoMemory → (gate.new ≡ gate.old) ⊎ IsPassed G.asks (vec_len jobs - 1) gate.old gate.new }
+    ensures memory { result ≡ Err NoMemory → (gate.new ≡ gate.old) ⊎ IsOutOfMemory B.outcome jobs.items }
     ensures unasked { (vec_len jobs ≡ 0) ⊎ (BEHAVIOURS < vec_len jobs) ⊎ (threads + 1 < vec_len jobs) → gate.new ≡ gate.old }
 {
     let behaviours = behaviours_of(jobs.len(), threads)?;

@@ -1,7 +1,6 @@
 //! The behaviour of a run, as a job that is called once.
 ghost use Rattle.std.specs.Prelude.{◌≡◌, ◌↔◌};
 ghost use Rattle.tc_book.specs.Prelude.{PassState};
-ghost use Rattle.tc_exec.specs.declared.job.Back.{Back};
 ghost use Rattle.tc_exec.specs.Ending.{ending_after};
 
 use crate::callable::Callable;

@@ -1,9 +1,7 @@
 //! The threads of a case.
 ghost use Rattle.std.specs.Prelude.{◌≡◌, ◌≤◌, ◌+◌, [], IsTrue, IsFalse, IfSome, length};
 ghost use Rattle.std.specs.Vec.{vec_len, vec_capacity};
-ghost use Rattle.tc_exec.specs.Workers.{IsWorked};
-ghost use Rattle.tc_exec.specs.Gates.{IsPassed, IsStopped};
-ghost use Rattle.tc_exec.specs.Inside.{AreAbove, GathersMore, KeepsFirst, jobs_of, runs_of};
+ghost use Rattle.tc_exec.specs.{Gates.IsPassed, Gates.IsStopped, Inside.AreAbove, Inside.GathersMore, Inside.KeepsFirst, Inside.jobs_of, Inside.runs_of, Workers.IsWorked};
 
 use crate::callable::Callable;
 use crate::gate::Gate;

@@ -119,16 +119,13 @@ fn sets_late<R: Wait>(rt: &R, pass: Pass, flag: &AtomicU64, more: u32, ended: &A
     Back::after(pass, Ok(()))
 }
 
-/// Whether the late setting is the one entry of run 1.
-fn is_late_setting(entries: &[Entry]) -> bool {
-    matches!(
-        entries,
-        [Entry {
-            op: Op::SetVerdict(UserVerdict::Fail),
-            reply: Reply::Ended,
-            ..
-        },]
-    )
+/// Whether there is one entry, which is this call of this run with this reply.
+fn is_alone(entries: &[Entry], caller: Run, op: Op, reply: Reply) -> bool {
+    let wanted = Entry { caller, op, reply };
+    match entries {
+        [entry] => entry.same(&wanted),
+        _ => false,
+    }
 }
 
 /// Whether the late setting is the one entry of run 1, and only the pass of run 2 counts.
@@ -136,7 +133,8 @@ fn is_late_case(report: &CaseReport) -> bool {
     let [_, late, _] = report.logs.as_slice() else {
         return false;
     };
-    is_late_setting(late.entries.as_slice())
+    let setting = Op::SetVerdict(UserVerdict::Fail);
+    is_alone(late.entries.as_slice(), Run(1), setting, Reply::Ended)
         && report.locals.as_slice() == [Verdict::None, Verdict::Pass].as_slice()
         && report.verdict == Verdict::Pass
 }
@@ -181,15 +179,7 @@ fn is_finish_alone(report: &CaseReport) -> bool {
     let [log] = report.logs.as_slice() else {
         return false;
     };
-    log.run == Run(0)
-        && matches!(
-            log.entries.as_slice(),
-            [Entry {
-                op: Op::Finish,
-                reply: Reply::Ok,
-                ..
-            },]
-        )
+    log.run == Run(0) && is_alone(log.entries.as_slice(), Run(0), Op::Finish, Reply::Ok)
 }
 
 #[test]

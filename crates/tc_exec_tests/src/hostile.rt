@@ -311,10 +311,10 @@ fn refusal_beside<R: Abort + Threads + Wait + Copy + Send + 'static>(
     let mut jobs = others;
     got(rt, jobs.push(job));
     jobs.reverse();
-    refusal(rt, alloc, jobs, 64)
+    refusal(rt, alloc, jobs, 255)
 }
 
-// With workers and without one.
+// Without a worker, with one, and with many.
 #[test]
 fn pass_of_another_case(rt: HostRuntime) -> Result<(), AllocError> {
     for (ending, others, wanted) in [
@@ -322,6 +322,10 @@ fn pass_of_another_case(rt: HostRuntime) -> Result<(), AllocError> {
         (Ending::Starved, 0, CaseError::NoMemory),
         (Ending::Returned, 1, CaseError::Torn),
         (Ending::Starved, 1, CaseError::NoMemory),
+        (Ending::Returned, 5, CaseError::Torn),
+        (Ending::Starved, 5, CaseError::NoMemory),
+        (Ending::Returned, 255, CaseError::Torn),
+        (Ending::Starved, 255, CaseError::NoMemory),
     ] {
         let other = another_pass(&rt, rt.alloc());
         let run: Behaviour = Box::new(rt.alloc(), move |pass: Pass| {

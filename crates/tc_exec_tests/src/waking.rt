@@ -251,6 +251,206 @@ fn a_stuck_main_is_woken(rt: HostRuntime) {
     );
 }
 
+/// What the main run and run 1 wait for; what runs 2 and 3 do meanwhile, which wakes nobody; what they do then; and the
+/// replies by which both continue. Each run is on the component of its number, which is an ordinary one.
+const WAITS: &str = "\
+0 wait done 2; 1 wait killed 2; 3 finish, 2 kill 3; 2 finish => matched matched
+0 wait done 2; 1 wait done 2; 3 finish; 2 stop 2 => matched matched
+0 wait done 2; 1 wait done 2; 2 stop 3; 2 kill 2 => matched matched
+0 wait done 2; 1 wait killed 2; 3 running 2; 3 stop 2 => matched matched
+0 wait done 2; 1 wait done 2; 2 alive 3; 3 kill 2 => matched matched
+0 wait done 1; 1 wait done 2; 3 finish; 2 kill 1 => matched ended
+0 wait done 2; 1 wait done 2; 3 finish; 2 stop 7 => ended ended
+0 wait done 2; 1 wait killed 2; 3 kill 3; 2 stopcase => ended ended
+0 wait done 2; 1 wait done 2; 2 kill 3; 2 stop 0 => ended ended
+0 wait killed 2; 1 wait done 2; 3 finish, 2 stop 3; 2 finish => matched matched
+0 wait killed 2; 1 wait killed 2; 3 finish; 2 stop 2 => matched matched
+0 wait killed 2; 1 wait killed 2; 2 kill 3; 2 kill 2 => matched matched
+0 wait killed 2; 1 wait done 2; 3 done 2; 3 stop 2 => matched matched
+0 wait killed 2; 1 wait killed 2; 2 killed 3; 3 kill 2 => matched matched
+0 wait killed 2; 1 wait done 2; 3 finish; 2 stop 7 => ended ended
+0 wait killed 2; 1 wait killed 2; 2 stop 3; 2 stopcase => ended ended
+0 wait killed 2; 1 wait done 2; 3 running 1; 3 kill 0 => ended ended
+0 wait done any; 1 wait done 2; 2 running 3; 2 finish => matched matched
+0 wait done any; 1 wait killed 3; 3 setverdict pass; 3 finish => matched matched
+0 wait done any; 1 wait done 2; 2 done 3; 2 stop 2 => matched matched
+0 wait done any; 1 wait killed 2; 3 alive 2; 3 kill 2 => matched matched
+0 wait done any; 1 wait done 3; 2 killed 3; 3 stop 1 => matched ended
+0 wait done any; 1 wait killed 3; 2 alive 3; 2 stop 7 => ended ended
+0 wait done any; 1 wait done 3; 3 getverdict; 3 stopcase => ended ended
+0 wait done any; 1 wait done 2; 3 running 1; 2 kill 0 => ended ended
+0 wait killed any; 1 wait killed 2; 2 alive 1; 2 finish => matched matched
+0 wait killed any; 1 wait done 3; 2 getverdict; 3 stop 3 => matched matched
+0 wait killed any; 1 wait done 2; 3 running 2; 3 kill 2 => matched matched
+0 wait killed any; 1 wait killed 2; 3 killed 1; 2 kill 1 => matched ended
+0 wait killed any; 1 wait done 3; 3 done 1; 2 stop 7 => ended ended
+0 wait killed any; 1 wait killed 2; 2 setverdict fail; 3 stopcase => ended ended
+0 wait killed any; 1 wait killed 3; 2 running 0; 2 stop 0 => ended ended
+0 wait done all; 1 wait done 2; 3 finish; 2 finish => matched matched
+0 wait done all; 1 wait killed 3; 2 stop 2; 3 finish => matched matched
+0 wait done all; 1 wait done 2; 2 kill 3; 2 stop 2 => matched matched
+0 wait done all; 1 wait killed 3; 2 finish, 3 stop 2; 3 kill 3 => matched matched
+0 wait done all; 1 wait done 2; 3 finish; 2 kill 1, 2 finish => matched ended
+0 wait done all; 1 wait done 2; 3 stop 3; 2 stop 7 => ended ended
+0 wait done all; 1 wait killed 3; 2 finish; 3 stopcase => ended ended
+0 wait done all; 1 wait killed 3; 2 kill 2; 3 kill 0 => ended ended
+0 wait killed all; 1 wait killed 2; 3 finish; 2 finish => matched matched
+0 wait killed all; 1 wait done 3; 2 finish; 3 stop 3 => matched matched
+0 wait killed all; 1 wait killed 2; 2 stop 3; 2 kill 2 => matched matched
+0 wait killed all; 1 wait done 3; 3 stop 2; 3 stop 1, 3 finish => matched ended
+0 wait killed all; 1 wait done 3; 2 finish; 3 stop 7 => ended ended
+0 wait killed all; 1 wait killed 2; 3 finish; 2 stopcase => ended ended
+0 wait killed all; 1 wait done 2; 2 kill 3; 2 stop 0 => ended ended";
+
+/// The main run makes this wait on a thread, and then sets its flag; how the wait was answered, and its pass.
+fn spawn_wait<R: Abort + Threads + Wait + Copy + Send + 'static>(
+    rt: &R,
+    main: Pass,
+    wait: &'static str,
+    woken: &Arc<AtomicBool>,
+) -> JoinHandle<(Option<Reply>, Pass)> {
+    let rt = *rt;
+    let mut main = main;
+    let flag = shared_with(&rt, woken);
+    let run = move || {
+        let reply = reply_to(&rt, &mut main, wait);
+        flag.store(true, Ordering::SeqCst);
+        (reply, main)
+    };
+    got(&rt, thread::spawn(&rt, run))
+}
+
+/// Makes this call on a pass, or leaves it; nothing if it has left.
+fn act_on<R: Abort + Wait>(rt: &R, pass: &mut Option<Pass>, row: &str) {
+    let Some(mut own) = pass.take() else {
+        return;
+    };
+    if row.ends_with(" finish") {
+        leave(rt, own);
+        return;
+    }
+    // What it wakes is compared, not its reply.
+    let _ = reply_to(rt, &mut own, row);
+    *pass = Some(own);
+}
+
+/// Makes these calls of runs 2 and 3.
+fn act<R: Abort + Wait>(rt: &R, second: &mut Option<Pass>, third: &mut Option<Pass>, rows: &str) {
+    for row in rows.split(", ") {
+        if row.starts_with("2 ") {
+            act_on(rt, second, row);
+        } else {
+            act_on(rt, third, row);
+        }
+    }
+}
+
+/// Lets runs 2 and 3 make calls that wake nobody, looks at the book, and then lets them make those that wake both.
+fn wake_both<R: Abort + Wait + Clock>(
+    rt: &R,
+    shared: &Shared,
+    passes: (Pass, Pass),
+    (meanwhile, cause): (&str, &str),
+    flags: (&AtomicBool, &AtomicBool),
+) {
+    let (mut second, mut third) = (Some(passes.0), Some(passes.1));
+    act(rt, &mut second, &mut third, meanwhile);
+    holds(rt, "a place is kept", shared.look(rt).has_place(Run(0)));
+    pause(rt);
+    holds(rt, meanwhile, !is_set(flags.0) && !is_set(flags.1));
+    act(rt, &mut second, &mut third, cause);
+    holds(rt, cause, is_set_soon(rt, flags.0));
+    holds(rt, cause, is_set_soon(rt, flags.1));
+}
+
+/// The main run and run 1 wait on threads, and both continue by these replies.
+fn both_wake<R: Abort + Threads + Wait + Clock + CpuClock + Copy + Send + 'static>(
+    rt: &R,
+    alloc: Global,
+    waits: (&'static str, &'static str),
+    calls_then: (&str, &str),
+    replies: (&str, &str),
+) {
+    let (shared, main, tickets) = got(rt, open(alloc, 4));
+    let (mut main, mut tickets) = (main, tickets);
+    let flags = (unset(rt, alloc), unset(rt, alloc));
+    let other = spawn(rt, take(rt, &mut tickets, 0), waits.1, &flags.1);
+    calls(rt, &mut main, OF_THREE);
+    let passes = (enter(rt, &mut tickets), enter(rt, &mut tickets));
+    let waiter = spawn_wait(rt, main, waits.0, &flags.0);
+    pause(rt);
+    wake_both(rt, &shared, passes, calls_then, (&flags.0, &flags.1));
+    let (reply, main) = waiter.join(rt);
+    is(rt, waits.0, reply, read_reply(replies.0.as_bytes()));
+    leave(rt, main);
+    let (other, _) = other.join(rt);
+    let reply = read_reply(replies.1.as_bytes());
+    is(rt, waits.1, woken_by(&other), reply);
+}
+
+/// Makes a component for each of runs 1 to 3, and starts them.
+const OF_THREE: &str = "\
+0 create => made 1
+0 create => made 2
+0 create => made 3
+0 start 1 1 => ok
+0 start 2 2 => ok
+0 start 3 3 => ok";
+
+/// The case of one row.
+fn is_row<R: Abort + Threads + Wait + Clock + CpuClock + Copy + Send + 'static>(
+    rt: &R,
+    alloc: Global,
+    row: &'static str,
+) {
+    let Some((case, replies)) = row.split_once(" => ") else {
+        panic!(rt; "{row}")
+    };
+    let mut parts = case.split("; ");
+    let (main, other, meanwhile, cause) = (parts.next(), parts.next(), parts.next(), parts.next());
+    let ((Some(main), Some(other)), (Some(meanwhile), Some(cause)), Some(replies)) = (
+        (main, other),
+        (meanwhile, cause),
+        replies.split_once(' '),
+    ) else {
+        panic!(rt; "{row}")
+    };
+    both_wake(rt, alloc, (main, other), (meanwhile, cause), replies);
+}
+
+/// How many threads walk over the rows at a time.
+const WALKS: usize = 8;
+
+/// A thread for every so manyth row, from this one on.
+fn walk<R: Abort + Threads + Wait + Clock + CpuClock + Copy + Send + 'static>(
+    rt: &R,
+    alloc: Global,
+    from: usize,
+) -> JoinHandle<()> {
+    let rt = *rt;
+    let walk = move || {
+        for (at, row) in WAITS.lines().enumerate() {
+            if at % WALKS == from {
+                is_row(&rt, alloc, row);
+            }
+        }
+    };
+    got(&rt, thread::spawn(&rt, walk))
+}
+
+/// Waits for one, any and all to be done and killed, and each cause by which they end: the main run and another are woken
+/// by the same calls, and by none before.
+#[test]
+fn the_main_and_another_are_woken(rt: HostRuntime) {
+    let mut walks = Vec::new(rt.alloc());
+    for from in 0..WALKS {
+        got(&rt, walks.push(walk(&rt, rt.alloc(), from)));
+    }
+    for walk in walks {
+        walk.join(&rt);
+    }
+}
+
 /// Whether run 255 was started on component 2, with component 1 as its argument.
 fn is_last(left: &Left) -> bool {
     let Some((comp, args)) = left.started() else {

@@ -1,9 +1,8 @@
 -- What is before the first odd byte.
 use Rattle.std.proofs.Common.{ℕ, ◌≡◌, ◌≤◌, Bool, true, false, cond, Some, None, List, length, take, nat_lt, sym, ap, refl, arith}
 use Rattle.std.specs.List.{before_first, position, position_or_len}
-use Rattle.std.proofs.lemmas.Bool.Decides.{nat_tests}
-use Rattle.std.proofs.lemmas.List.{take_all}
-use Rattle.tc_explain.specs.Places.{is_odd}
+use Rattle.std.proofs.lemmas.{Bool.Decides.nat_tests, List.take_all}
+use Rattle.tc_explain.specs.Explanation.{is_odd}
 
 by_some : (t : Bool) (p at : ℕ) → cond t (Some p) None ≡ Some at → p ≡ at
 by_some true p at e = cc

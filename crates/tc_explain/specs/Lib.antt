@@ -1,6 +1,4 @@
 -- The definitions that the contracts of this crate cite.
-pub mod Scan
-pub mod Places
 pub mod Explanation
 pub mod Prelude
 pub use Rattle.tc_text.specs.Prelude as OfText

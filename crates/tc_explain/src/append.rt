@@ -2,7 +2,7 @@
 ghost use Rattle.std.specs.Prelude.{◌<◌, ◌+◌, ◌^◌, [], ◌∷◌, OnOk};
 ghost use Rattle.std.specs.Fmt.{decimal};
 ghost use Rattle.tc_text.specs.Prelude.{TellsAmong, TellsLine};
-ghost use Rattle.tc_explain.specs.Places.{quoted};
+ghost use Rattle.tc_explain.specs.Explanation.{quoted};
 
 use crate::nearest::{near_text, near_word};
 use crate::quote::{quoted_begin, quoted_rest};
@@ -99,7 +99,7 @@ pub(crate) fn append_list(
     ensures { OnOk result (TellsAmong [] out.old.items out.new.items) }
 {
     let mut parts = Vec::new(alloc);
-    parts.push(Part::Text(b"understood there:"))?;
+    parts.push(Part::Text(b"expected:"))?;
     for word in words {
         parts.push(Part::Word(word.as_bytes()))?;
     }

@@ -1,17 +1,16 @@
 //! What helps besides the place where a line stops.
-use crate::help::{add_counted, add_line, add_name_rule, add_named, add_word};
+use crate::help::{Help, Line};
 use crate::naming::add_naming;
 use crate::nearest::near_text;
 use crate::places::space_of;
 use crate::quote::odd_place;
 use crate::scan::Opened;
 use crate::slot::{
-    ARGUMENTS as GIVEN, ENTRY, GIVEN_NAME, KEYWORD, RUN, STARTED, Slot, VERDICT, fixed_at,
-    is_digits, next, rows,
+    ARGUMENTS as GIVEN, ENTRY, GIVEN_NAME, KEYWORD, RUN, STARTED, Slot, VERDICT, is_digits,
+    is_whole, next, rows, walk, words_at,
 };
 use crate::sort::{Refusal, Sort};
 use crate::source::{add_source, begins_comment};
-use crate::stop::{is_whole, walk};
 use std::alloc::Global;
 use tc_entry::{ARGUMENTS, BEHAVIOURS};
 use tc_reader::{
@@ -34,76 +33,55 @@ pub(crate) struct Around<'t> {
 }
 
 // Adds the limit that a line passes, which begins with this keyword and has that many words after it.
-fn add_limit(out: &mut Vec<u8>, keyword: Option<Keyword>, others: usize) -> Result<(), NoMemory> {
-    match keyword {
-        Some(Keyword::TestCase) => {
-            add_counted(out, "a script has at most ", TEST_CASES, " test cases")
-        }
+fn add_limit(help: &mut Help, keyword: Option<Keyword>, others: usize) -> Result<(), NoMemory> {
+    let (before, most, after) = match keyword {
+        Some(Keyword::TestCase) => ("a script has at most ", TEST_CASES, " test cases"),
         Some(Keyword::Behaviour) if others > 1 + ARGUMENTS => {
-            add_counted(out, "a behaviour has at most ", ARGUMENTS, " parameters")
+            ("a behaviour has at most ", ARGUMENTS, " parameters")
         }
-        Some(Keyword::Behaviour) => {
-            add_counted(out, "a test case has at most ", BEHAVIOURS, " behaviours")
-        }
+        Some(Keyword::Behaviour) => ("a test case has at most ", BEHAVIOURS, " behaviours"),
         Some(Keyword::Start) if others > 2 + ARGUMENTS => {
-            add_counted(out, "a start has at most ", ARGUMENTS, " arguments")
+            ("a start has at most ", ARGUMENTS, " arguments")
         }
-        _ => add_counted(out, "a behaviour has at most ", STEPS, " steps"),
-    }
+        _ => ("a behaviour has at most ", STEPS, " steps"),
+    };
+    help.add_counted(before, most, after)
 }
 
 // Adds the one of the words of a form that may be at the slot which is the nearest to the word, if one is near.
-fn add_near_fixed(
-    alloc: Global,
-    out: &mut Vec<u8>,
-    slot: Slot,
-    word: &[u8],
-) -> Result<(), NoMemory> {
-    let table = fixed_at(alloc, slot)?;
-    match near_text(alloc, word, table.as_slice())? {
-        Some(near) => add_named(out, "nearest:", near),
+fn add_near_fixed(help: &mut Help, slot: Slot, word: &[u8]) -> Result<(), NoMemory> {
+    let table = words_at(help.alloc, slot, true)?;
+    match near_text(help.alloc, word, table.as_slice())? {
+        Some(near) => help.add_named("nearest:", near),
         None => Ok(()),
     }
 }
 
 // Adds what the word may be at which a line of a script stops.
-fn add_stopped(
-    alloc: Global,
-    out: &mut Vec<u8>,
-    kind: ScriptKind,
-    slot: Slot,
-    word: &[u8],
-) -> Result<(), NoMemory> {
+fn add_stopped(help: &mut Help, kind: ScriptKind, slot: Slot, word: &[u8]) -> Result<(), NoMemory> {
     if begins_comment(word) {
-        return add_line(out, "a comment has a line of its own, which begins with #");
+        return help.add_line("a comment has a line of its own, which begins with #");
     }
     if kind == ScriptKind::BadName {
-        return add_name_rule(out);
+        return help.add_name_rule();
     }
     if slot.0 == VERDICT.0 && is_word(word, b"error") {
-        return add_line(out, "stopcase ends a test case with the verdict error");
+        return help.add_line("stopcase ends a test case with the verdict error");
     }
-    add_near_fixed(alloc, out, slot, word)
+    add_near_fixed(help, slot, word)
 }
 
 // Adds what helps with a line that is of no form of a script.
-fn add_unformed(
-    alloc: Global,
-    out: &mut Vec<u8>,
-    kind: ScriptKind,
-    seen: bool,
-    line: &[u8],
-    words: &[&[u8]],
-) -> Result<(), NoMemory> {
-    let stop = walk(Sort::Script, KEYWORD, words);
-    if is_whole(Sort::Script, stop, words) {
-        return add_line(out, "the line is understood");
+fn add_unformed(help: &mut Help, kind: ScriptKind, seen: bool, line: Line) -> Result<(), NoMemory> {
+    let stop = walk(Sort::Script, KEYWORD, line.words);
+    if is_whole(Sort::Script, stop, line.words) {
+        return help.add_line("the line is understood");
     }
-    if add_source(alloc, out, seen, line)? {
+    if add_source(help, seen, line.bytes)? {
         return Ok(());
     }
-    match words.get(stop.place) {
-        Some(word) => add_stopped(alloc, out, kind, stop.slot, word),
+    match line.words.get(stop.place) {
+        Some(word) => add_stopped(help, kind, stop.slot, word),
         None => Ok(()),
     }
 }
@@ -121,40 +99,26 @@ fn misplaced(keyword: Keyword, opened: Opened) -> &'static str {
     }
 }
 
-// Adds what helps with a line that may not be where it is.
-fn add_misplaced(
-    out: &mut Vec<u8>,
-    opened: Opened,
-    keyword: Option<Keyword>,
-) -> Result<(), NoMemory> {
-    match keyword {
-        Some(keyword) => add_line(out, misplaced(keyword, opened)),
-        None => Ok(()),
-    }
-}
-
 // Adds what helps with a line of a script.
 fn add_script(
-    alloc: Global,
-    out: &mut Vec<u8>,
+    help: &mut Help,
     kind: ScriptKind,
     around: Around,
-    line: &[u8],
-    words: &[&[u8]],
+    line: Line,
 ) -> Result<(), NoMemory> {
-    let keyword = words.first().and_then(|word| read_keyword(word));
-    match kind {
-        ScriptKind::BadLine | ScriptKind::BadName => {
-            add_unformed(alloc, out, kind, around.in_source, line, words)
+    let keyword = line.words.first().and_then(|word| read_keyword(word));
+    match (kind, keyword) {
+        (ScriptKind::BadLine | ScriptKind::BadName, _) => {
+            add_unformed(help, kind, around.in_source, line)
         }
-        ScriptKind::TooMany => {
-            add_line(out, "one more than there may be")?;
-            add_limit(out, keyword, words.len().saturating_sub(1))
+        (ScriptKind::TooMany, _) => {
+            help.add_line("one more than there may be")?;
+            add_limit(help, keyword, line.words.len().saturating_sub(1))
         }
-        ScriptKind::BadPlace => add_misplaced(out, around.opened, keyword),
-        ScriptKind::BadByte => Ok(()),
-        ScriptKind::Cut => add_line(out, "the line is understood"),
-        _ => add_naming(alloc, out, kind, around.text, around.number, line, words),
+        (ScriptKind::BadPlace, Some(keyword)) => help.add_line(misplaced(keyword, around.opened)),
+        (ScriptKind::BadPlace | ScriptKind::BadByte, _) => Ok(()),
+        (ScriptKind::Cut, _) => help.add_line("the line is understood"),
+        _ => add_naming(help, kind, around.text, around.number, line),
     }
 }
 
@@ -165,9 +129,8 @@ fn is_run(slot: Slot) -> bool {
 
 // Adds why a word of digits at this place and slot is no number. Whether it is none.
 fn add_number(
-    alloc: Global,
-    out: &mut Vec<u8>,
-    line: &[u8],
+    help: &mut Help,
+    line: Line,
     place: usize,
     slot: Slot,
     word: &[u8],
@@ -180,15 +143,15 @@ fn add_number(
     match (is_digits(word), word) {
         (false, _) => return Ok(false),
         (true, [b'0', _, ..]) => {
-            add_word(alloc, out, line, place, word)?;
-            add_line(out, "a number begins with 0 only if it is 0")?;
+            help.add_word(line, place)?;
+            help.add_line("a number begins with 0 only if it is 0")?;
         }
         _ => {
             if read_number(word).is_some_and(|number| number <= most) {
                 return Ok(false);
             }
-            add_word(alloc, out, line, place, word)?;
-            add_counted(out, "the number is at most ", most as usize, "")?;
+            help.add_word(line, place)?;
+            help.add_counted("the number is at most ", most as usize, "")?;
         }
     }
     Ok(true)
@@ -196,17 +159,10 @@ fn add_number(
 
 // Adds which of the words of a line of this sort, the first of which is at this slot, is no number, and why. Whether one
 // is none.
-fn add_numbers(
-    alloc: Global,
-    out: &mut Vec<u8>,
-    sort: Sort,
-    first: Slot,
-    line: &[u8],
-    words: &[&[u8]],
-) -> Result<bool, NoMemory> {
+fn add_numbers(help: &mut Help, sort: Sort, first: Slot, line: Line) -> Result<bool, NoMemory> {
     let mut slot = first;
-    for (place, word) in words.iter().enumerate() {
-        if add_number(alloc, out, line, place, slot, word)? {
+    for (place, word) in line.words.iter().enumerate() {
+        if add_number(help, line, place, slot, word)? {
             return Ok(true);
         }
         slot = match next(sort, slot, word, rows()) {
@@ -234,78 +190,57 @@ fn count_at(sort: Sort, first: Slot, wanted: Slot, words: &[&[u8]]) -> usize {
 }
 
 // Adds what helps with a line of moves or histories, the first word of which is at this slot.
-fn add_call(
-    alloc: Global,
-    out: &mut Vec<u8>,
-    sort: Sort,
-    first: Slot,
-    line: &[u8],
-    words: &[&[u8]],
-) -> Result<(), NoMemory> {
-    let stop = walk(sort, first, words);
-    if !is_whole(sort, stop, words) {
-        return match words.get(stop.place) {
-            Some(word) => add_near_fixed(alloc, out, stop.slot, word),
+fn add_call(help: &mut Help, sort: Sort, first: Slot, line: Line) -> Result<(), NoMemory> {
+    let stop = walk(sort, first, line.words);
+    if !is_whole(sort, stop, line.words) {
+        return match line.words.get(stop.place) {
+            Some(word) => add_near_fixed(help, stop.slot, word),
             None => Ok(()),
         };
     }
-    if add_numbers(alloc, out, sort, first, line, words)? {
+    if add_numbers(help, sort, first, line)? {
         return Ok(());
     }
-    if count_at(sort, first, GIVEN, words) > ARGUMENTS {
-        return add_counted(out, "a start has at most ", ARGUMENTS, " arguments");
+    if count_at(sort, first, GIVEN, line.words) > ARGUMENTS {
+        return help.add_counted("a start has at most ", ARGUMENTS, " arguments");
     }
-    if sort == Sort::Histories && count_at(sort, first, GIVEN_NAME, words) > 0 {
-        return add_line(out, "a history of format 1 names no component");
+    if sort == Sort::Histories && count_at(sort, first, GIVEN_NAME, line.words) > 0 {
+        return help.add_line("a history of format 1 names no component");
     }
-    add_line(out, "the line is understood")
+    help.add_line("the line is understood")
 }
 
 // Adds what the first line of a history is, and of a name in its place what it may have.
-fn add_first_line(
-    alloc: Global,
-    out: &mut Vec<u8>,
-    line: &[u8],
-    words: &[&[u8]],
-) -> Result<(), NoMemory> {
-    let text = "understood there: history F NAME N, with F 1 or 2, and N from 1 to 64 or to 256";
-    match words {
+fn add_first_line(help: &mut Help, line: Line) -> Result<(), NoMemory> {
+    let text = "expected: history F NAME N, with F 1 or 2, and N from 1 to 64 or to 256";
+    match line.words {
         [_, _, name, _] if read_name(name).is_none() => {
-            add_word(alloc, out, line, 2, name)?;
-            add_line(out, text)?;
-            add_name_rule(out)
+            help.add_word(line, 2)?;
+            help.add_line(text)?;
+            help.add_name_rule()
         }
-        _ => add_line(out, text),
+        _ => help.add_line(text),
     }
 }
 
 // Adds what helps with a line of moves or histories.
-fn add_spaced(
-    alloc: Global,
-    out: &mut Vec<u8>,
-    refusal: Refusal,
-    line: &[u8],
-    words: &[&[u8]],
-) -> Result<(), NoMemory> {
-    if space_of(line) < line.len() {
+fn add_spaced(help: &mut Help, refusal: Refusal, line: Line) -> Result<(), NoMemory> {
+    if space_of(line.bytes) < line.bytes.len() {
         return Ok(());
     }
     match refusal {
-        Refusal::Histories(TextKind::Entry) => {
-            add_call(alloc, out, Sort::Histories, ENTRY, line, words)
+        Refusal::Histories(TextKind::Entry) => add_call(help, Sort::Histories, ENTRY, line),
+        Refusal::Moves(TextKind::Move) => add_call(help, Sort::Moves, RUN, line),
+        Refusal::Histories(TextKind::FirstLine) => add_first_line(help, line),
+        Refusal::Moves(TextKind::FirstLine) => {
+            help.add_line("expected: behaviours N, with N from 1 to 256")
         }
-        Refusal::Moves(TextKind::Move) => add_call(alloc, out, Sort::Moves, RUN, line, words),
-        Refusal::Histories(TextKind::FirstLine) => add_first_line(alloc, out, line, words),
-        Refusal::Moves(TextKind::FirstLine) => add_line(
-            out,
-            "understood there: behaviours N, with N from 1 to 256",
-        ),
-        _ => add_line(out, "the line is understood"),
+        _ => help.add_line("the line is understood"),
     }
 }
 
 // Adds how that ends which is open at the end of a text.
-fn add_end(out: &mut Vec<u8>, refusal: Refusal, opened: Opened) -> Result<(), NoMemory> {
+fn add_end(help: &mut Help, refusal: Refusal, opened: Opened) -> Result<(), NoMemory> {
     let text = match (refusal, opened) {
         (Refusal::Moves(_), _) | (Refusal::Histories(_), Opened::Nothing) => return Ok(()),
         (Refusal::Histories(_), _) => "a history ends with `end` and its verdict",
@@ -313,25 +248,28 @@ fn add_end(out: &mut Vec<u8>, refusal: Refusal, opened: Opened) -> Result<(), No
         (Refusal::Script(_), Opened::Begun(_, false)) => "a test case has a behaviour or more",
         (Refusal::Script(_), _) => "each behaviour and each test case ends with `end`",
     };
-    add_line(out, text)
+    help.add_line(text)
 }
 
 // Adds what helps with the line, if its bytes may be in it.
 fn add_plain(
-    alloc: Global,
-    out: &mut Vec<u8>,
+    help: &mut Help,
     refusal: Refusal,
     around: Around,
-    line: &[u8],
+    bytes: &[u8],
 ) -> Result<(), NoMemory> {
-    if odd_place(line).is_some() {
+    if odd_place(bytes).is_some() {
         return Ok(());
     }
-    let mut words = Vec::new(alloc);
-    read_words(line, &mut words)?;
+    let mut words = Vec::new(help.alloc);
+    read_words(bytes, &mut words)?;
+    let line = Line {
+        bytes,
+        words: words.as_slice(),
+    };
     match refusal {
-        Refusal::Script(kind) => add_script(alloc, out, kind, around, line, words.as_slice()),
-        _ => add_spaced(alloc, out, refusal, line, words.as_slice()),
+        Refusal::Script(kind) => add_script(help, kind, around, line),
+        _ => add_spaced(help, refusal, line),
     }
 }
 
@@ -342,10 +280,13 @@ pub(crate) fn hints(
     around: Around,
     line: Option<&[u8]>,
 ) -> Result<Vec<u8>, NoMemory> {
-    let mut out = Vec::new(alloc);
+    let mut help = Help {
+        alloc,
+        text: Vec::new(alloc),
+    };
     match line {
-        Some(line) => add_plain(alloc, &mut out, refusal, around, line)?,
-        None => add_end(&mut out, refusal, around.opened)?,
+        Some(line) => add_plain(&mut help, refusal, around, line)?,
+        None => add_end(&mut help, refusal, around.opened)?,
     }
-    Ok(out)
+    Ok(help.text)
 }

@@ -8,14 +8,12 @@ mod hints;
 mod names;
 mod naming;
 mod nearest;
-mod odd;
 mod places;
 mod quote;
 mod scan;
 mod slot;
 mod sort;
 mod source;
-mod stop;
 mod telling;
 
 pub use append::append_unknown;

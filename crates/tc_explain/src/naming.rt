@@ -1,47 +1,30 @@
 //! What helps if a name of a script is wrong.
-use crate::help::{add_counted, add_line, add_named, add_names, add_word};
+use crate::help::{Help, Line};
 use crate::names::{Given, Names, given_as, no_names};
 use crate::nearest::near_word;
-use std::alloc::Global;
 use tc_entry::ARGUMENTS;
 use tc_reader::{Keyword, ScriptKind, is_word, read_keyword, read_name};
-use tc_text::{append_number, append_text};
 use tc_verdict::NoMemory;
-
-// Adds the word at a place of the line, if there is one.
-fn add_place(
-    alloc: Global,
-    out: &mut Vec<u8>,
-    line: &[u8],
-    words: &[&[u8]],
-    place: usize,
-) -> Result<(), NoMemory> {
-    match words.get(place) {
-        Some(word) => add_word(alloc, out, line, place, word),
-        None => Ok(()),
-    }
-}
 
 // Adds the nearest of the names or of the other words; if none is near, the names under this head, or that there is none.
 fn add_near(
-    alloc: Global,
-    out: &mut Vec<u8>,
+    help: &mut Help,
     word: &[u8],
     given: &[Given],
     others: &[&[u8]],
     (head, none): (&str, &str),
 ) -> Result<(), NoMemory> {
-    let mut names = Vec::new(alloc);
+    let mut names = Vec::new(help.alloc);
     for one in given {
         names.push(one.name)?;
     }
-    let mut all = Vec::new(alloc);
+    let mut all = Vec::new(help.alloc);
     all.extend_from_slice(names.as_slice())?;
     all.extend_from_slice(others)?;
-    match near_word(alloc, word, all.as_slice())? {
-        Some(near) => add_named(out, "nearest:", near),
-        None if names.is_empty() => add_line(out, none),
-        None => add_names(out, head, names.as_slice()),
+    match near_word(help.alloc, word, all.as_slice())? {
+        Some(near) => help.add_named("nearest:", near),
+        None if names.is_empty() => help.add_line(none),
+        None => help.add_names(head, names.as_slice()),
     }
 }
 
@@ -67,22 +50,19 @@ fn unbound<'t>(keyword: Keyword, bound: &[Given], words: &[&'t [u8]]) -> Option<
 }
 
 // Adds where the word is bound, or that it names a behaviour.
-fn add_elsewhere(out: &mut Vec<u8>, names: &Names, word: &[u8]) -> Result<(), NoMemory> {
+fn add_elsewhere(help: &mut Help, names: &Names, word: &[u8]) -> Result<(), NoMemory> {
     if let Some(one) = given_as(names.anywhere.as_slice(), word) {
-        return add_counted(
-            out,
-            "it is bound after line ",
-            one.line,
-            ", to the end of that behaviour",
-        );
+        let rest = ", to the end of that behaviour";
+        return help.add_counted("it is bound after line ", one.line, rest);
     }
     match given_as(names.behaviours.as_slice(), word) {
-        Some(one) => add_counted(
-            out,
-            "it names the behaviour in line ",
-            one.line,
-            ", and no component",
-        ),
+        Some(one) => {
+            help.add_counted(
+                "it names the behaviour in line ",
+                one.line,
+                ", and no component",
+            )
+        }
         None => Ok(()),
     }
 }
@@ -100,70 +80,50 @@ fn others_of(keyword: Option<Keyword>) -> &'static [&'static [u8]] {
 }
 
 // Adds which name is not bound, and the nearest that is.
-fn add_unbound(
-    alloc: Global,
-    out: &mut Vec<u8>,
-    names: &Names,
-    line: &[u8],
-    words: &[&[u8]],
-) -> Result<(), NoMemory> {
+fn add_unbound(help: &mut Help, names: &Names, line: Line) -> Result<(), NoMemory> {
     let bound = names.bound.as_slice();
-    let keyword = words.first().and_then(|word| read_keyword(word));
-    let found = keyword.and_then(|keyword| unbound(keyword, bound, words));
-    if let Some((place, word)) = found {
-        add_word(alloc, out, line, place, word)?;
+    let keyword = line.words.first().and_then(|word| read_keyword(word));
+    let found = keyword.and_then(|keyword| unbound(keyword, bound, line.words));
+    if let Some((place, _)) = found {
+        help.add_word(line, place)?;
     }
-    add_line(
-        out,
-        "a component is named by a parameter, or by a create above",
-    )?;
-    let others = others_of(keyword);
+    help.add_line("a component is named by a parameter, or by a create above")?;
     let told = ("bound there:", "no name is bound there");
     match found {
         Some((_, word)) => {
-            add_elsewhere(out, names, word)?;
-            add_near(alloc, out, word, bound, others, told)
+            add_elsewhere(help, names, word)?;
+            add_near(help, word, bound, others_of(keyword), told)
         }
         None => Ok(()),
     }
 }
 
 // Adds which behaviour there is not, and the nearest that there is and that may be started.
-fn add_unknown(
-    alloc: Global,
-    out: &mut Vec<u8>,
-    names: &Names,
-    line: &[u8],
-    words: &[&[u8]],
-) -> Result<(), NoMemory> {
-    add_place(alloc, out, line, words, 2)?;
-    add_line(out, "a start names a behaviour of its test case")?;
+fn add_unknown(help: &mut Help, names: &Names, line: Line) -> Result<(), NoMemory> {
+    help.add_word(line, 2)?;
+    help.add_line("a start names a behaviour of its test case")?;
     let started = names.behaviours.as_slice().get(1..).unwrap_or(&[]);
     let told = (
         "behaviours after the first:",
         "the test case has only its first behaviour",
     );
-    match words.get(2) {
-        Some(word) => add_near(alloc, out, word, started, &[], told),
+    match line.words.get(2) {
+        Some(word) => add_near(help, word, started, &[], told),
         None => Ok(()),
     }
 }
 
 // Adds how many arguments there are, and how many there should be.
-fn add_arguments(out: &mut Vec<u8>, names: &Names, words: &[&[u8]]) -> Result<(), NoMemory> {
-    add_line(
-        out,
-        "a start gives as many arguments as the behaviour has parameters",
-    )?;
+fn add_arguments(help: &mut Help, names: &Names, words: &[&[u8]]) -> Result<(), NoMemory> {
+    help.add_line("a start gives as many arguments as the behaviour has parameters")?;
     let [_, _, name, arguments @ ..] = words else {
         return Ok(());
     };
     match given_as(names.behaviours.as_slice(), name) {
         Some(behaviour) => {
-            append_number(out, arguments.len() as u64)?;
-            append_text(out, " given, ")?;
-            append_number(out, behaviour.parameters as u64)?;
-            add_counted(out, " wanted by the behaviour in line ", behaviour.line, "")
+            help.begin("", arguments.len())?;
+            help.begin(" given, ", behaviour.parameters)?;
+            help.add_counted(" wanted by the behaviour in line ", behaviour.line, "")
         }
         None => Ok(()),
     }
@@ -205,64 +165,51 @@ fn twice(names: &Names, number: usize, words: &[&[u8]]) -> Option<(usize, usize)
 }
 
 // Adds which name is given already, and where.
-fn add_twice(
-    alloc: Global,
-    out: &mut Vec<u8>,
-    names: &Names,
-    number: usize,
-    line: &[u8],
-    words: &[&[u8]],
-) -> Result<(), NoMemory> {
-    let found = twice(names, number, words);
+fn add_twice(help: &mut Help, names: &Names, number: usize, line: Line) -> Result<(), NoMemory> {
+    let found = twice(names, number, line.words);
     if let Some((place, _)) = found {
-        add_place(alloc, out, line, words, place)?;
+        help.add_word(line, place)?;
     }
-    add_line(
-        out,
+    help.add_line(
         "a name is given once: to a test case of the script, a behaviour of the test case, a component of the behaviour",
     )?;
     match found {
-        Some((_, first)) => add_counted(out, "it is given first in line ", first, ""),
+        Some((_, first)) => help.add_counted("it is given first in line ", first, ""),
         None => Ok(()),
     }
 }
 
 // Adds what is wrong with a name of a line among these names.
 fn add_named_wrong(
-    alloc: Global,
-    out: &mut Vec<u8>,
+    help: &mut Help,
     kind: ScriptKind,
     names: &Names,
     number: usize,
-    line: &[u8],
-    words: &[&[u8]],
+    line: Line,
 ) -> Result<(), NoMemory> {
     match kind {
-        ScriptKind::Twice => add_twice(alloc, out, names, number, line, words),
-        ScriptKind::NoReference => add_unbound(alloc, out, names, line, words),
-        ScriptKind::UnknownBehaviour => add_unknown(alloc, out, names, line, words),
-        _ => add_arguments(out, names, words),
+        ScriptKind::Twice => add_twice(help, names, number, line),
+        ScriptKind::NoReference => add_unbound(help, names, line),
+        ScriptKind::UnknownBehaviour => add_unknown(help, names, line),
+        _ => add_arguments(help, names, line.words),
     }
 }
 
 /// Adds what is wrong with a name of a line, whose number is given.
 pub(crate) fn add_naming(
-    alloc: Global,
-    out: &mut Vec<u8>,
+    help: &mut Help,
     kind: ScriptKind,
     text: &[u8],
     number: usize,
-    line: &[u8],
-    words: &[&[u8]],
+    line: Line,
 ) -> Result<(), NoMemory> {
     if kind == ScriptKind::MainParameters {
-        add_place(alloc, out, line, words, 2)?;
-        return add_line(
-            out,
+        help.add_word(line, 2)?;
+        return help.add_line(
             "the first behaviour of a test case is started by nobody, who could give it arguments",
         );
     }
-    let mut names = no_names(alloc);
-    names.read(alloc, text, number)?;
-    add_named_wrong(alloc, out, kind, &names, number, line, words)
+    let mut names = no_names(help.alloc);
+    names.read(help.alloc, text, number)?;
+    add_named_wrong(help, kind, &names, number, line)
 }

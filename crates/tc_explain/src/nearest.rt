@@ -1,34 +1,10 @@
-//! The words that may be at a place, and the nearest to a word.
+//! Which words may be at a place while something is open, and the nearest to a word.
 use crate::scan::Opened;
-use crate::slot::{KEYWORD, Row, Slot, Test, rows};
+use crate::slot::{KEYWORD, Slot};
 use std::alloc::Global;
 use strsim::generic_damerau_levenshtein;
 use tc_entry::NAME_BYTES;
 use tc_verdict::NoMemory;
-
-// Adds the word of a row of this slot.
-fn add_word(words: &mut Vec<&'static str>, slot: Slot, row: &Row) -> Result<(), NoMemory> {
-    if let Test::Word = row.1 {
-        if row.0.0 == slot.0 {
-            words.push(row.2)?;
-        }
-    }
-    Ok(())
-}
-
-// The words of these rows of a slot.
-fn words_in(alloc: Global, slot: Slot, rows: &[Row]) -> Result<Vec<&'static str>, NoMemory> {
-    let mut words = Vec::new(alloc);
-    for row in rows {
-        add_word(&mut words, slot, row)?;
-    }
-    Ok(words)
-}
-
-/// The words that may be at a slot.
-pub(crate) fn words_at(alloc: Global, slot: Slot) -> Result<Vec<&'static str>, NoMemory> {
-    words_in(alloc, slot, rows())
-}
 
 // Those of the keywords of a script that may come while this is open.
 fn open_words<'t>(opened: Opened, keywords: &'t [&'static str]) -> &'t [&'static str] {

@@ -1,7 +1,7 @@
-//! Bytes of a text, as they are shown.
+//! Bytes of a text, as they are shown, and those that no line may have.
 ghost use Rattle.std.specs.Prelude.{◌≡◌, ◌<◌, IfOk, IfSome, length, take};
 ghost use Rattle.std.specs.List.{before_first, position};
-ghost use Rattle.tc_explain.specs.Places.{is_odd, quoted};
+ghost use Rattle.tc_explain.specs.Explanation.{is_odd, quoted};
 
 use std::alloc::Global;
 use tc_text::{append_text, is_plain};
@@ -17,8 +17,8 @@ fn digit(value: u8) -> u8
     if value >= 10 { value + 55 } else { value + 48 }
 }
 
-/// Appends a byte by its two hexadecimal digits.
-pub(crate) fn append_hex(out: &mut Vec<u8>, byte: u8) -> Result<(), NoMemory> {
+// Appends a byte by its two hexadecimal digits.
+fn append_hex(out: &mut Vec<u8>, byte: u8) -> Result<(), NoMemory> {
     out.extend_from_slice(&[b'\\', b'x', digit(byte / 16), digit(byte % 16)])?;
     Ok(())
 }
@@ -78,4 +78,28 @@ pub(crate) fn quoted_rest(alloc: Global, bytes: &[u8]) -> Result<Vec<u8>, NoMemo
     }
     append_text(&mut out, if bytes.len() <= SHOWN { "`" } else { "`.." })?;
     Ok(out)
+}
+
+// The name of what begins with an odd byte, if it has one.
+fn name_of(bytes: &[u8]) -> Option<&'static str> {
+    match bytes {
+        [13, ..] => Some("a carriage return; a line ends with a line feed only"),
+        [9, ..] => Some("a tab; a line has spaces only"),
+        [0, ..] => Some("a zero byte, as UTF-16 has them"),
+        [239, 187, 191, ..] => Some("a byte order mark"),
+        [255, 254, ..] | [254, 255, ..] => Some("a byte order mark of UTF-16"),
+        _ => None,
+    }
+}
+
+/// Appends the name of what begins with an odd byte, otherwise the number of that byte.
+pub(crate) fn append_odd(out: &mut Vec<u8>, bytes: &[u8]) -> Result<(), NoMemory> {
+    match (name_of(bytes), bytes.first()) {
+        (Some(name), _) => append_text(out, name),
+        (None, Some(byte)) => {
+            append_text(out, "the byte ")?;
+            append_hex(out, *byte)
+        }
+        (None, None) => Ok(()),
+    }
 }

@@ -1,8 +1,7 @@
 //! A line of a text, and what is open before it.
 ghost use Rattle.std.specs.Prelude.{◌≡◌, IfOk, map, option_copied};
 ghost use Rattle.tc_reader.specs.Prelude.{lines};
-ghost use Rattle.tc_explain.specs.Scan.{after_keyword as keyword_after, behind, find};
-ghost use Rattle.tc_explain.specs.declared.scan.Opened.TheVariants as O;
+ghost use Rattle.tc_explain.specs.Explanation.{after_keyword as keyword_after, behind, find};
 
 use std::alloc::Global;
 use tc_reader::{Keyword, Lines, is_word, read_keyword, read_words};
@@ -58,8 +57,8 @@ pub(crate) fn find_line<'t>(
     text: &'t [u8],
     wanted: usize,
 ) -> Result<Found<'t>, NoMemory>
-    ensures opened { IfOk result (λ f. f.opened ≡ (find wanted 1 O.Nothing (lines text.now)).0) }
-    ensures line { IfOk result (λ f. option_copied f.line ≡ (find wanted 1 O.Nothing (lines text.now)).1) }
+    ensures opened { IfOk result (λ f. f.opened ≡ (find wanted 1 Opened.Nothing (lines text.now)).0) }
+    ensures line { IfOk result (λ f. option_copied f.line ≡ (find wanted 1 Opened.Nothing (lines text.now)).1) }
 {
     let mut words = Vec::new(alloc);
     let mut rest = Lines::new(text);

@@ -1,4 +1,4 @@
-//! What may be at a place of a line.
+//! What may be at a place of a line, and the place at which a line stops being understood.
 
 use crate::sort::Sort;
 use std::alloc::Global;
@@ -207,11 +207,20 @@ pub(crate) fn rows() -> &'static [Row] {
     &ROWS
 }
 
-/// The words of forms that may be at a slot.
-pub(crate) fn fixed_at(alloc: Global, slot: Slot) -> Result<Vec<&'static str>, NoMemory> {
+/// The words that may be at a slot: those of forms, or those that an explanation lists.
+pub(crate) fn words_at(
+    alloc: Global,
+    slot: Slot,
+    of_forms: bool,
+) -> Result<Vec<&'static str>, NoMemory> {
     let mut words = Vec::new(alloc);
     for row in &ROWS {
-        if matches!(row.1, Test::Fixed) && row.0.0 == slot.0 {
+        let is_wanted = match row.1 {
+            Test::Fixed => of_forms,
+            Test::Word => !of_forms,
+            _ => false,
+        };
+        if is_wanted && row.0.0 == slot.0 {
             words.push(row.2)?;
         }
     }
@@ -271,4 +280,30 @@ pub(crate) fn text(sort: Sort, slot: Slot, last: bool) -> &'static str {
         }
     }
     ""
+}
+
+/// The place, among the words of a line, of the first that may not be where it is, and what may be there. If each may,
+/// the place of the end.
+#[derive(Clone, Copy)]
+pub(crate) struct Stop {
+    pub(crate) place: usize,
+    pub(crate) slot: Slot,
+}
+
+/// The place at which a line of a text of this sort stops, whose first word is at this slot.
+pub(crate) fn walk(sort: Sort, first: Slot, words: &[&[u8]]) -> Stop {
+    let mut slot = first;
+    for (place, word) in words.iter().enumerate() {
+        let Some(behind) = next(sort, slot, word, rows()) else {
+            return Stop { place, slot };
+        };
+        slot = behind;
+    }
+    let place = words.len();
+    Stop { place, slot }
+}
+
+/// Whether each of the words of the line may be where it is.
+pub(crate) fn is_whole(sort: Sort, stop: Stop, words: &[&[u8]]) -> bool {
+    words.len() <= stop.place && may_end(sort, stop.slot)
 }

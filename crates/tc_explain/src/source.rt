@@ -1,8 +1,7 @@
 //! Lines of TTCN-3 in a script, and what does the same there.
-use crate::help::{add_line, add_named};
-use crate::slot::KEYWORD;
+use crate::help::Help;
+use crate::slot::{KEYWORD, is_whole, walk};
 use crate::sort::Sort;
-use crate::stop::{is_whole, walk};
 use std::alloc::Global;
 use tc_reader::{is_word, read_words};
 use tc_text::append_text;
@@ -363,33 +362,28 @@ fn joined(alloc: Global, words: &[&[u8]]) -> Result<Vec<u8>, NoMemory> {
 }
 
 // Adds what a script has instead of a line of these tokens.
-fn add_instead(alloc: Global, out: &mut Vec<u8>, tokens: &[&[u8]]) -> Result<(), NoMemory> {
-    let mut words = Vec::new(alloc);
-    if translate(alloc, plain(tokens), &mut words)? {
-        let line = joined(alloc, words.as_slice())?;
+fn add_instead(help: &mut Help, tokens: &[&[u8]]) -> Result<(), NoMemory> {
+    let mut words = Vec::new(help.alloc);
+    if translate(help.alloc, plain(tokens), &mut words)? {
+        let line = joined(help.alloc, words.as_slice())?;
         if line.len() <= LONGEST {
-            return add_named(out, "in a script:", line.as_slice());
+            return help.add_named("in a script:", line.as_slice());
         }
     }
     let text = "a line of a script is one call, in words without ( ) { } ; and :=";
-    add_line(out, absent(tokens).unwrap_or(text))
+    help.add_line(absent(tokens).unwrap_or(text))
 }
 
 /// Adds what a script has instead of a line that seems to be of TTCN-3. Whether it does.
-pub(crate) fn add_source(
-    alloc: Global,
-    out: &mut Vec<u8>,
-    seen: bool,
-    line: &[u8],
-) -> Result<bool, NoMemory> {
-    let mut tokens = Vec::new(alloc);
+pub(crate) fn add_source(help: &mut Help, seen: bool, line: &[u8]) -> Result<bool, NoMemory> {
+    let mut tokens = Vec::new(help.alloc);
     read_tokens(line, &mut tokens)?;
     if !is_source(tokens.as_slice()) {
         return Ok(false);
     }
     if !seen {
-        add_line(out, "the line looks like TTCN-3, which ttrun does not read")?;
+        help.add_line("the line looks like TTCN-3, which ttrun does not read")?;
     }
-    add_instead(alloc, out, tokens.as_slice())?;
+    add_instead(help, tokens.as_slice())?;
     Ok(true)
 }

@@ -1,25 +1,20 @@
 //! What is printed about a refused text.
 ghost use Rattle.std.specs.Prelude.{◌<◌, ◌+◌, [], ◌∷◌, IfOk, OnOk, length, option_copied};
-ghost use Rattle.std.specs.Fmt.{decimal};
-ghost use Rattle.std.specs.List.{position};
-ghost use Rattle.std.specs.Option.{option_map_or};
+ghost use Rattle.std.specs.{Fmt.decimal, List.position, Option.option_map_or};
 ghost use Rattle.tc_text.specs.Prelude.{TellsAmong, TellsLine};
-ghost use Rattle.tc_explain.specs.Explanation.{explanation, line_note, open_note};
-ghost use Rattle.tc_explain.specs.Places.{is_odd};
+ghost use Rattle.tc_explain.specs.Explanation.{explanation, line_note, open_note, is_odd};
 
 use crate::append::{
     append_column, append_lines, append_list, append_nearest, append_note, append_numbered,
     append_shown, append_word,
 };
 use crate::hints::{Around, hints};
-use crate::nearest::{listed, words_at};
-use crate::odd::append_odd;
+use crate::nearest::listed;
 use crate::places::{space_of, start_of};
-use crate::quote::odd_place;
+use crate::quote::{append_odd, odd_place};
 use crate::scan::{Opened, find_line};
-use crate::slot::{ENTRY, KEYWORD, RUN, Slot, may_end, text};
+use crate::slot::{ENTRY, KEYWORD, RUN, Slot, Stop, may_end, text, walk, words_at};
 use crate::sort::{Refusal, Sort, seen_sort};
-use crate::stop::{Stop, walk};
 use std::alloc::Global;
 use tc_reader::{ScriptKind, read_words};
 use tc_text::TextKind;
@@ -41,7 +36,7 @@ fn append_sort(
     }
 }
 
-// Appends the word at a place of the line, with its column, and what would be understood there: these words, and this
+// Appends the word at a place of the line, with its column, and what would be expected: these words, and this
 // text after them.
 #[tactic(auto, using(tc_text::proofs::Lemmas::Among::among_rules))]
 fn append_place(
@@ -59,7 +54,7 @@ fn append_place(
     append_list(alloc, out, offered, other)
 }
 
-// Appends the column of the end of the line, and what would be understood there, unless it may end there.
+// Appends the column of the end of the line, and what is expected there, unless it may end there.
 #[tactic(auto, using(tc_text::proofs::Lemmas::Among::among_rules))]
 fn append_end(
     alloc: Global,
@@ -78,7 +73,7 @@ fn append_end(
     append_list(alloc, out, offered, other)
 }
 
-// Appends where the line of a text of this sort stops, if it does, what would be understood there, and the nearest word of the slot.
+// Appends where the line of a text of this sort stops, if it does, what is expected there, and the nearest word of the slot.
 #[tactic(auto, using(tc_text::proofs::Lemmas::Among::among_rules))]
 fn append_stop(
     alloc: Global,
@@ -92,7 +87,7 @@ fn append_stop(
     ensures { OnOk result (TellsAmong [] out.old.items out.new.items) }
 {
     let other = text(sort, stop.slot, words.len() <= stop.place);
-    let table = words_at(alloc, stop.slot)?;
+    let table = words_at(alloc, stop.slot, false)?;
     let offered = listed(opened, stop.slot, table.as_slice());
     let Some(word) = words.get(stop.place) else {
         let may_end = may_end(sort, stop.slot);
@@ -102,12 +97,14 @@ fn append_stop(
     append_nearest(alloc, out, word, table.as_slice())
 }
 
-// Appends what is wrong with the words of a line of a text of this sort, the first of which is at this slot.
+// Appends what is wrong with the words of a line of a text of this sort, the first of which is at this slot, or may not be
+// where it is.
 fn append_walk(
     alloc: Global,
     out: &mut Vec<u8>,
     sort: Sort,
-    first: Slot,
+    slot: Slot,
+    is_misplaced: bool,
     opened: Opened,
     line: &[u8],
 ) -> Result<(), NoMemory>
@@ -115,34 +112,12 @@ fn append_walk(
 {
     let mut words = Vec::new(alloc);
     read_words(line, &mut words)?;
-    let stop = walk(sort, first, words.as_slice());
-    append_stop(alloc, out, sort, opened, line, words.as_slice(), stop)
-}
-
-// Appends what is wrong with a line of a script that may not be where it is.
-fn append_misplaced(
-    alloc: Global,
-    out: &mut Vec<u8>,
-    opened: Opened,
-    line: &[u8],
-) -> Result<(), NoMemory>
-    ensures { OnOk result (TellsAmong [] out.old.items out.new.items) }
-{
-    let mut words = Vec::new(alloc);
-    read_words(line, &mut words)?;
-    let stop = Stop {
-        place: 0,
-        slot: KEYWORD,
+    let stop = if is_misplaced {
+        Stop { place: 0, slot }
+    } else {
+        walk(sort, slot, words.as_slice())
     };
-    append_stop(
-        alloc,
-        out,
-        Sort::Script,
-        opened,
-        line,
-        words.as_slice(),
-        stop,
-    )
+    append_stop(alloc, out, sort, opened, line, words.as_slice(), stop)
 }
 
 // Appends what is wrong with a line of a script without odd bytes.
@@ -157,10 +132,18 @@ fn append_script(
     ensures { OnOk result (TellsAmong [] out.old.items out.new.items) }
 {
     match kind {
-        ScriptKind::BadLine | ScriptKind::BadName => {
-            append_walk(alloc, out, Sort::Script, KEYWORD, opened, line)
+        ScriptKind::BadLine | ScriptKind::BadName | ScriptKind::BadPlace => {
+            let is_misplaced = kind == ScriptKind::BadPlace;
+            append_walk(
+                alloc,
+                out,
+                Sort::Script,
+                KEYWORD,
+                is_misplaced,
+                opened,
+                line,
+            )
         }
-        ScriptKind::BadPlace => append_misplaced(alloc, out, opened, line),
         _ => Ok(()),
     }
 }
@@ -182,9 +165,11 @@ fn append_spaced(
     }
     match refusal {
         Refusal::Histories(TextKind::Entry) => {
-            append_walk(alloc, out, Sort::Histories, ENTRY, opened, line)
+            append_walk(alloc, out, Sort::Histories, ENTRY, false, opened, line)
         }
-        Refusal::Moves(TextKind::Move) => append_walk(alloc, out, Sort::Moves, RUN, opened, line),
+        Refusal::Moves(TextKind::Move) => {
+            append_walk(alloc, out, Sort::Moves, RUN, false, opened, line)
+        }
         _ => Ok(()),
     }
 }

@@ -1,25 +1,15 @@
 -- What holds of a history that is ahead of another by the ends of runs.
 use Rattle.std.proofs.Common.{ℕ, ◌≡◌, ◌==◌, ◌||◌, ◌&&◌, ◌⊎◌, inl, inr, not, if◌then◌else◌, nat_le, Bool, true, false, Option, Some, None, is_some, MatchOption, List, [], ◌∷◌, length, drop, refl, ap, sym, subst, ◌∙◌, ◌≤◌, arith}
 use Rattle.std.specs.List.{list_any, list_all}
-use Rattle.tc_rules.specs.Prelude.{Run, Comp, Entry, Op, Target, Phase, Reply, is_ended, is_fault, comp_of, ptcs, exists, is_in, created, add_new, halts, kills, phase, start_in, done, killed, is_running, is_killed, is_done, gives, overall, holds, fault, names, all_exist, asks_many, special_fault, start_fault, components, answer, plain_answer, is_active, is_active_on, is_run_of, IsLegal, level_of, Verdict}
+use Rattle.tc_rules.specs.Prelude.{Run, Comp, Entry, Op, Target, Phase, Reply, is_ended, is_fault, comp_of, ptcs, exists, is_in, created, add_new, halts, kills, phase, start_in, done, killed, is_running, is_killed, is_done, gives, overall, holds, fault, names, all_exist, asks_many, special_fault, start_fault, components, answer, plain_answer, is_active, is_active_on, is_run_of, IsLegal, level_of, Verdict, Fault}
 use Rattle.tc_entry.specs.declared.limits.TheConstants.{COMPONENTS}
-use Rattle.tc_entry.specs.declared.op.Op.TheVariants as O
-use Rattle.tc_entry.specs.declared.op.Target.TheVariants as T
-use Rattle.tc_entry.specs.declared.phase.Phase.TheVariants as P
-use Rattle.tc_entry.specs.declared.reply.Fault.TheVariants as F
-use Rattle.tc_entry.specs.declared.reply.Reply.TheVariants as R
 use Rattle.tc_step.specs.Prelude.{ScriptView}
-use Rattle.tc_rules.specs.declared.awaited.Awaited.{Awaited}
-use Rattle.tc_rules.specs.Inside.Step.{next_phase}
-use Rattle.tc_rules.proofs.Lemmas.Deciding.{self_equal, equal_if}
-use Rattle.tc_rules.proofs.Lemmas.Keeping.{all_exist_same}
-use Rattle.tc_rules.proofs.Lemmas.Over.{on_existing}
-use Rattle.tc_rules.proofs.Lemmas.Going.{starts_still}
-use Rattle.tc_rules.proofs.Lemmas.Sound.{plain_if}
+use Rattle.tc_rules.specs.{Inside.Step.next_phase, declared.awaited.Awaited.Awaited}
+use Rattle.tc_rules.proofs.Lemmas.{Deciding.equal_if, Deciding.self_equal, Going.starts_still, Keeping.all_exist_same, Over.on_existing, Sound.plain_if}
 use Rattle.tc_course.specs.Prelude.{CourseState, stand, goes_on, IsCourse}
+use Rattle.tc_course.proofs.Lemmas.{stand_comp, stand_other}
 use Rattle.tc_explore.specs.Inside.Simulation.{IsAlike, IsQuietAt, call_at, IsLastAt, WasParked, IsLeaving, IsEnding, IsAhead, IsBarredBefore}
 use Rattle.tc_explore.proofs.Alike.{is_plain_call, phase_next, overall_next, next_no_better}
-use Rattle.tc_course.proofs.Lemmas.Standings.{stand_comp, stand_other}
 
 -- ---- waits
 
@@ -44,32 +34,32 @@ all_more f g (x ∷ xs) h k = by_test (all_more f g xs h) (f x) refl k
     by_test rest false j l = absurd cc
 
 module _ {aim : Verdict} {scripts : List ScriptView} {p q : List Entry} where
-  phase_more : IsAhead aim scripts p q → (g : Phase → Bool) → g P.Killed ≡ true → (c : ℕ) → g (phase p c) ≡ true → g (phase q c) ≡ true
+  phase_more : IsAhead aim scripts p q → (g : Phase → Bool) → g Phase.Killed ≡ true → (c : ℕ) → g (phase p c) ≡ true → g (phase q c) ≡ true
   phase_more s g k c h = by_phase (s.phases c)
     where
       by_phase : (phase p c ≡ phase q c) ⊎ IsEnding aim scripts p q c → g (phase q c) ≡ true
       by_phase (inl e) = ap g (sym e) ∙ h
       by_phase (inr n) = ap g n.ended ∙ k
 
-  any_ahead : IsAhead aim scripts p q → (g : Phase → Bool) → g P.Killed ≡ true → list_any (λ c. g (phase p c)) (ptcs p) ≡ true → list_any (λ c. g (phase q c)) (ptcs q) ≡ true
+  any_ahead : IsAhead aim scripts p q → (g : Phase → Bool) → g Phase.Killed ≡ true → list_any (λ c. g (phase p c)) (ptcs p) ≡ true → list_any (λ c. g (phase q c)) (ptcs q) ≡ true
   any_ahead s g k h =
       any_more (λ c. g (phase p c)) (λ c. g (phase q c)) (ptcs q) (phase_more s g k) (ap (λ cs. list_any (λ c. g (phase p c)) (drop 1 cs)) (sym s.comps_same) ∙ h)
 
-  all_ahead : IsAhead aim scripts p q → (g : Phase → Bool) → g P.Killed ≡ true → list_all (λ c. g (phase p c)) (ptcs p) ≡ true → list_all (λ c. g (phase q c)) (ptcs q) ≡ true
+  all_ahead : IsAhead aim scripts p q → (g : Phase → Bool) → g Phase.Killed ≡ true → list_all (λ c. g (phase p c)) (ptcs p) ≡ true → list_all (λ c. g (phase q c)) (ptcs q) ≡ true
   all_ahead s g k h =
       all_more (λ c. g (phase p c)) (λ c. g (phase q c)) (ptcs q) (phase_more s g k) (ap (λ cs. list_all (λ c. g (phase p c)) (drop 1 cs)) (sym s.comps_same) ∙ h)
 
   done_ahead : IsAhead aim scripts p q → (t : Target) → done p t ≡ true → done q t ≡ true
   unfolding done
-  done_ahead s (T.One c) h = phase_more s is_done refl c.0 h
-  done_ahead s T.Any h = any_ahead s is_done refl h
-  done_ahead s T.All h = all_ahead s (λ ph. not (is_running ph)) refl h
+  done_ahead s (Target.One c) h = phase_more s is_done refl c.0 h
+  done_ahead s Target.Any h = any_ahead s is_done refl h
+  done_ahead s Target.All h = all_ahead s (λ ph. not (is_running ph)) refl h
 
   killed_ahead : IsAhead aim scripts p q → (t : Target) → killed p t ≡ true → killed q t ≡ true
   unfolding killed
-  killed_ahead s (T.One c) h = phase_more s is_killed refl c.0 h
-  killed_ahead s T.Any h = any_ahead s is_killed refl h
-  killed_ahead s T.All h = all_ahead s is_killed refl h
+  killed_ahead s (Target.One c) h = phase_more s is_killed refl c.0 h
+  killed_ahead s Target.Any h = any_ahead s is_killed refl h
+  killed_ahead s Target.All h = all_ahead s is_killed refl h
 
   -- what has come stays so
   pub holds_ahead : IsAhead aim scripts p q → (a : Awaited) → holds p a ≡ true → holds q a ≡ true
@@ -82,7 +72,7 @@ module _ {aim : Verdict} {scripts : List ScriptView} {p q : List Entry} where
 
 -- ---- the runs that continue
 
-not_run : (b : ℕ) (ph : Phase) → ph ≡ P.Killed → is_run_of b ph ≡ false
+not_run : (b : ℕ) (ph : Phase) → ph ≡ Phase.Killed → is_run_of b ph ≡ false
 not_run b ph h = ap (is_run_of b) h
 
 module _ {aim : Verdict} {scripts : List ScriptView} {p q : List Entry} where
@@ -157,12 +147,12 @@ module _ {aim : Verdict} {scripts : List ScriptView} {p q : List Entry} where
     where
       by_phase : (phase p c ≡ phase q c) ⊎ IsEnding aim scripts p q c → is_some (start_fault n p c b) ≡ is_some (start_fault n q c b)
       by_phase (inl e) = rw (e, s.comp_same b) refl
-      by_phase (inr m) = rw (m.running, m.ended) (some_if_both (c == 0) F.StartMain F.AlreadyRunning F.NotStartable)
+      by_phase (inr m) = rw (m.running, m.ended) (some_if_both (c == 0) Fault.StartMain Fault.AlreadyRunning Fault.NotStartable)
 
   special_ahead : IsAhead aim scripts p q → (n : ℕ) (op : Op) → is_some (special_fault n p op) ≡ is_some (special_fault n q op)
   unfolding components
-  special_ahead s n (O.Create alive name) = ap (λ cs. is_some (if nat_le COMPONENTS (length cs) then Some F.TooMany else None)) s.comps_same
-  special_ahead s n (O.Start c run args) = start_ahead s n c.0 run.0
+  special_ahead s n (Op.Create alive name) = ap (λ cs. is_some (if nat_le COMPONENTS (length cs) then Some Fault.TooMany else None)) s.comps_same
+  special_ahead s n (Op.Start c run args) = start_ahead s n c.0 run.0
   special_ahead s n _ = refl
 
   -- a call is an error in both or in none
@@ -170,12 +160,12 @@ module _ {aim : Verdict} {scripts : List ScriptView} {p q : List Entry} where
   unfolding fault
   fault_ahead s n b op =
       rw (all_exist_same p q (names op) s.comps_same)
-      (some_if_all (not (all_exist q (names op))) (asks_many op && not (b == 0)) F.NoComponent F.NotMain (special_fault n p op) (special_fault n q op) (special_ahead s n op))
+      (some_if_all (not (all_exist q (names op))) (asks_many op && not (b == 0)) Fault.NoComponent Fault.NotMain (special_fault n p op) (special_fault n q op) (special_ahead s n op))
 
 -- ---- replies
 
 ended_goes_not : (r : Reply) → goes_on r ≡ true → is_ended r ≡ false
-ended_goes_not R.Ended h = absurd cc
+ended_goes_not Reply.Ended h = absurd cc
 ended_goes_not _ h = refl
 
 answer_as : (n : ℕ) (past : List Entry) (b : ℕ) (op : Op) → is_active past b ≡ true → fault n past b op ≡ None → answer n past b op ≡ plain_answer past b op
@@ -185,19 +175,19 @@ answer_as n past b op act h = rw (act, h) refl
 module _ {aim : Verdict} {scripts : List ScriptView} {p q : List Entry} where
   plain_ahead : IsAhead aim scripts p q → (b : ℕ) (op : Op) → is_plain_call op ≡ true → goes_on (plain_answer p b op) ≡ true → plain_answer p b op ≡ plain_answer q b op
   unfolding components
-  plain_ahead s b (O.Create alive name) h g = ap (λ (cs : List ℕ). R.Made (record { 0 = length cs })) s.comps_same
-  plain_ahead s b (O.Start c run args) h g = refl
-  plain_ahead s b (O.Stop t) h g = refl
-  plain_ahead s b (O.Kill t) h g = refl
-  plain_ahead s b (O.Wait k t) h g = by_test (holds p (record { killed = k; target = t })) refl g
+  plain_ahead s b (Op.Create alive name) h g = ap (λ (cs : List ℕ). Reply.Made (record { 0 = length cs })) s.comps_same
+  plain_ahead s b (Op.Start c run args) h g = refl
+  plain_ahead s b (Op.Stop t) h g = refl
+  plain_ahead s b (Op.Kill t) h g = refl
+  plain_ahead s b (Op.Wait k t) h g = by_test (holds p (record { killed = k; target = t })) refl g
     where
-      by_test : (z : Bool) → holds p (record { killed = k; target = t }) ≡ z → goes_on (if z then R.Matched else R.Parked) ≡ true →
-          (if z then R.Matched else R.Parked) ≡ (if holds q (record { killed = k; target = t }) then R.Matched else R.Parked)
+      by_test : (z : Bool) → holds p (record { killed = k; target = t }) ≡ z → goes_on (if z then Reply.Matched else Reply.Parked) ≡ true →
+          (if z then Reply.Matched else Reply.Parked) ≡ (if holds q (record { killed = k; target = t }) then Reply.Matched else Reply.Parked)
       by_test true j l = rw (holds_ahead s (record { killed = k; target = t }) j) refl
       by_test false j l = absurd cc
-  plain_ahead s b O.StopCase h g = refl
-  plain_ahead s b (O.SetVerdict v) h g = refl
-  plain_ahead s b O.Finish h g = refl
+  plain_ahead s b Op.StopCase h g = refl
+  plain_ahead s b (Op.SetVerdict v) h g = refl
+  plain_ahead s b Op.Finish h g = refl
   plain_ahead s b _ h g = absurd cc
 
   -- a call that is no error and is not parked is answered alike
@@ -288,7 +278,7 @@ ahead_turn {aim} scripts p q e cp a s own better = record {
 
 -- ---- the same entry of both
 
-pub not_started : (n : ℕ) (past : List Entry) (e : Entry) (c : ℕ) (r : Run) → IsLegal n (e ∷ past) → phase past c ≡ P.Running r → start_in e c ≡ None
+pub not_started : (n : ℕ) (past : List Entry) (e : Entry) (c : ℕ) (r : Run) → IsLegal n (e ∷ past) → phase past c ≡ Phase.Running r → start_in e c ≡ None
 not_started n past e c r legal running = by_some (start_in e c) refl
   where
     by_some : (o : Option Run) → start_in e c ≡ o → o ≡ None
@@ -316,10 +306,10 @@ module _ {aim : Verdict} (scripts : List ScriptView) (p q : List Entry) (e : Ent
       none : start_in e c ≡ None
       none = not_started (length scripts) p e c n.run lp n.running
 
-      after_p : phase (e ∷ p) c ≡ next_phase (kills e c) None (halts (comp_of p e.caller.0) e c) false (P.Running n.run)
+      after_p : phase (e ∷ p) c ≡ next_phase (kills e c) None (halts (comp_of p e.caller.0) e c) false (Phase.Running n.run)
       after_p = phase_next (length scripts) p e c lp ∙ rw (there, none, n.ordinary, n.running) refl
 
-      after_q : phase (e ∷ q) c ≡ next_phase (kills e c) None (halts (comp_of p e.caller.0) e c) false P.Killed
+      after_q : phase (e ∷ q) c ≡ next_phase (kills e c) None (halts (comp_of p e.caller.0) e c) false Phase.Killed
       after_q = phase_next (length scripts) q e c lq ∙ rw (← exists_same c, ← s.comp_same e.caller.0, ← s.kind_same c, there, none, n.ordinary, n.ended) refl
 
       by_tests : (k h : Bool) → kills e c ≡ k → halts (comp_of p e.caller.0) e c ≡ h → (phase (e ∷ p) c ≡ phase (e ∷ q) c) ⊎ IsEnding aim scripts (e ∷ p) (e ∷ q) c
@@ -336,10 +326,10 @@ module _ {aim : Verdict} (scripts : List ScriptView) (p q : List Entry) (e : Ent
       })
 
   -- what is killed after q was so before, or is killed after p too
-  pub died_before : (c : ℕ) → phase (e ∷ q) c ≡ P.Killed → (phase q c ≡ P.Killed) ⊎ (phase (e ∷ p) c ≡ P.Killed)
+  pub died_before : (c : ℕ) → phase (e ∷ q) c ≡ Phase.Killed → (phase q c ≡ Phase.Killed) ⊎ (phase (e ∷ p) c ≡ Phase.Killed)
   died_before c dead = by_phase (s.phases c)
     where
-      by_phase : (phase p c ≡ phase q c) ⊎ IsEnding aim scripts p q c → (phase q c ≡ P.Killed) ⊎ (phase (e ∷ p) c ≡ P.Killed)
+      by_phase : (phase p c ≡ phase q c) ⊎ IsEnding aim scripts p q c → (phase q c ≡ Phase.Killed) ⊎ (phase (e ∷ p) c ≡ Phase.Killed)
       by_phase (inl h) = inr (after_same c h ∙ dead)
       by_phase (inr n) = inl n.ended
 

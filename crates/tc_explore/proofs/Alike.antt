@@ -2,25 +2,10 @@
 use Rattle.std.proofs.Common.{ℕ, ◌≡◌, ◌==◌, ◌&&◌, ◌||◌, not, if◌then◌else◌, nat_lt, Bool, true, false, Option, Some, None, is_some, List, [], ◌∷◌, ◌++◌, length, drop, map, refl, ap, sym, ◌∙◌, arith, ◌≤◌}
 use Rattle.std.proofs.lemmas.Bool.Decides.{nat_tests}
 use Rattle.std.specs.List.{list_any, list_all}
-use Rattle.tc_rules.specs.Prelude.{Run, Verdict, worse, worst, level_of, Comp, Entry, Op, Target, Phase, comps, comp_of, ptcs, exists, is_in, is_comp, is_alive_type, created, started_on, first_some, add_new, halts, kills, phase, phase_if_any, start_in, done, killed, is_running, is_killed, is_done, local, overall, gives, verdicts_of, holds, fault, names, special_fault, start_fault, components, answer, is_active, is_active_on, is_run_of, IsLegal}
-use Rattle.tc_verdict.specs.declared.verdict.Verdict.TheVariants as V
+use Rattle.tc_rules.specs.Prelude.{Run, Verdict, worse, worst, level_of, Comp, Entry, Op, Target, Phase, comps, comp_of, ptcs, exists, is_in, is_comp, is_alive_type, created, started_on, first_some, add_new, halts, kills, phase, phase_if_any, start_in, done, killed, is_running, is_killed, is_done, local, overall, gives, verdicts_of, holds, fault, names, special_fault, start_fault, components, answer, is_active, is_active_on, is_run_of, IsLegal, Group, Reply}
 use Rattle.tc_verdict.proofs.Lemmas.Order.{worse_later, worse_swap, worse_left, worse_right}
-use Rattle.tc_entry.specs.declared.op.Op.TheVariants as O
-use Rattle.tc_entry.specs.declared.op.Group.TheVariants as G
-use Rattle.tc_entry.specs.declared.op.Target.TheVariants as T
-use Rattle.tc_entry.specs.declared.phase.Phase.TheVariants as P
-use Rattle.tc_entry.specs.declared.reply.Reply.TheVariants as R
-use Rattle.tc_rules.specs.declared.awaited.Awaited.{Awaited}
-use Rattle.tc_rules.specs.declared.component_state.ComponentState.{ComponentState}
-use Rattle.tc_rules.specs.Inside.Kept.{state_of, blank}
-use Rattle.tc_rules.specs.Inside.Step.{next_phase, next_state, next_local}
-use Rattle.tc_rules.proofs.Lemmas.Steps.{state_step}
-use Rattle.tc_rules.proofs.Lemmas.Fresh.{fresh_step}
-use Rattle.tc_rules.proofs.Lemmas.Keeping.{all_exist_same, kill_halts}
-use Rattle.tc_rules.proofs.Lemmas.Sound.{starts}
-use Rattle.tc_rules.proofs.Lemmas.Over.{on_existing, stays}
-use Rattle.tc_rules.proofs.Lemmas.LawsOfHistories.{killed_was_halted}
-use Rattle.tc_rules.proofs.Lemmas.Deciding.{self_equal, equal_if, if_same}
+use Rattle.tc_rules.specs.{Inside.Kept.blank, Inside.Kept.state_of, Inside.Step.next_local, Inside.Step.next_phase, Inside.Step.next_state, declared.awaited.Awaited.Awaited, declared.component_state.ComponentState.ComponentState}
+use Rattle.tc_rules.proofs.Lemmas.{Deciding.equal_if, Deciding.if_same, Deciding.self_equal, Fresh.fresh_step, Keeping.all_exist_same, Keeping.kill_halts, LawsOfHistories.killed_was_halted, Over.on_existing, Over.stays, Sound.starts, Steps.state_step}
 use Rattle.tc_explore.specs.Inside.Simulation.{IsAlike, is_gone, is_late, is_met}
 
 -- ---- what is the same
@@ -53,15 +38,15 @@ module _ {p q : List Entry} where
 
   done_same : IsAlike p q → (t : Target) → done p t ≡ done q t
   unfolding done
-  done_same s (T.One c) = ap is_done (s.phase_same c.0)
-  done_same s T.Any = any_of s is_done
-  done_same s T.All = all_of s (λ ph. not (is_running ph))
+  done_same s (Target.One c) = ap is_done (s.phase_same c.0)
+  done_same s Target.Any = any_of s is_done
+  done_same s Target.All = all_of s (λ ph. not (is_running ph))
 
   killed_same : IsAlike p q → (t : Target) → killed p t ≡ killed q t
   unfolding killed
-  killed_same s (T.One c) = ap is_killed (s.phase_same c.0)
-  killed_same s T.Any = any_of s is_killed
-  killed_same s T.All = all_of s is_killed
+  killed_same s (Target.One c) = ap is_killed (s.phase_same c.0)
+  killed_same s Target.Any = any_of s is_killed
+  killed_same s Target.All = all_of s is_killed
 
   pub holds_alike : IsAlike p q → (a : Awaited) → holds p a ≡ holds q a
   unfolding holds
@@ -84,8 +69,8 @@ module _ {p q : List Entry} where
   components_same s = ap length s.comps_same
 
   special_same : IsAlike p q → (n : ℕ) (op : Op) → special_fault n p op ≡ special_fault n q op
-  special_same s n (O.Create alive name) = rw (components_same s)
-  special_same s n (O.Start c run args) = start_same s n c.0 run.0
+  special_same s n (Op.Create alive name) = rw (components_same s)
+  special_same s n (Op.Start c run args) = start_same s n c.0 run.0
   special_same s n _ = refl
 
   pub fault_alike : IsAlike p q → (n b : ℕ) (op : Op) → fault n p b op ≡ fault n q b op
@@ -101,26 +86,26 @@ module _ {p q : List Entry} where
   any_phase_same s c = rw (exists_same s c, s.phase_same c)
 
   pub late_alike : IsAlike p q → (op : Op) → is_late p op ≡ is_late q op
-  late_alike s (O.Stop (G.One c)) = ap (λ o. not (c.0 == 0) && is_gone o) (any_phase_same s c.0)
-  late_alike s (O.Kill (G.One c)) = ap (λ o. not (c.0 == 0) && is_gone o) (any_phase_same s c.0)
-  late_alike s (O.Stop G.All) = refl
-  late_alike s (O.Kill G.All) = refl
+  late_alike s (Op.Stop (Group.One c)) = ap (λ o. not (c.0 == 0) && is_gone o) (any_phase_same s c.0)
+  late_alike s (Op.Kill (Group.One c)) = ap (λ o. not (c.0 == 0) && is_gone o) (any_phase_same s c.0)
+  late_alike s (Op.Stop Group.All) = refl
+  late_alike s (Op.Kill Group.All) = refl
   late_alike s _ = refl
 
   pub met_alike : IsAlike p q → (op : Op) → is_met p op ≡ is_met q op
-  met_alike s (O.Wait k (T.One c)) = ap is_gone (any_phase_same s c.0)
-  met_alike s (O.Wait k T.Any) = refl
-  met_alike s (O.Wait k T.All) = refl
+  met_alike s (Op.Wait k (Target.One c)) = ap is_gone (any_phase_same s c.0)
+  met_alike s (Op.Wait k Target.Any) = refl
+  met_alike s (Op.Wait k Target.All) = refl
   met_alike s _ = refl
 
 -- the reply to the call depends only on what is alike
 abbrev pub is_plain_call : Op → Bool
-is_plain_call (O.Running t) = false
-is_plain_call (O.Alive t) = false
-is_plain_call (O.Done t) = false
-is_plain_call (O.Killed t) = false
-is_plain_call O.GetVerdict = false
-is_plain_call (O.Wake k t) = false
+is_plain_call (Op.Running t) = false
+is_plain_call (Op.Alive t) = false
+is_plain_call (Op.Done t) = false
+is_plain_call (Op.Killed t) = false
+is_plain_call Op.GetVerdict = false
+is_plain_call (Op.Wake k t) = false
 is_plain_call _ = true
 
 -- ---- one more entry
@@ -192,12 +177,12 @@ fresh n (e ∷ past) c legal out =
 
 -- what a component is doing after one more entry
 pub phase_next : (n : ℕ) (past : List Entry) (e : Entry) (c : ℕ) → IsLegal n (e ∷ past) →
-    phase (e ∷ past) c ≡ (if exists past c then next_phase (kills e c) (start_in e c) (halts (comp_of past e.caller.0) e c) (is_alive_type past c) (phase past c) else P.Inactive)
+    phase (e ∷ past) c ≡ (if exists past c then next_phase (kills e c) (start_in e c) (halts (comp_of past e.caller.0) e c) (is_alive_type past c) (phase past c) else Phase.Inactive)
 unfolding next_state
 phase_next n past e c legal = by_test (exists past c) refl
   where
     by_test : (t : Bool) → exists past c ≡ t →
-        phase (e ∷ past) c ≡ (if t then next_phase (kills e c) (start_in e c) (halts (comp_of past e.caller.0) e c) (is_alive_type past c) (phase past c) else P.Inactive)
+        phase (e ∷ past) c ≡ (if t then next_phase (kills e c) (start_in e c) (halts (comp_of past e.caller.0) e c) (is_alive_type past c) (phase past c) else Phase.Inactive)
     by_test true k = ap (λ (s : ComponentState). s.phase) (state_step past e c k (killed_was_halted n past c legal.1) (λ s. (starts n past e c legal.0 s).alive))
     by_test false k = ap (λ (s : ComponentState). s.phase) (fresh_step past e c k (no_start n past e c legal k) (no_caller n past e.caller.0 c legal.1 k) (fresh n past c legal.1 k))
 
@@ -258,13 +243,13 @@ worst_list f d (v ∷ vs) cs =
     ∙ (worst_more g d v cs
     ∙ (ap (λ z. if is_in d cs then worse z v else z) (worst_list f d vs cs) ∙ if_both (is_in d cs) (next_local vs (worst (map f cs))) (worst (map f cs)) v))
 
-worst_none : (f : ℕ → Verdict) (m : ℕ) (cs : List ℕ) → f m ≡ V.None → worst (map f (cs ++ m ∷ [])) ≡ worst (map f cs)
+worst_none : (f : ℕ → Verdict) (m : ℕ) (cs : List ℕ) → f m ≡ Verdict.None → worst (map f (cs ++ m ∷ [])) ≡ worst (map f cs)
 worst_none f m [] h = rw h refl
 worst_none f m (x ∷ xs) h = ap (λ z. worse z (f x)) (worst_none f m xs h)
 
 no_gift : (n : ℕ) (past : List Entry) (e : Entry) → IsLegal n (e ∷ past) → comp_of past e.caller.0 ≡ None → gives e.op e.reply ≡ []
 unfolding answer is_active
-no_gift n past e legal none = let r : e.reply ≡ R.Ended = legal.0 ∙ rw none refl in rw r refl
+no_gift n past e legal none = let r : e.reply ≡ Reply.Ended = legal.0 ∙ rw none refl in rw r refl
 
 overall_by : (n : ℕ) (past : List Entry) (e : Entry) → IsLegal n (e ∷ past) →
     worst (map (local (e ∷ past)) (comps past)) ≡ next_local (gives e.op e.reply) (worst (map (local past) (comps past)))
@@ -292,8 +277,8 @@ overall_next n past e legal = by_made (created e.op e.reply) refl
             worst (map (local (e ∷ past)) (if t then comps past else comps past ++ m.0 ∷ [])) ≡ next_local (gives e.op e.reply) (worst (map (local past) (comps past)))
         by_in true j = overall_by n past e legal
         by_in false j =
-            let none : local past m.0 ≡ V.None = ap (λ (s : ComponentState). s.local) (fresh n past m.0 legal.1 j) in
-            let after : local (e ∷ past) m.0 ≡ V.None = local_next past e m.0 ∙ rw (no_caller n past e.caller.0 m.0 legal.1 j) none in
+            let none : local past m.0 ≡ Verdict.None = ap (λ (s : ComponentState). s.local) (fresh n past m.0 legal.1 j) in
+            let after : local (e ∷ past) m.0 ≡ Verdict.None = local_next past e m.0 ∙ rw (no_caller n past e.caller.0 m.0 legal.1 j) none in
             worst_none (local (e ∷ past)) m.0 (comps past) after ∙ overall_by n past e legal
 
 -- ---- it gets no better
@@ -344,7 +329,7 @@ none_killed past e u c = by_test (kills e c) refl
     by_test false k = refl
     by_test true k = let h = kill_halts (comp_of past e.caller.0) e c k in let j = u.no_halt c in absurd cc
 
-pub kept_by : (t : Bool) (ph : Phase) → (t ≡ false → ph ≡ P.Inactive) → (if t then ph else P.Inactive) ≡ ph
+pub kept_by : (t : Bool) (ph : Phase) → (t ≡ false → ph ≡ Phase.Inactive) → (if t then ph else Phase.Inactive) ≡ ph
 kept_by true ph h = refl
 kept_by false ph h = sym (h refl)
 

@@ -1,14 +1,12 @@
 -- When what comes after a state is seen, or its verdict is found.
-use Rattle.std.proofs.Common.{ℕ, ◌≡◌, ◌+◌, ◌<◌, ◌≤◌, Bool, true, false, Some, List, ◌∷◌, ◌++◌, length, reverse, nat_lt, refl, ap, sym, subst, ◌∙◌, arith, length-append}
+use Rattle.std.proofs.Common.{ℕ, ◌≡◌, ◌+◌, ◌<◌, ◌≤◌, true, false, Some, List, ◌∷◌, ◌++◌, length, reverse, refl, ap, sym, subst, ◌∙◌, arith, length-append}
 use Rattle.std.proofs.lemmas.List.{append_assoc}
-use Rattle.std.proofs.lemmas.Bool.Decides.{nat_tests}
 use Rattle.tc_rules.specs.Prelude.{Run, Entry, Op, Reply, is_fault, Case, past_of, is_over, overall, answer, Verdict, level_of}
 use Rattle.tc_step.specs.Prelude.{ScriptView}
 use Rattle.tc_course.specs.declared.witness.Witness.{Witness}
-use Rattle.tc_explore.specs.declared.search.Met.{Met}
 use Rattle.tc_course.specs.Prelude.{is_found, goes_on, turn, IsTurn, IsCourse, entry_made, IsOn, CannotGo}
-use Rattle.tc_explore.specs.Inside.Simulation.{is_spent, IsCovered, GoesOn, IsClosedFor, IsWithin}
-use Rattle.tc_explore.specs.Inside.Seen.{IsSeen, IsLonger, StandsOn, IsAfter, IsRunClosed, IsCalm, IsState, IsStillAt, AreStill, IsFull}
+use Rattle.tc_course.proofs.Lemmas.{below_more}
+use Rattle.tc_explore.specs.{Inside.Seen.AreStill, Inside.Seen.IsAfter, Inside.Seen.IsCalm, Inside.Seen.IsFull, Inside.Seen.IsLonger, Inside.Seen.IsRunClosed, Inside.Seen.IsSeen, Inside.Seen.IsState, Inside.Seen.IsStillAt, Inside.Seen.StandsOn, Inside.Simulation.GoesOn, Inside.Simulation.IsClosedFor, Inside.Simulation.IsCovered, Inside.Simulation.IsWithin, Inside.Simulation.is_spent, declared.search.Met.Met}
 use Rattle.tc_explore.proofs.Seeing.{closed_for_longer, covered_by}
 
 -- what a copy of a course has called, it has called
@@ -126,22 +124,15 @@ runs_longer scripts a b f g q n states found closed k less = run_longer scripts 
 
 pub runs_more : {aim : Verdict} (scripts : List ScriptView) (a b : List Case) (f g : List Witness) (q : List Entry) (n : ℕ) → IsLonger a b → IsLonger f g → ((k : ℕ) → k < n → IsRunClosed aim scripts a f q k) → IsRunClosed aim scripts b g q n →
     (k : ℕ) → k < n + 1 → IsRunClosed aim scripts b g q k
-runs_more {aim} scripts a b f g q n states found closed last k less = by_place (nat_lt k n) refl
-  where
-    by_place : (t : Bool) → nat_lt k n ≡ t → IsRunClosed aim scripts b g q k
-    by_place true h = run_longer scripts a b f g q k states found (closed k (grind (arith, nat_tests)))
-    by_place false h = let same : n ≡ k = grind (arith, nat_tests) in subst (IsRunClosed aim scripts b g q) same last
+runs_more {aim} scripts a b f g q n states found closed last =
+    below_more (IsRunClosed aim scripts b g q) n (runs_longer scripts a b f g q n states found closed) last
 
 pub longer_then : {A : Type 0} (a b c : List A) → IsLonger a b → IsLonger b c → IsLonger a c
 longer_then a b c h k = (h.0 ++ k.0, k.1 ∙ (ap (λ x. x ++ k.0) h.1 ∙ append_assoc a h.0 k.0))
 
 -- one run more
 pub still_more : (scripts : List ScriptView) (q : List Entry) (n : ℕ) → AreStill scripts q n → IsStillAt scripts q n → AreStill scripts q (n + 1)
-still_more scripts q n are last b less = by_place (nat_lt b n) refl
-  where
-    by_place : (t : Bool) → nat_lt b n ≡ t → IsStillAt scripts q b
-    by_place true h = are b (grind (arith, nat_tests))
-    by_place false h = let same : n ≡ b = grind (arith, nat_tests) in subst (IsStillAt scripts q) same last
+still_more scripts q n are last = below_more (IsStillAt scripts q) n are last
 
 -- as many as the limit stay so
 pub full_longer : (before after : Met) → IsLonger before.states.items after.states.items → after.limit ≡ before.limit → IsFull before → IsFull after

@@ -2,35 +2,17 @@
 -- found.
 use Rattle.std.proofs.Common.{ℕ, zero, suc, ◌≡◌, ◌<◌, ◌≤◌, ◌==◌, ◌&&◌, ◌||◌, ◌⊎◌, inl, inr, ⊎_elim, not, nat_lt, if◌then◌else◌, Bool, true, false, Option, Some, None, is_some, MatchOption, List, [], ◌∷◌, length, slice_get, refl, ap, sym, subst, ◌∙◌, arith}
 use Rattle.std.proofs.lemmas.Bool.Decides.{nat_tests}
+use Rattle.std.specs.Option.{unwrap_or}
 use Rattle.tc_rules.specs.Prelude.{Verdict, worse, level_of, Comp, Entry, Op, Target, Phase, Reply, Fault, is_ended, is_fault, is_wake, comp_of, comps, exists, is_in, created, started_on, ends_case, is_over, phase, overall, gives, holds, waiting, waits_in_vain, is_still, is_stuck, awaited, fault, all_exist, answer, plain_answer, wake_reply, is_active, is_active_on, is_run_of, IsLegal, UserVerdict, given}
-use Rattle.tc_verdict.specs.declared.verdict.Verdict.TheVariants as V
-use Rattle.tc_entry.specs.declared.op.Op.TheVariants as O
-use Rattle.tc_entry.specs.declared.op.Target.TheVariants as T
-use Rattle.tc_entry.specs.declared.phase.Phase.TheVariants as P
-use Rattle.tc_entry.specs.declared.reply.Reply.TheVariants as R
-use Rattle.tc_entry.specs.declared.reply.Fault.TheVariants as F
 use Rattle.tc_step.specs.Prelude.{ScriptView}
 use Rattle.tc_rules.specs.declared.awaited.Awaited.{Awaited}
-use Rattle.tc_rules.proofs.Lemmas.Deciding.{equal_if, and_right}
-use Rattle.tc_rules.proofs.Lemmas.Over.{on_existing, all_over}
-use Rattle.tc_rules.proofs.Lemmas.Stuck.{one_false}
-use Rattle.tc_rules.proofs.Lemmas.Going.{started_by_entry}
-use Rattle.tc_course.specs.declared.witness.Witness.{Witness}
-use Rattle.std.specs.Option.{unwrap_or}
+use Rattle.tc_rules.proofs.Lemmas.{Deciding.and_right, Deciding.equal_if, Going.started_by_entry, Over.all_over, Over.on_existing, Stuck.one_false}
+use Rattle.tc_course.specs.{Inside.call_of, Inside.wake_if, declared.witness.Witness.Witness}
 use Rattle.tc_course.specs.Prelude.{CourseState, stand, goes_on, after_own, after_other_by, is_idle, turn, steps_of, IsTurn, IsCourse, IsComplete, is_found}
-use Rattle.tc_course.specs.Inside.Standing.{wake_if, call_of}
-use Rattle.tc_explore.specs.Inside.Simulation.{IsAlike, is_quiet, is_late, is_met, is_spent, IsQuietAt, call_at, IsWakeOf, IsBefore, IsParkedAt, IsFollowed, IsLastAt, WasParked, IsLeaving, place_of, IsEnding, IsAhead, IsFor, IsCovered, GoesOn, IsClosed, IsWithin, is_barred, IsBarredBefore, AreOrdered}
-use Rattle.tc_course.proofs.Lemmas.Histories.{course_legal}
-use Rattle.tc_explore.proofs.Alike.{ChangesNothing, alike_sym, alike_unchanged, active_alike, holds_alike, is_plain_call, overall_next, overall_grows, next_within}
-use Rattle.tc_explore.proofs.Ahead.{holds_ahead, ending_active, ended_inactive, not_ending_run, died_before, active_back, active_forth, none_too, some_too, fault_ahead, answer_ahead, ahead_self, ahead_after, ahead_turn, ahead_step}
-use Rattle.tc_explore.proofs.Leaving.{Ends, running_on, ends_no_case, after_end}
-use Rattle.tc_course.proofs.Lemmas.Standings.{HasTurn, has_turn, turn_of, never_wake, stand_own, stand_comp, stand_unstarted, unstarted, IsAwaitedBy, waiting_wake, wake_after_other, run_in_range}
-use Rattle.tc_explore.proofs.Late.{IsGone, late_for, late_reply, late_halts, IsMetFor, met_for, met_reply, met_or_parked, met_holds, halt_not_ending, other_than_gone, ahead_late, late_free}
-use Rattle.tc_explore.proofs.Ordered.{order_opening}
-use Rattle.tc_explore.proofs.Simulation.{unchanged_ended, unchanged_quiet, unchanged_wait, unchanged_wake, some_if, stay, stutter, both, ended_kept, wait_kept, wake_kept, quiet_within}
-use Rattle.tc_explore.proofs.Places.{not_ending, quiet_sets_no_wake, quiet_no_wake, Spent, how_spent, loud_not_quiet, behind, parked, woken_behind, leaving_on, leaving_parked, leaving_woken, together, woken, followed_self, keeps_quiet, barred_sets, quiet_free}
-use Rattle.tc_explore.specs.Inside.Seen.{IsToldBy}
+use Rattle.tc_course.proofs.Lemmas.{course_legal, HasTurn, has_turn, turn_of, never_wake, stand_own, stand_comp, stand_unstarted, unstarted, IsAwaitedBy, waiting_wake, wake_after_other, run_in_range}
 use Rattle.tc_verdict.proofs.Lemmas.Order.{worse_right}
+use Rattle.tc_explore.specs.Inside.{Seen.IsToldBy, Simulation.AreOrdered, Simulation.GoesOn, Simulation.IsAhead, Simulation.IsAlike, Simulation.IsBarredBefore, Simulation.IsBefore, Simulation.IsClosed, Simulation.IsCovered, Simulation.IsEnding, Simulation.IsFollowed, Simulation.IsFor, Simulation.IsLastAt, Simulation.IsLeaving, Simulation.IsParkedAt, Simulation.IsQuietAt, Simulation.IsWakeOf, Simulation.IsWithin, Simulation.WasParked, Simulation.call_at, Simulation.is_barred, Simulation.is_late, Simulation.is_met, Simulation.is_quiet, Simulation.is_spent, Simulation.place_of}
+use Rattle.tc_explore.proofs.{Ahead.active_back, Ahead.active_forth, Ahead.ahead_after, Ahead.ahead_self, Ahead.ahead_step, Ahead.ahead_turn, Ahead.answer_ahead, Ahead.died_before, Ahead.ended_inactive, Ahead.ending_active, Ahead.fault_ahead, Ahead.holds_ahead, Ahead.none_too, Ahead.not_ending_run, Ahead.some_too, Alike.ChangesNothing, Alike.active_alike, Alike.alike_sym, Alike.alike_unchanged, Alike.holds_alike, Alike.is_plain_call, Alike.next_within, Alike.overall_grows, Alike.overall_next, Late.IsGone, Late.IsMetFor, Late.ahead_late, Late.halt_not_ending, Late.late_for, Late.late_free, Late.late_halts, Late.late_reply, Late.met_for, Late.met_holds, Late.met_or_parked, Late.met_reply, Late.other_than_gone, Leaving.Ends, Leaving.after_end, Leaving.ends_no_case, Leaving.running_on, Ordered.order_opening, Places.Spent, Places.barred_sets, Places.behind, Places.followed_self, Places.how_spent, Places.keeps_quiet, Places.leaving_on, Places.leaving_parked, Places.leaving_woken, Places.loud_not_quiet, Places.not_ending, Places.parked, Places.quiet_free, Places.quiet_no_wake, Places.quiet_sets_no_wake, Places.together, Places.woken, Places.woken_behind, Simulation.both, Simulation.ended_kept, Simulation.quiet_within, Simulation.some_if, Simulation.stay, Simulation.stutter, Simulation.unchanged_ended, Simulation.unchanged_quiet, Simulation.unchanged_wait, Simulation.unchanged_wake, Simulation.wait_kept, Simulation.wake_kept}
 
 -- what is found of a course, or represents it
 pub record IsTold (aim : Verdict) (scripts : List ScriptView) (Seen : List Entry → Type 0) (found : List Witness) (p : List Entry) : Type 0 where
@@ -44,7 +26,7 @@ SeenIsClosed aim scripts Seen found =
 
 -- ---- replies
 
-pub answer_fault : (n : ℕ) (past : List Entry) (b : ℕ) (op : Op) (f : Fault) → is_active past b ≡ true → fault n past b op ≡ Some f → answer n past b op ≡ R.Fault f
+pub answer_fault : (n : ℕ) (past : List Entry) (b : ℕ) (op : Op) (f : Fault) → is_active past b ≡ true → fault n past b op ≡ Some f → answer n past b op ≡ Reply.Fault f
 unfolding answer
 answer_fault n past b op f act h = rw (act, h) refl
 
@@ -52,23 +34,23 @@ pub answer_plain : (n : ℕ) (past : List Entry) (b : ℕ) (op : Op) → is_acti
 unfolding answer
 answer_plain n past b op act h = rw (act, h) refl
 
-pub answer_inactive : (n : ℕ) (past : List Entry) (b : ℕ) (op : Op) → is_active past b ≡ false → answer n past b op ≡ R.Ended
+pub answer_inactive : (n : ℕ) (past : List Entry) (b : ℕ) (op : Op) → is_active past b ≡ false → answer n past b op ≡ Reply.Ended
 unfolding answer
 answer_inactive n past b op act = rw act refl
 
-matched_or_parked : (t : Bool) → is_ended (if t then R.Matched else R.Parked) ≡ false
+matched_or_parked : (t : Bool) → is_ended (if t then Reply.Matched else Reply.Parked) ≡ false
 matched_or_parked true = refl
 matched_or_parked false = refl
 
-woken_or_not : (t s : Bool) → is_ended (if t then R.Matched else if s then R.Fault F.Stuck else R.Parked) ≡ false
+woken_or_not : (t s : Bool) → is_ended (if t then Reply.Matched else if s then Reply.Fault Fault.Stuck else Reply.Parked) ≡ false
 woken_or_not true s = refl
 woken_or_not false true = refl
 woken_or_not false false = refl
 
 plain_not_ended : (past : List Entry) (b : ℕ) (op : Op) (c : Comp) → comp_of past b ≡ Some c → is_ended (plain_answer past b op) ≡ false
-plain_not_ended past b (O.Wait k t) c on = matched_or_parked (holds past (record { killed = k; target = t }))
-plain_not_ended past b (O.Wake k t) c on = woken_or_not (holds past (record { killed = k; target = t })) ((b == 0) && is_stuck past)
-plain_not_ended past b O.GetVerdict c on = rw on refl
+plain_not_ended past b (Op.Wait k t) c on = matched_or_parked (holds past (record { killed = k; target = t }))
+plain_not_ended past b (Op.Wake k t) c on = woken_or_not (holds past (record { killed = k; target = t })) ((b == 0) && is_stuck past)
+plain_not_ended past b Op.GetVerdict c on = rw on refl
 plain_not_ended past b _ c on = refl
 
 pub not_ended : (n : ℕ) (past : List Entry) (b : ℕ) (op : Op) (c : Comp) → is_active past b ≡ true → comp_of past b ≡ Some c → is_ended (answer n past b op) ≡ false
@@ -81,12 +63,12 @@ not_ended n past b op c act on = by_fault (fault n past b op) refl
 -- a quiet call that is no error is answered at once
 pub quiet_reply : (w : Verdict) (past : List Entry) (b : ℕ) (op : Op) (c : Comp) → comp_of past b ≡ Some c → is_quiet w op ≡ true →
     (goes_on (plain_answer past b op) ≡ true) × (is_fault (plain_answer past b op) ≡ false)
-quiet_reply w past b (O.SetVerdict v) c on h = (refl, refl)
-quiet_reply w past b O.GetVerdict c on h = rw on (refl, refl)
-quiet_reply w past b (O.Running t) c on h = (refl, refl)
-quiet_reply w past b (O.Alive t) c on h = (refl, refl)
-quiet_reply w past b (O.Done t) c on h = (refl, refl)
-quiet_reply w past b (O.Killed t) c on h = (refl, refl)
+quiet_reply w past b (Op.SetVerdict v) c on h = (refl, refl)
+quiet_reply w past b Op.GetVerdict c on h = rw on (refl, refl)
+quiet_reply w past b (Op.Running t) c on h = (refl, refl)
+quiet_reply w past b (Op.Alive t) c on h = (refl, refl)
+quiet_reply w past b (Op.Done t) c on h = (refl, refl)
+quiet_reply w past b (Op.Killed t) c on h = (refl, refl)
 quiet_reply w past b _ c on h = absurd cc
 
 -- so is one that changes nothing
@@ -100,20 +82,20 @@ spent_reply q b op c on h = by_kind (how_spent q op h)
     by_kind (inr (inr met)) = rw (met_reply q b op met) (refl, refl)
 
 -- only a Wait is parked, or a Wake
-pub parks_wait : (w : Verdict) (past : List Entry) (b : ℕ) (op : Op) → is_wake op ≡ false → is_quiet w op ≡ false → plain_answer past b op ≡ R.Parked → (k : Bool) × (t : Target) × (op ≡ O.Wait k t)
-parks_wait w past b (O.Wait k t) wk q h = (k, t, refl)
-parks_wait w past b (O.Wake k t) wk q h = absurd cc
-parks_wait w past b O.GetVerdict wk q h = absurd cc
-parks_wait w past b (O.SetVerdict v) wk q h = absurd cc
+pub parks_wait : (w : Verdict) (past : List Entry) (b : ℕ) (op : Op) → is_wake op ≡ false → is_quiet w op ≡ false → plain_answer past b op ≡ Reply.Parked → (k : Bool) × (t : Target) × (op ≡ Op.Wait k t)
+parks_wait w past b (Op.Wait k t) wk q h = (k, t, refl)
+parks_wait w past b (Op.Wake k t) wk q h = absurd cc
+parks_wait w past b Op.GetVerdict wk q h = absurd cc
+parks_wait w past b (Op.SetVerdict v) wk q h = absurd cc
 parks_wait w past b _ wk q h = absurd cc
 
 loud_is_plain : (w : Verdict) (op : Op) → is_wake op ≡ false → is_quiet w op ≡ false → is_plain_call op ≡ true
-loud_is_plain w (O.Running t) wk q = absurd cc
-loud_is_plain w (O.Alive t) wk q = absurd cc
-loud_is_plain w (O.Done t) wk q = absurd cc
-loud_is_plain w (O.Killed t) wk q = absurd cc
-loud_is_plain w O.GetVerdict wk q = absurd cc
-loud_is_plain w (O.Wake k t) wk q = absurd cc
+loud_is_plain w (Op.Running t) wk q = absurd cc
+loud_is_plain w (Op.Alive t) wk q = absurd cc
+loud_is_plain w (Op.Done t) wk q = absurd cc
+loud_is_plain w (Op.Killed t) wk q = absurd cc
+loud_is_plain w Op.GetVerdict wk q = absurd cc
+loud_is_plain w (Op.Wake k t) wk q = absurd cc
 loud_is_plain w _ wk q = refl
 
 opposed : (t : Bool) → t ≡ true → t ≡ false → ⊥
@@ -121,33 +103,33 @@ opposed true h k = absurd cc
 opposed false h k = absurd cc
 
 never_fault : (past : List Entry) (b : ℕ) (op : Op) → is_plain_call op ≡ true → is_fault (plain_answer past b op) ≡ false
-never_fault past b (O.Wait k t) h = by_test (holds past (record { killed = k; target = t }))
+never_fault past b (Op.Wait k t) h = by_test (holds past (record { killed = k; target = t }))
   where
-    by_test : (z : Bool) → is_fault (if z then R.Matched else R.Parked) ≡ false
+    by_test : (z : Bool) → is_fault (if z then Reply.Matched else Reply.Parked) ≡ false
     by_test true = refl
     by_test false = refl
-never_fault past b (O.Running t) h = absurd cc
-never_fault past b (O.Alive t) h = absurd cc
-never_fault past b (O.Done t) h = absurd cc
-never_fault past b (O.Killed t) h = absurd cc
-never_fault past b O.GetVerdict h = absurd cc
-never_fault past b (O.Wake k t) h = absurd cc
+never_fault past b (Op.Running t) h = absurd cc
+never_fault past b (Op.Alive t) h = absurd cc
+never_fault past b (Op.Done t) h = absurd cc
+never_fault past b (Op.Killed t) h = absurd cc
+never_fault past b Op.GetVerdict h = absurd cc
+never_fault past b (Op.Wake k t) h = absurd cc
 never_fault past b _ h = refl
 
 pub loud_sets_no_wake : (op : Op) (r : Reply) → goes_on r ≡ true → wake_if op r ≡ None
-loud_sets_no_wake op R.Parked h = absurd cc
+loud_sets_no_wake op Reply.Parked h = absurd cc
 loud_sets_no_wake op _ h = refl
 
 idle_never : (op : Op) (r : Reply) → is_wake op ≡ false → is_idle op r ≡ false
-idle_never op R.Parked h = h
+idle_never op Reply.Parked h = h
 idle_never op _ h = refl
 
-pub error_is_worst : (w : Verdict) → worse w V.Error ≡ V.Error
-error_is_worst V.None = refl
-error_is_worst V.Pass = refl
-error_is_worst V.Inconc = refl
-error_is_worst V.Fail = refl
-error_is_worst V.Error = refl
+pub error_is_worst : (w : Verdict) → worse w Verdict.Error ≡ Verdict.Error
+error_is_worst Verdict.None = refl
+error_is_worst Verdict.Pass = refl
+error_is_worst Verdict.Inconc = refl
+error_is_worst Verdict.Fail = refl
+error_is_worst Verdict.Error = refl
 
 pub or_left : (a b : Bool) → (a || b) ≡ false → a ≡ false
 or_left true b h = absurd cc
@@ -242,14 +224,14 @@ module _ {aim : Verdict} {scripts : List ScriptView} {Seen : List Entry → Type
       or_no false = refl
 
   -- an error of both
-  told_fault : AtTurn aim scripts Seen found p q e → (d : Entry) → IsTurn scripts q d → d.caller.0 ≡ e.caller.0 → e.caller.0 < length scripts → (x y : Fault) → e.reply ≡ R.Fault x → d.reply ≡ R.Fault y →
+  told_fault : AtTurn aim scripts Seen found p q e → (d : Entry) → IsTurn scripts q d → d.caller.0 ≡ e.caller.0 → e.caller.0 < length scripts → (x y : Fault) → e.reply ≡ Reply.Fault x → d.reply ≡ Reply.Fault y →
       IsTold aim scripts Seen found (e ∷ p)
   told_fault h d turn callers within x y re rd =
       let lq : IsLegal (length scripts) (d ∷ q) = course_legal scripts (d ∷ q) (turn, h.closed.course) in
-      let vp : overall (e ∷ p) ≡ V.Error = overall_next (length scripts) p e (legal_next h) ∙ (rw re refl ∙ error_is_worst (overall p)) in
-      let vq : overall (d ∷ q) ≡ V.Error = overall_next (length scripts) q d lq ∙ (rw rd refl ∙ error_is_worst (overall q)) in
-      let lp : level_of (overall (e ∷ p)) ≡ level_of V.Error = ap level_of vp in
-      let ld : level_of (overall (d ∷ q)) ≡ level_of V.Error = ap level_of vq in
+      let vp : overall (e ∷ p) ≡ Verdict.Error = overall_next (length scripts) p e (legal_next h) ∙ (rw re refl ∙ error_is_worst (overall p)) in
+      let vq : overall (d ∷ q) ≡ Verdict.Error = overall_next (length scripts) q d lq ∙ (rw rd refl ∙ error_is_worst (overall q)) in
+      let lp : level_of (overall (e ∷ p)) ≡ level_of Verdict.Error = ap level_of vp in
+      let ld : level_of (overall (d ∷ q)) ≡ level_of Verdict.Error = ap level_of vq in
       let within_p : level_of (overall (e ∷ p)) ≤ level_of aim = h.within in
       let ends_e : ends_case e ≡ true = rw re refl in
       let ends_d : ends_case d ≡ true = rw rd refl in
@@ -257,14 +239,14 @@ module _ {aim : Verdict} {scripts : List ScriptView} {Seen : List Entry → Type
       told_both h d turn (rw callers within) (rw rd refl) (omega (arith, lp, ld)) (omega (arith, lp, ld, within_p)) (ends_e ∙ sym ends_d) (λ o. absurd cc)
 
   -- a Wait of p that is parked
-  told_parked : (me : Comp) → AtTurn aim scripts Seen found p q e → IsGoing scripts p q e me → (stand p e.caller.0).wake ≡ None → (k : Bool) (t : Target) → e.op ≡ O.Wait k t → e.reply ≡ R.Parked →
+  told_parked : (me : Comp) → AtTurn aim scripts Seen found p q e → IsGoing scripts p q e me → (stand p e.caller.0).wake ≡ None → (k : Bool) (t : Target) → e.op ≡ Op.Wait k t → e.reply ≡ Reply.Parked →
       call_at scripts e.caller.0 (stand q e.caller.0) (stand q e.caller.0).comp (stand p e.caller.0).called ≡ e.op → IsTold aim scripts Seen found (e ∷ p)
   told_parked me h g none k t is r calls =
-      let of : IsWakeOf e.op (O.Wake k t) = record { killed = k; target = t; waits = is; wakes = refl } in
-      let u = unchanged_wait p e (O.Wake k t) of (rw r refl) in
-      told_stutter h u (stutter scripts p q e h.course h.closed.course h.for u (still_better h (wait_kept (length scripts) p e (O.Wake k t) (legal_next h) of (rw r refl))) (no_leaving e h.for g.in_q) (λ act.
+      let of : IsWakeOf e.op (Op.Wake k t) = record { killed = k; target = t; waits = is; wakes = refl } in
+      let u = unchanged_wait p e (Op.Wake k t) of (rw r refl) in
+      told_stutter h u (stutter scripts p q e h.course h.closed.course h.for u (still_better h (wait_kept (length scripts) p e (Op.Wake k t) (legal_next h) of (rw r refl))) (no_leaving e h.for g.in_q) (λ act.
       subst (λ s. IsFollowed scripts q e.caller.0 s (stand q e.caller.0)) (sym (stand_own p e e.caller.0 refl))
-      (parked scripts q e.caller.0 (stand p e.caller.0) (stand q e.caller.0) e (O.Wake k t) g.followed none u.made
+      (parked scripts q e.caller.0 (stand p e.caller.0) (stand q e.caller.0) e (Op.Wake k t) g.followed none u.made
       (not_ending p e (stand p e.caller.0).comp me u g.stand_p g.on_p (rw r refl)) (rw is refl) (rw (is, r) refl) (record { killed = k; target = t; waits = calls ∙ is; wakes = refl }))))
 
   -- p makes a call that is no error after q
@@ -316,13 +298,13 @@ module _ {aim : Verdict} {scripts : List ScriptView} {Seen : List Entry → Type
       is : e.reply ≡ plain_answer p e.caller.0 e.op
       is = h.course.0.reply ∙ answer_plain (length scripts) p e.caller.0 e.op g.in_p (no_fault_back h no_fault_q)
 
-      by_reply : (plain_answer p e.caller.0 e.op ≡ R.Matched) ⊎ (plain_answer p e.caller.0 e.op ≡ R.Parked) → IsTold aim scripts Seen found (e ∷ p)
-      by_reply (inr r) = told_parked me h g none m.for_kill (T.One m.comp) m.waits (is ∙ r) call_q
+      by_reply : (plain_answer p e.caller.0 e.op ≡ Reply.Matched) ⊎ (plain_answer p e.caller.0 e.op ≡ Reply.Parked) → IsTold aim scripts Seen found (e ∷ p)
+      by_reply (inr r) = told_parked me h g none m.for_kill (Target.One m.comp) m.waits (is ∙ r) call_q
       by_reply (inl r) =
-          let of : IsWakeOf e.op (O.Wake m.for_kill (T.One m.comp)) = record { killed = m.for_kill; target = T.One m.comp; waits = m.waits; wakes = refl } in
-          let matched : e.reply ≡ R.Matched = is ∙ r in
-          let u = unchanged_wait p e (O.Wake m.for_kill (T.One m.comp)) of (rw matched refl) in
-          told_stutter h u (stutter scripts p q e h.course h.closed.course h.for u (still_better h (wait_kept (length scripts) p e (O.Wake m.for_kill (T.One m.comp)) (legal_next h) of (rw matched refl))) (no_leaving e h.for g.in_q) (λ act.
+          let of : IsWakeOf e.op (Op.Wake m.for_kill (Target.One m.comp)) = record { killed = m.for_kill; target = Target.One m.comp; waits = m.waits; wakes = refl } in
+          let matched : e.reply ≡ Reply.Matched = is ∙ r in
+          let u = unchanged_wait p e (Op.Wake m.for_kill (Target.One m.comp)) of (rw matched refl) in
+          told_stutter h u (stutter scripts p q e h.course h.closed.course h.for u (still_better h (wait_kept (length scripts) p e (Op.Wake m.for_kill (Target.One m.comp)) (legal_next h) of (rw matched refl))) (no_leaving e h.for g.in_q) (λ act.
           subst (λ s. IsFollowed scripts q e.caller.0 s (stand q e.caller.0)) (sym (stand_own p e e.caller.0 refl))
           (behind scripts q e.caller.0 (stand p e.caller.0) (stand q e.caller.0) e g.followed none less u.made
           (not_ending p e (stand p e.caller.0).comp me u g.stand_p g.on_p (rw matched refl)) (rw m.waits refl) (rw matched refl))))
@@ -376,24 +358,24 @@ module _ {aim : Verdict} {scripts : List ScriptView} {Seen : List Entry → Type
       has_turn_q : turn scripts q e.caller.0 ≡ Some e.op
       has_turn_q = turn_in scripts p q e me g ∙ ap Some calls
 
-      by_parked : e.reply ≡ R.Parked → (o : Option Fault) → fault (length scripts) p e.caller.0 e.op ≡ o → IsTold aim scripts Seen found (e ∷ p)
+      by_parked : e.reply ≡ Reply.Parked → (o : Option Fault) → fault (length scripts) p e.caller.0 e.op ≡ o → IsTold aim scripts Seen found (e ∷ p)
       by_parked r (Some x) k =
-          let f : e.reply ≡ R.Fault x = h.course.0.reply ∙ answer_fault (length scripts) p e.caller.0 e.op x g.in_p k in
-          let no : is_fault R.Parked ≡ true = ap is_fault (sym r ∙ f) in
+          let f : e.reply ≡ Reply.Fault x = h.course.0.reply ∙ answer_fault (length scripts) p e.caller.0 e.op x g.in_p k in
+          let no : is_fault Reply.Parked ≡ true = ap is_fault (sym r ∙ f) in
           absurd cc
       by_parked r None k =
-          let plain : plain_answer p e.caller.0 e.op ≡ R.Parked = sym (answer_plain (length scripts) p e.caller.0 e.op g.in_p k) ∙ (sym h.course.0.reply ∙ r) in
+          let plain : plain_answer p e.caller.0 e.op ≡ Reply.Parked = sym (answer_plain (length scripts) p e.caller.0 e.op g.in_p k) ∙ (sym h.course.0.reply ∙ r) in
           let w = parks_wait (overall q) p e.caller.0 e.op wk loud plain in
           told_parked me h g none w.0 w.1 w.2 r (ap (call_at scripts e.caller.0 (stand q e.caller.0) (stand q e.caller.0).comp) same ∙ calls)
 
-      by_fault : (x : Fault) → e.reply ≡ R.Fault x → (o : Option Fault) → fault (length scripts) p e.caller.0 e.op ≡ o → IsTold aim scripts Seen found (e ∷ p)
+      by_fault : (x : Fault) → e.reply ≡ Reply.Fault x → (o : Option Fault) → fault (length scripts) p e.caller.0 e.op ≡ o → IsTold aim scripts Seen found (e ∷ p)
       by_fault x r (Some y) k =
           let z = some_too (fault (length scripts) p e.caller.0 e.op) (fault (length scripts) q e.caller.0 e.op) y (fault_ahead h.for.ahead (length scripts) e.caller.0 e.op) k in
-          let d : Entry = record { caller = e.caller; op = e.op; reply = R.Fault z.0 } in
+          let d : Entry = record { caller = e.caller; op = e.op; reply = Reply.Fault z.0 } in
           let turn : IsTurn scripts q d = record { turn = has_turn_q; reply = sym (answer_fault (length scripts) q e.caller.0 e.op z.0 g.in_q z.1); not_idle = refl } in
           told_fault h d turn refl g.in_range x z.0 r refl
       by_fault x r None k =
-          let plain : plain_answer p e.caller.0 e.op ≡ R.Fault x = sym (answer_plain (length scripts) p e.caller.0 e.op g.in_p k) ∙ (sym h.course.0.reply ∙ r) in
+          let plain : plain_answer p e.caller.0 e.op ≡ Reply.Fault x = sym (answer_plain (length scripts) p e.caller.0 e.op g.in_p k) ∙ (sym h.course.0.reply ∙ r) in
           let no : is_fault (plain_answer p e.caller.0 e.op) ≡ false = never_fault p e.caller.0 e.op calls_plainly in
           let yes : is_fault (plain_answer p e.caller.0 e.op) ≡ true = ap is_fault plain in
           absurd cc
@@ -405,12 +387,12 @@ module _ {aim : Verdict} {scripts : List ScriptView} {Seen : List Entry → Type
           told_on me h g same wk (record { turn = has_turn_q; reply = h.course.0.reply ∙ is; not_idle = h.course.0.not_idle }) on
 
       by_reply : (r : Reply) → e.reply ≡ r → IsTold aim scripts Seen found (e ∷ p)
-      by_reply R.Ended r =
+      by_reply Reply.Ended r =
           let no : is_ended (answer (length scripts) p e.caller.0 e.op) ≡ false = not_ended (length scripts) p e.caller.0 e.op me g.in_p g.on_p in
           let yes : is_ended (answer (length scripts) p e.caller.0 e.op) ≡ true = ap is_ended (sym h.course.0.reply ∙ r) in
           absurd cc
-      by_reply R.Parked r = by_parked r (fault (length scripts) p e.caller.0 e.op) refl
-      by_reply (R.Fault x) r = by_fault x r (fault (length scripts) p e.caller.0 e.op) refl
+      by_reply Reply.Parked r = by_parked r (fault (length scripts) p e.caller.0 e.op) refl
+      by_reply (Reply.Fault x) r = by_fault x r (fault (length scripts) p e.caller.0 e.op) refl
       by_reply _ r = on_both (ap goes_on r) (ap is_fault r)
 
   -- a quiet call of both: an error, since q has made all others
@@ -421,10 +403,10 @@ module _ {aim : Verdict} {scripts : List ScriptView} {Seen : List Entry → Type
     where
       by_fault : (o : Option Fault) → fault (length scripts) q e.caller.0 e.op ≡ o → IsTold aim scripts Seen found (e ∷ p)
       by_fault (Some x) k =
-          let d : Entry = record { caller = e.caller; op = e.op; reply = R.Fault x } in
+          let d : Entry = record { caller = e.caller; op = e.op; reply = Reply.Fault x } in
           let turn : IsTurn scripts q d = record { turn = turn_in scripts p q e me g ∙ ap Some calls; reply = sym (answer_fault (length scripts) q e.caller.0 e.op x g.in_q k); not_idle = refl } in
           let y = some_too (fault (length scripts) q e.caller.0 e.op) (fault (length scripts) p e.caller.0 e.op) x (sym (fault_ahead h.for.ahead (length scripts) e.caller.0 e.op)) k in
-          let re : e.reply ≡ R.Fault y.0 = h.course.0.reply ∙ answer_fault (length scripts) p e.caller.0 e.op y.0 g.in_p y.1 in
+          let re : e.reply ≡ Reply.Fault y.0 = h.course.0.reply ∙ answer_fault (length scripts) p e.caller.0 e.op y.0 g.in_p y.1 in
           told_fault h d turn refl g.in_range y.0 x re refl
       by_fault None k =
           let d : Entry = record { caller = e.caller; op = e.op; reply = plain_answer q e.caller.0 e.op } in
@@ -477,10 +459,10 @@ in_vain past (Some a) h = (a, refl, not_not (holds past a) h)
     not_not false k = refl
 
 still_run : (past : List Entry) (b : ℕ) (ph : Phase) → is_run_of b ph ≡ true → is_still past ph ≡ true → waits_in_vain past (waiting past b) ≡ true
-still_run past b (P.Running run) r s = let same : run.0 ≡ b = equal_if run.0 b r in subst (λ x. waits_in_vain past (waiting past x) ≡ true) same s
-still_run past b P.Inactive r s = absurd cc
-still_run past b P.Stopped r s = absurd cc
-still_run past b P.Killed r s = absurd cc
+still_run past b (Phase.Running run) r s = let same : run.0 ≡ b = equal_if run.0 b r in subst (λ x. waits_in_vain past (waiting past x) ≡ true) same s
+still_run past b Phase.Inactive r s = absurd cc
+still_run past b Phase.Stopped r s = absurd cc
+still_run past b Phase.Killed r s = absurd cc
 
 all_still : (past : List Entry) (c : ℕ) → is_stuck past ≡ true → exists past c ≡ true → is_still past (phase past c) ≡ true
 unfolding is_stuck exists
@@ -499,14 +481,14 @@ stuck_waits n past b legal stuck act =
     in_vain past (waiting past b) (still_run past b (phase past on.0.0) runs (all_still past on.0.0 stuck (on_existing n past b on.0 legal on.1)))
 
 wait_answer : (n : ℕ) (past : List Entry) (b : ℕ) (k : Bool) (t : Target) (r : Reply) → is_active past b ≡ true → holds past (record { killed = k; target = t }) ≡ false →
-    r ≡ answer n past b (O.Wait k t) → goes_on r ≡ true → is_fault r ≡ true
-wait_answer n past b k t r act unmet is on = by_fault (fault n past b (O.Wait k t)) refl
+    r ≡ answer n past b (Op.Wait k t) → goes_on r ≡ true → is_fault r ≡ true
+wait_answer n past b k t r act unmet is on = by_fault (fault n past b (Op.Wait k t)) refl
   where
-    by_fault : (o : Option Fault) → fault n past b (O.Wait k t) ≡ o → is_fault r ≡ true
-    by_fault (Some x) j = ap is_fault (is ∙ answer_fault n past b (O.Wait k t) x act j)
+    by_fault : (o : Option Fault) → fault n past b (Op.Wait k t) ≡ o → is_fault r ≡ true
+    by_fault (Some x) j = ap is_fault (is ∙ answer_fault n past b (Op.Wait k t) x act j)
     by_fault None j =
-        let parked_is : plain_answer past b (O.Wait k t) ≡ R.Parked = rw unmet refl in
-        let off : goes_on r ≡ false = ap goes_on (is ∙ (answer_plain n past b (O.Wait k t) act j ∙ parked_is)) in
+        let parked_is : plain_answer past b (Op.Wait k t) ≡ Reply.Parked = rw unmet refl in
+        let off : goes_on r ≡ false = ap goes_on (is ∙ (answer_plain n past b (Op.Wait k t) act j ∙ parked_is)) in
         absurd cc
 
 active_if_on : (n : ℕ) (past : List Entry) (b : ℕ) (op : Op) (r : Reply) → r ≡ answer n past b op → goes_on r ≡ true → is_active past b ≡ true
@@ -516,10 +498,10 @@ active_if_on n past b op r is on = by_test (is_active past b) refl
     by_test true k = refl
     by_test false k = let off : goes_on r ≡ false = ap goes_on (is ∙ answer_inactive n past b op k) in absurd cc
 
-same_awaited : (k : Bool) (t : Target) (wake : Op) (a : Awaited) → wake ≡ O.Wake k t → awaited wake ≡ Some a → record { killed = k; target = t } ≡ a
-same_awaited k t wake a w h = let e : awaited (O.Wake k t) ≡ Some a = ap awaited (sym w) ∙ h in let e2 : Some (record { killed = k; target = t }) ≡ Some a = e in cc
+same_awaited : (k : Bool) (t : Target) (wake : Op) (a : Awaited) → wake ≡ Op.Wake k t → awaited wake ≡ Some a → record { killed = k; target = t } ≡ a
+same_awaited k t wake a w h = let e : awaited (Op.Wake k t) ≡ Some a = ap awaited (sym w) ∙ h in let e2 : Some (record { killed = k; target = t }) ≡ Some a = e in cc
 
-wait_parks : (op : Op) (r : Reply) (k : Bool) (t : Target) → op ≡ O.Wait k t → r ≡ R.Parked → wake_if op r ≡ Some (O.Wake k t)
+wait_parks : (op : Op) (r : Reply) (k : Bool) (t : Target) → op ≡ Op.Wait k t → r ≡ Reply.Parked → wake_if op r ≡ Some (Op.Wake k t)
 wait_parks op r k t is parks = rw (is, parks) refl
 
 -- the Wait at a place is met
@@ -527,12 +509,12 @@ met_at : (n : ℕ) (q : List Entry) (b : ℕ) (op wake : Op) → IsQuietAt n q b
 met_at n q b op wake quiet of = met_for q op (ap (is_met q) of.waits ∙ (ap (is_spent q) (sym of.waits) ∙ quiet.quiet))
 
 -- and what is awaited then
-met_awaited : (q : List Entry) (op wake : Op) (a : Awaited) → (of : IsWakeOf op wake) → (m : IsMetFor q op) → awaited wake ≡ Some a → record { killed = m.for_kill; target = T.One m.comp } ≡ a
+met_awaited : (q : List Entry) (op wake : Op) (a : Awaited) → (of : IsWakeOf op wake) → (m : IsMetFor q op) → awaited wake ≡ Some a → record { killed = m.for_kill; target = Target.One m.comp } ≡ a
 met_awaited q op wake a of m h =
-    let waits : O.Wait of.killed of.target ≡ O.Wait m.for_kill (T.One m.comp) = sym of.waits ∙ m.waits in
-    let for_it : awaited_op (O.Wait of.killed of.target) ≡ awaited_op (O.Wait m.for_kill (T.One m.comp)) = ap awaited_op waits in
-    let wakes : awaited (O.Wake of.killed of.target) ≡ Some a = ap awaited (sym of.wakes) ∙ h in
-    let one : Some (record { killed = m.for_kill; target = T.One m.comp }) ≡ Some a = sym for_it ∙ wakes in
+    let waits : Op.Wait of.killed of.target ≡ Op.Wait m.for_kill (Target.One m.comp) = sym of.waits ∙ m.waits in
+    let for_it : awaited_op (Op.Wait of.killed of.target) ≡ awaited_op (Op.Wait m.for_kill (Target.One m.comp)) = ap awaited_op waits in
+    let wakes : awaited (Op.Wake of.killed of.target) ≡ Some a = ap awaited (sym of.wakes) ∙ h in
+    let one : Some (record { killed = m.for_kill; target = Target.One m.comp }) ≡ Some a = sym for_it ∙ wakes in
     cc
   where
     awaited_op : Op → Option Awaited
@@ -559,7 +541,7 @@ module _ {aim : Verdict} {scripts : List ScriptView} {p q : List Entry} where
       met : IsMetFor q (call_at scripts n.run.0 (stand p n.run.0) (stand p n.run.0).comp was.place)
       met = met_at (length scripts) q n.run.0 (call_at scripts n.run.0 (stand p n.run.0) (stand p n.run.0).comp was.place) by.wake was.quiet was.wake_of
 
-      a_is : record { killed = met.for_kill; target = T.One met.comp } ≡ w.0
+      a_is : record { killed = met.for_kill; target = Target.One met.comp } ≡ w.0
       a_is = met_awaited q (call_at scripts n.run.0 (stand p n.run.0) (stand p n.run.0).comp was.place) by.wake w.0 was.wake_of met by.for_it
 
       lower : o.rank met.comp.0 < o.rank c
@@ -568,8 +550,8 @@ module _ {aim : Verdict} {scripts : List ScriptView} {p q : List Entry} where
       by_phase : ((d : ℕ) → IsEnding aim scripts p q d → o.rank d < m → ⊥) → (phase p met.comp.0 ≡ phase q met.comp.0) ⊎ IsEnding aim scripts p q met.comp.0 → ⊥
       by_phase again (inl same) =
           let there : exists p met.comp.0 ≡ true = exists_back f.ahead met.comp.0 met.gone.there in
-          let yes : holds p (record { killed = met.for_kill; target = T.One met.comp }) ≡ true = met_holds p met.for_kill met.comp (record { there = there; dead = same ∙ met.gone.dead }) in
-          let no : holds p (record { killed = met.for_kill; target = T.One met.comp }) ≡ false = ap (holds p) a_is ∙ w.2 in
+          let yes : holds p (record { killed = met.for_kill; target = Target.One met.comp }) ≡ true = met_holds p met.for_kill met.comp (record { there = there; dead = same ∙ met.gone.dead }) in
+          let no : holds p (record { killed = met.for_kill; target = Target.One met.comp }) ≡ false = ap (holds p) a_is ∙ w.2 in
           opposed _ yes no
       by_phase again (inr k) = let less = lower in again met.comp.0 k (omega (arith, less, l))
 
@@ -614,7 +596,7 @@ module _ {aim : Verdict} {scripts : List ScriptView} {p q : List Entry} where
           let call : call_at scripts d.caller.0 (stand q d.caller.0) (stand q d.caller.0).comp (stand q d.caller.0).called ≡ d.op =
           ap (λ o. call_at scripts d.caller.0 (stand q d.caller.0) o (stand q d.caller.0).called) t.on
           ∙ (ap (λ o. unwrap_or o (call_of t.me (stand q d.caller.0).bound (slice_get (steps_of scripts d.caller.0) (stand q d.caller.0).called))) (sym fol.no_wake) ∙ t.calls) in
-          let op_is : d.op ≡ O.Wait of.killed of.target = sym call ∙ (ap (call_at scripts d.caller.0 (stand q d.caller.0) (stand q d.caller.0).comp) (sym same) ∙ of.waits) in
+          let op_is : d.op ≡ Op.Wait of.killed of.target = sym call ∙ (ap (call_at scripts d.caller.0 (stand q d.caller.0) (stand q d.caller.0).comp) (sym same) ∙ of.waits) in
           let a_is : record { killed = of.killed; target = of.target } ≡ w.0 = same_awaited of.killed of.target by.wake w.0 of.wakes by.for_it in
           let no : holds q (record { killed = of.killed; target = of.target }) ≡ false = sym (holds_alike alike (record { killed = of.killed; target = of.target })) ∙ (ap (holds p) a_is ∙ w.2) in
           let bad : is_fault d.reply ≡ true = wait_answer (length scripts) q d.caller.0 of.killed of.target d.reply act_q no (go.turn.reply ∙ ap (answer (length scripts) q d.caller.0) op_is) go.on in
@@ -626,48 +608,48 @@ module _ {aim : Verdict} {scripts : List ScriptView} {p q : List Entry} where
           let op : Op = call_at scripts d.caller.0 (stand q d.caller.0) (stand q d.caller.0).comp at.place in
           let met = met_at (length scripts) q d.caller.0 op by.wake (at.between at.place (omega arith) less) at.wake_of in
           let a_is = met_awaited q op by.wake w.0 at.wake_of met by.for_it in
-          let there : holds q (record { killed = met.for_kill; target = T.One met.comp }) ≡ true = met_holds q met.for_kill met.comp met.gone in
-          let yes : holds p w.0 ≡ true = ap (holds p) (sym a_is) ∙ (holds_alike alike (record { killed = met.for_kill; target = T.One met.comp }) ∙ there) in
+          let there : holds q (record { killed = met.for_kill; target = Target.One met.comp }) ≡ true = met_holds q met.for_kill met.comp met.gone in
+          let yes : holds p w.0 ≡ true = ap (holds p) (sym a_is) ∙ (holds_alike alike (record { killed = met.for_kill; target = Target.One met.comp }) ∙ there) in
           opposed (holds p w.0) yes w.2
 
       by_less : (t : Bool) → nat_lt at.place (stand q d.caller.0).called ≡ t → ⊥
       by_less true k = waited_before (grind (arith, nat_tests))
       by_less false k = let fewer = at.fewer in waits_here (grind (arith, nat_tests))
 
-finish_reply : (n : ℕ) (past : List Entry) (b : ℕ) → is_active past b ≡ true → answer n past b O.Finish ≡ R.Ok
+finish_reply : (n : ℕ) (past : List Entry) (b : ℕ) → is_active past b ≡ true → answer n past b Op.Finish ≡ Reply.Ok
 unfolding answer fault all_exist
 finish_reply n past b act = rw act refl
 
-fault_of_set : (n : ℕ) (past : List Entry) (b : ℕ) (v : UserVerdict) → fault n past b (O.SetVerdict v) ≡ None
+fault_of_set : (n : ℕ) (past : List Entry) (b : ℕ) (v : UserVerdict) → fault n past b (Op.SetVerdict v) ≡ None
 unfolding fault all_exist
 fault_of_set n past b v = refl
 
-pub fault_of_wait : (n : ℕ) (past : List Entry) (b : ℕ) (k : Bool) (t : Target) → fault n past b (O.Wait k t) ≡ fault n past b (O.Wake k t)
+pub fault_of_wait : (n : ℕ) (past : List Entry) (b : ℕ) (k : Bool) (t : Target) → fault n past b (Op.Wait k t) ≡ fault n past b (Op.Wake k t)
 unfolding fault
 fault_of_wait n past b k t = refl
 
 module _ {aim : Verdict} {scripts : List ScriptView} {Seen : List Entry → Type 0} {found : List Witness} {p q : List Entry} {e : Entry} where
-  told_stuck : AtTurn aim scripts Seen found p q e → is_stuck p ≡ true → e.reply ≡ R.Fault F.Stuck → IsTold aim scripts Seen found (e ∷ p)
+  told_stuck : AtTurn aim scripts Seen found p q e → is_stuck p ≡ true → e.reply ≡ Reply.Fault Fault.Stuck → IsTold aim scripts Seen found (e ∷ p)
   told_stuck h stuck r =
-      let v : overall (e ∷ p) ≡ V.Error = overall_next (length scripts) p e (course_legal scripts (e ∷ p) h.course) ∙ (rw r refl ∙ error_is_worst (overall p)) in
+      let v : overall (e ∷ p) ≡ Verdict.Error = overall_next (length scripts) p e (course_legal scripts (e ∷ p) h.course) ∙ (rw r refl ∙ error_is_worst (overall p)) in
       let ends : ends_case e ≡ true = rw r refl in
       let over_e : is_over (e ∷ p) ≡ true = rw ends refl in
-      let worst : level_of (overall (e ∷ p)) ≡ level_of V.Error = ap level_of v in
+      let worst : level_of (overall (e ∷ p)) ≡ level_of Verdict.Error = ap level_of v in
       let within : level_of (overall (e ∷ p)) ≤ level_of aim = h.within in
-      let found_error : is_found found V.Error ≡ true = ⊎_elim (λ x. x)
+      let found_error : is_found found Verdict.Error ≡ true = ⊎_elim (λ x. x)
       (λ other. ⊎_elim (λ go. ⊎_elim (λ better. absurd (omega (arith, worst, within, better)))
       (λ o. absurd (none_goes_on h.course.1 h.for (stuck_alike h.course.1 h.for o stuck) stuck go)) h.for.order) (λ better. absurd (omega (arith, worst, within, better))) other) h.closed.stuck in
-      record { over = λ o. (V.Error, found_error, omega (arith, worst), omega (arith, worst, within)); going = λ o. absurd cc }
+      record { over = λ o. (Verdict.Error, found_error, omega (arith, worst), omega (arith, worst, within)); going = λ o. absurd cc }
 
   -- a Wake that is answered Matched
-  told_woken : (me : Comp) → AtTurn aim scripts Seen found p q e → IsGoing scripts p q e me → (k : Bool) (t : Target) → e.op ≡ O.Wake k t → e.reply ≡ R.Matched → (stand p e.caller.0).called ≡ suc (stand q e.caller.0).called →
-      IsTurn scripts q (record { caller = e.caller; op = O.Wait k t; reply = R.Matched }) → IsTold aim scripts Seen found (e ∷ p)
+  told_woken : (me : Comp) → AtTurn aim scripts Seen found p q e → IsGoing scripts p q e me → (k : Bool) (t : Target) → e.op ≡ Op.Wake k t → e.reply ≡ Reply.Matched → (stand p e.caller.0).called ≡ suc (stand q e.caller.0).called →
+      IsTurn scripts q (record { caller = e.caller; op = Op.Wait k t; reply = Reply.Matched }) → IsTold aim scripts Seen found (e ∷ p)
   told_woken me h g k t is r one_more turn =
-      let d : Entry = record { caller = e.caller; op = O.Wait k t; reply = R.Matched } in
-      let of : IsWakeOf (O.Wait k t) e.op = record { killed = k; target = t; waits = refl; wakes = is } in
-      let to : IsWakeOf d.op (O.Wake k t) = record { killed = k; target = t; waits = refl; wakes = refl } in
-      let ue = unchanged_wake p e (O.Wait k t) of (rw r refl) in
-      let ud = unchanged_wait q d (O.Wake k t) to refl in
+      let d : Entry = record { caller = e.caller; op = Op.Wait k t; reply = Reply.Matched } in
+      let of : IsWakeOf (Op.Wait k t) e.op = record { killed = k; target = t; waits = refl; wakes = is } in
+      let to : IsWakeOf d.op (Op.Wake k t) = record { killed = k; target = t; waits = refl; wakes = refl } in
+      let ue = unchanged_wake p e (Op.Wait k t) of (rw r refl) in
+      let ud = unchanged_wait q d (Op.Wake k t) to refl in
       let cq : IsCourse scripts (d ∷ q) = (turn, h.closed.course) in
       let lq = course_legal scripts (d ∷ q) cq in
       let ae = alike_unchanged (length scripts) p e (course_legal scripts (e ∷ p) h.course) ue in
@@ -677,9 +659,9 @@ module _ {aim : Verdict} {scripts : List ScriptView} {Seen : List Entry → Type
       let goes : is_active (d ∷ q) e.caller.0 ≡ true = active_alike ad e.caller.0 ∙ g.in_q in
       let ahead : IsAhead aim scripts (e ∷ p) (d ∷ q) =
       ahead_turn scripts p (d ∷ q) e h.course.1 ae later (λ c n k. let other = not_ending_run later e.caller.0 goes c n in absurd cc)
-      (let was = still_better h (wake_kept (length scripts) p e (O.Wait k t) (legal_next h) of (rw r refl)) in let grows = overall_grows (length scripts) q d lq in omega (arith, was, grows)) in
+      (let was = still_better h (wake_kept (length scripts) p e (Op.Wait k t) (legal_next h) of (rw r refl)) in let grows = overall_grows (length scripts) q d lq in omega (arith, was, grows)) in
       let inside : level_of (overall (d ∷ q)) ≤ level_of aim =
-      let same = ap level_of (wait_kept (length scripts) q d (O.Wake k t) lq to refl) in let was = h.closed.within in omega (arith, same, was) in
+      let same = ap level_of (wait_kept (length scripts) q d (Op.Wake k t) lq to refl) in let was = h.closed.within in omega (arith, same, was) in
       let ends_e : ends_case e ≡ false = or_left (ends_case e) _ (ue.no_halt 0) in
       let ends_d : ends_case d ≡ false = or_left (ends_case d) _ (ud.no_halt 0) in
       told_both h d turn g.in_range refl ahead.no_better inside (ends_e ∙ sym ends_d) (λ o.
@@ -698,74 +680,74 @@ module _ {aim : Verdict} {scripts : List ScriptView} {Seen : List Entry → Type
       (λ c dead. inl (sym (ad.phase_same c) ∙ dead)))
 
   -- a Wake of what has not come
-  told_unmet : AtTurn aim scripts Seen found p q e → (k : Bool) (t : Target) → e.op ≡ O.Wake k t → e.reply ≡ wake_reply p e.caller.0 (record { killed = k; target = t }) →
+  told_unmet : AtTurn aim scripts Seen found p q e → (k : Bool) (t : Target) → e.op ≡ Op.Wake k t → e.reply ≡ wake_reply p e.caller.0 (record { killed = k; target = t }) →
       holds p (record { killed = k; target = t }) ≡ false → IsTold aim scripts Seen found (e ∷ p)
   told_unmet h k t op_is r unmet = by_stuck ((e.caller.0 == 0) && is_stuck p) refl
     where
       by_stuck : (s : Bool) → ((e.caller.0 == 0) && is_stuck p) ≡ s → IsTold aim scripts Seen found (e ∷ p)
       by_stuck true j =
-          let is : e.reply ≡ R.Fault F.Stuck = r ∙ rw (unmet, j) refl in
+          let is : e.reply ≡ Reply.Fault Fault.Stuck = r ∙ rw (unmet, j) refl in
           told_stuck h (and_right (e.caller.0 == 0) (is_stuck p) j) is
       by_stuck false j =
-          let is : e.reply ≡ R.Parked = r ∙ rw (unmet, j) refl in
+          let is : e.reply ≡ Reply.Parked = r ∙ rw (unmet, j) refl in
           let idle : is_idle e.op e.reply ≡ true = rw (op_is, is) refl in
           let not_idle : is_idle e.op e.reply ≡ false = h.course.0.not_idle in
           absurd cc
 
   -- the errors of a Wake are those of its Wait
-  wake_fault : AtTurn aim scripts Seen found p q e → (k : Bool) (t : Target) → is_some (fault (length scripts) p e.caller.0 (O.Wake k t)) ≡ is_some (fault (length scripts) q e.caller.0 (O.Wait k t))
-  wake_fault h k t = fault_ahead h.for.ahead (length scripts) e.caller.0 (O.Wake k t) ∙ ap is_some (sym (fault_of_wait (length scripts) q e.caller.0 k t))
+  wake_fault : AtTurn aim scripts Seen found p q e → (k : Bool) (t : Target) → is_some (fault (length scripts) p e.caller.0 (Op.Wake k t)) ≡ is_some (fault (length scripts) q e.caller.0 (Op.Wait k t))
+  wake_fault h k t = fault_ahead h.for.ahead (length scripts) e.caller.0 (Op.Wake k t) ∙ ap is_some (sym (fault_of_wait (length scripts) q e.caller.0 k t))
 
   -- a Wake of a Wait that q calls next
-  told_wake_here : (me : Comp) → AtTurn aim scripts Seen found p q e → IsGoing scripts p q e me → (k : Bool) (t : Target) → e.op ≡ O.Wake k t →
-      call_at scripts e.caller.0 (stand q e.caller.0) (stand q e.caller.0).comp (stand q e.caller.0).called ≡ O.Wait k t → (stand p e.caller.0).called ≡ suc (stand q e.caller.0).called → IsTold aim scripts Seen found (e ∷ p)
-  told_wake_here me h g wk t op_is calls one_more = by_fault (fault (length scripts) p e.caller.0 (O.Wake wk t)) refl
+  told_wake_here : (me : Comp) → AtTurn aim scripts Seen found p q e → IsGoing scripts p q e me → (k : Bool) (t : Target) → e.op ≡ Op.Wake k t →
+      call_at scripts e.caller.0 (stand q e.caller.0) (stand q e.caller.0).comp (stand q e.caller.0).called ≡ Op.Wait k t → (stand p e.caller.0).called ≡ suc (stand q e.caller.0).called → IsTold aim scripts Seen found (e ∷ p)
+  told_wake_here me h g wk t op_is calls one_more = by_fault (fault (length scripts) p e.caller.0 (Op.Wake wk t)) refl
     where
-      turn_q : turn scripts q e.caller.0 ≡ Some (O.Wait wk t)
+      turn_q : turn scripts q e.caller.0 ≡ Some (Op.Wait wk t)
       turn_q = turn_in scripts p q e me g ∙ ap Some calls
 
-      reply_p : e.reply ≡ answer (length scripts) p e.caller.0 (O.Wake wk t)
+      reply_p : e.reply ≡ answer (length scripts) p e.caller.0 (Op.Wake wk t)
       reply_p = h.course.0.reply ∙ ap (answer (length scripts) p e.caller.0) op_is
 
-      by_holds : fault (length scripts) p e.caller.0 (O.Wake wk t) ≡ None → (s : Bool) → holds p (record { killed = wk; target = t }) ≡ s → IsTold aim scripts Seen found (e ∷ p)
+      by_holds : fault (length scripts) p e.caller.0 (Op.Wake wk t) ≡ None → (s : Bool) → holds p (record { killed = wk; target = t }) ≡ s → IsTold aim scripts Seen found (e ∷ p)
       by_holds none true k =
-          let r : e.reply ≡ R.Matched = reply_p ∙ (answer_plain (length scripts) p e.caller.0 (O.Wake wk t) g.in_p none ∙ rw k refl) in
+          let r : e.reply ≡ Reply.Matched = reply_p ∙ (answer_plain (length scripts) p e.caller.0 (Op.Wake wk t) g.in_p none ∙ rw k refl) in
           let there : holds q (record { killed = wk; target = t }) ≡ true = holds_ahead h.for.ahead (record { killed = wk; target = t }) k in
-          let rq : answer (length scripts) q e.caller.0 (O.Wait wk t) ≡ R.Matched =
-          answer_plain (length scripts) q e.caller.0 (O.Wait wk t) g.in_q
-          (none_too (fault (length scripts) p e.caller.0 (O.Wake wk t)) (fault (length scripts) q e.caller.0 (O.Wait wk t)) (wake_fault h wk t) none) ∙ rw there refl in
+          let rq : answer (length scripts) q e.caller.0 (Op.Wait wk t) ≡ Reply.Matched =
+          answer_plain (length scripts) q e.caller.0 (Op.Wait wk t) g.in_q
+          (none_too (fault (length scripts) p e.caller.0 (Op.Wake wk t)) (fault (length scripts) q e.caller.0 (Op.Wait wk t)) (wake_fault h wk t) none) ∙ rw there refl in
           told_woken me h g wk t op_is r one_more (record { turn = turn_q; reply = sym rq; not_idle = refl })
-      by_holds none false k = told_unmet h wk t op_is (reply_p ∙ answer_plain (length scripts) p e.caller.0 (O.Wake wk t) g.in_p none) k
+      by_holds none false k = told_unmet h wk t op_is (reply_p ∙ answer_plain (length scripts) p e.caller.0 (Op.Wake wk t) g.in_p none) k
 
-      by_fault : (o : Option Fault) → fault (length scripts) p e.caller.0 (O.Wake wk t) ≡ o → IsTold aim scripts Seen found (e ∷ p)
+      by_fault : (o : Option Fault) → fault (length scripts) p e.caller.0 (Op.Wake wk t) ≡ o → IsTold aim scripts Seen found (e ∷ p)
       by_fault None k = by_holds k (holds p (record { killed = wk; target = t })) refl
       by_fault (Some x) k =
-          let y = some_too (fault (length scripts) p e.caller.0 (O.Wake wk t)) (fault (length scripts) q e.caller.0 (O.Wait wk t)) x (wake_fault h wk t) k in
-          let d : Entry = record { caller = e.caller; op = O.Wait wk t; reply = R.Fault y.0 } in
+          let y = some_too (fault (length scripts) p e.caller.0 (Op.Wake wk t)) (fault (length scripts) q e.caller.0 (Op.Wait wk t)) x (wake_fault h wk t) k in
+          let d : Entry = record { caller = e.caller; op = Op.Wait wk t; reply = Reply.Fault y.0 } in
           let turn : IsTurn scripts q d = record {
             turn = turn_q;
-            reply = sym (answer_fault (length scripts) q e.caller.0 (O.Wait wk t) y.0 g.in_q y.1);
+            reply = sym (answer_fault (length scripts) q e.caller.0 (Op.Wait wk t) y.0 g.in_q y.1);
             not_idle = refl;
           } in
-          told_fault h d turn refl g.in_range x y.0 (reply_p ∙ answer_fault (length scripts) p e.caller.0 (O.Wake wk t) x g.in_p k) refl
+          told_fault h d turn refl g.in_range x y.0 (reply_p ∙ answer_fault (length scripts) p e.caller.0 (Op.Wake wk t) x g.in_p k) refl
 
   -- the answer to a Wake of a Wait that is no error after q
-  wake_answer : AtTurn aim scripts Seen found p q e → (k : Bool) (t : Target) → is_active p e.caller.0 ≡ true → e.op ≡ O.Wake k t → fault (length scripts) q e.caller.0 (O.Wait k t) ≡ None →
+  wake_answer : AtTurn aim scripts Seen found p q e → (k : Bool) (t : Target) → is_active p e.caller.0 ≡ true → e.op ≡ Op.Wake k t → fault (length scripts) q e.caller.0 (Op.Wait k t) ≡ None →
       e.reply ≡ wake_reply p e.caller.0 (record { killed = k; target = t })
   wake_answer h k t act op_is none =
-      let none_p : fault (length scripts) p e.caller.0 (O.Wake k t) ≡ None =
-      none_too (fault (length scripts) q e.caller.0 (O.Wait k t)) (fault (length scripts) p e.caller.0 (O.Wake k t)) (sym (wake_fault h k t)) none in
-      h.course.0.reply ∙ (ap (answer (length scripts) p e.caller.0) op_is ∙ answer_plain (length scripts) p e.caller.0 (O.Wake k t) act none_p)
+      let none_p : fault (length scripts) p e.caller.0 (Op.Wake k t) ≡ None =
+      none_too (fault (length scripts) q e.caller.0 (Op.Wait k t)) (fault (length scripts) p e.caller.0 (Op.Wake k t)) (sym (wake_fault h k t)) none in
+      h.course.0.reply ∙ (ap (answer (length scripts) p e.caller.0) op_is ∙ answer_plain (length scripts) p e.caller.0 (Op.Wake k t) act none_p)
 
   -- a Wake of a Wait that q has made
   told_wake_behind : (me : Comp) → AtTurn aim scripts Seen found p q e → IsGoing scripts p q e me → (wake : Op) → wake ≡ e.op → (at : IsParkedAt scripts q e.caller.0 (stand p e.caller.0) (stand q e.caller.0) wake) →
       at.place < (stand q e.caller.0).called → IsTold aim scripts Seen found (e ∷ p)
   told_wake_behind me h g wake calls at less = by_holds (holds p (record { killed = at.wake_of.killed; target = at.wake_of.target })) refl
     where
-      op_is : e.op ≡ O.Wake at.wake_of.killed at.wake_of.target
+      op_is : e.op ≡ Op.Wake at.wake_of.killed at.wake_of.target
       op_is = sym calls ∙ at.wake_of.wakes
 
-      quiet : IsQuietAt (length scripts) q e.caller.0 (O.Wait at.wake_of.killed at.wake_of.target)
+      quiet : IsQuietAt (length scripts) q e.caller.0 (Op.Wait at.wake_of.killed at.wake_of.target)
       quiet = subst (λ op. IsQuietAt (length scripts) q e.caller.0 op) at.wake_of.waits (at.between at.place (omega arith) less)
 
       reply : e.reply ≡ wake_reply p e.caller.0 (record { killed = at.wake_of.killed; target = at.wake_of.target })
@@ -774,10 +756,10 @@ module _ {aim : Verdict} {scripts : List ScriptView} {Seen : List Entry → Type
       by_holds : (s : Bool) → holds p (record { killed = at.wake_of.killed; target = at.wake_of.target }) ≡ s → IsTold aim scripts Seen found (e ∷ p)
       by_holds false k = told_unmet h at.wake_of.killed at.wake_of.target op_is reply k
       by_holds true k =
-          let r : e.reply ≡ R.Matched = reply ∙ rw k refl in
-          let of : IsWakeOf (O.Wait at.wake_of.killed at.wake_of.target) e.op = record { killed = at.wake_of.killed; target = at.wake_of.target; waits = refl; wakes = op_is } in
-          let u = unchanged_wake p e (O.Wait at.wake_of.killed at.wake_of.target) of (rw r refl) in
-          told_stutter h u (stutter scripts p q e h.course h.closed.course h.for u (still_better h (wake_kept (length scripts) p e (O.Wait at.wake_of.killed at.wake_of.target) (legal_next h) of (rw r refl))) (no_leaving e h.for g.in_q) (λ act.
+          let r : e.reply ≡ Reply.Matched = reply ∙ rw k refl in
+          let of : IsWakeOf (Op.Wait at.wake_of.killed at.wake_of.target) e.op = record { killed = at.wake_of.killed; target = at.wake_of.target; waits = refl; wakes = op_is } in
+          let u = unchanged_wake p e (Op.Wait at.wake_of.killed at.wake_of.target) of (rw r refl) in
+          told_stutter h u (stutter scripts p q e h.course h.closed.course h.for u (still_better h (wake_kept (length scripts) p e (Op.Wait at.wake_of.killed at.wake_of.target) (legal_next h) of (rw r refl))) (no_leaving e h.for g.in_q) (λ act.
           subst (λ s. IsFollowed scripts q e.caller.0 s (stand q e.caller.0)) (sym (stand_own p e e.caller.0 refl))
           (woken_behind scripts q e.caller.0 (stand p e.caller.0) (stand q e.caller.0) e wake g.followed at less u.made
           (not_ending p e (stand p e.caller.0).comp me u g.stand_p g.on_p (rw r refl)) (rw op_is refl) (loud_sets_no_wake e.op e.reply (rw r refl)))))
@@ -858,20 +840,20 @@ module _ {aim : Verdict} {scripts : List ScriptView} {Seen : List Entry → Type
           m : IsMetFor q e.op
           m = met_for q e.op met
 
-          of : IsWakeOf e.op (O.Wake m.for_kill (T.One m.comp))
-          of = record { killed = m.for_kill; target = T.One m.comp; waits = m.waits; wakes = refl }
+          of : IsWakeOf e.op (Op.Wake m.for_kill (Target.One m.comp))
+          of = record { killed = m.for_kill; target = Target.One m.comp; waits = m.waits; wakes = refl }
 
-          by_reply : (plain_answer p e.caller.0 e.op ≡ R.Matched) ⊎ (plain_answer p e.caller.0 e.op ≡ R.Parked) → IsTold aim scripts Seen found (e ∷ p)
+          by_reply : (plain_answer p e.caller.0 e.op ≡ Reply.Matched) ⊎ (plain_answer p e.caller.0 e.op ≡ Reply.Parked) → IsTold aim scripts Seen found (e ∷ p)
           by_reply (inl r) =
-              let matched : e.reply ≡ R.Matched = answered quiet.no_fault ∙ r in
-              let u = unchanged_wait p e (O.Wake m.for_kill (T.One m.comp)) of (rw matched refl) in
-              told_stutter h u (stutter scripts p q e h.course h.closed.course h.for u (still_better h (wait_kept (length scripts) p e (O.Wake m.for_kill (T.One m.comp)) (legal_next h) of (rw matched refl))) (own_leaving none (ap (is_barred aim) m.waits) u.made (rw m.waits refl) (rw matched refl)) goes_not)
+              let matched : e.reply ≡ Reply.Matched = answered quiet.no_fault ∙ r in
+              let u = unchanged_wait p e (Op.Wake m.for_kill (Target.One m.comp)) of (rw matched refl) in
+              told_stutter h u (stutter scripts p q e h.course h.closed.course h.for u (still_better h (wait_kept (length scripts) p e (Op.Wake m.for_kill (Target.One m.comp)) (legal_next h) of (rw matched refl))) (own_leaving none (ap (is_barred aim) m.waits) u.made (rw m.waits refl) (rw matched refl)) goes_not)
           by_reply (inr r) =
-              let waits : e.reply ≡ R.Parked = answered quiet.no_fault ∙ r in
-              let u = unchanged_wait p e (O.Wake m.for_kill (T.One m.comp)) of (rw waits refl) in
-              told_stutter h u (stutter scripts p q e h.course h.closed.course h.for u (still_better h (wait_kept (length scripts) p e (O.Wake m.for_kill (T.One m.comp)) (legal_next h) of (rw waits refl)))
-              (leaving_still (leaving_parked scripts q e.caller.0 (stand p e.caller.0) e (O.Wake m.for_kill (T.One m.comp)) leaving u.made (rw m.waits refl) (wait_parks e.op e.reply m.for_kill (T.One m.comp) m.waits waits)
-              (subst (λ op. IsWakeOf op (O.Wake m.for_kill (T.One m.comp))) (sym (call none)) of) (subst (λ op. IsQuietAt (length scripts) q e.caller.0 op) (sym (call none)) quiet)))
+              let waits : e.reply ≡ Reply.Parked = answered quiet.no_fault ∙ r in
+              let u = unchanged_wait p e (Op.Wake m.for_kill (Target.One m.comp)) of (rw waits refl) in
+              told_stutter h u (stutter scripts p q e h.course h.closed.course h.for u (still_better h (wait_kept (length scripts) p e (Op.Wake m.for_kill (Target.One m.comp)) (legal_next h) of (rw waits refl)))
+              (leaving_still (leaving_parked scripts q e.caller.0 (stand p e.caller.0) e (Op.Wake m.for_kill (Target.One m.comp)) leaving u.made (rw m.waits refl) (wait_parks e.op e.reply m.for_kill (Target.One m.comp) m.waits waits)
+              (subst (λ op. IsWakeOf op (Op.Wake m.for_kill (Target.One m.comp))) (sym (call none)) of) (subst (λ op. IsQuietAt (length scripts) q e.caller.0 op) (sym (call none)) quiet)))
               goes_not)
 
       spent_turn : (stand p e.caller.0).wake ≡ None → IsQuietAt (length scripts) q e.caller.0 e.op → IsTold aim scripts Seen found (e ∷ p)
@@ -888,10 +870,10 @@ module _ {aim : Verdict} {scripts : List ScriptView} {Seen : List Entry → Type
           calls : wake ≡ e.op
           calls = ap (λ o. unwrap_or o (call_of t.me (stand p e.caller.0).bound (slice_get (steps_of scripts e.caller.0) (stand p e.caller.0).called))) (sym some) ∙ t.calls
 
-          op_is : e.op ≡ O.Wake was.wake_of.killed was.wake_of.target
+          op_is : e.op ≡ Op.Wake was.wake_of.killed was.wake_of.target
           op_is = sym calls ∙ was.wake_of.wakes
 
-          quiet : IsQuietAt (length scripts) q e.caller.0 (O.Wait was.wake_of.killed was.wake_of.target)
+          quiet : IsQuietAt (length scripts) q e.caller.0 (Op.Wait was.wake_of.killed was.wake_of.target)
           quiet = subst (λ op. IsQuietAt (length scripts) q e.caller.0 op) was.wake_of.waits was.quiet
 
           reply : e.reply ≡ wake_reply p e.caller.0 (record { killed = was.wake_of.killed; target = was.wake_of.target })
@@ -900,15 +882,15 @@ module _ {aim : Verdict} {scripts : List ScriptView} {Seen : List Entry → Type
           by_holds : (s : Bool) → holds p (record { killed = was.wake_of.killed; target = was.wake_of.target }) ≡ s → IsTold aim scripts Seen found (e ∷ p)
           by_holds false k = told_unmet h was.wake_of.killed was.wake_of.target op_is reply k
           by_holds true k =
-              let r : e.reply ≡ R.Matched = reply ∙ rw k refl in
-              let of : IsWakeOf (O.Wait was.wake_of.killed was.wake_of.target) e.op = record { killed = was.wake_of.killed; target = was.wake_of.target; waits = refl; wakes = op_is } in
-              let u = unchanged_wake p e (O.Wait was.wake_of.killed was.wake_of.target) of (rw r refl) in
-              told_stutter h u (stutter scripts p q e h.course h.closed.course h.for u (still_better h (wake_kept (length scripts) p e (O.Wait was.wake_of.killed was.wake_of.target) (legal_next h) of (rw r refl)))
+              let r : e.reply ≡ Reply.Matched = reply ∙ rw k refl in
+              let of : IsWakeOf (Op.Wait was.wake_of.killed was.wake_of.target) e.op = record { killed = was.wake_of.killed; target = was.wake_of.target; waits = refl; wakes = op_is } in
+              let u = unchanged_wake p e (Op.Wait was.wake_of.killed was.wake_of.target) of (rw r refl) in
+              told_stutter h u (stutter scripts p q e h.course h.closed.course h.for u (still_better h (wake_kept (length scripts) p e (Op.Wait was.wake_of.killed was.wake_of.target) (legal_next h) of (rw r refl)))
               (leaving_still (leaving_woken scripts q e.caller.0 (stand p e.caller.0) e leaving u.made (rw op_is refl) (loud_sets_no_wake e.op e.reply (rw r refl)))) goes_not)
 
-      end_turn : e.op ≡ O.Finish → IsTold aim scripts Seen found (e ∷ p)
+      end_turn : e.op ≡ Op.Finish → IsTold aim scripts Seen found (e ∷ p)
       end_turn op =
-          let reply : e.reply ≡ R.Ok = h.course.0.reply ∙ (ap (answer (length scripts) p e.caller.0) op ∙ finish_reply (length scripts) p e.caller.0 active) in
+          let reply : e.reply ≡ Reply.Ok = h.course.0.reply ∙ (ap (answer (length scripts) p e.caller.0) op ∙ finish_reply (length scripts) p e.caller.0 active) in
           let ends : Ends p e (record { 0 = c }) = record {
             op = op;
             reply = reply;
@@ -926,9 +908,9 @@ module _ {aim : Verdict} {scripts : List ScriptView} {Seen : List Entry → Type
       by_call none (inr op) = end_turn op
 
       -- it sets no verdict worse than is looked for
-      no_setting : (v : UserVerdict) → e.op ≡ O.SetVerdict v → level_of aim < level_of (given v) → IsTold aim scripts Seen found (e ∷ p)
+      no_setting : (v : UserVerdict) → e.op ≡ Op.SetVerdict v → level_of aim < level_of (given v) → IsTold aim scripts Seen found (e ∷ p)
       no_setting v sets more =
-          let reply : e.reply ≡ R.Ok = h.course.0.reply ∙ (ap (answer (length scripts) p e.caller.0) sets ∙ answer_plain (length scripts) p e.caller.0 (O.SetVerdict v) active (fault_of_set (length scripts) p e.caller.0 v)) in
+          let reply : e.reply ≡ Reply.Ok = h.course.0.reply ∙ (ap (answer (length scripts) p e.caller.0) sets ∙ answer_plain (length scripts) p e.caller.0 (Op.SetVerdict v) active (fault_of_set (length scripts) p e.caller.0 v)) in
           let is : overall (e ∷ p) ≡ worse (overall p) (given v) = overall_next (length scripts) p e (legal_next h) ∙ rw (reply, sets) refl in
           let level = ap level_of is in
           let right = worse_right (overall p) (given v) in
@@ -985,7 +967,7 @@ module _ {aim : Verdict} {scripts : List ScriptView} {Seen : List Entry → Type
           by_q (inl act) = let t = has_turn scripts p e.caller.0 e.op h.course.0.turn in by_wake t (going k act t) (stand p e.caller.0).wake refl
           by_q (inr n) = told_leaving h n.0 n.1 n.2
       by_active false k =
-          let r : e.reply ≡ R.Ended = h.course.0.reply ∙ answer_inactive (length scripts) p e.caller.0 e.op k in
+          let r : e.reply ≡ Reply.Ended = h.course.0.reply ∙ answer_inactive (length scripts) p e.caller.0 e.op k in
           let u = unchanged_ended p e r in
           told_stutter h u (stutter scripts p q e h.course h.closed.course h.for u (still_better h (ended_kept (length scripts) p e (legal_next h) r)) (none_leaving e k) (λ act. let on : is_active p e.caller.0 ≡ true = active_back h.for.ahead e.caller.0 act in absurd cc))
 
@@ -1003,7 +985,7 @@ module _ (aim : Verdict) (scripts : List ScriptView) (Seen : List Entry → Type
 
   told_over : (p : List Entry) (e : Entry) → IsCourse scripts (e ∷ p) → IsTold aim scripts Seen found p → is_over p ≡ true → IsTold aim scripts Seen found (e ∷ p)
   told_over p e c t over =
-      let r : e.reply ≡ R.Ended = c.0.reply ∙ (all_over (length scripts) p (course_legal scripts p c.1) over).ended e.caller.0 e.op in
+      let r : e.reply ≡ Reply.Ended = c.0.reply ∙ (all_over (length scripts) p (course_legal scripts p c.1) over).ended e.caller.0 e.op in
       let same = ap level_of (ended_kept (length scripts) p e (course_legal scripts (e ∷ p) c) r) in
       let told = t.over over in
       let ends : ends_case e ≡ false = rw r refl in

@@ -1,30 +1,15 @@
 -- What a stop or kill does that nobody can see: of a component whose run can only set a verdict worse than is looked for.
 use Rattle.std.proofs.Common.{ℕ, ◌≡◌, ◌<◌, ◌==◌, ◌⊎◌, inl, inr, Bool, true, false, Some, None, List, ◌∷◌, length, slice_get, refl, ap, sym, subst, ◌∙◌, arith}
-use Rattle.tc_rules.specs.Prelude.{Run, Verdict, UserVerdict, given, level_of, Comp, Entry, Op, is_ended, is_fault, comp_of, exists, kills, phase, plain_answer, is_active, is_active_on, is_run_of, IsLegal}
-use Rattle.tc_verdict.specs.declared.verdict.Verdict.TheVariants as V
-use Rattle.tc_verdict.specs.declared.user_verdict.UserVerdict.TheVariants as U
-use Rattle.tc_entry.specs.declared.op.Op.TheVariants as O
-use Rattle.tc_entry.specs.declared.op.Group.TheVariants as G
-use Rattle.tc_entry.specs.declared.phase.Phase.TheVariants as P
-use Rattle.tc_entry.specs.declared.reply.Reply.TheVariants as R
+use Rattle.std.specs.Option.{unwrap_or}
+use Rattle.tc_rules.specs.Prelude.{Run, Verdict, UserVerdict, given, level_of, Comp, Entry, Op, is_ended, is_fault, comp_of, exists, kills, phase, plain_answer, is_active, is_active_on, is_run_of, IsLegal, Group, Phase, Reply}
 use Rattle.tc_step.specs.Prelude.{ScriptView}
 use Rattle.tc_rules.specs.Inside.Step.{next_phase}
-use Rattle.tc_rules.proofs.Lemmas.Deciding.{equal_if, self_equal}
-use Rattle.tc_rules.proofs.Lemmas.Over.{on_existing, stays}
-use Rattle.tc_rules.proofs.Lemmas.Sound.{plain_if}
-use Rattle.std.specs.Option.{unwrap_or}
+use Rattle.tc_rules.proofs.Lemmas.{Deciding.equal_if, Deciding.self_equal, Over.on_existing, Over.stays, Sound.plain_if}
 use Rattle.tc_course.specs.Prelude.{stand, steps_of, turn, IsCourse}
-use Rattle.tc_course.specs.Inside.Standing.{call_of}
+use Rattle.tc_course.specs.Inside.{call_of}
+use Rattle.tc_course.proofs.Lemmas.{course_legal, has_turn, stand_own, stand_other, stand_comp}
 use Rattle.tc_explore.specs.Inside.Simulation.{is_barred, is_late, call_at, IsQuietAt, IsFollowed, IsEnding, IsFor, IsFelling}
-use Rattle.tc_course.proofs.Lemmas.Histories.{course_legal}
-use Rattle.tc_explore.proofs.Alike.{phase_next}
-use Rattle.tc_explore.proofs.Ahead.{KeepsQuiet, leaving_later}
-use Rattle.tc_explore.proofs.Leaving.{barred_leaves}
-use Rattle.tc_explore.proofs.Late.{IsGone, HaltsOne, stop_halts, late_if, late_special, halt_elsewhere, halt_comps, halt_kinds, halt_runs, halt_overall, halt_not_ending}
-use Rattle.tc_course.proofs.Lemmas.Standings.{has_turn, stand_own, stand_other, stand_comp}
-use Rattle.tc_explore.proofs.Places.{keeps_quiet, ahead, barred_sets, spent_late, still_no_fault_by}
-use Rattle.tc_explore.proofs.Ordered.{was_active}
-use Rattle.tc_explore.proofs.Simulation.{some_if, followed_later}
+use Rattle.tc_explore.proofs.{Ahead.KeepsQuiet, Ahead.leaving_later, Alike.phase_next, Late.HaltsOne, Late.IsGone, Late.halt_comps, Late.halt_elsewhere, Late.halt_kinds, Late.halt_not_ending, Late.halt_overall, Late.halt_runs, Late.late_if, Late.late_special, Late.stop_halts, Leaving.barred_leaves, Ordered.was_active, Places.ahead, Places.barred_sets, Places.keeps_quiet, Places.spent_late, Places.still_no_fault_by, Simulation.followed_later, Simulation.some_if}
 
 -- a run with no Wake to come calls its next step
 pub next_of : (scripts : List ScriptView) (q : List Entry) (b : ℕ) (op : Op) → (stand q b).wake ≡ None → turn scripts q b ≡ Some op → call_at scripts b (stand q b) (stand q b).comp (stand q b).called ≡ op
@@ -35,16 +20,16 @@ next_of scripts q b op none turns =
 
 -- a user sets no error
 below_error : (v : UserVerdict) → level_of (given v) < 4
-below_error U.None = omega arith
-below_error U.Pass = omega arith
-below_error U.Inconc = omega arith
-below_error U.Fail = omega arith
+below_error UserVerdict.None = omega arith
+below_error UserVerdict.Pass = omega arith
+below_error UserVerdict.Inconc = omega arith
+below_error UserVerdict.Fail = omega arith
 
-running_active : (past : List Entry) (b : ℕ) (c : Comp) (run : Run) → comp_of past b ≡ Some c → phase past c.0 ≡ P.Running run → run.0 ≡ b → is_active past b ≡ true
+running_active : (past : List Entry) (b : ℕ) (c : Comp) (run : Run) → comp_of past b ≡ Some c → phase past c.0 ≡ Phase.Running run → run.0 ≡ b → is_active past b ≡ true
 unfolding is_active
 running_active past b c run on runs same = ap (is_active_on past b) on ∙ (ap (is_run_of b) runs ∙ (ap (λ x. x == b) same ∙ self_equal b))
 
-halt_reply : (q : List Entry) (b : ℕ) (op : Op) (c : Comp) → (op ≡ O.Stop (G.One c)) ⊎ (op ≡ O.Kill (G.One c)) → plain_answer q b op ≡ R.Ok
+halt_reply : (q : List Entry) (b : ℕ) (op : Op) (c : Comp) → (op ≡ Op.Stop (Group.One c)) ⊎ (op ≡ Op.Kill (Group.One c)) → plain_answer q b op ≡ Reply.Ok
 halt_reply q b op c (inl is) = ap (plain_answer q b) is
 halt_reply q b op c (inr is) = ap (plain_answer q b) is
 
@@ -73,19 +58,19 @@ module _ {aim : Verdict} (scripts : List ScriptView) (p q : List Entry) (e : Ent
   active : is_active q h.felled.run.0 ≡ true
   active = running_active q h.felled.run.0 h.comp h.felled.run on h.felled.running refl
 
-  halted_now : (k : Bool) → next_phase k None true false (P.Running h.felled.run) ≡ P.Killed
+  halted_now : (k : Bool) → next_phase k None true false (Phase.Running h.felled.run) ≡ Phase.Killed
   halted_now true = refl
   halted_now false = refl
 
-  dead : phase (e ∷ q) h.comp.0 ≡ P.Killed
+  dead : phase (e ∷ q) h.comp.0 ≡ Phase.Killed
   dead = phase_next (length scripts) q e h.comp.0 lq ∙ rw (there, one.no_start h.comp.0, one.here (comp_of q e.caller.0), h.felled.ordinary, h.felled.running) (halted_now (kills e h.comp.0))
 
   gone : IsGone (e ∷ q) h.comp.0
   gone = record { there = stays q e h.comp.0 there; dead = dead }
 
-  still_running : (phase p h.comp.0 ≡ phase q h.comp.0) ⊎ IsEnding aim scripts p q h.comp.0 → phase p h.comp.0 ≡ P.Running h.felled.run
+  still_running : (phase p h.comp.0 ≡ phase q h.comp.0) ⊎ IsEnding aim scripts p q h.comp.0 → phase p h.comp.0 ≡ Phase.Running h.felled.run
   still_running (inl same) = same ∙ h.felled.running
-  still_running (inr n) = let no : P.Killed ≡ P.Running h.felled.run = sym n.ended ∙ h.felled.running in absurd cc
+  still_running (inr n) = let no : Phase.Killed ≡ Phase.Running h.felled.run = sym n.ended ∙ h.felled.running in absurd cc
 
   fol : IsFollowed scripts q h.felled.run.0 (stand p h.felled.run.0) (stand q h.felled.run.0)
   fol = f.runs h.felled.run.0 active
@@ -119,7 +104,7 @@ module _ {aim : Verdict} (scripts : List ScriptView) (p q : List Entry) (e : Ent
   by_place d true k = subst (λ x. (phase p x ≡ phase (e ∷ q) x) ⊎ IsEnding aim scripts p (e ∷ q) x) (equal_if h.comp.0 d k) (inr ending_here)
   by_place d false k = ending_elsewhere d k (f.ahead.phases d)
 
-  better : level_of aim < level_of V.Error
+  better : level_of aim < level_of Verdict.Error
   better = let s = barred_sets aim h.felled.barred.op h.felled.barred.bars in let worse = s.worse in let below = below_error s.verdict in omega (arith, worse, below)
 
   -- its caller is on another component
@@ -131,7 +116,7 @@ module _ {aim : Verdict} (scripts : List ScriptView) (p q : List Entry) (e : Ent
       by_test false k = refl
       by_test true k =
           let runs : is_run_of e.caller.0 (phase q me.0) ≡ true = ap (is_active_on q e.caller.0) (sym at) ∙ act in
-          let here : phase q me.0 ≡ P.Running h.felled.run = ap (phase q) (sym (equal_if h.comp.0 me.0 k)) ∙ h.felled.running in
+          let here : phase q me.0 ≡ Phase.Running h.felled.run = ap (phase q) (sym (equal_if h.comp.0 me.0 k)) ∙ h.felled.running in
           let is : (h.felled.run.0 == e.caller.0) ≡ true = ap (is_run_of e.caller.0) (sym here) ∙ runs in
           let same : h.felled.run.0 ≡ e.caller.0 = equal_if h.felled.run.0 e.caller.0 is in
           let yes : (e.caller.0 == h.felled.run.0) ≡ true = ap (λ x. e.caller.0 == x) same ∙ self_equal e.caller.0 in

@@ -2,31 +2,17 @@
 -- something.
 use Rattle.std.proofs.Common.{ℕ, ◌≡◌, ◌<◌, ◌+◌, ◌==◌, ◌&&◌, ◌||◌, inl, inr, not, nat_lt, Bool, true, false, Option, Some, None, List, [], ◌∷◌, length, reverse, refl, ap, sym, subst, ◌∙◌, arith}
 use Rattle.std.proofs.lemmas.Bool.Decides.{nat_tests}
-use Rattle.tc_rules.specs.Prelude.{Run, Comp, Entry, Op, Reply, is_ended, is_fault, Case, past_of, comp_of, started_on, first_some, is_comp, is_finish, is_stop_of, is_kill_of, is_stop_case, halts, ends_case, ends_pass, is_over, phase, answer, is_active, is_active_on, is_run_of, IsLegal, Verdict, overall, gives, local, level_of}
-use Rattle.tc_entry.specs.declared.op.Op.TheVariants as O
-use Rattle.tc_entry.specs.declared.op.Target.TheVariants as T
-use Rattle.tc_entry.specs.declared.phase.Phase.TheVariants as P
-use Rattle.tc_entry.specs.declared.reply.Reply.TheVariants as R
+use Rattle.tc_rules.specs.Prelude.{Run, Comp, Entry, Op, Reply, is_ended, is_fault, Case, past_of, comp_of, started_on, first_some, is_comp, is_finish, is_stop_of, is_kill_of, is_stop_case, halts, ends_case, ends_pass, is_over, phase, answer, is_active, is_active_on, is_run_of, IsLegal, Verdict, overall, gives, local, level_of, Target, Phase}
 use Rattle.tc_step.specs.Prelude.{ScriptView}
-use Rattle.tc_rules.proofs.Lemmas.Deciding.{equal_if}
-use Rattle.tc_rules.proofs.Lemmas.Sound.{plain_if}
-use Rattle.tc_rules.proofs.Lemmas.Going.{halted_by_entry}
+use Rattle.tc_rules.proofs.Lemmas.{Deciding.equal_if, Going.halted_by_entry, Sound.plain_if}
 use Rattle.tc_course.specs.Prelude.{CourseState, stand, goes_on, after_other_by, IsTurn, IsCourse, entry_made, IsOn}
-use Rattle.tc_course.specs.Inside.Standing.{ends}
-use Rattle.tc_explore.specs.Inside.Simulation.{IsSilent, IsWithin}
-use Rattle.tc_explore.specs.Inside.Seen.{IsSame, HasNoWake, IsOpen, IsCalmAt, IsCalm, IsCalmAfter, IsState}
-use Rattle.tc_course.proofs.Lemmas.Histories.{course_legal}
-use Rattle.tc_course.proofs.Lemmas.Standings.{has_turn, stand_own, stand_other, stand_comp, stand_unstarted, wake_after_other}
-use Rattle.tc_explore.proofs.Simulation.{unchanged_quiet, unchanged_wait, quiet_within, wait_kept}
-use Rattle.tc_explore.proofs.Leaving.{running_on}
-use Rattle.tc_explore.proofs.Late.{late_reply, late_halts, met_for, halt_overall}
-use Rattle.tc_explore.proofs.Places.{Spent, how_spent, kept_left, neither}
-use Rattle.tc_explore.proofs.Closing.{not_ended, answer_inactive, or_left, loud_sets_no_wake}
-use Rattle.tc_explore.proofs.Alike.{overall_next}
-use Rattle.tc_explore.proofs.Felling.{felling_halts}
+use Rattle.tc_course.specs.Inside.{ends}
+use Rattle.tc_course.proofs.Lemmas.{course_legal, has_turn, stand_own, stand_other, stand_comp, stand_unstarted, wake_after_other}
+use Rattle.tc_explore.specs.Inside.{Seen.HasNoWake, Seen.IsCalm, Seen.IsCalmAfter, Seen.IsCalmAt, Seen.IsOpen, Seen.IsSame, Seen.IsState, Simulation.IsSilent, Simulation.IsWithin}
+use Rattle.tc_explore.proofs.{Alike.overall_next, Closing.answer_inactive, Closing.loud_sets_no_wake, Closing.not_ended, Closing.or_left, Felling.felling_halts, Late.halt_overall, Late.late_halts, Late.late_reply, Late.met_for, Leaving.running_on, Places.Spent, Places.how_spent, Places.kept_left, Places.neither, Simulation.quiet_within, Simulation.unchanged_quiet, Simulation.unchanged_wait, Simulation.wait_kept}
 
 pub on_not_ended : (r : Reply) → goes_on r ≡ true → is_ended r ≡ false
-on_not_ended R.Ended h = absurd cc
+on_not_ended Reply.Ended h = absurd cc
 on_not_ended _ h = refl
 
 -- ---- one more entry
@@ -51,14 +37,14 @@ silent_no_case {aim} scripts q e cq plain goes (inl spent) = by_kind (how_spent 
         (late_halts q q e late (is.is ∙ late_reply q q e.caller.0 e.op late)).no_case
     by_kind (inr (inr met)) =
         let m = met_for q e.op met in
-        or_left (ends_case e) _ ((unchanged_wait q e (O.Wake m.for_kill (T.One m.comp)) (record { killed = m.for_kill; target = T.One m.comp; waits = m.waits; wakes = refl }) plain).no_halt 0)
+        or_left (ends_case e) _ ((unchanged_wait q e (Op.Wake m.for_kill (Target.One m.comp)) (record { killed = m.for_kill; target = Target.One m.comp; waits = m.waits; wakes = refl }) plain).no_halt 0)
 silent_no_case {aim} scripts q e cq plain goes (inr (inr (inr felling))) = (felling_halts scripts q e cq plain goes felling).no_case
 silent_no_case {aim} scripts q e cq plain goes (inr (inr (inl quiet))) = or_left (ends_case e) _ ((unchanged_quiet aim q e quiet plain).no_halt 0)
 silent_no_case {aim} scripts q e cq plain goes (inr (inl end)) = rw (end.finish, end.not_main, plain, goes) refl
 
-finish_gives : (op : Op) (r : Reply) → op ≡ O.Finish → is_fault r ≡ false → gives op r ≡ []
-finish_gives op R.Ok is plain = rw is refl
-finish_gives op (R.Fault x) is plain = absurd cc
+finish_gives : (op : Op) (r : Reply) → op ≡ Op.Finish → is_fault r ≡ false → gives op r ≡ []
+finish_gives op Reply.Ok is plain = rw is refl
+finish_gives op (Reply.Fault x) is plain = absurd cc
 finish_gives op _ is plain = refl
 
 -- nor does it make the verdict worse than is looked for
@@ -77,7 +63,7 @@ silent_within {aim} scripts q e cq plain goes (inl spent) within = by_kind (how_
         omega (arith, same, within)
     by_kind (inr (inr met)) =
         let m = met_for q e.op met in
-        let same = ap level_of (wait_kept (length scripts) q e (O.Wake m.for_kill (T.One m.comp)) legal (record { killed = m.for_kill; target = T.One m.comp; waits = m.waits; wakes = refl }) plain) in
+        let same = ap level_of (wait_kept (length scripts) q e (Op.Wake m.for_kill (Target.One m.comp)) legal (record { killed = m.for_kill; target = Target.One m.comp; waits = m.waits; wakes = refl }) plain) in
         omega (arith, same, within)
 silent_within {aim} scripts q e cq plain goes (inr (inl end)) within =
     let gift : gives e.op e.reply ≡ [] = finish_gives e.op e.reply end.finish plain in
@@ -264,8 +250,8 @@ main_only past e main act here = by_comp (comp_of past e.caller.0) refl here
     by_comp : (o : Option Comp) → comp_of past e.caller.0 ≡ o → is_comp o 0 ≡ true → (e.caller.0 == 0) ≡ true
     by_comp None k h = absurd cc
     by_comp (Some c) k h =
-        let runs : phase past c.0 ≡ P.Running e.caller = running_on past e c act k in
-        let main_too : phase past 0 ≡ P.Running e.caller = ap (phase past) (sym (equal_if c.0 0 h)) ∙ runs in
+        let runs : phase past c.0 ≡ Phase.Running e.caller = running_on past e c act k in
+        let main_too : phase past 0 ≡ Phase.Running e.caller = ap (phase past) (sym (equal_if c.0 0 h)) ∙ runs in
         ap (is_run_of 0) (sym main_too) ∙ main_runs
 
 halts_by : (r f w n s k m c : Bool) → (r ≡ false → c ≡ true → m ≡ true) → (not r && (f || w || (n && m) || s || k)) ≡ false →

@@ -1,25 +1,42 @@
 -- The states that a search keeps, and how many calls it counts.
-use Rattle.std.proofs.Common.{ℕ, zero, suc, ◌≡◌, ◌+◌, ◌==◌, ◌<◌, ◌≤◌, inl, inr, max, Bool, true, false, nat_eq, nat_le, All, Option, Some, None, List, [], ◌∷◌, ◌++◌, length, map, reverse, slice_get, get_or, set, refl, rules, nat_cmp, ap, sym, subst, ◌∙◌, arith, append-nil}
-use Rattle.std.specs.Ordering.{ord_max}
-use Rattle.std.specs.Cmp.Lexicographic.{pointwise}
-use Rattle.std.specs.List.{IsDistinct}
-use Rattle.std.proofs.lemmas.Bool.Decides.{nat_tests}
-use Rattle.std.proofs.lemmas.Option.{get_or_from_slice_get}
-use Rattle.std.proofs.lemmas.List.{get_or-map, get_or-set_same, get_or-set_other, length-map, length-set}
-use Rattle.std.proofs.lemmas.List.Elements.{All-nil, All-same, All-push, All-map, All-weaker}
-use Rattle.tc_rules.specs.Prelude.{Entry, Case, past_of, Verdict}
+use Rattle.std.proofs.Common.{ℕ, ◌≡◌, ◌==◌, ◌<◌, Bool, true, false, List, [], length, get_or, replicate, set, refl, ap, sym, ◌∙◌, arith, zero, suc, ◌+◌, ◌≤◌, inl, inr, max, nat_eq, nat_le, All, Option, Some, None, ◌∷◌, ◌++◌, map, reverse, slice_get, rules, nat_cmp, subst, append-nil}
+use Rattle.std.proofs.lemmas.{Bool.Decides.nat_tests, List.Elements.All-map, List.Elements.All-nil, List.Elements.All-push, List.Elements.All-same, List.Elements.All-weaker, List.get_or-map, List.get_or-replicate, List.get_or-set_other, List.get_or-set_same, List.length-map, List.length-replicate, List.length-set, Option.get_or_from_slice_get}
+use Rattle.std.specs.{Cmp.Lexicographic.pointwise, List.IsDistinct, Ordering.ord_max}
 use Rattle.tc_step.specs.Prelude.{ScriptView}
+use Rattle.tc_rules.specs.Prelude.{Case, past_of, Entry, Verdict}
 use Rattle.tc_rules.proofs.Lemmas.Deciding.{equal_if, self_equal}
-use Rattle.tc_explore.specs.declared.findings.Findings.{Findings}
-use Rattle.tc_explore.specs.declared.search.Met.{Met}
+use Rattle.tc_course.specs.Prelude.{carried_on, IsOn, IsCourse}
 use Rattle.tc_course.specs.declared.witness.Witness.{Witness}
-use Rattle.tc_course.specs.Prelude.{carried_on, IsCourse, IsOn}
-use Rattle.tc_explore.specs.Inside.Going.{Reaches}
-use Rattle.tc_explore.specs.Found.{AreReached, AreCourses, AreCovered, Covers, AreAllMet}
-use Rattle.tc_explore.specs.Inside.Keys.{key_of}
-use Rattle.tc_explore.specs.Inside.Seen.{AreKept, AreKeyed, IsCountedTo, IsLonger, IsNoLess, IsState, IsWith}
+use Rattle.tc_explore.specs.{Found.AreAllMet, Found.AreCourses, Found.AreCovered, Found.AreReached, Found.Covers, Inside.Seen.AreKept, Inside.Seen.AreKeyed, Inside.Seen.IsCountedTo, Inside.Seen.IsLonger, Inside.Seen.IsNoLess, Inside.Seen.IsState, Inside.Seen.IsWith, Inside.Seen.Reaches, Inside.Twins.key_of, declared.findings.Findings.Findings, declared.search.Met.Met}
 use Rattle.tc_explore.proofs.Keys.{AreApart, keys_apart}
-use Rattle.tc_explore.proofs.Reaching.{reaches, reached_set}
+
+-- nothing was called at the opening
+pub reached_none : (scripts : List ScriptView) → AreReached scripts (replicate (length scripts) 0)
+reached_none scripts = record {
+  as_many = length-replicate {A = ℕ} (length scripts) 0;
+  each = λ b near.
+      let inside : b < length scripts = omega (arith, length-replicate {A = ℕ} (length scripts) 0, near) in
+      ([], tt, sym (get_or-replicate {A = ℕ} (length scripts) b 0 0 inside));
+}
+
+-- a course reaches as far as it came
+pub reaches : (scripts : List ScriptView) (t : Case) (b k : ℕ) → IsOn scripts t → k ≡ carried_on (past_of t) b → Reaches scripts b k
+reaches scripts t b k on is = (past_of t, on.course, sym is)
+
+-- one number is another
+pub reached_set : (scripts : List ScriptView) (reached : List ℕ) (i k : ℕ) → AreReached scripts reached → i < length reached → Reaches scripts i k
+    → AreReached scripts (set reached i k)
+reached_set scripts reached i k are near one = record { as_many = length-set reached i k ∙ are.as_many; each = λ b inside. by_test b inside (b == i) refl }
+  where
+    by_test : (b : ℕ) → b < length (set reached i k) → (t : Bool) → (b == i) ≡ t → Reaches scripts b (get_or (set reached i k) b 0)
+    by_test b inside true h =
+        let same : b ≡ i = equal_if b i h in
+        rw same (rw (get_or-set_same reached i k 0 near) one)
+    by_test b inside false h =
+        let within : b < length reached = omega (arith, inside, length-set reached i k) in
+        rw (get_or-set_other reached i b k 0 (λ same. let is : (b == i) ≡ true = ap (λ n. n == i) same ∙ self_equal i in absurd cc)) (are.each b within)
+
+pub ruleset reaching_rules = (reached_none, reaches, reached_set)
 
 -- ---- numbers of calls
 

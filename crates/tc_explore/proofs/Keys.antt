@@ -1,23 +1,14 @@
 -- Two states of one key are the same: what the keys of states say of them.
 use Rattle.std.proofs.Common.{ℕ, zero, suc, ◌≡◌, ◌+◌, ◌==◌, ◌<◌, ◌≤◌, Bool, true, false, Option, Some, None, List, [], ◌∷◌, ◌++◌, ◌||◌, if◌then◌else◌, nat_eq, All, length, map, slice_get, refl, ap, sym, subst, ◌∙◌, arith, append-nil, append_assoc}
-use Rattle.std.proofs.lemmas.Bool.Decides.{nat_tests}
-use Rattle.std.proofs.lemmas.List.{length-map}
-use Rattle.std.proofs.lemmas.Option.{slice_get_within, get_or_from_slice_get}
-use Rattle.std.specs.Cmp.Lexicographic.{pointwise, same_text, other_text}
-use Rattle.std.specs.List.{AllByRecursion, IsDistinct, flat_map, list_any, range_with_len}
+use Rattle.std.proofs.lemmas.{Bool.Decides.nat_tests, List.length-map, Option.get_or_from_slice_get, Option.slice_get_within}
+use Rattle.std.specs.{Cmp.Lexicographic.other_text, Cmp.Lexicographic.pointwise, Cmp.Lexicographic.same_text, List.AllByRecursion, List.IsDistinct, List.flat_map, List.list_any, List.range_with_len}
 use Rattle.tc_rules.specs.Prelude.{level_of, Comp, Entry, Op, Case, past_of, components, is_alive_type, phase_if_any, overall, is_active, Verdict}
 use Rattle.tc_step.specs.Prelude.{ScriptView}
 use Rattle.tc_rules.proofs.Lemmas.Deciding.{equal_if}
-use Rattle.tc_explore.specs.declared.search.Met.{Met}
-use Rattle.tc_explore.specs.Inside.Keys.{phase_code, comp_code, number_of, run_key, run_key_of, comp_key, key_of}
-use Rattle.tc_explore.specs.Inside.Seen.{AreKeyed, IsSame, IsSeen, IsState}
-use Rattle.tc_explore.proofs.Sameness.{alike_of, same_verdict, same_phase, same_comp}
 use Rattle.tc_course.specs.Prelude.{CourseState, stand, IsCourse}
-use Rattle.tc_explore.specs.Inside.Simulation.{IsAlike}
-use Rattle.tc_explore.proofs.Keeping.{active_stays}
-use Rattle.tc_course.proofs.Lemmas.Histories.{course_legal}
-use Rattle.tc_course.proofs.Lemmas.Standings.{run_in_range}
-use Rattle.tc_explore.proofs.Simulation.{some_if}
+use Rattle.tc_course.proofs.Lemmas.{course_legal, run_in_range}
+use Rattle.tc_explore.specs.{Inside.Seen.AreKeyed, Inside.Seen.IsSame, Inside.Seen.IsSeen, Inside.Seen.IsState, Inside.Simulation.IsAlike, Inside.Twins.comp_code, Inside.Twins.comp_key, Inside.Twins.key_of, Inside.Twins.number_of, Inside.Twins.phase_code, Inside.Twins.run_key, Inside.Twins.run_key_of, declared.search.Met.Met}
+use Rattle.tc_explore.proofs.{Keeping.active_stays, Sameness.alike_of, Sameness.same_comp, Sameness.same_phase, Sameness.same_verdict, Simulation.some_if}
 
 -- ---- lists that begin alike
 

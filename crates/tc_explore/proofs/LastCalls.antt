@@ -1,17 +1,13 @@
 -- The last calls of a case that is over: they are replied Ended, and after them no run has a call left.
 use Rattle.std.proofs.Common.{ℕ, ◌≡◌, ◌<◌, ◌≤◌, ◌+◌, ◌==◌, ◌||◌, inl, inr, nat_lt, Bool, true, false, Option, Some, None, List, [], ◌∷◌, length, refl, ap, sym, subst, ◌∙◌, arith}
 use Rattle.std.proofs.lemmas.Bool.Decides.{nat_tests}
-use Rattle.tc_rules.specs.Prelude.{Run, Comp, Entry, Op, Case, past_of, comp_of, is_comp, started_on, ends_case, ends_pass, is_over, IsLegal, local, local_if_any, overall, gives, answer}
-use Rattle.tc_entry.specs.declared.reply.Reply.TheVariants as R
+use Rattle.tc_rules.specs.Prelude.{Run, Comp, Entry, Op, Case, past_of, comp_of, is_comp, started_on, ends_case, ends_pass, is_over, IsLegal, local, local_if_any, overall, gives, answer, Reply}
 use Rattle.tc_step.specs.Prelude.{ScriptView}
-use Rattle.tc_rules.proofs.Lemmas.Deciding.{equal_if, if_same}
-use Rattle.tc_rules.proofs.Lemmas.Over.{all_over}
+use Rattle.tc_rules.proofs.Lemmas.{Deciding.equal_if, Deciding.if_same, Over.all_over}
 use Rattle.tc_course.specs.Prelude.{CourseState, stand, after_own, after_other_by, turn, turn_on, steps_of, is_idle, IsTurn, IsCourse, IsComplete, entry_made, IsOn, CannotGo}
-use Rattle.tc_explore.specs.Inside.Going.{IsStepped, HasSameLocals}
-use Rattle.tc_course.proofs.Lemmas.Histories.{course_legal}
-use Rattle.tc_explore.proofs.Alike.{alike_unchanged, exists_same, local_next, overall_next}
-use Rattle.tc_explore.proofs.Simulation.{unchanged_ended}
-use Rattle.tc_course.proofs.Lemmas.Standings.{has_turn, stand_own}
+use Rattle.tc_course.proofs.Lemmas.{course_legal, has_turn, stand_own}
+use Rattle.tc_explore.specs.Inside.Seen.{IsStepped, HasSameLocals}
+use Rattle.tc_explore.proofs.{Alike.alike_unchanged, Alike.exists_same, Alike.local_next, Alike.overall_next, Simulation.unchanged_ended}
 
 -- ---- local verdicts
 
@@ -20,7 +16,7 @@ pub local_kept : (past : List Entry) (e : Entry) (c : ℕ) → gives e.op e.repl
 local_kept past e c none = local_next past e c ∙ (rw none refl ∙ if_same (is_comp (comp_of past e.caller.0) c) (local past c))
 
 -- a local verdict stays after a call that is replied Ended
-pub locals_ended : (n : ℕ) (past : List Entry) (e : Entry) → IsLegal n (e ∷ past) → e.reply ≡ R.Ended → (c : ℕ) → local_if_any (e ∷ past) c ≡ local_if_any past c
+pub locals_ended : (n : ℕ) (past : List Entry) (e : Entry) → IsLegal n (e ∷ past) → e.reply ≡ Reply.Ended → (c : ℕ) → local_if_any (e ∷ past) c ≡ local_if_any past c
 unfolding local_if_any
 locals_ended n past e legal r c = rw (exists_same (alike_unchanged n past e legal (unchanged_ended past e r)) c, local_kept past e c (ap (gives e.op) r)) refl
 
@@ -49,7 +45,7 @@ or_true : (t : Bool) → (t || true) ≡ true
 or_true true = refl
 or_true false = refl
 
-own_done : (scripts : List ScriptView) (q : List Entry) (e : Entry) → IsTurn scripts q e → e.reply ≡ R.Ended → turn scripts (e ∷ q) e.caller.0 ≡ None
+own_done : (scripts : List ScriptView) (q : List Entry) (e : Entry) → IsTurn scripts q e → e.reply ≡ Reply.Ended → turn scripts (e ∷ q) e.caller.0 ≡ None
 unfolding ends_pass
 own_done scripts q e mine r =
     let t = has_turn scripts q e.caller.0 e.op mine.turn in
@@ -57,7 +53,7 @@ own_done scripts q e mine r =
     let left : (after_own e (stand q e.caller.0)).left ≡ true = rw (t.on, r) (or_true (stand q e.caller.0).left) in
     turn_left scripts (e ∷ q) e.caller.0 t.me (ap (λ (s : CourseState). s.comp) own ∙ t.on) (ap (λ (s : CourseState). s.left) own ∙ left)
 
-other_done : (scripts : List ScriptView) (q : List Entry) (e : Entry) (b : ℕ) → (e.caller.0 == b) ≡ false → e.reply ≡ R.Ended → turn scripts (e ∷ q) b ≡ turn scripts q b
+other_done : (scripts : List ScriptView) (q : List Entry) (e : Entry) (b : ℕ) → (e.caller.0 == b) ≡ false → e.reply ≡ Reply.Ended → turn scripts (e ∷ q) b ≡ turn scripts q b
 other_done scripts q e b other r = turn_by scripts (e ∷ q) q b (rw other (by_comp (stand q b).comp))
   where
     none : started_on e b ≡ None
@@ -67,7 +63,7 @@ other_done scripts q e b other r = turn_by scripts (e ∷ q) q b (rw other (by_c
     by_comp (Some c) = refl
     by_comp None = rw none refl
 
-no_turn : (scripts : List ScriptView) (past : List Entry) (b : ℕ) → ((op : Op) → answer (length scripts) past b op ≡ R.Ended) → CannotGo scripts past b → turn scripts past b ≡ None
+no_turn : (scripts : List ScriptView) (past : List Entry) (b : ℕ) → ((op : Op) → answer (length scripts) past b op ≡ Reply.Ended) → CannotGo scripts past b → turn scripts past b ≡ None
 no_turn scripts past b ended cannot = by_turn (turn scripts past b) refl
   where
     by_turn : (o : Option Op) → turn scripts past b ≡ o → o ≡ None
@@ -93,7 +89,7 @@ over_entry scripts p e b course over own mine = record {
   others = λ k had. by_caller k had (e.caller.0 == k) refl;
 }
   where
-    r : e.reply ≡ R.Ended
+    r : e.reply ≡ Reply.Ended
     r = mine.reply ∙ (all_over (length scripts) p (course_legal scripts p course) over).ended e.caller.0 e.op
 
     none : ends_case e ≡ false

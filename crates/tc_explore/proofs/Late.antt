@@ -1,39 +1,30 @@
 -- What a stop or a kill of a component does that is killed already, and a wait for it.
 use Rattle.std.proofs.Common.{ℕ, ◌≡◌, ◌==◌, ◌&&◌, ◌||◌, ◌⊎◌, inl, inr, not, if◌then◌else◌, Bool, true, false, Option, Some, None, List, ◌∷◌, length, refl, ap, sym, subst, ◌∙◌, arith}
-use Rattle.tc_rules.specs.Prelude.{Run, Comp, Entry, Op, Phase, is_ended, is_ok, is_wake, comps, comp_of, exists, is_alive_type, created, started_on, starts_on, first_some, add_new, halts, kills, ends_case, ends_pass, phase, phase_if_any, start_in, is_killed, done, killed, holds, overall, gives, special_fault, answer, plain_answer, is_active, is_active_on, is_run_of, IsLegal, level_of, Verdict}
-use Rattle.tc_entry.specs.declared.op.Op.TheVariants as O
-use Rattle.tc_entry.specs.declared.op.Group.TheVariants as G
-use Rattle.tc_entry.specs.declared.op.Target.TheVariants as T
-use Rattle.tc_entry.specs.declared.phase.Phase.TheVariants as P
-use Rattle.tc_entry.specs.declared.reply.Reply.TheVariants as R
+use Rattle.tc_rules.specs.Prelude.{Run, Comp, Entry, Op, Phase, is_ended, is_ok, is_wake, comps, comp_of, exists, is_alive_type, created, started_on, starts_on, first_some, add_new, halts, kills, ends_case, ends_pass, phase, phase_if_any, start_in, is_killed, done, killed, holds, overall, gives, special_fault, answer, plain_answer, is_active, is_active_on, is_run_of, IsLegal, level_of, Verdict, Group, Target, Reply}
 use Rattle.tc_step.specs.Prelude.{ScriptView}
-use Rattle.tc_rules.specs.declared.component_state.ComponentState.{ComponentState}
-use Rattle.tc_rules.specs.Inside.Step.{next_phase, next_local}
-use Rattle.tc_rules.proofs.Lemmas.Deciding.{self_equal, equal_if, ok_is}
-use Rattle.tc_rules.proofs.Lemmas.Sound.{IsPlain, plain_if, no_special, startable}
-use Rattle.tc_rules.proofs.Lemmas.Over.{stays}
+use Rattle.tc_rules.specs.{Inside.Step.next_local, Inside.Step.next_phase, declared.component_state.ComponentState.ComponentState}
+use Rattle.tc_rules.proofs.Lemmas.{Deciding.equal_if, Deciding.ok_is, Deciding.self_equal, Over.stays, Sound.IsPlain, Sound.no_special, Sound.plain_if, Sound.startable}
 use Rattle.tc_course.specs.Prelude.{stand, IsCourse}
-use Rattle.tc_course.specs.Inside.Standing.{ends, wake_if}
+use Rattle.tc_course.specs.Inside.{ends, wake_if}
 use Rattle.tc_explore.specs.Inside.Simulation.{IsAlike, is_gone, is_late, is_met, IsLeaving, IsEnding, IsAhead, is_barred}
-use Rattle.tc_explore.proofs.Alike.{phase_next, fresh, kind_kept, first_kept, kept_by, overall_next}
-use Rattle.tc_explore.proofs.Ahead.{leaving_other}
+use Rattle.tc_explore.proofs.{Ahead.leaving_other, Alike.first_kept, Alike.fresh, Alike.kept_by, Alike.kind_kept, Alike.overall_next, Alike.phase_next}
 
 -- ---- the component of the call
 
 -- a component is there, and is killed
 pub record IsGone (past : List Entry) (c : ℕ) : Type 0 where
   pub there : exists past c ≡ true
-  pub dead : phase past c ≡ P.Killed
+  pub dead : phase past c ≡ Phase.Killed
 
 pub gone_is : (past : List Entry) (c : ℕ) → is_gone (phase_if_any past c) ≡ true → IsGone past c
 unfolding phase_if_any
 gone_is past c h = by_test (exists past c) refl h
   where
-    by_phase : (ph : Phase) → phase past c ≡ ph → is_gone (Some ph) ≡ true → phase past c ≡ P.Killed
-    by_phase P.Killed k j = k
-    by_phase P.Inactive k j = absurd cc
-    by_phase P.Stopped k j = absurd cc
-    by_phase (P.Running run) k j = absurd cc
+    by_phase : (ph : Phase) → phase past c ≡ ph → is_gone (Some ph) ≡ true → phase past c ≡ Phase.Killed
+    by_phase Phase.Killed k j = k
+    by_phase Phase.Inactive k j = absurd cc
+    by_phase Phase.Stopped k j = absurd cc
+    by_phase (Phase.Running run) k j = absurd cc
 
     by_test : (t : Bool) → exists past c ≡ t → is_gone (if t then Some (phase past c) else None) ≡ true → IsGone past c
     by_test true k j = record { there = k; dead = by_phase (phase past c) refl j }
@@ -49,10 +40,10 @@ test_by : (t : Bool) (x r : Run) → (if t then Some x else None) ≡ Some r →
 test_by true x r h = refl
 test_by false x r h = absurd cc
 
-unkilled_of : (n : ℕ) (past : List Entry) (b : ℕ) (op : Op) (c : ℕ) (r : Run) → IsPlain n past b op R.Ok → starts_on op c ≡ Some r → is_killed (phase past c) ≡ false
-unkilled_of n past b (O.Start d run args) c r plain h =
+unkilled_of : (n : ℕ) (past : List Entry) (b : ℕ) (op : Op) (c : ℕ) (r : Run) → IsPlain n past b op Reply.Ok → starts_on op c ≡ Some r → is_killed (phase past c) ≡ false
+unkilled_of n past b (Op.Start d run args) c r plain h =
     let same : d.0 ≡ c = equal_if d.0 c (test_by (d.0 == c) run r h) in
-    rw (← same) (startable n past d.0 run.0 (no_special n past b (O.Start d run args) plain.no_fault))
+    rw (← same) (startable n past d.0 run.0 (no_special n past b (Op.Start d run args) plain.no_fault))
 unkilled_of n past b _ c r plain h = absurd cc
 
 both_is : (ok : Bool) (s : Option Run) (r : Run) → (if ok then s else None) ≡ Some r → (ok ≡ true) × (s ≡ Some r)
@@ -60,19 +51,19 @@ both_is true s r h = (refl, h)
 both_is false s r h = absurd cc
 
 -- nothing is started on a killed component
-none_on_killed : (n : ℕ) (past : List Entry) (e : Entry) (c : ℕ) → IsLegal n (e ∷ past) → phase past c ≡ P.Killed → start_in e c ≡ None
+none_on_killed : (n : ℕ) (past : List Entry) (e : Entry) (c : ℕ) → IsLegal n (e ∷ past) → phase past c ≡ Phase.Killed → start_in e c ≡ None
 none_on_killed n past e c legal dead = by_some (start_in e c) refl
   where
     by_some : (o : Option Run) → start_in e c ≡ o → o ≡ None
     by_some None k = refl
     by_some (Some r) k =
         let p = both_is (is_ok e.reply) (starts_on e.op c) r k in
-        let q : R.Ok ≡ answer n past e.caller.0 e.op = sym (ok_is e.reply p.0) ∙ legal.0 in
-        let off : is_killed (phase past c) ≡ false = unkilled_of n past e.caller.0 e.op c r (plain_if n past e.caller.0 e.op R.Ok refl refl q) p.1 in
+        let q : Reply.Ok ≡ answer n past e.caller.0 e.op = sym (ok_is e.reply p.0) ∙ legal.0 in
+        let off : is_killed (phase past c) ≡ false = unkilled_of n past e.caller.0 e.op c r (plain_if n past e.caller.0 e.op Reply.Ok refl refl q) p.1 in
         let on : is_killed (phase past c) ≡ true = ap is_killed dead in
         absurd cc
 
-stays_killed : (k h a : Bool) → next_phase k None h a P.Killed ≡ P.Killed
+stays_killed : (k h a : Bool) → next_phase k None h a Phase.Killed ≡ Phase.Killed
 stays_killed true h a = refl
 stays_killed false true a = refl
 stays_killed false false a = refl
@@ -109,7 +100,7 @@ and_both : (a b : Bool) → (a && b) ≡ true → (a ≡ true) × (b ≡ true)
 and_both true b h = (refl, h)
 and_both false b h = absurd cc
 
-pub stop_halts : (past : List Entry) (e : Entry) (c : Comp) → (e.op ≡ O.Stop (G.One c)) ⊎ (e.op ≡ O.Kill (G.One c)) → e.reply ≡ R.Ok → (c.0 == 0) ≡ false → HaltsOne past e c.0
+pub stop_halts : (past : List Entry) (e : Entry) (c : Comp) → (e.op ≡ Op.Stop (Group.One c)) ⊎ (e.op ≡ Op.Kill (Group.One c)) → e.reply ≡ Reply.Ok → (c.0 == 0) ≡ false → HaltsOne past e c.0
 stop_halts past e c (inl op) reply other = record {
   no_case = rw (op, reply, other) refl;
   made = rw op refl;
@@ -139,25 +130,25 @@ stop_halts past e c (inr op) reply other = record {
 
 -- the component that a late call is about
 pub record IsLateFor (past : List Entry) (op : Op) (c : Comp) : Type 0 where
-  pub halts_it : (op ≡ O.Stop (G.One c)) ⊎ (op ≡ O.Kill (G.One c))
+  pub halts_it : (op ≡ Op.Stop (Group.One c)) ⊎ (op ≡ Op.Kill (Group.One c))
   pub other : (c.0 == 0) ≡ false
   pub gone : IsGone past c.0
 
 pub late_for : (past : List Entry) (op : Op) → is_late past op ≡ true → (c : Comp) × IsLateFor past op c
-late_for past (O.Stop (G.One c)) h =
+late_for past (Op.Stop (Group.One c)) h =
     let p = and_both (not (c.0 == 0)) (is_gone (phase_if_any past c.0)) h in
     (c, record { halts_it = inl refl; other = not_yes (c.0 == 0) p.0; gone = gone_is past c.0 p.1 })
-late_for past (O.Kill (G.One c)) h =
+late_for past (Op.Kill (Group.One c)) h =
     let p = and_both (not (c.0 == 0)) (is_gone (phase_if_any past c.0)) h in
     (c, record { halts_it = inr refl; other = not_yes (c.0 == 0) p.0; gone = gone_is past c.0 p.1 })
-late_for past (O.Stop G.All) h = absurd cc
-late_for past (O.Kill G.All) h = absurd cc
+late_for past (Op.Stop Group.All) h = absurd cc
+late_for past (Op.Kill Group.All) h = absurd cc
 late_for past _ h = absurd cc
 
 pub late_if : (past : List Entry) (op : Op) (c : Comp) → IsLateFor past op c → is_late past op ≡ true
 late_if past op c h = by_op h.halts_it
   where
-    by_op : (op ≡ O.Stop (G.One c)) ⊎ (op ≡ O.Kill (G.One c)) → is_late past op ≡ true
+    by_op : (op ≡ Op.Stop (Group.One c)) ⊎ (op ≡ Op.Kill (Group.One c)) → is_late past op ≡ true
     by_op (inl is) = rw (is, h.other) (gone_if past c.0 h.gone)
     by_op (inr is) = rw (is, h.other) (gone_if past c.0 h.gone)
 
@@ -169,25 +160,25 @@ late_next n past e op legal h =
 pub late_special : (n : ℕ) (past : List Entry) (q : List Entry) (op : Op) → is_late q op ≡ true → special_fault n past op ≡ None
 late_special n past q op h = by_op (late_for q op h).1.halts_it
   where
-    by_op : (op ≡ O.Stop (G.One (late_for q op h).0)) ⊎ (op ≡ O.Kill (G.One (late_for q op h).0)) → special_fault n past op ≡ None
+    by_op : (op ≡ Op.Stop (Group.One (late_for q op h).0)) ⊎ (op ≡ Op.Kill (Group.One (late_for q op h).0)) → special_fault n past op ≡ None
     by_op (inl is) = rw is refl
     by_op (inr is) = rw is refl
 
 -- a late call that is no error is answered at once
-pub late_reply : (q past : List Entry) (b : ℕ) (op : Op) → is_late q op ≡ true → plain_answer past b op ≡ R.Ok
+pub late_reply : (q past : List Entry) (b : ℕ) (op : Op) → is_late q op ≡ true → plain_answer past b op ≡ Reply.Ok
 late_reply q past b op h = by_op (late_for q op h).1.halts_it
   where
-    by_op : (op ≡ O.Stop (G.One (late_for q op h).0)) ⊎ (op ≡ O.Kill (G.One (late_for q op h).0)) → plain_answer past b op ≡ R.Ok
+    by_op : (op ≡ Op.Stop (Group.One (late_for q op h).0)) ⊎ (op ≡ Op.Kill (Group.One (late_for q op h).0)) → plain_answer past b op ≡ Reply.Ok
     by_op (inl is) = rw is refl
     by_op (inr is) = rw is refl
 
-pub late_halts : (q past : List Entry) (e : Entry) (h : is_late q e.op ≡ true) → e.reply ≡ R.Ok → HaltsOne past e (late_for q e.op h).0.0
+pub late_halts : (q past : List Entry) (e : Entry) (h : is_late q e.op ≡ true) → e.reply ≡ Reply.Ok → HaltsOne past e (late_for q e.op h).0.0
 late_halts q past e h reply = let l = late_for q e.op h in stop_halts past e l.0 l.1.halts_it reply l.1.other
 
 pub late_free : (aim : Verdict) (q : List Entry) (op : Op) → is_late q op ≡ true → is_barred aim op ≡ false
 late_free aim q op late = by_op (late_for q op late).1.halts_it
   where
-    by_op : (op ≡ O.Stop (G.One (late_for q op late).0)) ⊎ (op ≡ O.Kill (G.One (late_for q op late).0)) → is_barred aim op ≡ false
+    by_op : (op ≡ Op.Stop (Group.One (late_for q op late).0)) ⊎ (op ≡ Op.Kill (Group.One (late_for q op late).0)) → is_barred aim op ≡ false
     by_op (inl is) = ap (is_barred aim) is
     by_op (inr is) = ap (is_barred aim) is
 
@@ -238,13 +229,13 @@ module _ {past : List Entry} {e : Entry} {c : ℕ} where
 pub record IsMetFor (past : List Entry) (op : Op) : Type 0 where
   pub for_kill : Bool
   pub comp : Comp
-  pub waits : op ≡ O.Wait for_kill (T.One comp)
+  pub waits : op ≡ Op.Wait for_kill (Target.One comp)
   pub gone : IsGone past comp.0
 
 pub met_for : (past : List Entry) (op : Op) → is_met past op ≡ true → IsMetFor past op
-met_for past (O.Wait k (T.One c)) h = record { for_kill = k; comp = c; waits = refl; gone = gone_is past c.0 h }
-met_for past (O.Wait k T.Any) h = absurd cc
-met_for past (O.Wait k T.All) h = absurd cc
+met_for past (Op.Wait k (Target.One c)) h = record { for_kill = k; comp = c; waits = refl; gone = gone_is past c.0 h }
+met_for past (Op.Wait k Target.Any) h = absurd cc
+met_for past (Op.Wait k Target.All) h = absurd cc
 met_for past _ h = absurd cc
 
 pub met_next : (n : ℕ) (past : List Entry) (e : Entry) (op : Op) → IsLegal n (e ∷ past) → is_met past op ≡ true → is_met (e ∷ past) op ≡ true
@@ -253,42 +244,42 @@ met_next n past e op legal h = let m = met_for past op h in rw m.waits (gone_if 
 pub met_special : (n : ℕ) (past : List Entry) (q : List Entry) (op : Op) → is_met q op ≡ true → special_fault n past op ≡ None
 met_special n past q op h = rw (met_for q op h).waits refl
 
-pub met_holds : (past : List Entry) (k : Bool) (c : Comp) → IsGone past c.0 → holds past (record { killed = k; target = T.One c }) ≡ true
+pub met_holds : (past : List Entry) (k : Bool) (c : Comp) → IsGone past c.0 → holds past (record { killed = k; target = Target.One c }) ≡ true
 unfolding holds done killed
 met_holds past true c gone = rw gone.dead refl
 met_holds past false c gone = rw gone.dead refl
 
-pub met_reply : (q : List Entry) (b : ℕ) (op : Op) → is_met q op ≡ true → plain_answer q b op ≡ R.Matched
+pub met_reply : (q : List Entry) (b : ℕ) (op : Op) → is_met q op ≡ true → plain_answer q b op ≡ Reply.Matched
 met_reply q b op h = let m = met_for q op h in rw (m.waits, met_holds q m.for_kill m.comp m.gone) refl
 
 -- a wait that is no error is matched or parked
-pub met_or_parked : (q past : List Entry) (b : ℕ) (op : Op) → is_met q op ≡ true → (plain_answer past b op ≡ R.Matched) ⊎ (plain_answer past b op ≡ R.Parked)
-met_or_parked q past b op h = by_test (holds past (record { killed = m.for_kill; target = T.One m.comp })) refl
+pub met_or_parked : (q past : List Entry) (b : ℕ) (op : Op) → is_met q op ≡ true → (plain_answer past b op ≡ Reply.Matched) ⊎ (plain_answer past b op ≡ Reply.Parked)
+met_or_parked q past b op h = by_test (holds past (record { killed = m.for_kill; target = Target.One m.comp })) refl
   where
     m : IsMetFor q op
     m = met_for q op h
 
-    by_test : (t : Bool) → holds past (record { killed = m.for_kill; target = T.One m.comp }) ≡ t → (plain_answer past b op ≡ R.Matched) ⊎ (plain_answer past b op ≡ R.Parked)
+    by_test : (t : Bool) → holds past (record { killed = m.for_kill; target = Target.One m.comp }) ≡ t → (plain_answer past b op ≡ Reply.Matched) ⊎ (plain_answer past b op ≡ Reply.Parked)
     by_test true k = inl (rw (m.waits, k) refl)
     by_test false k = inr (rw (m.waits, k) refl)
 
 -- a run that continues is on no killed component
-pub other_than_gone : (past : List Entry) (b c : ℕ) (me : Comp) → is_active past b ≡ true → comp_of past b ≡ Some me → phase past c ≡ P.Killed → (c == me.0) ≡ false
+pub other_than_gone : (past : List Entry) (b c : ℕ) (me : Comp) → is_active past b ≡ true → comp_of past b ≡ Some me → phase past c ≡ Phase.Killed → (c == me.0) ≡ false
 unfolding is_active
 other_than_gone past b c me act on dead = by_test (c == me.0) refl
   where
     by_test : (t : Bool) → (c == me.0) ≡ t → t ≡ false
     by_test false k = refl
     by_test true k =
-        let here : phase past me.0 ≡ P.Killed = subst (λ x. phase past x ≡ P.Killed) (equal_if c me.0 k) dead in
+        let here : phase past me.0 ≡ Phase.Killed = subst (λ x. phase past x ≡ Phase.Killed) (equal_if c me.0 k) dead in
         let off : is_active_on past b (comp_of past b) ≡ false = ap (is_active_on past b) on ∙ ap (is_run_of b) here in
         absurd cc
 
 -- ---- p stops what q has seen end
 
-module _ {aim : Verdict} (scripts : List ScriptView) (p q : List Entry) (e : Entry) (c : ℕ) (cp : IsCourse scripts p) (lp : IsLegal (length scripts) (e ∷ p)) (s : IsAhead aim scripts p q) (h : HaltsOne p e c) (dead : phase q c ≡ P.Killed)
+module _ {aim : Verdict} (scripts : List ScriptView) (p q : List Entry) (e : Entry) (c : ℕ) (cp : IsCourse scripts p) (lp : IsLegal (length scripts) (e ∷ p)) (s : IsAhead aim scripts p q) (h : HaltsOne p e c) (dead : phase q c ≡ Phase.Killed)
     (own : (d : ℕ) (n : IsEnding aim scripts p q d) → (e.caller.0 == n.run.0) ≡ true → IsLeaving aim scripts q n.run.0 (stand (e ∷ p) n.run.0)) where
-  halted_now : (k : Bool) (run : Run) → next_phase k None true false (P.Running run) ≡ P.Killed
+  halted_now : (k : Bool) (run : Run) → next_phase k None true false (Phase.Running run) ≡ Phase.Killed
   halted_now true run = refl
   halted_now false run = refl
 

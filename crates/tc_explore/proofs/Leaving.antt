@@ -1,44 +1,28 @@
 -- What the end of a run does that nobody can see.
 use Rattle.std.proofs.Common.{ℕ, suc, ◌≡◌, ◌≤◌, ◌<◌, ◌==◌, ◌||◌, ◌⊎◌, inl, inr, nat_lt, not, if◌then◌else◌, Bool, true, false, Option, Some, None, is_some, MatchOption, List, ◌∷◌, length, slice_get, get_or, refl, ap, sym, subst, ◌∙◌, arith, ⊎_elim}
-use Rattle.std.proofs.lemmas.Bool.Decides.{nat_tests}
-use Rattle.std.proofs.lemmas.Option.{slice_get_within, slice_get-get_or}
-use Rattle.tc_rules.specs.Prelude.{Comp, Entry, Op, Phase, comps, comp_of, exists, is_alive_type, created, started_on, halts, kills, ends_case, phase, phase_if_any, start_in, overall, is_active, is_active_on, is_run_of, IsLegal, level_of, Verdict, Target}
-use Rattle.tc_entry.specs.declared.op.Op.TheVariants as O
-use Rattle.tc_entry.specs.declared.op.Target.TheVariants as T
-use Rattle.tc_entry.specs.declared.phase.Phase.TheVariants as P
-use Rattle.tc_entry.specs.declared.reply.Reply.TheVariants as R
-use Rattle.tc_step.specs.declared.step.Step.{Step}
-use Rattle.tc_step.specs.declared.step.Step.TheVariants as S
-use Rattle.tc_step.specs.declared.step.Status.TheVariants as Q
+use Rattle.std.proofs.lemmas.{Bool.Decides.nat_tests, Option.slice_get-get_or, Option.slice_get_within}
+use Rattle.tc_rules.specs.Prelude.{Comp, Entry, Op, Phase, comps, comp_of, exists, is_alive_type, created, started_on, halts, kills, ends_case, phase, phase_if_any, start_in, overall, is_active, is_active_on, is_run_of, IsLegal, level_of, Verdict, Target, Reply}
+use Rattle.tc_step.specs.declared.step.{Status.Status, Step.Step}
 use Rattle.tc_step.specs.Prelude.{ScriptView}
 use Rattle.tc_rules.specs.declared.component_state.ComponentState.{ComponentState}
-use Rattle.tc_rules.proofs.Lemmas.Deciding.{self_equal, equal_if, and_left}
-use Rattle.tc_rules.proofs.Lemmas.Over.{on_existing}
-use Rattle.tc_rules.proofs.Lemmas.LawsOfHistories.{runs_if_active}
-use Rattle.tc_rules.proofs.Lemmas.Going.{halted_by_entry, started_by_entry}
+use Rattle.tc_rules.proofs.Lemmas.{Deciding.and_left, Deciding.equal_if, Deciding.self_equal, Going.halted_by_entry, Going.started_by_entry, LawsOfHistories.runs_if_active, Over.on_existing}
 use Rattle.tc_course.specs.Prelude.{CourseState, stand, steps_of, IsCourse}
-use Rattle.tc_course.specs.Inside.Standing.{call_of}
+use Rattle.tc_course.specs.Inside.{call_of}
+use Rattle.tc_course.proofs.Lemmas.{course_legal, stand_comp, stand_other}
 use Rattle.tc_explore.specs.Inside.Simulation.{is_gone, is_spent, IsQuietAt, IsWakeOf, call_at, IsBefore, IsParkedAt, IsFollowed, IsLastAt, WasParked, IsLeaving, IsEnding, place_of, place_by, IsOrdered, IsFor, is_barred, IsBarredBefore, AreOrdered}
-use Rattle.tc_course.proofs.Lemmas.Histories.{course_legal}
-use Rattle.tc_explore.proofs.Alike.{phase_next, kind_kept, first_kept, fresh, overall_next}
-use Rattle.tc_explore.proofs.Ahead.{KeepsQuiet, leaving_later, leaving_other, ended_inactive}
-use Rattle.tc_course.proofs.Lemmas.Standings.{stand_comp, stand_other}
-use Rattle.tc_explore.proofs.Simulation.{some_if, followed_later}
-use Rattle.tc_explore.proofs.Places.{keeps_quiet}
-use Rattle.tc_explore.proofs.Late.{gone_is}
-use Rattle.tc_explore.proofs.Ordered.{gone_after, order_stays}
+use Rattle.tc_explore.proofs.{Ahead.KeepsQuiet, Ahead.ended_inactive, Ahead.leaving_later, Ahead.leaving_other, Alike.first_kept, Alike.fresh, Alike.kind_kept, Alike.overall_next, Alike.phase_next, Late.gone_is, Ordered.gone_after, Ordered.order_stays, Places.keeps_quiet, Simulation.followed_later, Simulation.some_if}
 
 -- the entry ends its caller, which is not the main run, on this component, which is not alive-type
 pub record Ends (past : List Entry) (e : Entry) (c : Comp) : Type 0 where
-  pub op : e.op ≡ O.Finish
-  pub reply : e.reply ≡ R.Ok
+  pub op : e.op ≡ Op.Finish
+  pub reply : e.reply ≡ Reply.Ok
   pub not_main : (e.caller.0 == 0) ≡ false
   pub on : comp_of past e.caller.0 ≡ Some c
-  pub runs : phase past c.0 ≡ P.Running e.caller
+  pub runs : phase past c.0 ≡ Phase.Running e.caller
   pub ordinary : is_alive_type past c.0 ≡ false
 
 -- a run that continues is what its component is running
-pub running_on : (past : List Entry) (e : Entry) (c : Comp) → is_active past e.caller.0 ≡ true → comp_of past e.caller.0 ≡ Some c → phase past c.0 ≡ P.Running e.caller
+pub running_on : (past : List Entry) (e : Entry) (c : Comp) → is_active past e.caller.0 ≡ true → comp_of past e.caller.0 ≡ Some c → phase past c.0 ≡ Phase.Running e.caller
 running_on past e c act on =
     let r = runs_if_active past e act in
     let some : Some r.0 ≡ Some c = sym r.1.0 ∙ on in
@@ -68,7 +52,7 @@ module _ {past : List Entry} {e : Entry} {c : Comp} where
       or_nos true = refl
       or_nos false = refl
 
-  pub end_here : (n : ℕ) → IsLegal n (e ∷ past) → Ends past e c → phase (e ∷ past) c.0 ≡ P.Killed
+  pub end_here : (n : ℕ) → IsLegal n (e ∷ past) → Ends past e c → phase (e ∷ past) c.0 ≡ Phase.Killed
   end_here n legal h =
       phase_next n past e c.0 legal
       ∙ rw (on_existing n past e.caller.0 c legal.1 h.on, no_kill h c.0, none_started h c.0, halts_one h c.0, self_equal c.0, h.ordinary, h.runs) refl
@@ -79,7 +63,7 @@ module _ {past : List Entry} {e : Entry} {c : Comp} where
       ∙ (rw (no_kill h d, none_started h d, halts_one h d, other) refl
       ∙ kept_by (exists past d) (phase past d) (λ k. ap (λ (s : ComponentState). s.phase) (fresh n past d legal.1 k)))
     where
-      kept_by : (t : Bool) (ph : Phase) → (t ≡ false → ph ≡ P.Inactive) → (if t then ph else P.Inactive) ≡ ph
+      kept_by : (t : Bool) (ph : Phase) → (t ≡ false → ph ≡ Phase.Inactive) → (if t then ph else Phase.Inactive) ≡ ph
       kept_by true ph k = refl
       kept_by false ph k = sym (k refl)
 
@@ -123,20 +107,20 @@ module _ {past : List Entry} {e : Entry} {c : Comp} where
 
 -- ---- what is left after the end
 
-finish_last : (me : Comp) (bound : List Comp) (o : Option Step) → call_of me bound o ≡ O.Finish → o ≡ None
+finish_last : (me : Comp) (bound : List Comp) (o : Option Step) → call_of me bound o ≡ Op.Finish → o ≡ None
 finish_last me bound None h = refl
-finish_last me bound (Some (S.Ask Q.Running t)) h = absurd cc
-finish_last me bound (Some (S.Ask Q.Alive t)) h = absurd cc
-finish_last me bound (Some (S.Ask Q.Done t)) h = absurd cc
-finish_last me bound (Some (S.Ask Q.Killed t)) h = absurd cc
-finish_last me bound (Some (S.Create alive name)) h = absurd cc
-finish_last me bound (Some (S.Start on run args)) h = absurd cc
-finish_last me bound (Some (S.Stop g)) h = absurd cc
-finish_last me bound (Some (S.Kill g)) h = absurd cc
-finish_last me bound (Some (S.Wait killed t)) h = absurd cc
-finish_last me bound (Some (S.SetVerdict v)) h = absurd cc
-finish_last me bound (Some S.StopCase) h = absurd cc
-finish_last me bound (Some S.GetVerdict) h = absurd cc
+finish_last me bound (Some (Step.Ask Status.Running t)) h = absurd cc
+finish_last me bound (Some (Step.Ask Status.Alive t)) h = absurd cc
+finish_last me bound (Some (Step.Ask Status.Done t)) h = absurd cc
+finish_last me bound (Some (Step.Ask Status.Killed t)) h = absurd cc
+finish_last me bound (Some (Step.Create alive name)) h = absurd cc
+finish_last me bound (Some (Step.Start on run args)) h = absurd cc
+finish_last me bound (Some (Step.Stop g)) h = absurd cc
+finish_last me bound (Some (Step.Kill g)) h = absurd cc
+finish_last me bound (Some (Step.Wait killed t)) h = absurd cc
+finish_last me bound (Some (Step.SetVerdict v)) h = absurd cc
+finish_last me bound (Some Step.StopCase) h = absurd cc
+finish_last me bound (Some Step.GetVerdict) h = absurd cc
 
 none_behind : (steps : List Step) (j k : ℕ) → j ≤ k → slice_get steps j ≡ None → slice_get steps k ≡ None
 none_behind steps j k l h = by_get (slice_get steps k) refl
@@ -149,7 +133,7 @@ none_behind steps j k l h = by_get (slice_get steps k) refl
         let there : slice_get steps j ≡ Some (get_or steps j x) = slice_get-get_or steps j x within in
         absurd cc
 
-finish_behind : (scripts : List ScriptView) (b : ℕ) (t : CourseState) (o : Option Comp) (j k : ℕ) → j ≤ k → call_at scripts b t o j ≡ O.Finish → call_at scripts b t o k ≡ O.Finish
+finish_behind : (scripts : List ScriptView) (b : ℕ) (t : CourseState) (o : Option Comp) (j k : ℕ) → j ≤ k → call_at scripts b t o j ≡ Op.Finish → call_at scripts b t o k ≡ Op.Finish
 finish_behind scripts b t None j k l h = refl
 finish_behind scripts b t (Some me) j k l h =
     let last : slice_get (steps_of scripts b) j ≡ None = finish_last me t.bound (slice_get (steps_of scripts b) j) h in
@@ -164,7 +148,7 @@ calls_as scripts q b s t f k = ap (λ o. call_at scripts b s o k) f.comp ∙ sam
 
 -- a run is leaving that follows one whose next call is no Wait, if the calls from there on are its end, or one is barred
 follows_leaving : {aim : Verdict} (scripts : List ScriptView) (q : List Entry) (b : ℕ) (s t : CourseState) → IsFollowed scripts q b s t →
-    ((killed : Bool) (to : Target) → call_at scripts b t t.comp t.called ≡ O.Wait killed to → ⊥) →
+    ((killed : Bool) (to : Target) → call_at scripts b t t.comp t.called ≡ Op.Wait killed to → ⊥) →
     ((k : ℕ) → t.called ≤ k → s.called ≤ k → IsLastAt (length scripts) q b (call_at scripts b s s.comp k) ⊎ IsBarredBefore aim scripts b s k) → IsLeaving aim scripts q b s
 follows_leaving {aim} scripts q b s t f no_wait last = by_wake s.wake refl f.place
   where
@@ -196,13 +180,13 @@ follows_leaving {aim} scripts q b s t f no_wait last = by_wake s.wake refl f.pla
     }
 
 -- a run that follows one whose end comes next is leaving
-followed_leaves : {aim : Verdict} (scripts : List ScriptView) (q : List Entry) (b : ℕ) (s t : CourseState) → IsFollowed scripts q b s t → call_at scripts b t t.comp t.called ≡ O.Finish → IsLeaving aim scripts q b s
+followed_leaves : {aim : Verdict} (scripts : List ScriptView) (q : List Entry) (b : ℕ) (s t : CourseState) → IsFollowed scripts q b s t → call_at scripts b t t.comp t.called ≡ Op.Finish → IsLeaving aim scripts q b s
 followed_leaves scripts q b s t f ends =
-    follows_leaving scripts q b s t f (λ killed to waits. let no : O.Finish ≡ O.Wait killed to = sym ends ∙ waits in absurd cc)
+    follows_leaving scripts q b s t f (λ killed to waits. let no : Op.Finish ≡ Op.Wait killed to = sym ends ∙ waits in absurd cc)
     (λ k near l. inl (subst (λ op. IsLastAt (length scripts) q b op) (sym (calls_as scripts q b s t f k)) (inr (finish_behind scripts b t t.comp t.called k near ends))))
 
 -- it has called no more steps
-no_further : (scripts : List ScriptView) (q : List Entry) (b : ℕ) (s t : CourseState) → IsFollowed scripts q b s t → ((killed : Bool) (to : Target) → call_at scripts b t t.comp t.called ≡ O.Wait killed to → ⊥) → s.called ≤ t.called
+no_further : (scripts : List ScriptView) (q : List Entry) (b : ℕ) (s t : CourseState) → IsFollowed scripts q b s t → ((killed : Bool) (to : Target) → call_at scripts b t t.comp t.called ≡ Op.Wait killed to → ⊥) → s.called ≤ t.called
 no_further scripts q b s t f no_wait = by_wake s.wake f.place
   where
     by_less : (wake : Op) (h : IsParkedAt scripts q b s t wake) → (less : Bool) → nat_lt h.place t.called ≡ less → s.called ≤ t.called
@@ -220,14 +204,14 @@ no_further scripts q b s t f no_wait = by_wake s.wake f.place
 pub barred_leaves : {aim : Verdict} (scripts : List ScriptView) (q : List Entry) (b : ℕ) (s t : CourseState) → IsFollowed scripts q b s t → is_barred aim (call_at scripts b t t.comp t.called) ≡ true →
     IsLeaving aim scripts q b s
 barred_leaves {aim} scripts q b s t f bars =
-    let no_wait : (killed : Bool) (to : Target) → call_at scripts b t t.comp t.called ≡ O.Wait killed to → ⊥ =
+    let no_wait : (killed : Bool) (to : Target) → call_at scripts b t t.comp t.called ≡ Op.Wait killed to → ⊥ =
     λ killed to waits. let no : is_barred aim (call_at scripts b t t.comp t.called) ≡ false = ap (is_barred aim) waits in absurd cc in
     let fewer = no_further scripts q b s t f no_wait in
     follows_leaving scripts q b s t f no_wait
     (λ k near l. inr (record { place = t.called; later = fewer; before = near; bars = ap (is_barred aim) (calls_as scripts q b s t f t.called) ∙ bars }))
 
 -- from now on it has only quiet calls, and its end
-followed_last : (scripts : List ScriptView) (q : List Entry) (b : ℕ) (s t : CourseState) → IsFollowed scripts q b s t → call_at scripts b t t.comp t.called ≡ O.Finish → (k : ℕ) → place_of s ≤ k →
+followed_last : (scripts : List ScriptView) (q : List Entry) (b : ℕ) (s t : CourseState) → IsFollowed scripts q b s t → call_at scripts b t t.comp t.called ≡ Op.Finish → (k : ℕ) → place_of s ≤ k →
     IsLastAt (length scripts) q b (call_at scripts b s s.comp k)
 followed_last scripts q b s t f ends k less = by_wake s.wake less f.place
   where
@@ -240,23 +224,23 @@ followed_last scripts q b s t f ends k less = by_wake s.wake less f.place
     by_wake (Some wake) near h = let more = h.one_more in at (h.between k (omega (arith, more, near))) (nat_lt k t.called) refl
 
 -- what it waits for is killed
-waits_for_gone : (n : ℕ) (q : List Entry) (b : ℕ) (op : Op) (killed : Bool) (t : Comp) → IsLastAt n q b op → op ≡ O.Wait killed (T.One t) → is_gone (phase_if_any q t.0) ≡ true
+waits_for_gone : (n : ℕ) (q : List Entry) (b : ℕ) (op : Op) (killed : Bool) (t : Comp) → IsLastAt n q b op → op ≡ Op.Wait killed (Target.One t) → is_gone (phase_if_any q t.0) ≡ true
 waits_for_gone n q b op killed t (inl quiet) is = ap (is_spent q) (sym is) ∙ quiet.quiet
-waits_for_gone n q b op killed t (inr ends) is = let no : O.Finish ≡ O.Wait killed (T.One t) = sym ends ∙ is in absurd cc
+waits_for_gone n q b op killed t (inr ends) is = let no : Op.Finish ≡ Op.Wait killed (Target.One t) = sym ends ∙ is in absurd cc
 
 -- ---- q makes the end of a run
 
 module _ {aim : Verdict} (scripts : List ScriptView) (p q : List Entry) (e : Entry) (c : Comp) (cq : IsCourse scripts (e ∷ q)) (f : IsFor aim scripts q p) (h : Ends q e c) (act : is_active q e.caller.0 ≡ true)
-    (ends : call_at scripts e.caller.0 (stand q e.caller.0) (stand q e.caller.0).comp (stand q e.caller.0).called ≡ O.Finish) where
+    (ends : call_at scripts e.caller.0 (stand q e.caller.0) (stand q e.caller.0).comp (stand q e.caller.0).called ≡ Op.Finish) where
   lq : IsLegal (length scripts) (e ∷ q)
   lq = course_legal scripts (e ∷ q) cq
 
   keeps : KeepsQuiet (length scripts) q (e ∷ q)
   keeps = keeps_quiet (length scripts) q e lq
 
-  still_running : (phase p c.0 ≡ phase q c.0) ⊎ IsEnding aim scripts p q c.0 → phase p c.0 ≡ P.Running e.caller
+  still_running : (phase p c.0 ≡ phase q c.0) ⊎ IsEnding aim scripts p q c.0 → phase p c.0 ≡ Phase.Running e.caller
   still_running (inl same) = same ∙ h.runs
-  still_running (inr n) = let no : P.Killed ≡ P.Running e.caller = sym n.ended ∙ h.runs in absurd cc
+  still_running (inr n) = let no : Phase.Killed ≡ Phase.Running e.caller = sym n.ended ∙ h.runs in absurd cc
 
   ending_here : IsEnding aim scripts p (e ∷ q) c.0
   ending_here = record {
@@ -301,8 +285,8 @@ module _ {aim : Verdict} (scripts : List ScriptView) (p q : List Entry) (e : Ent
       by_test : (s : Bool) → (c.0 == t.0) ≡ s → s ≡ false
       by_test false k = refl
       by_test true k =
-          let dead : phase q c.0 ≡ P.Killed = subst (λ x. phase q x ≡ P.Killed) (sym (equal_if c.0 t.0 k)) (gone_is q t.0 gone).dead in
-          let no : P.Killed ≡ P.Running e.caller = sym dead ∙ h.runs in
+          let dead : phase q c.0 ≡ Phase.Killed = subst (λ x. phase q x ≡ Phase.Killed) (sym (equal_if c.0 t.0 k)) (gone_is q t.0 gone).dead in
+          let no : Phase.Killed ≡ Phase.Running e.caller = sym dead ∙ h.runs in
           absurd cc
 
   kept_rank : (o : AreOrdered scripts p q) (t : Comp) → is_gone (phase_if_any q t.0) ≡ true → last_rank o t.0 ≡ o.rank t.0
@@ -335,7 +319,7 @@ module _ {aim : Verdict} (scripts : List ScriptView) (p q : List Entry) (e : Ent
       let runs : is_run_of b (phase p c.0) ≡ true = ap (is_active_on p b) (sym at) ∙ on in
       sym (equal_if e.caller.0 b (ap (is_run_of b) (sym (still_running (f.ahead.phases c.0))) ∙ runs))
 
-  ordered_by : (o : AreOrdered scripts p q) (d b : ℕ) → is_active p b ≡ true → comp_of p b ≡ Some (record { 0 = d }) → phase (e ∷ q) d ≡ P.Killed → (t : Bool) → (c.0 == d) ≡ t → IsOrdered scripts (last_rank o) (e ∷ q) d b (stand p b)
+  ordered_by : (o : AreOrdered scripts p q) (d b : ℕ) → is_active p b ≡ true → comp_of p b ≡ Some (record { 0 = d }) → phase (e ∷ q) d ≡ Phase.Killed → (t : Bool) → (c.0 == d) ≡ t → IsOrdered scripts (last_rank o) (e ∷ q) d b (stand p b)
   ordered_by o d b on at dead true k =
       let same : c.0 ≡ d = equal_if c.0 d k in
       subst (λ x. IsOrdered scripts (last_rank o) (e ∷ q) x b (stand p b)) same (ordered_here o b (runs_here b on (at ∙ ap (λ (x : ℕ). Some (record { 0 = x })) (sym same))))

@@ -1,5 +1,4 @@
 -- The lemmas of this crate.
-pub mod Legality
 pub mod NextAim
 pub mod Alike
 pub mod Ahead
@@ -9,24 +8,17 @@ pub mod Simulation
 pub mod Places
 pub mod Closing
 pub mod Sameness
-pub mod Completeness
 pub mod Searching
 pub mod Seeing
 pub mod Noting
-pub mod Verdicts
 pub mod Keeping
 pub mod Keys
 pub mod LastCalls
 pub mod Parking
-pub mod Reaching
-pub mod Extents
 pub mod Kept
 pub mod Room
 pub mod Closed
 pub mod States
-pub mod Numbers
-pub mod Saying
-pub mod Prefixes
 pub mod Late
 pub mod Ordered
 pub mod Twins

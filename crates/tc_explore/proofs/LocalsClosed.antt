@@ -1,36 +1,16 @@
 -- If what comes after each state that a search for local verdicts has seen is seen, or found, it has found the local
 -- verdicts of each complete course.
-use Rattle.std.proofs.Common.{ℕ, ◌≡◌, ◌+◌, ◌*◌, ◌<◌, ◌≤◌, ◌++◌, nat_lt, nat_eq, All, Bool, true, false, Some, None, List, [], ◌∷◌, length, map, reverse, slice_get, get_or, refl, ap, sym, subst, ◌∙◌, arith}
-use Rattle.std.specs.Cmp.Lexicographic.{pointwise}
-use Rattle.std.specs.List.{IsDistinct}
-use Rattle.std.proofs.lemmas.Bool.Decides.{nat_tests}
-use Rattle.std.proofs.lemmas.List.Elements.{All-nil, All-same, All-weaker}
-use Rattle.std.proofs.lemmas.List.{length-map}
-use Rattle.std.proofs.lemmas.Option.{slice_get_within, slice_get-get_or}
-use Rattle.std.specs.Option.{unwrap_or}
-use Rattle.tc_rules.specs.Prelude.{Run, level_of, Comp, Entry, Op, Case, past_of, ends_case, is_over, is_active}
-use Rattle.tc_entry.specs.declared.reply.Reply.TheVariants as R
+use Rattle.std.proofs.Common.{ℕ, ◌≡◌, ◌+◌, ◌*◌, ◌<◌, ◌≤◌, ◌++◌, nat_eq, All, Bool, true, false, Some, None, List, [], ◌∷◌, length, map, reverse, slice_get, get_or, refl, ap, sym, subst, ◌∙◌, arith}
+use Rattle.std.specs.{Cmp.Lexicographic.pointwise, List.IsDistinct, Option.unwrap_or}
+use Rattle.std.proofs.lemmas.{List.Elements.All-nil, List.Elements.All-same, List.Elements.All-weaker, List.length-map, Option.slice_get-get_or, Option.slice_get_within}
+use Rattle.tc_rules.specs.Prelude.{Run, level_of, Comp, Entry, Op, Case, past_of, ends_case, is_over, is_active, Reply}
 use Rattle.tc_step.specs.Prelude.{ScriptView}
 use Rattle.tc_rules.proofs.Lemmas.Over.{all_over}
-use Rattle.tc_explore.specs.declared.search.Met.{Met}
-use Rattle.tc_course.specs.Prelude.{stand, steps_of, turn, IsTurn, IsCourse, IsComplete, entry_made, IsOn, CannotGo}
-use Rattle.tc_course.specs.Inside.Standing.{call_of}
-use Rattle.tc_explore.specs.Locals.{is_local, AllLocalsFound}
-use Rattle.tc_explore.specs.Found.{HasCourses}
-use Rattle.tc_explore.specs.Inside.Seen.{IsLonger, IsWith}
-use Rattle.tc_explore.specs.Inside.Twins.{IsTwin, IsGoing, AreGoing, HasTwinKeys, IsMore, HasLocals, IsTwinSeen, IsLocalsAfter, IsLocalsRun, AreLocalsRuns, IsLocalsAt, AreLocalsClosed, twin_key}
-use Rattle.tc_explore.proofs.Alike.{active_alike}
-use Rattle.tc_explore.proofs.Closed.{same_entry}
-use Rattle.tc_explore.proofs.Closing.{answer_inactive}
-use Rattle.tc_explore.proofs.Keeping.{active_stays, comp_main, main_goes}
-use Rattle.tc_explore.proofs.Kept.{all_with, courses_of, longer_with, no_courses}
-use Rattle.tc_course.proofs.Lemmas.Histories.{course_legal}
-use Rattle.tc_explore.proofs.LastCalls.{locals_ended}
-use Rattle.tc_course.proofs.Lemmas.Standings.{run_in_range, stand_comp, turn_of}
-use Rattle.tc_explore.proofs.Seeing.{get_last, get_more}
-use Rattle.tc_explore.proofs.Simulation.{some_if}
-use Rattle.tc_explore.proofs.States.{get_longer}
-use Rattle.tc_explore.proofs.Twins.{twin_self, twin_then, twin_ended, locals_twin, matched}
+use Rattle.tc_course.specs.Prelude.{stand, steps_of, turn, IsTurn, IsCourse, IsComplete, entry_made, IsOn, CannotGo, is_local}
+use Rattle.tc_course.specs.Inside.{call_of}
+use Rattle.tc_course.proofs.Lemmas.{below_more, course_legal, run_in_range, stand_comp, turn_of}
+use Rattle.tc_explore.specs.{Found.AllLocalsFound, Found.HasCourses, Inside.Seen.IsLonger, Inside.Seen.IsWith, Inside.Twins.AreGoing, Inside.Twins.AreLocalsClosed, Inside.Twins.AreLocalsRuns, Inside.Twins.HasLocals, Inside.Twins.HasTwinKeys, Inside.Twins.IsGoing, Inside.Twins.IsLocalsAfter, Inside.Twins.IsLocalsAt, Inside.Twins.IsLocalsRun, Inside.Twins.IsMore, Inside.Twins.IsTwin, Inside.Twins.IsTwinSeen, Inside.Twins.twin_key, declared.search.Met.Met}
+use Rattle.tc_explore.proofs.{Alike.active_alike, Closed.same_entry, Closing.answer_inactive, Keeping.active_stays, Keeping.comp_main, Keeping.main_goes, Kept.all_with, Kept.courses_of, Kept.longer_with, Kept.no_courses, LastCalls.locals_ended, Seeing.get_last, Seeing.get_more, Simulation.some_if, States.at_longer, Twins.locals_twin, Twins.matched, Twins.twin_ended, Twins.twin_self, Twins.twin_then}
 
 -- ---- all courses
 
@@ -41,14 +21,14 @@ has_twin found r p t has c v h = has c v (locals_twin r p t c ∙ h)
 module _ (scripts : List ScriptView) (states : List Case) (found : List Bool) (some : 1 ≤ length scripts) (closed : AreLocalsClosed scripts states found) where
   told_over : (p : List Entry) (e : Entry) → IsCourse scripts (e ∷ p) → is_over p ≡ true → HasLocals found p → IsLocalsAfter states found (e ∷ p)
   told_over p e course over has =
-      let r : e.reply ≡ R.Ended = course.0.reply ∙ (all_over (length scripts) p (course_legal scripts p course.1) over).ended e.caller.0 e.op in
+      let r : e.reply ≡ Reply.Ended = course.0.reply ∙ (all_over (length scripts) p (course_legal scripts p course.1) over).ended e.caller.0 e.op in
       let ends : ends_case e ≡ false = rw r refl in
       let over_e : is_over (e ∷ p) ≡ true = rw (ends, over) refl in
       record { over = λ o c v h. has c v (sym (locals_ended (length scripts) p e (course_legal scripts (e ∷ p) course) r c) ∙ h); more = λ o. absurd cc }
 
   told_still : (p : List Entry) (e : Entry) (i : ℕ) (t : Case) → IsCourse scripts (e ∷ p) → is_over p ≡ false → slice_get states i ≡ Some t → IsTwin (past_of t) p → is_active p e.caller.0 ≡ false → IsLocalsAfter states found (e ∷ p)
   told_still p e i t course going here twin off =
-      let r : e.reply ≡ R.Ended = course.0.reply ∙ answer_inactive (length scripts) p e.caller.0 e.op off in
+      let r : e.reply ≡ Reply.Ended = course.0.reply ∙ answer_inactive (length scripts) p e.caller.0 e.op off in
       let ends : ends_case e ≡ false = rw r refl in
       let going_e : is_over (e ∷ p) ≡ false = rw (ends, going) refl in
       record { over = λ o. absurd cc; more = λ o. (i, t, here, twin_ended scripts (past_of t) p e course off twin) }
@@ -120,11 +100,8 @@ run_longer scripts a b f g q k states found run = λ e own t act. after_longer a
 
 -- one run more
 pub locals_runs_more : (scripts : List ScriptView) (a b : List Case) (f g : List Bool) (q : List Entry) (n : ℕ) → IsLonger a b → IsMore f g → AreLocalsRuns scripts a f q n → IsLocalsRun scripts b g q n → AreLocalsRuns scripts b g q (n + 1)
-locals_runs_more scripts a b f g q n states found runs last k less = by_place (nat_lt k n) refl
-  where
-    by_place : (t : Bool) → nat_lt k n ≡ t → IsLocalsRun scripts b g q k
-    by_place true h = run_longer scripts a b f g q k states found (runs k (grind (arith, nat_tests)))
-    by_place false h = let same : n ≡ k = grind (arith, nat_tests) in subst (IsLocalsRun scripts b g q) same last
+locals_runs_more scripts a b f g q n states found runs last =
+    below_more (IsLocalsRun scripts b g q) n (λ k less. run_longer scripts a b f g q k states found (runs k less)) last
 
 -- all runs
 pub locals_runs_all : (scripts : List ScriptView) (a : List Case) (f : List Bool) (q : List Entry) (n : ℕ) → length scripts ≤ n → AreLocalsRuns scripts a f q n → AreLocalsRuns scripts a f q (length scripts)
@@ -138,9 +115,7 @@ going_at scripts a i v near each at = subst (IsGoing scripts) (sym at) (each i v
 pub locals_at : (scripts : List ScriptView) (a b : List Case) (f : List Bool) (i : ℕ) (u v : Case) → IsLonger a b → i < length a → u.history ≡ v.history → v ≡ get_or a i v → IsGoing scripts v →
     AreLocalsRuns scripts b f (past_of u) (length scripts) → IsLocalsAt scripts b f i
 locals_at scripts a b f i u v more near same at going runs t here =
-    let there : slice_get b i ≡ Some (get_or a i v) = get_longer a b i (get_or a i v) more (slice_get-get_or a i v near) in
-    let some : Some t ≡ Some (get_or a i v) = sym here ∙ there in
-    let is : t ≡ get_or a i v = cc in
+    let is = at_longer a b i v t more near here in
     let past : past_of u ≡ past_of t = ap reverse (same ∙ ap (λ (x : Case). x.history) (at ∙ sym is)) in (
       subst (IsGoing scripts) (at ∙ sym is) going,
       subst (λ p. AreLocalsRuns scripts b f p (length scripts)) past runs,
@@ -149,18 +124,10 @@ locals_at scripts a b f i u v more near same at going runs t here =
 -- one state more
 pub locals_ats_more : (scripts : List ScriptView) (a b : List Case) (f g : List Bool) (n : ℕ) → IsLonger a b → IsMore f g → n < length a → ((i : ℕ) → i < n → IsLocalsAt scripts a f i) → IsLocalsAt scripts b g n →
     (i : ℕ) → i < n + 1 → IsLocalsAt scripts b g i
-locals_ats_more scripts a b f g n states found within closed last i less = by_place (nat_lt i n) refl
-  where
-    by_place : (t : Bool) → nat_lt i n ≡ t → IsLocalsAt scripts b g i
-    by_place true h = λ t here.
-        let near : i < n = grind (arith, nat_tests) in
-        let inside : i < length a = omega arith in
-        let was : slice_get a i ≡ Some (get_or a i t) = slice_get-get_or a i t inside in
-        let there : slice_get b i ≡ Some (get_or a i t) = get_longer a b i (get_or a i t) states was in
-        let some : Some t ≡ Some (get_or a i t) = sym here ∙ there in
-        let is : get_or a i t ≡ t = cc in
-        let c = closed i near t (was ∙ ap Some is) in (c.0, λ k small. run_longer scripts a b f g (past_of t) k states found (c.1 k small))
-    by_place false h = let same : n ≡ i = grind (arith, nat_tests) in subst (IsLocalsAt scripts b g) same last
+locals_ats_more scripts a b f g n states found within closed last = below_more (IsLocalsAt scripts b g) n (λ i near t here.
+    let inside : i < length a = omega (arith, near, within) in
+    let was = slice_get-get_or a i t inside ∙ ap Some (sym (at_longer a b i t t states inside here)) in
+    let c = closed i near t was in (c.0, λ k small. run_longer scripts a b f g (past_of t) k states found (c.1 k small))) last
 
 -- all states
 pub locals_ats_all : (scripts : List ScriptView) (a : List Case) (f : List Bool) (n : ℕ) → length a ≤ n → ((i : ℕ) → i < n → IsLocalsAt scripts a f i) → AreLocalsClosed scripts a f

@@ -1,16 +1,12 @@
 -- What is marked of the local verdicts of complete courses.
-use Rattle.std.proofs.Common.{ℕ, zero, suc, ◌≡◌, ◌==◌, ◌+◌, ◌*◌, ◌<◌, ◌≤◌, ◌++◌, nat_lt, if◌then◌else◌, Bool, true, false, Some, None, List, [], ◌∷◌, length, set, get_or, refl, ap, sym, subst, ◌∙◌, arith}
-use Rattle.std.proofs.lemmas.Bool.Decides.{nat_tests}
-use Rattle.std.proofs.lemmas.List.{get_or-set_same, get_or-set_other}
+use Rattle.std.proofs.Common.{ℕ, zero, suc, ◌≡◌, ◌==◌, ◌+◌, ◌*◌, ◌<◌, ◌≤◌, ◌++◌, nat_lt, if◌then◌else◌, Bool, true, false, Some, None, List, [], ◌∷◌, length, set, get_or, refl, ap, sym, ◌∙◌, arith}
+use Rattle.std.proofs.lemmas.{Bool.Decides.nat_tests, List.get_or-set_other, List.get_or-set_same}
 use Rattle.tc_rules.specs.Prelude.{Verdict, level_of, Entry, Case, past_of, components, exists, local_if_any}
-use Rattle.tc_verdict.specs.declared.verdict.Verdict.TheVariants as V
 use Rattle.tc_step.specs.Prelude.{ScriptView}
 use Rattle.tc_rules.proofs.Lemmas.Deciding.{equal_if, self_equal}
-use Rattle.tc_course.specs.Prelude.{IsComplete, IsOn}
-use Rattle.tc_explore.specs.Locals.{AreLocals, GivesLocal, is_local}
-use Rattle.tc_explore.specs.Inside.Going.{HasSameLocals}
-use Rattle.tc_explore.specs.Inside.Twins.{HasLocal, HasLocals, IsMarked, IsMore, IsPadded}
-use Rattle.tc_course.proofs.Lemmas.Histories.{course_legal}
+use Rattle.tc_course.specs.Prelude.{IsComplete, IsOn, is_local}
+use Rattle.tc_course.proofs.Lemmas.{below_more, course_legal}
+use Rattle.tc_explore.specs.{Found.AreLocals, Found.GivesLocal, Inside.Seen.HasSameLocals, Inside.Twins.HasLocal, Inside.Twins.HasLocals, Inside.Twins.IsMarked, Inside.Twins.IsMore, Inside.Twins.IsPadded}
 use Rattle.tc_explore.proofs.Sameness.{exists_below, same_verdict}
 
 -- ---- one place
@@ -62,11 +58,11 @@ pub none_has : (found : List Bool) (past : List Entry) (c : ℕ) → local_if_an
 none_has found past c none w other = absurd cc
 
 few_levels : (v : Verdict) → level_of v < 5
-few_levels V.None = omega arith
-few_levels V.Pass = omega arith
-few_levels V.Inconc = omega arith
-few_levels V.Fail = omega arith
-few_levels V.Error = omega arith
+few_levels Verdict.None = omega arith
+few_levels Verdict.Pass = omega arith
+few_levels Verdict.Inconc = omega arith
+few_levels Verdict.Fail = omega arith
+few_levels Verdict.Error = omega arith
 
 pub marked_sound : (scripts : List ScriptView) (before after : List Bool) (t : Case) (c : ℕ) (v : Verdict) (at : ℕ) → at ≡ c * 5 + level_of v → IsOn scripts t → IsComplete scripts (past_of t) → local_if_any (past_of t) c ≡ Some v →
     IsMarked before after at → AreLocals scripts before → AreLocals scripts after
@@ -94,11 +90,7 @@ pub locals_none : (found : List Bool) (past : List Entry) → HasLocalsTo found 
 locals_none found past c less = absurd (omega arith)
 
 pub locals_more : (before after : List Bool) (past : List Entry) (n : ℕ) → IsMore before after → HasLocalsTo before past n → HasLocal after past n → HasLocalsTo after past (n + 1)
-locals_more before after past n more has last c less = by_place (nat_lt c n) refl
-  where
-    by_place : (t : Bool) → nat_lt c n ≡ t → HasLocal after past c
-    by_place true h = has_more before after past c more (has c (grind (arith, nat_tests)))
-    by_place false h = let same : n ≡ c = grind (arith, nat_tests) in subst (HasLocal after past) same last
+locals_more before after past n more has last = below_more (HasLocal after past) n (λ c less. has_more before after past c more (has c less)) last
 
 pub locals_all : (scripts : List ScriptView) (found : List Bool) (t : Case) (n : ℕ) → IsOn scripts t → components (past_of t) ≤ n → HasLocalsTo found (past_of t) n → HasLocals found (past_of t)
 unfolding local_if_any

@@ -1,14 +1,12 @@
 -- Searches for verdicts, each up to a better one: what they have found together.
-use Rattle.std.proofs.Common.{ℕ, suc, ◌≡◌, ◌<◌, ◌≤◌, ◌&&◌, nat_lt, nat_le, if◌then◌else◌, Bool, true, false, Option, Some, None, List, refl, ap, sym, subst, ◌∙◌, arith}
+use Rattle.std.proofs.Common.{ℕ, suc, ◌≡◌, ◌<◌, ◌≤◌, ◌&&◌, nat_lt, nat_le, if◌then◌else◌, Bool, true, false, Option, Some, None, List, refl, ap, sym, subst, ◌∙◌, arith, [], length, reverse}
 use Rattle.std.proofs.lemmas.Bool.Decides.{nat_tests}
-use Rattle.tc_rules.specs.Prelude.{Verdict, level_of}
-use Rattle.tc_verdict.specs.declared.verdict.Verdict.TheVariants as V
+use Rattle.tc_rules.specs.Prelude.{Verdict, level_of, Case, past_of, overall}
 use Rattle.tc_step.specs.Prelude.{ScriptView}
 use Rattle.tc_course.specs.declared.witness.Witness.{Witness}
 use Rattle.tc_course.specs.Prelude.{is_found, AllFound}
-use Rattle.tc_explore.specs.Inside.Seen.{IsLonger, IsToldBy, AllTold, is_found_within, next_aim, AreFoundAbove}
-use Rattle.tc_explore.proofs.Sameness.{same_verdict}
-use Rattle.tc_explore.proofs.Seeing.{found_longer}
+use Rattle.tc_explore.specs.Inside.{Seen.AllTold, Seen.AreClosed, Seen.AreFoundAbove, Seen.IsLonger, Seen.IsSeen, Seen.IsToldBy, Seen.is_found_within, Seen.next_aim, Simulation.IsCovered}
+use Rattle.tc_explore.proofs.{Closing.SeenIsClosed, Closing.complete_is_told, Sameness.same_for, Sameness.same_verdict, Seeing.found_longer}
 
 -- if a verdict as bad is found of one that is worse than this one, if there is one, it is found itself
 abbrev IsDecided : List Witness → Verdict → Option Verdict → Type 0
@@ -55,27 +53,27 @@ decided_if found aim m a rest next none later = by_test (is_found_within found a
     by_test false k = later (λ w l. still w l k (nat_lt (level_of m) (level_of w)) refl)
 
 at_most_error : (w : Verdict) → level_of w ≤ 4
-at_most_error V.None = omega arith
-at_most_error V.Pass = omega arith
-at_most_error V.Inconc = omega arith
-at_most_error V.Fail = omega arith
-at_most_error V.Error = omega arith
+at_most_error Verdict.None = omega arith
+at_most_error Verdict.Pass = omega arith
+at_most_error Verdict.Inconc = omega arith
+at_most_error Verdict.Fail = omega arith
+at_most_error Verdict.Error = omega arith
 
 abbrev from_pass : List Witness → Verdict → Option Verdict
-from_pass found aim = if is_found_within found aim V.Pass then Some V.None else None
+from_pass found aim = if is_found_within found aim Verdict.Pass then Some Verdict.None else None
 
 abbrev from_inconc : List Witness → Verdict → Option Verdict
-from_inconc found aim = if is_found_within found aim V.Inconc then Some V.Pass else from_pass found aim
+from_inconc found aim = if is_found_within found aim Verdict.Inconc then Some Verdict.Pass else from_pass found aim
 
 abbrev from_fail : List Witness → Verdict → Option Verdict
-from_fail found aim = if is_found_within found aim V.Fail then Some V.Inconc else from_inconc found aim
+from_fail found aim = if is_found_within found aim Verdict.Fail then Some Verdict.Inconc else from_inconc found aim
 
 decided : (found : List Witness) (aim : Verdict) → IsDecided found aim (next_aim found aim)
 decided found aim =
-    decided_if found aim V.Error V.Fail (from_fail found aim) refl (λ w l. let most = at_most_error w in absurd (omega (arith, l, most)))
-    (λ error. decided_if found aim V.Fail V.Inconc (from_inconc found aim) refl error
-    (λ fail. decided_if found aim V.Inconc V.Pass (from_pass found aim) refl fail
-    (λ inconc. decided_if found aim V.Pass V.None None refl inconc
+    decided_if found aim Verdict.Error Verdict.Fail (from_fail found aim) refl (λ w l. let most = at_most_error w in absurd (omega (arith, l, most)))
+    (λ error. decided_if found aim Verdict.Fail Verdict.Inconc (from_inconc found aim) refl error
+    (λ fail. decided_if found aim Verdict.Inconc Verdict.Pass (from_pass found aim) refl fail
+    (λ inconc. decided_if found aim Verdict.Pass Verdict.None None refl inconc
     (λ pass. λ v told. only_none pass v told (told_below found aim v 0 pass told)))))
   where
     only_none : IsNoneFrom found aim 1 → (v : Verdict) → IsToldBy aim found v → level_of v ≤ 0 → is_found found v ≡ true
@@ -90,7 +88,7 @@ decided found aim =
 
 abbrev verdict_of : Option Verdict → Verdict
 verdict_of (Some v) = v
-verdict_of None = V.None
+verdict_of None = Verdict.None
 
 lower_if : (found : List Witness) (aim m b a : Verdict) (rest : Option Verdict) → level_of m ≡ suc (level_of b) → (Some a ≡ rest → level_of a < level_of aim)
     → Some a ≡ (if is_found_within found aim m then Some b else rest) → level_of a < level_of aim
@@ -107,10 +105,10 @@ lower_if found aim m b a rest next later is = by_test (nat_le (level_of m) (leve
 -- the next aim is a better verdict
 pub lower : (found : List Witness) (aim a : Verdict) → Some a ≡ next_aim found aim → level_of a < level_of aim
 lower found aim a =
-    lower_if found aim V.Error V.Fail a (from_fail found aim) refl
-    (lower_if found aim V.Fail V.Inconc a (from_inconc found aim) refl
-    (lower_if found aim V.Inconc V.Pass a (from_pass found aim) refl
-    (lower_if found aim V.Pass V.None a None refl (λ e. absurd cc))))
+    lower_if found aim Verdict.Error Verdict.Fail a (from_fail found aim) refl
+    (lower_if found aim Verdict.Fail Verdict.Inconc a (from_inconc found aim) refl
+    (lower_if found aim Verdict.Inconc Verdict.Pass a (from_pass found aim) refl
+    (lower_if found aim Verdict.Pass Verdict.None a None refl (λ e. absurd cc))))
 
 -- what was found stays so
 above_longer : (scripts : List ScriptView) (f g : List Witness) (aim : Verdict) → IsLonger f g → AreFoundAbove aim scripts f → AreFoundAbove aim scripts g
@@ -139,7 +137,17 @@ above_all scripts f g aim more above told is history v one = by_test (nat_lt (le
     by_test false k = here v (told v (grind (arith, nat_tests)) (history, one))
 
 -- no verdict is worse than error
-pub above_error : (scripts : List ScriptView) (found : List Witness) → AreFoundAbove V.Error scripts found
+pub above_error : (scripts : List ScriptView) (found : List Witness) → AreFoundAbove Verdict.Error scripts found
 above_error scripts found v worse gives = let most = at_most_error v in absurd (omega (arith, worse, most))
 
 pub ruleset aim_rules = (above_error)
+
+seen_closed : {aim : Verdict} (scripts : List ScriptView) (states : List Case) (found : List Witness) → AreClosed aim scripts states found → SeenIsClosed aim scripts (IsSeen states) found
+seen_closed scripts states found closed r p seen course for =
+    (past_of seen.1, closed seen.0 seen.1 seen.2, same_for scripts r (past_of seen.1) p seen.3 for)
+
+pub closed_is_complete : {aim : Verdict} (scripts : List ScriptView) (states : List Case) (found : List Witness) → 1 ≤ length scripts → IsCovered aim scripts (IsSeen states) [] → AreClosed aim scripts states found → AllTold aim scripts found
+closed_is_complete {aim} scripts states found some start closed v within gives =
+    let is : v ≡ overall (reverse gives.0) = gives.1.verdict in
+    subst (λ x. IsToldBy aim found x) (sym is)
+    (complete_is_told aim scripts (IsSeen states) found some (seen_closed scripts states found closed) start (reverse gives.0) gives.1.course gives.1.complete (let same = ap level_of is in omega (arith, same, within)))

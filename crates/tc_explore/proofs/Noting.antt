@@ -1,20 +1,15 @@
--- Witnesses of which no verdict has two.
+-- Witnesses of which no verdict has two. Each is a legal history.
 use Rattle.std.proofs.Common.{ℕ, zero, suc, ◌≡◌, ◌==◌, ◌<◌, ◌≤◌, ◌||◌, Bool, true, false, nat_lt, List, [], ◌∷◌, ◌++◌, length, reverse, get_or, refl, ap, sym, ◌∙◌, arith, length-append}
-use Rattle.std.proofs.lemmas.Bool.Decides.{nat_tests}
-use Rattle.std.proofs.lemmas.List.{get_or_append_left}
-use Rattle.std.specs.List.{IsDistinct}
-use Rattle.std.specs.List.Sorted.{IsNonDecreasingBy, IsPermutation}
-use Rattle.std.proofs.lemmas.List.Elements.{All-push}
-use Rattle.std.proofs.lemmas.List.Sorted.{All-permutation, list_any-IsPermutation}
-use Rattle.std.proofs.lemmas.Map.Keys.{IsDistinct-from_apart, apart_from_distinct, IsDistinct-IsPermutation}
+use Rattle.std.proofs.lemmas.{Bool.Decides.nat_tests, List.Elements.All-push, List.Sorted.All-permutation, List.Sorted.list_any-IsPermutation, List.get_or_append_left, Map.Keys.IsDistinct-IsPermutation, Map.Keys.IsDistinct-from_apart, Map.Keys.apart_from_distinct}
+use Rattle.std.specs.List.{IsDistinct, Sorted.IsNonDecreasingBy, Sorted.IsPermutation}
 use Rattle.std.proofs.Math.Seq.{get_or-append_seam}
 use Rattle.tc_rules.specs.Prelude.{Verdict, level_of}
 use Rattle.tc_step.specs.Prelude.{ScriptView}
 use Rattle.tc_rules.proofs.Lemmas.Deciding.{equal_if, self_equal}
 use Rattle.tc_course.specs.declared.witness.Witness.{Witness}
-use Rattle.tc_course.specs.Prelude.{IsWitness, AllFound, is_found}
-use Rattle.tc_explore.specs.Found.{AreCovered, AreFromBest, Covers}
-use Rattle.tc_explore.specs.Inside.Going.{AreNoted, IsOnce}
+use Rattle.tc_course.specs.Prelude.{IsWitness, AllFound, is_found, AreLegal, AreWitnesses}
+use Rattle.tc_course.proofs.Lemmas.{course_legal}
+use Rattle.tc_explore.specs.{Found.AreCovered, Found.AreFromBest, Found.Covers, Inside.Seen.AreNoted, Inside.Seen.IsOnce}
 use Rattle.tc_explore.proofs.Sameness.{same_verdict}
 
 or_yes : (t : Bool) → (t || true) ≡ true
@@ -142,3 +137,9 @@ pub best_none : AreFromBest []
 best_none i j d less near = absurd (omega arith)
 
 pub ruleset noting_rules = (noted_more, once_none, noted_none)
+
+-- so is each that was found
+pub witnesses_legal : (scripts : List ScriptView) (found : List Witness) → AreWitnesses scripts found → AreLegal scripts found
+witnesses_legal scripts found h = λ k d lt. course_legal scripts _ (h k d lt).course
+
+pub ruleset legal_rules = (witnesses_legal)

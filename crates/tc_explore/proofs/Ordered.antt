@@ -1,21 +1,16 @@
 -- For what runs wait from now on: each component that they wait for comes before their own by rank, so that they do not wait
 -- for one another.
 use Rattle.std.proofs.Common.{ℕ, ◌≡◌, ◌+◌, ◌≤◌, ◌==◌, ◌⊎◌, inl, inr, if◌then◌else◌, Bool, true, false, Option, Some, None, is_some, List, ◌∷◌, length, slice_get, refl, ap, sym, subst, ◌∙◌, arith}
-use Rattle.tc_rules.specs.Prelude.{Comp, Entry, Op, comp_of, created, started_on, first_some, phase, phase_if_any, is_active, is_active_on, is_run_of, IsLegal, Verdict, is_wake}
-use Rattle.tc_entry.specs.declared.phase.Phase.TheVariants as P
+use Rattle.std.specs.Option.{unwrap_or}
+use Rattle.tc_rules.specs.Prelude.{Comp, Entry, Op, comp_of, created, started_on, first_some, phase, phase_if_any, is_active, is_active_on, is_run_of, IsLegal, Verdict, is_wake, Phase}
 use Rattle.tc_step.specs.declared.step.Step.{Step}
 use Rattle.tc_step.specs.Prelude.{ScriptView}
-use Rattle.tc_rules.proofs.Lemmas.Deciding.{equal_if, and_left}
-use Rattle.tc_rules.proofs.Lemmas.Going.{halted_by_entry, started_by_entry}
-use Rattle.std.specs.Option.{unwrap_or}
+use Rattle.tc_rules.proofs.Lemmas.{Deciding.and_left, Deciding.equal_if, Going.halted_by_entry, Going.started_by_entry}
 use Rattle.tc_course.specs.Prelude.{CourseState, stand, after_own, steps_of, IsTurn, IsCourse}
-use Rattle.tc_course.specs.Inside.Standing.{wake_if, call_of}
+use Rattle.tc_course.specs.Inside.{wake_if, call_of}
+use Rattle.tc_course.proofs.Lemmas.{course_legal, HasTurn, has_turn, never_wake, stand_own, stand_other, stand_comp}
 use Rattle.tc_explore.specs.Inside.Simulation.{IsAlike, is_gone, call_at, place_by, IsAhead, IsOrdered, AreOrdered}
-use Rattle.tc_course.proofs.Lemmas.Histories.{course_legal}
-use Rattle.tc_explore.proofs.Alike.{any_phase_same, first_kept}
-use Rattle.tc_course.proofs.Lemmas.Standings.{HasTurn, has_turn, never_wake, stand_own, stand_other, stand_comp}
-use Rattle.tc_explore.proofs.Late.{gone_is, gone_if, gone_next}
-use Rattle.tc_explore.proofs.Places.{kept_bound}
+use Rattle.tc_explore.proofs.{Alike.any_phase_same, Alike.first_kept, Late.gone_if, Late.gone_is, Late.gone_next, Places.kept_bound}
 
 -- ---- one run
 
@@ -41,7 +36,7 @@ ordered_own scripts rank q c b s e made wakes h = λ k killed t l call.
 
 -- ---- all runs
 
-pub not_on_killed : (past : List Entry) (b c : ℕ) → is_active past b ≡ true → comp_of past b ≡ Some (record { 0 = c }) → phase past c ≡ P.Killed → ⊥
+pub not_on_killed : (past : List Entry) (b c : ℕ) → is_active past b ≡ true → comp_of past b ≡ Some (record { 0 = c }) → phase past c ≡ Phase.Killed → ⊥
 unfolding is_active
 not_on_killed past b c act on dead =
     let off : is_active_on past b (comp_of past b) ≡ false = ap (is_active_on past b) on ∙ ap (is_run_of b) dead in
@@ -91,7 +86,7 @@ order_stays scripts p q e cp order made no_run = record {
     kept : (b : ℕ) → comp_of (e ∷ p) b ≡ comp_of p b
     kept b = ap (first_some (comp_of p b)) (no_run b) ∙ first_kept (comp_of p b)
 
-    by_test : (c b : ℕ) → is_active p b ≡ true → comp_of p b ≡ Some (record { 0 = c }) → phase q c ≡ P.Killed → (t : Bool) → (e.caller.0 == b) ≡ t → IsOrdered scripts order.rank q c b (stand (e ∷ p) b)
+    by_test : (c b : ℕ) → is_active p b ≡ true → comp_of p b ≡ Some (record { 0 = c }) → phase q c ≡ Phase.Killed → (t : Bool) → (e.caller.0 == b) ≡ t → IsOrdered scripts order.rank q c b (stand (e ∷ p) b)
     by_test c b act on dead true k =
         let same : e.caller.0 ≡ b = equal_if e.caller.0 b k in
         let wakes : is_wake e.op ≡ true → is_some (stand p b).wake ≡ true = subst (λ x. is_wake e.op ≡ true → is_some (stand p x).wake ≡ true) same (wakes_parked scripts p e cp.0) in
@@ -116,7 +111,7 @@ order_opening scripts p = record { rank = λ c. 0; top = 0; below = λ c. omega 
 
 -- after a turn of both
 pub order_both : {aim : Verdict} (scripts : List ScriptView) (p q : List Entry) (d e : Entry) → IsCourse scripts (d ∷ p) → IsCourse scripts (e ∷ q) → IsAhead aim scripts p q → AreOrdered scripts p q → d.caller.0 ≡ e.caller.0 →
-    IsAhead aim scripts (d ∷ p) (e ∷ q) → ((c : ℕ) → phase (e ∷ q) c ≡ P.Killed → (phase q c ≡ P.Killed) ⊎ (phase (d ∷ p) c ≡ P.Killed)) → is_active q e.caller.0 ≡ true → AreOrdered scripts (d ∷ p) (e ∷ q)
+    IsAhead aim scripts (d ∷ p) (e ∷ q) → ((c : ℕ) → phase (e ∷ q) c ≡ Phase.Killed → (phase q c ≡ Phase.Killed) ⊎ (phase (d ∷ p) c ≡ Phase.Killed)) → is_active q e.caller.0 ≡ true → AreOrdered scripts (d ∷ p) (e ∷ q)
 order_both scripts p q d e cp cq before order callers after dies acts = record {
   rank = order.rank;
   top = order.top;
@@ -130,7 +125,7 @@ order_both scripts p q d e cp cq before order callers after dies acts = record {
     lq : IsLegal (length scripts) (e ∷ q)
     lq = course_legal scripts (e ∷ q) cq
 
-    by_test : (c b : ℕ) → is_active p b ≡ true → comp_of p b ≡ Some (record { 0 = c }) → phase q c ≡ P.Killed → (t : Bool) → (d.caller.0 == b) ≡ t → IsOrdered scripts order.rank (e ∷ q) c b (stand (d ∷ p) b)
+    by_test : (c b : ℕ) → is_active p b ≡ true → comp_of p b ≡ Some (record { 0 = c }) → phase q c ≡ Phase.Killed → (t : Bool) → (d.caller.0 == b) ≡ t → IsOrdered scripts order.rank (e ∷ q) c b (stand (d ∷ p) b)
     by_test c b act on dead true k =
         let same : e.caller.0 ≡ b = sym callers ∙ equal_if d.caller.0 b k in
         let act_q : is_active q b ≡ true = subst (λ x. is_active q x ≡ true) same acts in
@@ -140,7 +135,7 @@ order_both scripts p q d e cp cq before order callers after dies acts = record {
         subst (λ s. IsOrdered scripts order.rank (e ∷ q) c b s) (sym (stand_other p d b (record { 0 = c }) k here))
         (ordered_later scripts order.rank q (e ∷ q) c b (stand p b) (gone_after (length scripts) q e lq) (order.each c b act on dead))
 
-    by_comp : (c b : ℕ) → is_active (d ∷ p) b ≡ true → comp_of (d ∷ p) b ≡ Some (record { 0 = c }) → phase (e ∷ q) c ≡ P.Killed → phase q c ≡ P.Killed → (o : Option Comp) → comp_of p b ≡ o →
+    by_comp : (c b : ℕ) → is_active (d ∷ p) b ≡ true → comp_of (d ∷ p) b ≡ Some (record { 0 = c }) → phase (e ∷ q) c ≡ Phase.Killed → phase q c ≡ Phase.Killed → (o : Option Comp) → comp_of p b ≡ o →
         IsOrdered scripts order.rank (e ∷ q) c b (stand (d ∷ p) b)
     by_comp c b act on dead was None k =
         let on_q : comp_of (e ∷ q) b ≡ Some (record { 0 = c }) = sym (after.comp_same b) ∙ on in
@@ -153,7 +148,7 @@ order_both scripts p q d e cp cq before order callers after dies acts = record {
         let was_on : is_active p b ≡ true = and_left (is_active p b) _ (sym (halted_by_entry (length scripts) p d b x lp k) ∙ act) in
         by_test c b was_on (k ∙ same) was (d.caller.0 == b) refl
 
-    by_death : (c b : ℕ) → is_active (d ∷ p) b ≡ true → comp_of (d ∷ p) b ≡ Some (record { 0 = c }) → phase (e ∷ q) c ≡ P.Killed → (phase q c ≡ P.Killed) ⊎ (phase (d ∷ p) c ≡ P.Killed) →
+    by_death : (c b : ℕ) → is_active (d ∷ p) b ≡ true → comp_of (d ∷ p) b ≡ Some (record { 0 = c }) → phase (e ∷ q) c ≡ Phase.Killed → (phase q c ≡ Phase.Killed) ⊎ (phase (d ∷ p) c ≡ Phase.Killed) →
         IsOrdered scripts order.rank (e ∷ q) c b (stand (d ∷ p) b)
     by_death c b act on dead (inl was) = by_comp c b act on dead was (comp_of p b) refl
     by_death c b act on dead (inr gone) = absurd (not_on_killed (d ∷ p) b c act on gone)

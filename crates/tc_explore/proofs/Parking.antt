@@ -3,45 +3,27 @@ use Rattle.std.proofs.Common.{ℕ, ◌≡◌, ◌<◌, ◌≤◌, ◌+◌, ◌==
 use Rattle.std.specs.List.{list_all}
 use Rattle.std.proofs.lemmas.Bool.Decides.{nat_tests}
 use Rattle.tc_rules.specs.Prelude.{Run, Comp, Entry, Op, Target, Phase, Reply, Fault, is_ended, is_fault, is_wake, Case, past_of, comps, comp_of, started_on, is_alive_type, is_over, phase, last_run, was_killed, was_halted, overall, holds, waiting, waits_in_vain, is_still, is_stuck, fault, answer, plain_answer, is_active, is_run_of, IsLegal, Verdict}
-use Rattle.tc_verdict.specs.declared.verdict.Verdict.TheVariants as V
-use Rattle.tc_entry.specs.declared.op.Op.TheVariants as O
-use Rattle.tc_entry.specs.declared.phase.Phase.TheVariants as P
-use Rattle.tc_entry.specs.declared.reply.Reply.TheVariants as R
-use Rattle.tc_entry.specs.declared.reply.Fault.TheVariants as F
 use Rattle.tc_step.specs.Prelude.{ScriptView}
-use Rattle.tc_rules.proofs.Lemmas.Deciding.{self_equal, equal_if}
-use Rattle.tc_rules.proofs.Lemmas.Going.{last_on_it}
-use Rattle.tc_rules.proofs.Lemmas.Steps.{phase_by}
-use Rattle.tc_course.specs.declared.witness.Witness.{Witness}
+use Rattle.tc_rules.proofs.Lemmas.{Deciding.equal_if, Deciding.self_equal, Going.last_on_it, Steps.phase_by}
+use Rattle.tc_course.specs.{Inside.call_of, Inside.one_more_if, declared.witness.Witness.Witness}
 use Rattle.tc_course.specs.Prelude.{CourseState, stand, goes_on, carried_on, after_other_by, turn, steps_of, IsTurn, IsCourse, is_found, IsOn}
-use Rattle.tc_course.specs.Inside.Standing.{one_more_if, call_of}
-use Rattle.tc_explore.specs.Inside.Going.{IsStepped, IsSteppedIfActive}
-use Rattle.tc_explore.specs.Found.{Covers}
-use Rattle.tc_explore.specs.Inside.Simulation.{IsAlike, is_quiet, GoesOn}
-use Rattle.tc_explore.specs.Inside.Seen.{HasNoWake, IsOpen, IsRunClosed, AreStill, AreHeld}
-use Rattle.tc_course.proofs.Lemmas.Histories.{course_legal}
-use Rattle.tc_explore.proofs.Alike.{ChangesNothing, holds_alike, active_alike, fault_alike, alike_unchanged, overall_next}
-use Rattle.tc_explore.proofs.Simulation.{unchanged_wait, some_if}
-use Rattle.tc_explore.proofs.Places.{not_ending}
-use Rattle.tc_course.proofs.Lemmas.Turning.{other_not_idle}
-use Rattle.tc_course.proofs.Lemmas.Standings.{has_turn, turn_of, never_wake, stand_own, stand_other, stand_comp, run_in_range}
-use Rattle.tc_explore.proofs.Closing.{not_ended, answer_plain, answer_fault, quiet_reply, parks_wait, fault_of_wait, error_is_worst}
-use Rattle.tc_explore.proofs.Keeping.{active_stays, main_goes, comp_main}
-use Rattle.tc_explore.proofs.LastCalls.{turn_by}
+use Rattle.tc_course.proofs.Lemmas.{course_legal, other_not_idle, has_turn, turn_of, never_wake, stand_own, stand_other, stand_comp, run_in_range}
+use Rattle.tc_explore.specs.{Found.Covers, Inside.Seen.AreHeld, Inside.Seen.AreStill, Inside.Seen.HasNoWake, Inside.Seen.IsOpen, Inside.Seen.IsRunClosed, Inside.Seen.IsStepped, Inside.Seen.IsSteppedIfActive, Inside.Simulation.GoesOn, Inside.Simulation.IsAlike, Inside.Simulation.is_quiet}
+use Rattle.tc_explore.proofs.{Alike.ChangesNothing, Alike.active_alike, Alike.alike_unchanged, Alike.fault_alike, Alike.holds_alike, Alike.overall_next, Closing.answer_fault, Closing.answer_plain, Closing.error_is_worst, Closing.fault_of_wait, Closing.not_ended, Closing.parks_wait, Closing.quiet_reply, Keeping.active_stays, Keeping.comp_main, Keeping.main_goes, LastCalls.turn_by, Places.not_ending, Simulation.some_if, Simulation.unchanged_wait}
 
 -- ---- who is held
 
-parked_if : (r : Reply) → goes_on r ≡ false → is_ended r ≡ false → r ≡ R.Parked
-parked_if R.Parked h k = refl
-parked_if R.Ended h k = absurd cc
+parked_if : (r : Reply) → goes_on r ≡ false → is_ended r ≡ false → r ≡ Reply.Parked
+parked_if Reply.Parked h k = refl
+parked_if Reply.Ended h k = absurd cc
 parked_if _ h k = absurd cc
 
 -- the next call of run b is a Wait for what has not come
 pub record IsWaitAt (scripts : List ScriptView) (q : List Entry) (b : ℕ) : Type 0 where
   pub killed : Bool
   pub target : Target
-  pub turn : turn scripts q b ≡ Some (O.Wait killed target)
-  pub no_fault : fault (length scripts) q b (O.Wait killed target) ≡ None
+  pub turn : turn scripts q b ≡ Some (Op.Wait killed target)
+  pub no_fault : fault (length scripts) q b (Op.Wait killed target) ≡ None
   pub unmet : holds q (record { killed = killed; target = target }) ≡ false
 
 wait_if : (scripts : List ScriptView) (q : List Entry) (b : ℕ) → 1 ≤ length scripts → IsCourse scripts q → HasNoWake q → AreHeld scripts q → is_active q b ≡ true → IsWaitAt scripts q b
@@ -66,10 +48,10 @@ wait_if scripts q b some course no_wake held act = by_fault (fault (length scrip
     stays = held b near (record { caller = record { 0 = b }; op = op; reply = answer (length scripts) q b op }) refl
         (record { turn = calls; reply = refl; not_idle = other_not_idle op (answer (length scripts) q b op) plain })
 
-    parks : answer (length scripts) q b op ≡ R.Parked
+    parks : answer (length scripts) q b op ≡ Reply.Parked
     parks = parked_if (answer (length scripts) q b op) stays (not_ended (length scripts) q b op on.0 act on.1)
 
-    by_wait : fault (length scripts) q b op ≡ None → (k : Bool) (t : Target) → op ≡ O.Wait k t → plain_answer q b op ≡ R.Parked → IsWaitAt scripts q b
+    by_wait : fault (length scripts) q b op ≡ None → (k : Bool) (t : Target) → op ≡ Op.Wait k t → plain_answer q b op ≡ Reply.Parked → IsWaitAt scripts q b
     by_wait none k t is waits = record {
       killed = k;
       target = t;
@@ -78,11 +60,11 @@ wait_if scripts q b some course no_wake held act = by_fault (fault (length scrip
       unmet = by_holds (holds q (record { killed = k; target = t })) (ap (plain_answer q b) (sym is) ∙ waits);
     }
       where
-        by_holds : (s : Bool) → (if s then R.Matched else R.Parked) ≡ R.Parked → s ≡ false
+        by_holds : (s : Bool) → (if s then Reply.Matched else Reply.Parked) ≡ Reply.Parked → s ≡ false
         by_holds true h = absurd cc
         by_holds false h = refl
 
-    by_quiet : fault (length scripts) q b op ≡ None → plain_answer q b op ≡ R.Parked → (s : Bool) → is_quiet (overall q) op ≡ s → IsWaitAt scripts q b
+    by_quiet : fault (length scripts) q b op ≡ None → plain_answer q b op ≡ Reply.Parked → (s : Bool) → is_quiet (overall q) op ≡ s → IsWaitAt scripts q b
     by_quiet none waits true k =
         let goes : goes_on (plain_answer q b op) ≡ true = (quiet_reply (overall q) q b op on.0 on.1 k).0 in
         let off : goes_on (plain_answer q b op) ≡ false = ap goes_on waits in
@@ -93,7 +75,7 @@ wait_if scripts q b some course no_wake held act = by_fault (fault (length scrip
 
     by_fault : (o : Option Fault) → fault (length scripts) q b op ≡ o → IsWaitAt scripts q b
     by_fault None k = by_quiet k (sym (answer_plain (length scripts) q b op act k) ∙ parks) (is_quiet (overall q) op) refl
-    by_fault (Some f) k = let no : R.Fault f ≡ R.Parked = sym (answer_fault (length scripts) q b op f act k) ∙ parks in absurd cc
+    by_fault (Some f) k = let no : Reply.Fault f ≡ Reply.Parked = sym (answer_fault (length scripts) q b op f act k) ∙ parks in absurd cc
 
 -- ---- who is parked
 
@@ -101,10 +83,10 @@ wait_if scripts q b some course no_wake held act = by_fault (fault (length scrip
 pub record IsParkedIn (scripts : List ScriptView) (q r : List Entry) (b : ℕ) : Type 0 where
   pub killed : Bool
   pub target : Target
-  pub wake : (stand r b).wake ≡ Some (O.Wake killed target)
+  pub wake : (stand r b).wake ≡ Some (Op.Wake killed target)
   pub stays : (stand r b).left ≡ false
   pub waits : waiting r b ≡ Some (record { killed = killed; target = target })
-  pub no_fault : fault (length scripts) q b (O.Wait killed target) ≡ None
+  pub no_fault : fault (length scripts) q b (Op.Wait killed target) ≡ None
   pub unmet : holds q (record { killed = killed; target = target }) ≡ false
 
 -- k runs of t are parked in u, if they continue, and the others are as they did
@@ -148,22 +130,22 @@ not_carried false e k h = refl
 -- one run more makes its Wait
 module _ (scripts : List ScriptView) (q r : List Entry) (e : Entry) (b : ℕ) (own : e.caller.0 ≡ b) (mine : IsTurn scripts r e) (cq : IsCourse scripts q) (cr : IsCourse scripts r)
     (act : is_active q b ≡ true) (a : IsAlike r q) (same : stand r b ≡ stand q b) (w : IsWaitAt scripts q b) where
-  op_is : e.op ≡ O.Wait w.killed w.target
+  op_is : e.op ≡ Op.Wait w.killed w.target
   op_is =
       let was : turn scripts r e.caller.0 ≡ Some e.op = mine.turn in
-      let is : turn scripts r e.caller.0 ≡ Some (O.Wait w.killed w.target) = ap (turn scripts r) own ∙ (turn_by scripts r q b same ∙ w.turn) in
-      let some : Some e.op ≡ Some (O.Wait w.killed w.target) = sym was ∙ is in
+      let is : turn scripts r e.caller.0 ≡ Some (Op.Wait w.killed w.target) = ap (turn scripts r) own ∙ (turn_by scripts r q b same ∙ w.turn) in
+      let some : Some e.op ≡ Some (Op.Wait w.killed w.target) = sym was ∙ is in
       cc
 
   act_r : is_active r b ≡ true
   act_r = active_alike a b ∙ act
 
-  parks : answer (length scripts) r b (O.Wait w.killed w.target) ≡ R.Parked
+  parks : answer (length scripts) r b (Op.Wait w.killed w.target) ≡ Reply.Parked
   parks =
-      answer_plain (length scripts) r b (O.Wait w.killed w.target) act_r (fault_alike a (length scripts) b (O.Wait w.killed w.target) ∙ w.no_fault)
+      answer_plain (length scripts) r b (Op.Wait w.killed w.target) act_r (fault_alike a (length scripts) b (Op.Wait w.killed w.target) ∙ w.no_fault)
       ∙ rw (holds_alike a (record { killed = w.killed; target = w.target }), w.unmet) refl
 
-  reply_is : e.reply ≡ R.Parked
+  reply_is : e.reply ≡ Reply.Parked
   reply_is = mine.reply ∙ (ap (λ x. answer (length scripts) r x e.op) own ∙ (ap (answer (length scripts) r b) op_is ∙ parks))
 
   uncounted : carried_on (e ∷ r) 0 ≡ carried_on r 0
@@ -171,7 +153,7 @@ module _ (scripts : List ScriptView) (q r : List Entry) (e : Entry) (b : ℕ) (o
 
   unchanged : ChangesNothing r e
   unchanged =
-      unchanged_wait r e (O.Wake w.killed w.target) (record { killed = w.killed; target = w.target; waits = op_is; wakes = refl }) (rw reply_is refl)
+      unchanged_wait r e (Op.Wake w.killed w.target) (record { killed = w.killed; target = w.target; waits = op_is; wakes = refl }) (rw reply_is refl)
 
   after : IsAlike (e ∷ r) q
   after = alike_then (e ∷ r) r q (alike_unchanged (length scripts) r e (course_legal scripts (e ∷ r) (mine, cr)) unchanged) a
@@ -274,11 +256,11 @@ parked_more scripts t u v k some o held on act h step = by_step step
 
     by_step : ((past_of v ≡ r) × ((e : Entry) → e.caller.0 ≡ k → IsTurn scripts r e → ⊥)) ⊎ ((e : Entry) × (past_of v ≡ e ∷ r) × (e.caller.0 ≡ k) × IsTurn scripts r e) → AreParked scripts t v (k + 1)
     by_step (inl s) =
-        let reply = answer (length scripts) r k (O.Wait w.killed w.target) in
-        let waits : reply ≡ R.Parked =
-        answer_plain (length scripts) r k (O.Wait w.killed w.target) act (fault_alike h.alike (length scripts) k (O.Wait w.killed w.target) ∙ w.no_fault)
+        let reply = answer (length scripts) r k (Op.Wait w.killed w.target) in
+        let waits : reply ≡ Reply.Parked =
+        answer_plain (length scripts) r k (Op.Wait w.killed w.target) act (fault_alike h.alike (length scripts) k (Op.Wait w.killed w.target) ∙ w.no_fault)
         ∙ rw (holds_alike h.alike (record { killed = w.killed; target = w.target }), w.unmet) refl in
-        absurd (s.1 (record { caller = record { 0 = k }; op = O.Wait w.killed w.target; reply = reply }) refl (record { turn = turn_by scripts r q k same ∙ w.turn; reply = refl; not_idle = rw waits refl }))
+        absurd (s.1 (record { caller = record { 0 = k }; op = Op.Wait w.killed w.target; reply = reply }) refl (record { turn = turn_by scripts r q k same ∙ w.turn; reply = refl; not_idle = rw waits refl }))
     by_step (inr s) = parked_entry scripts t u v s.0 k s.1 s.2 s.3 o on act_q h w
 
 -- one run more, whether it continues or not
@@ -304,14 +286,14 @@ pub ruleset active_rules = (active_none, active_one)
 
 -- ---- the end
 
-running_by : (k : Bool) (last : Option Run) (h a : Bool) (r : Run) → phase_by k last h a ≡ P.Running r → last ≡ Some r
+running_by : (k : Bool) (last : Option Run) (h a : Bool) (r : Run) → phase_by k last h a ≡ Phase.Running r → last ≡ Some r
 running_by true last h a r e = absurd cc
 running_by false None h a r e = absurd cc
 running_by false (Some b) false a r e = cc
 running_by false (Some b) true true r e = absurd cc
 running_by false (Some b) true false r e = absurd cc
 
-pub phase_running : (past : List Entry) (c : ℕ) (r : Run) → phase past c ≡ P.Running r → last_run past c ≡ Some r
+pub phase_running : (past : List Entry) (c : ℕ) (r : Run) → phase past c ≡ Phase.Running r → last_run past c ≡ Some r
 unfolding phase
 phase_running past c r h = running_by (was_killed past c) (last_run past c) (was_halted past c) (is_alive_type past c) r h
 
@@ -328,21 +310,21 @@ unfolding is_stuck
 stuck_if n past some legal all = all_true (λ c. is_still past (phase past c)) (comps past) (λ c. still_at c (phase past c) refl)
   where
     still_at : (c : ℕ) (p : Phase) → phase past c ≡ p → is_still past p ≡ true
-    still_at c (P.Running r) k =
+    still_at c (Phase.Running r) k =
         let on = last_on_it n past c r (omega arith) legal (phase_running past c r k) in
         all r.0 on.1 (active_if past r.0 (record { 0 = c }) on.0 (ap (is_run_of r.0) k ∙ self_equal r.0))
-    still_at c P.Inactive k = refl
-    still_at c P.Stopped k = refl
-    still_at c P.Killed k = refl
+    still_at c Phase.Inactive k = refl
+    still_at c Phase.Stopped k = refl
+    still_at c Phase.Killed k = refl
 
 -- after a Fault the case is over, with error
-fault_ends : (n : ℕ) (q : List Entry) (e : Entry) (f : Fault) → IsLegal n (e ∷ q) → e.reply ≡ R.Fault f → (is_over (e ∷ q) ≡ true) × (overall (e ∷ q) ≡ V.Error)
+fault_ends : (n : ℕ) (q : List Entry) (e : Entry) (f : Fault) → IsLegal n (e ∷ q) → e.reply ≡ Reply.Fault f → (is_over (e ∷ q) ≡ true) × (overall (e ∷ q) ≡ Verdict.Error)
 fault_ends n q e f legal is = (rw is refl, overall_next n q e legal ∙ rw is (error_is_worst (overall q)))
 
 -- the case is over, with error, and its main run has carried out one call more
 pub record IsStuckEnd (t v : Case) : Type 0 where
   pub over : is_over (past_of v) ≡ true
-  pub error : overall (past_of v) ≡ V.Error
+  pub error : overall (past_of v) ≡ Verdict.Error
   pub main : carried_on (past_of v) 0 ≡ carried_on (past_of t) 0 + 1
 
 pub stuck_end : (scripts : List ScriptView) (t u v : Case) (n : ℕ) → 1 ≤ length scripts → length scripts ≤ n → IsOpen scripts t → IsOn scripts u → AreParked scripts t u n → IsStepped scripts (past_of u) (past_of v) 0 →
@@ -364,48 +346,48 @@ stuck_end scripts t u v n some whole o on h step = by_step step
     p : IsParkedIn scripts q r 0
     p = h.parked 0 (omega (arith, some, whole)) main_q
 
-    calls : turn scripts r 0 ≡ Some (O.Wake p.killed p.target)
-    calls = turn_of scripts r 0 (O.Wake p.killed p.target) (record { me = record { 0 = 0 }; on = stand_comp scripts r 0 on.course ∙ comp_main r; stays = p.stays; calls = rw p.wake refl })
+    calls : turn scripts r 0 ≡ Some (Op.Wake p.killed p.target)
+    calls = turn_of scripts r 0 (Op.Wake p.killed p.target) (record { me = record { 0 = 0 }; on = stand_comp scripts r 0 on.course ∙ comp_main r; stays = p.stays; calls = rw p.wake refl })
 
     stuck : is_stuck r ≡ true
     stuck = stuck_if (length scripts) r some (course_legal scripts r on.course) (λ b near act.
         let w = h.parked b (omega arith) (sym (active_alike h.alike b) ∙ act) in
         rw (w.waits, holds_alike h.alike (record { killed = w.killed; target = w.target }), w.unmet) refl)
 
-    no_fault : fault (length scripts) r 0 (O.Wake p.killed p.target) ≡ None
-    no_fault = fault_alike h.alike (length scripts) 0 (O.Wake p.killed p.target) ∙ (sym (fault_of_wait (length scripts) q 0 p.killed p.target) ∙ p.no_fault)
+    no_fault : fault (length scripts) r 0 (Op.Wake p.killed p.target) ≡ None
+    no_fault = fault_alike h.alike (length scripts) 0 (Op.Wake p.killed p.target) ∙ (sym (fault_of_wait (length scripts) q 0 p.killed p.target) ∙ p.no_fault)
 
-    error : answer (length scripts) r 0 (O.Wake p.killed p.target) ≡ R.Fault F.Stuck
+    error : answer (length scripts) r 0 (Op.Wake p.killed p.target) ≡ Reply.Fault Fault.Stuck
     error =
-        answer_plain (length scripts) r 0 (O.Wake p.killed p.target) main no_fault
+        answer_plain (length scripts) r 0 (Op.Wake p.killed p.target) main no_fault
         ∙ rw (holds_alike h.alike (record { killed = p.killed; target = p.target }), p.unmet, stuck) refl
 
     stuck_entry : (e : Entry) → past_of v ≡ e ∷ r → e.caller.0 ≡ 0 → IsTurn scripts r e → IsStuckEnd t v
     stuck_entry e is own mine =
         let was : turn scripts r e.caller.0 ≡ Some e.op = mine.turn in
-        let now : turn scripts r e.caller.0 ≡ Some (O.Wake p.killed p.target) = ap (turn scripts r) own ∙ calls in
-        let some_op : Some e.op ≡ Some (O.Wake p.killed p.target) = sym was ∙ now in
-        let op_is : e.op ≡ O.Wake p.killed p.target = cc in
-        let reply_is : e.reply ≡ R.Fault F.Stuck = mine.reply ∙ (ap (λ x. answer (length scripts) r x e.op) own ∙ (ap (answer (length scripts) r 0) op_is ∙ error)) in
-        let ends = fault_ends (length scripts) r e F.Stuck (course_legal scripts (e ∷ r) (mine, on.course)) reply_is in
+        let now : turn scripts r e.caller.0 ≡ Some (Op.Wake p.killed p.target) = ap (turn scripts r) own ∙ calls in
+        let some_op : Some e.op ≡ Some (Op.Wake p.killed p.target) = sym was ∙ now in
+        let op_is : e.op ≡ Op.Wake p.killed p.target = cc in
+        let reply_is : e.reply ≡ Reply.Fault Fault.Stuck = mine.reply ∙ (ap (λ x. answer (length scripts) r x e.op) own ∙ (ap (answer (length scripts) r 0) op_is ∙ error)) in
+        let ends = fault_ends (length scripts) r e Fault.Stuck (course_legal scripts (e ∷ r) (mine, on.course)) reply_is in
         record { over = ap is_over is ∙ ends.0; error = ap overall is ∙ ends.1; main = ap (λ x. carried_on x 0) is ∙ (rw (own, reply_is) refl ∙ ap (λ k. k + 1) h.main) }
 
     by_step : ((past_of v ≡ r) × ((e : Entry) → e.caller.0 ≡ 0 → IsTurn scripts r e → ⊥)) ⊎ ((e : Entry) × (past_of v ≡ e ∷ r) × (e.caller.0 ≡ 0) × IsTurn scripts r e) → IsStuckEnd t v
     by_step (inl s) =
-        let reply = answer (length scripts) r 0 (O.Wake p.killed p.target) in
-        absurd (s.1 (record { caller = record { 0 = 0 }; op = O.Wake p.killed p.target; reply = reply }) refl (record { turn = calls; reply = refl; not_idle = rw error refl }))
+        let reply = answer (length scripts) r 0 (Op.Wake p.killed p.target) in
+        absurd (s.1 (record { caller = record { 0 = 0 }; op = Op.Wake p.killed p.target; reply = reply }) refl (record { turn = calls; reply = refl; not_idle = rw error refl }))
     by_step (inr s) = stuck_entry s.0 s.1 s.2 s.3
 
 -- ---- if none continues, and no error is found
 
 pub held_if : {aim : Verdict} (scripts : List ScriptView) (states : List Case) (found : List Witness) (q : List Entry) → IsCourse scripts q → AreStill scripts q (length scripts) →
-    ((b : ℕ) → b < length scripts → IsRunClosed aim scripts states found q b) → is_found found V.Error ≡ false → AreHeld scripts q
+    ((b : ℕ) → b < length scripts → IsRunClosed aim scripts states found q b) → is_found found Verdict.Error ≡ false → AreHeld scripts q
 held_if scripts states found q course still closed none b near e own mine = by_goes (goes_on e.reply) refl
   where
     by_reply : goes_on e.reply ≡ true → (r : Reply) → e.reply ≡ r → is_fault r ≡ true → ⊥
-    by_reply k (R.Fault f) is h =
+    by_reply k (Reply.Fault f) is h =
         let ends = fault_ends (length scripts) q e f (course_legal scripts (e ∷ q) (mine, course)) is in
-        let told : is_found found V.Error ≡ true = ap (is_found found) (sym ends.1) ∙ (closed b near e own mine k).over ends.0 in
+        let told : is_found found Verdict.Error ≡ true = ap (is_found found) (sym ends.1) ∙ (closed b near e own mine k).over ends.0 in
         absurd cc
     by_reply k _ is h = absurd cc
 

@@ -1,20 +1,14 @@
 -- The place of a run after its own turn.
 use Rattle.std.proofs.Common.{ℕ, suc, ◌≡◌, ◌+◌, ◌<◌, ◌≤◌, ◌==◌, ◌&&◌, ◌||◌, ◌⊎◌, inl, inr, not, nat_lt, if◌then◌else◌, Bool, true, false, Option, Some, None, MatchOption, List, [], ◌∷◌, ◌++◌, length, refl, ap, sym, subst, ◌∙◌, arith, append-nil}
 use Rattle.std.proofs.lemmas.Bool.Decides.{nat_tests}
+use Rattle.std.specs.{List.list_all, Option.option_to_list}
 use Rattle.tc_rules.specs.Prelude.{Verdict, level_of, Comp, Entry, Op, Reply, Fault, is_ended, is_wake, ends_pass, comp_of, created, halts, exists, overall, fault, all_exist, names, asks_many, special_fault, IsLegal, UserVerdict, given}
-use Rattle.std.specs.List.{list_all}
-use Rattle.tc_entry.specs.declared.op.Op.TheVariants as O
-use Rattle.tc_entry.specs.declared.reply.Reply.TheVariants as R
-use Rattle.tc_entry.specs.declared.reply.Fault.TheVariants as F
 use Rattle.tc_step.specs.Prelude.{ScriptView}
 use Rattle.tc_rules.proofs.Lemmas.Over.{stays}
-use Rattle.std.specs.Option.{option_to_list}
 use Rattle.tc_course.specs.Prelude.{CourseState, after_own}
-use Rattle.tc_course.specs.Inside.Standing.{ends, wake_for, wake_if}
+use Rattle.tc_course.specs.Inside.{ends, wake_for, wake_if}
 use Rattle.tc_explore.specs.Inside.Simulation.{is_quiet, is_late, is_met, is_spent, WasParked, IsQuietAt, call_at, IsWakeOf, IsBefore, IsParkedAt, IsFollowed, IsLastAt, IsLeaving, is_barred, IsBarredBefore}
-use Rattle.tc_explore.proofs.Alike.{ChangesNothing, overall_grows}
-use Rattle.tc_explore.proofs.Ahead.{KeepsQuiet}
-use Rattle.tc_explore.proofs.Late.{late_next, late_special, met_next, met_special}
+use Rattle.tc_explore.proofs.{Ahead.KeepsQuiet, Alike.ChangesNothing, Alike.overall_grows, Late.late_next, Late.late_special, Late.met_next, Late.met_special}
 
 or_no : (a : Bool) → (a || false) ≡ a
 or_no true = refl
@@ -40,16 +34,16 @@ not_ending past e o me u same on r =
     subst (λ x. ends x e ≡ false) (sym same) (neither (is_ended e.reply) (halts (Some me) e me.0) r h)
 
 pub quiet_sets_no_wake : (w : Verdict) (op : Op) (r : Reply) → is_quiet w op ≡ true → wake_if op r ≡ None
-quiet_sets_no_wake w op R.Parked h = by_op op h
+quiet_sets_no_wake w op Reply.Parked h = by_op op h
   where
     by_op : (o : Op) → is_quiet w o ≡ true → wake_for o ≡ None
-    by_op (O.Wait k t) j = absurd cc
-    by_op (O.Wake k t) j = absurd cc
+    by_op (Op.Wait k t) j = absurd cc
+    by_op (Op.Wake k t) j = absurd cc
     by_op _ j = refl
 quiet_sets_no_wake w op _ h = refl
 
 pub quiet_no_wake : (w : Verdict) (op : Op) → is_quiet w op ≡ true → is_wake op ≡ false
-quiet_no_wake w (O.Wake k t) h = absurd cc
+quiet_no_wake w (Op.Wake k t) h = absurd cc
 quiet_no_wake w _ h = refl
 
 before_of : (scripts : List ScriptView) (q : List Entry) (b : ℕ) (s t : CourseState) → s.wake ≡ None → IsFollowed scripts q b s t → IsBefore scripts q b s t
@@ -268,22 +262,22 @@ followed_self scripts q b s none =
 -- ---- quiet calls stay quiet after any entry
 
 quiet_then : (w x : Verdict) (op : Op) → level_of w ≤ level_of x → is_quiet w op ≡ true → is_quiet x op ≡ true
-quiet_then w x (O.SetVerdict v) l h = grind (arith, nat_tests)
-quiet_then w x O.GetVerdict l h = refl
-quiet_then w x (O.Running t) l h = refl
-quiet_then w x (O.Alive t) l h = refl
-quiet_then w x (O.Done t) l h = refl
-quiet_then w x (O.Killed t) l h = refl
+quiet_then w x (Op.SetVerdict v) l h = grind (arith, nat_tests)
+quiet_then w x Op.GetVerdict l h = refl
+quiet_then w x (Op.Running t) l h = refl
+quiet_then w x (Op.Alive t) l h = refl
+quiet_then w x (Op.Done t) l h = refl
+quiet_then w x (Op.Killed t) l h = refl
 quiet_then w x _ l h = absurd cc
 
-no_fault_by : (known many : Bool) (f : Option Fault) → (if not known then Some F.NoComponent else if many then Some F.NotMain else f) ≡ None → (known ≡ true) × (many ≡ false)
+no_fault_by : (known many : Bool) (f : Option Fault) → (if not known then Some Fault.NoComponent else if many then Some Fault.NotMain else f) ≡ None → (known ≡ true) × (many ≡ false)
 no_fault_by true true f h = absurd cc
 no_fault_by true false f h = (refl, refl)
 no_fault_by false many f h = absurd cc
 
 never_special : (n : ℕ) (past : List Entry) (w : Verdict) (op : Op) → is_quiet w op ≡ true → special_fault n past op ≡ None
-never_special n past w (O.Create alive name) h = absurd cc
-never_special n past w (O.Start c run args) h = absurd cc
+never_special n past w (Op.Create alive name) h = absurd cc
+never_special n past w (Op.Start c run args) h = absurd cc
 never_special n past w _ h = refl
 
 and_both : (a b : Bool) → (a && b) ≡ true → (a ≡ true) × (b ≡ true)
@@ -368,14 +362,14 @@ keeps_quiet n past e legal b op h = by_kind (how_spent past op h.quiet)
 -- a call that sets a verdict worse than this one
 pub record IsSettingWorse (aim : Verdict) (op : Op) : Type 0 where
   pub verdict : UserVerdict
-  pub sets : op ≡ O.SetVerdict verdict
+  pub sets : op ≡ Op.SetVerdict verdict
   pub worse : level_of aim < level_of (given verdict)
 
 pub barred_sets : (aim : Verdict) (op : Op) → is_barred aim op ≡ true → IsSettingWorse aim op
-barred_sets aim (O.SetVerdict v) h = record { verdict = v; sets = refl; worse = grind (arith, nat_tests) }
+barred_sets aim (Op.SetVerdict v) h = record { verdict = v; sets = refl; worse = grind (arith, nat_tests) }
 barred_sets aim _ h = absurd cc
 
 -- what is no worse than is looked for is not barred
 pub quiet_free : (w aim : Verdict) (op : Op) → level_of w ≤ level_of aim → is_quiet w op ≡ true → is_barred aim op ≡ false
-quiet_free w aim (O.SetVerdict v) l h = grind (arith, nat_tests)
+quiet_free w aim (Op.SetVerdict v) l h = grind (arith, nat_tests)
 quiet_free w aim _ l h = refl

@@ -1,9 +1,9 @@
--- The steps of scripts together, and what there is room for.
-use Rattle.std.proofs.Common.{ℕ, ◌≡◌, ◌+◌, ◌*◌, ◌/◌, ◌<◌, ◌≤◌, List, [], ◌∷◌, ◌++◌, length, take, get_or, refl, ap, ◌∙◌, arith}
+-- The steps of scripts together, what there is room for, and how far a search went.
+use Rattle.std.proofs.Common.{ℕ, ◌≡◌, ◌+◌, ◌*◌, ◌/◌, ◌<◌, ◌≤◌, List, [], ◌∷◌, ◌++◌, length, take, get_or, refl, ap, ◌∙◌, arith, ◌&&◌, Bool, true, false}
 use Rattle.std.proofs.Math.Nat.{le-div_iff_mul-le, div-le_self}
 use Rattle.std.proofs.lemmas.List.{take_more}
 use Rattle.tc_step.specs.Prelude.{ScriptView}
-use Rattle.tc_explore.specs.Limits.{room_of}
+use Rattle.tc_explore.specs.Found.{room_of}
 
 room_last : (xs : List ScriptView) (x : ScriptView) → room_of (xs ++ x ∷ []) ≡ room_of xs + length x.steps
 room_last [] x = refl
@@ -24,3 +24,20 @@ pub counted_all : (x n most : ℕ) → 1 ≤ n → x ≤ most / n → (x * n ≤
 counted_all x n most some few = (room_for x n most some few, let less = div-le_self most n in omega (arith, less, few))
 
 pub ruleset weight_rules = (counted_all, room_for, div-le_self)
+
+-- the first state was taken in, and what comes after each is seen
+pub whole : (placed closed : Bool) → (placed && closed) ≡ true → (placed ≡ true) × (closed ≡ true)
+whole true closed e = (refl, e)
+whole false closed e = absurd cc
+
+-- no more states than the limit
+pub few_met : (limit most met keys size : ℕ) → size ≡ keys → keys ≡ met → met ≤ most → most ≡ limit → size ≤ limit
+few_met limit most met keys size counted keyed few same = omega (arith, counted, keyed, few, same)
+
+-- as many, if it did not come to its end
+pub all_met : (limit most met keys size : ℕ) (placed closed : Bool) → size ≡ keys → keys ≡ met → met ≤ most → most ≡ limit
+    → (placed ≡ false → limit ≤ 0) → (closed ≡ false → most ≤ met) → (placed && closed) ≡ false → size ≡ limit
+all_met limit most met keys size true closed counted keyed few same unplaced unclosed part =
+    let full = unclosed part in omega (arith, counted, keyed, few, same, full)
+all_met limit most met keys size false closed counted keyed few same unplaced unclosed part =
+    let none = unplaced refl in omega (arith, counted, keyed, few, same, none)

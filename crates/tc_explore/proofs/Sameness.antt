@@ -2,23 +2,13 @@
 use Rattle.std.proofs.Common.{ℕ, suc, ◌≡◌, ◌+◌, ◌<◌, ◌≤◌, ◌&&◌, nat_lt, nat_le, if◌then◌else◌, Bool, true, false, Option, Some, None, List, [], ◌∷◌, ◌++◌, length, refl, ap, sym, subst, ◌∙◌, arith, ⊎_elim, inl, inr}
 use Rattle.std.proofs.lemmas.Bool.Decides.{nat_tests}
 use Rattle.tc_rules.specs.Prelude.{Run, Verdict, level_of, Comp, Entry, Phase, comps, comp_of, created, add_new, exists, is_in, is_alive_type, phase, phase_if_any, components, is_active, IsLegal}
-use Rattle.tc_verdict.specs.declared.verdict.Verdict.TheVariants as V
-use Rattle.tc_entry.specs.declared.phase.Phase.TheVariants as P
 use Rattle.tc_step.specs.Prelude.{ScriptView}
-use Rattle.tc_rules.specs.declared.component_state.ComponentState.{ComponentState}
-use Rattle.tc_rules.specs.Inside.Kept.{numbers_from}
-use Rattle.tc_rules.proofs.Lemmas.Numbers.{length-numbers_from, numbers_from-more, is_in-numbers_from}
-use Rattle.tc_rules.proofs.Lemmas.Sound.{next}
+use Rattle.tc_rules.specs.{Inside.Kept.numbers_from, declared.component_state.ComponentState.ComponentState}
+use Rattle.tc_rules.proofs.Lemmas.{Numbers.is_in-numbers_from, Numbers.length-numbers_from, Numbers.numbers_from-more, Sound.next}
 use Rattle.tc_course.specs.Prelude.{stand, IsCourse}
-use Rattle.tc_explore.specs.Inside.Simulation.{IsAlike, IsFor, IsFollowed}
-use Rattle.tc_explore.specs.Inside.Keys.{phase_code, comp_code}
-use Rattle.tc_explore.specs.Inside.Seen.{IsSame}
-use Rattle.tc_course.proofs.Lemmas.Histories.{course_legal}
-use Rattle.tc_explore.proofs.Alike.{alike_sym, active_alike, fresh}
-use Rattle.tc_explore.proofs.Ahead.{ahead_after, KeepsQuiet}
-use Rattle.tc_course.proofs.Lemmas.Standings.{stand_comp, run_in_range}
-use Rattle.tc_explore.proofs.Ordered.{order_alike}
-use Rattle.tc_explore.proofs.Simulation.{quiet_alike, followed_later}
+use Rattle.tc_course.proofs.Lemmas.{course_legal, stand_comp, run_in_range}
+use Rattle.tc_explore.specs.Inside.{Seen.IsSame, Simulation.IsAlike, Simulation.IsFollowed, Simulation.IsFor, Twins.comp_code, Twins.phase_code}
+use Rattle.tc_explore.proofs.{Ahead.KeepsQuiet, Ahead.ahead_after, Alike.active_alike, Alike.alike_sym, Alike.fresh, Ordered.order_alike, Simulation.followed_later, Simulation.quiet_alike}
 
 -- the components are numbered in the order of their creation
 numbered : (n : ℕ) (past : List Entry) → IsLegal n past → comps past ≡ numbers_from 0 (components past)
@@ -116,31 +106,31 @@ module _ (scripts : List ScriptView) (p q : List Entry) (cp : IsCourse scripts p
 -- ---- levels
 
 pub same_verdict : (a b : Verdict) → level_of a ≡ level_of b → a ≡ b
-same_verdict V.None V.None h = refl
-same_verdict V.Pass V.Pass h = refl
-same_verdict V.Inconc V.Inconc h = refl
-same_verdict V.Fail V.Fail h = refl
-same_verdict V.Error V.Error h = refl
-same_verdict V.None V.Pass h = absurd (omega arith)
-same_verdict V.None V.Inconc h = absurd (omega arith)
-same_verdict V.None V.Fail h = absurd (omega arith)
-same_verdict V.None V.Error h = absurd (omega arith)
-same_verdict V.Pass V.None h = absurd (omega arith)
-same_verdict V.Pass V.Inconc h = absurd (omega arith)
-same_verdict V.Pass V.Fail h = absurd (omega arith)
-same_verdict V.Pass V.Error h = absurd (omega arith)
-same_verdict V.Inconc V.None h = absurd (omega arith)
-same_verdict V.Inconc V.Pass h = absurd (omega arith)
-same_verdict V.Inconc V.Fail h = absurd (omega arith)
-same_verdict V.Inconc V.Error h = absurd (omega arith)
-same_verdict V.Fail V.None h = absurd (omega arith)
-same_verdict V.Fail V.Pass h = absurd (omega arith)
-same_verdict V.Fail V.Inconc h = absurd (omega arith)
-same_verdict V.Fail V.Error h = absurd (omega arith)
-same_verdict V.Error V.None h = absurd (omega arith)
-same_verdict V.Error V.Pass h = absurd (omega arith)
-same_verdict V.Error V.Inconc h = absurd (omega arith)
-same_verdict V.Error V.Fail h = absurd (omega arith)
+same_verdict Verdict.None Verdict.None h = refl
+same_verdict Verdict.Pass Verdict.Pass h = refl
+same_verdict Verdict.Inconc Verdict.Inconc h = refl
+same_verdict Verdict.Fail Verdict.Fail h = refl
+same_verdict Verdict.Error Verdict.Error h = refl
+same_verdict Verdict.None Verdict.Pass h = absurd (omega arith)
+same_verdict Verdict.None Verdict.Inconc h = absurd (omega arith)
+same_verdict Verdict.None Verdict.Fail h = absurd (omega arith)
+same_verdict Verdict.None Verdict.Error h = absurd (omega arith)
+same_verdict Verdict.Pass Verdict.None h = absurd (omega arith)
+same_verdict Verdict.Pass Verdict.Inconc h = absurd (omega arith)
+same_verdict Verdict.Pass Verdict.Fail h = absurd (omega arith)
+same_verdict Verdict.Pass Verdict.Error h = absurd (omega arith)
+same_verdict Verdict.Inconc Verdict.None h = absurd (omega arith)
+same_verdict Verdict.Inconc Verdict.Pass h = absurd (omega arith)
+same_verdict Verdict.Inconc Verdict.Fail h = absurd (omega arith)
+same_verdict Verdict.Inconc Verdict.Error h = absurd (omega arith)
+same_verdict Verdict.Fail Verdict.None h = absurd (omega arith)
+same_verdict Verdict.Fail Verdict.Pass h = absurd (omega arith)
+same_verdict Verdict.Fail Verdict.Inconc h = absurd (omega arith)
+same_verdict Verdict.Fail Verdict.Error h = absurd (omega arith)
+same_verdict Verdict.Error Verdict.None h = absurd (omega arith)
+same_verdict Verdict.Error Verdict.Pass h = absurd (omega arith)
+same_verdict Verdict.Error Verdict.Inconc h = absurd (omega arith)
+same_verdict Verdict.Error Verdict.Fail h = absurd (omega arith)
 
 -- what represents a history, and is the same as another, so does that
 pub same_for : {aim : Verdict} (scripts : List ScriptView) (q r p : List Entry) → IsSame q r → IsFor aim scripts q p → IsFor aim scripts r p
@@ -160,33 +150,33 @@ same_for scripts q r p s f = record {
 
 pub same_phase : (a b : Option Phase) → phase_code a ≡ phase_code b → a ≡ b
 same_phase None None h = refl
-same_phase (Some P.Inactive) (Some P.Inactive) h = refl
-same_phase (Some P.Stopped) (Some P.Stopped) h = refl
-same_phase (Some P.Killed) (Some P.Killed) h = refl
-same_phase (Some (P.Running r)) (Some (P.Running s)) h = same_run r s (omega arith)
+same_phase (Some Phase.Inactive) (Some Phase.Inactive) h = refl
+same_phase (Some Phase.Stopped) (Some Phase.Stopped) h = refl
+same_phase (Some Phase.Killed) (Some Phase.Killed) h = refl
+same_phase (Some (Phase.Running r)) (Some (Phase.Running s)) h = same_run r s (omega arith)
   where
-    same_run : (x y : Run) → x.0 ≡ y.0 → Some (P.Running x) ≡ Some (P.Running y)
-    same_run x y e = ap (λ (m : ℕ). Some (P.Running (record { 0 = m }))) e
-same_phase None (Some P.Inactive) h = absurd (omega arith)
-same_phase None (Some P.Stopped) h = absurd (omega arith)
-same_phase None (Some P.Killed) h = absurd (omega arith)
-same_phase None (Some (P.Running r)) h = absurd (omega arith)
-same_phase (Some P.Inactive) None h = absurd (omega arith)
-same_phase (Some P.Inactive) (Some P.Stopped) h = absurd (omega arith)
-same_phase (Some P.Inactive) (Some P.Killed) h = absurd (omega arith)
-same_phase (Some P.Inactive) (Some (P.Running r)) h = absurd (omega arith)
-same_phase (Some P.Stopped) None h = absurd (omega arith)
-same_phase (Some P.Stopped) (Some P.Inactive) h = absurd (omega arith)
-same_phase (Some P.Stopped) (Some P.Killed) h = absurd (omega arith)
-same_phase (Some P.Stopped) (Some (P.Running r)) h = absurd (omega arith)
-same_phase (Some P.Killed) None h = absurd (omega arith)
-same_phase (Some P.Killed) (Some P.Inactive) h = absurd (omega arith)
-same_phase (Some P.Killed) (Some P.Stopped) h = absurd (omega arith)
-same_phase (Some P.Killed) (Some (P.Running r)) h = absurd (omega arith)
-same_phase (Some (P.Running r)) None h = absurd (omega arith)
-same_phase (Some (P.Running r)) (Some P.Inactive) h = absurd (omega arith)
-same_phase (Some (P.Running r)) (Some P.Stopped) h = absurd (omega arith)
-same_phase (Some (P.Running r)) (Some P.Killed) h = absurd (omega arith)
+    same_run : (x y : Run) → x.0 ≡ y.0 → Some (Phase.Running x) ≡ Some (Phase.Running y)
+    same_run x y e = ap (λ (m : ℕ). Some (Phase.Running (record { 0 = m }))) e
+same_phase None (Some Phase.Inactive) h = absurd (omega arith)
+same_phase None (Some Phase.Stopped) h = absurd (omega arith)
+same_phase None (Some Phase.Killed) h = absurd (omega arith)
+same_phase None (Some (Phase.Running r)) h = absurd (omega arith)
+same_phase (Some Phase.Inactive) None h = absurd (omega arith)
+same_phase (Some Phase.Inactive) (Some Phase.Stopped) h = absurd (omega arith)
+same_phase (Some Phase.Inactive) (Some Phase.Killed) h = absurd (omega arith)
+same_phase (Some Phase.Inactive) (Some (Phase.Running r)) h = absurd (omega arith)
+same_phase (Some Phase.Stopped) None h = absurd (omega arith)
+same_phase (Some Phase.Stopped) (Some Phase.Inactive) h = absurd (omega arith)
+same_phase (Some Phase.Stopped) (Some Phase.Killed) h = absurd (omega arith)
+same_phase (Some Phase.Stopped) (Some (Phase.Running r)) h = absurd (omega arith)
+same_phase (Some Phase.Killed) None h = absurd (omega arith)
+same_phase (Some Phase.Killed) (Some Phase.Inactive) h = absurd (omega arith)
+same_phase (Some Phase.Killed) (Some Phase.Stopped) h = absurd (omega arith)
+same_phase (Some Phase.Killed) (Some (Phase.Running r)) h = absurd (omega arith)
+same_phase (Some (Phase.Running r)) None h = absurd (omega arith)
+same_phase (Some (Phase.Running r)) (Some Phase.Inactive) h = absurd (omega arith)
+same_phase (Some (Phase.Running r)) (Some Phase.Stopped) h = absurd (omega arith)
+same_phase (Some (Phase.Running r)) (Some Phase.Killed) h = absurd (omega arith)
 
 pub same_comp : (a b : Option Comp) → comp_code a ≡ comp_code b → a ≡ b
 same_comp None None h = refl

@@ -1,24 +1,12 @@
 -- What one more quiet call of a search represents.
 use Rattle.std.proofs.Common.{ℕ, ◌≡◌, ◌==◌, inl, inr, true, false, None, Some, List, [], ◌∷◌, ◌++◌, length, refl, ap, sym, subst, ◌∙◌, append_assoc, if◌then◌else◌, Bool}
-use Rattle.tc_rules.specs.Prelude.{Run, Comp, Entry, Op, Phase, phase, phase_if_any, is_ended, is_fault, Case, past_of, comp_of, is_alive_type, exists, overall, answer, Verdict}
-use Rattle.tc_entry.specs.declared.op.Op.TheVariants as O
-use Rattle.tc_entry.specs.declared.op.Target.TheVariants as T
-use Rattle.tc_entry.specs.declared.op.Group.TheVariants as G
-use Rattle.tc_entry.specs.declared.phase.Phase.TheVariants as P
-use Rattle.tc_entry.specs.declared.reply.Reply.TheVariants as R
+use Rattle.tc_rules.specs.Prelude.{Run, Comp, Entry, Op, Phase, phase, phase_if_any, is_ended, is_fault, Case, past_of, comp_of, is_alive_type, exists, overall, answer, Verdict, Target, Group, Reply}
 use Rattle.tc_step.specs.Prelude.{ScriptView}
 use Rattle.tc_rules.proofs.Lemmas.Sound.{plain_if}
 use Rattle.tc_course.specs.Prelude.{stand, IsTurn, IsCourse, turn, entry_made, IsOn}
-use Rattle.tc_explore.specs.Inside.Simulation.{IsAlike, is_quiet, is_late, is_met, is_spent, IsQuietAt, IsWakeOf, IsFollowed, IsFor, IsEnd, IsSilent, is_barred, IsBarredNow, IsFelled, IsFelling}
-use Rattle.tc_explore.specs.Inside.Seen.{StandsOn}
-use Rattle.tc_course.proofs.Lemmas.Histories.{course_legal}
-use Rattle.tc_explore.proofs.Alike.{alike_unchanged, fault_alike}
-use Rattle.tc_course.proofs.Lemmas.Standings.{stand_own, stand_comp}
-use Rattle.tc_explore.proofs.Simulation.{unchanged_quiet, unchanged_wait, some_if, followed_later, lead, quiet_made}
-use Rattle.tc_explore.proofs.Leaving.{Ends, running_on, lead_end}
-use Rattle.tc_explore.proofs.Late.{late_for, late_reply, late_halts, met_for, met_reply, alike_late, halt_not_ending, other_than_gone}
-use Rattle.tc_explore.proofs.Places.{not_ending, quiet_sets_no_wake, quiet_no_wake, spent_quiet, spent_late, spent_met, Spent, how_spent, ahead, keeps_quiet}
-use Rattle.tc_explore.proofs.Felling.{lead_felling, next_of}
+use Rattle.tc_course.proofs.Lemmas.{course_legal, stand_own, stand_comp}
+use Rattle.tc_explore.specs.Inside.{Seen.StandsOn, Simulation.IsAlike, Simulation.IsBarredNow, Simulation.IsEnd, Simulation.IsFelled, Simulation.IsFelling, Simulation.IsFollowed, Simulation.IsFor, Simulation.IsQuietAt, Simulation.IsSilent, Simulation.IsWakeOf, Simulation.is_barred, Simulation.is_late, Simulation.is_met, Simulation.is_quiet, Simulation.is_spent}
+use Rattle.tc_explore.proofs.{Alike.alike_unchanged, Alike.fault_alike, Felling.lead_felling, Felling.next_of, Late.alike_late, Late.halt_not_ending, Late.late_for, Late.late_halts, Late.late_reply, Late.met_for, Late.met_reply, Late.other_than_gone, Leaving.Ends, Leaving.lead_end, Leaving.running_on, Places.Spent, Places.ahead, Places.how_spent, Places.keeps_quiet, Places.not_ending, Places.quiet_no_wake, Places.quiet_sets_no_wake, Places.spent_late, Places.spent_met, Places.spent_quiet, Simulation.followed_later, Simulation.lead, Simulation.quiet_made, Simulation.some_if, Simulation.unchanged_quiet, Simulation.unchanged_wait}
 
 -- a call that is no error, and asks a question or sets a verdict that is no worse than this one
 lead_quiet : {aim : Verdict} (w : Verdict) (scripts : List ScriptView) (p q : List Entry) (e : Entry) → IsCourse scripts p → IsCourse scripts (e ∷ q) → is_fault e.reply ≡ false → is_ended e.reply ≡ false → is_quiet w e.op ≡ true →
@@ -70,9 +58,9 @@ lead_met : {aim : Verdict} (scripts : List ScriptView) (p q : List Entry) (e : E
 lead_met scripts p q e cp cq plain on met f =
     let is = plain_if (length scripts) q e.caller.0 e.op e.reply on plain cq.0.reply in
     let m = met_for q e.op met in
-    let matched : e.reply ≡ R.Matched = is.is ∙ met_reply q e.caller.0 e.op met in
-    let of : IsWakeOf e.op (O.Wake m.for_kill (T.One m.comp)) = record { killed = m.for_kill; target = T.One m.comp; waits = m.waits; wakes = refl } in
-    let u = unchanged_wait q e (O.Wake m.for_kill (T.One m.comp)) of plain in
+    let matched : e.reply ≡ Reply.Matched = is.is ∙ met_reply q e.caller.0 e.op met in
+    let of : IsWakeOf e.op (Op.Wake m.for_kill (Target.One m.comp)) = record { killed = m.for_kill; target = Target.One m.comp; waits = m.waits; wakes = refl } in
+    let u = unchanged_wait q e (Op.Wake m.for_kill (Target.One m.comp)) of plain in
     let after : IsAlike (e ∷ q) q = alike_unchanged (length scripts) q e (course_legal scripts (e ∷ q) cq) u in
     let me = some_if q e.caller.0 is.active in
     let fol = f.runs e.caller.0 is.active in
@@ -147,13 +135,13 @@ phase_there : (t : Bool) (x y : Phase) → (if t then Some x else None) ≡ Some
 phase_there true x y h = cc
 phase_there false x y h = absurd cc
 
-pub felled_of : (aim : Verdict) (scripts : List ScriptView) (q : List Entry) (b : ℕ) (comp on : Comp) (run : Run) → phase_if_any q comp.0 ≡ Some (P.Running run) → (stand q run.0).comp ≡ Some on → on.0 ≡ comp.0 →
+pub felled_of : (aim : Verdict) (scripts : List ScriptView) (q : List Entry) (b : ℕ) (comp on : Comp) (run : Run) → phase_if_any q comp.0 ≡ Some (Phase.Running run) → (stand q run.0).comp ≡ Some on → on.0 ≡ comp.0 →
     (comp.0 == 0) ≡ false → (run.0 == 0) ≡ false → (b == run.0) ≡ false → is_alive_type q comp.0 ≡ false → IsBarredNow aim scripts q run.0 → IsFelled aim scripts q b comp
 unfolding phase_if_any
 felled_of aim scripts q b comp on run running at same not_main not_main_run other ordinary barred = record {
   not_main = not_main;
   run = run;
-  running = phase_there (exists q comp.0) (phase q comp.0) (P.Running run) running;
+  running = phase_there (exists q comp.0) (phase q comp.0) (Phase.Running run) running;
   on = at ∙ ap (λ (m : ℕ). Some (record { 0 = m })) same;
   other = other;
   not_main_run = not_main_run;
@@ -161,13 +149,13 @@ felled_of aim scripts q b comp on run running at same not_main not_main_run othe
   barred = barred;
 }
 
-pub felling_stop : (aim : Verdict) (scripts : List ScriptView) (q : List Entry) (b : ℕ) (op : Op) (comp : Comp) → op ≡ O.Stop (G.One comp) → IsFelled aim scripts q b comp → IsFelling aim scripts q b op
+pub felling_stop : (aim : Verdict) (scripts : List ScriptView) (q : List Entry) (b : ℕ) (op : Op) (comp : Comp) → op ≡ Op.Stop (Group.One comp) → IsFelled aim scripts q b comp → IsFelling aim scripts q b op
 felling_stop aim scripts q b op comp is felled = record { comp = comp; halts_it = inl is; felled = felled }
 
-pub felling_kill : (aim : Verdict) (scripts : List ScriptView) (q : List Entry) (b : ℕ) (op : Op) (comp : Comp) → op ≡ O.Kill (G.One comp) → IsFelled aim scripts q b comp → IsFelling aim scripts q b op
+pub felling_kill : (aim : Verdict) (scripts : List ScriptView) (q : List Entry) (b : ℕ) (op : Op) (comp : Comp) → op ≡ Op.Kill (Group.One comp) → IsFelled aim scripts q b comp → IsFelling aim scripts q b op
 felling_kill aim scripts q b op comp is felled = record { comp = comp; halts_it = inr is; felled = felled }
 
-pub end_of : (q : List Entry) (b : ℕ) (op : Op) (c : Comp) → op ≡ O.Finish → (b == 0) ≡ false → (stand q b).comp ≡ Some c → is_alive_type q c.0 ≡ false → IsEnd q b op
+pub end_of : (q : List Entry) (b : ℕ) (op : Op) (c : Comp) → op ≡ Op.Finish → (b == 0) ≡ false → (stand q b).comp ≡ Some c → is_alive_type q c.0 ≡ false → IsEnd q b op
 end_of q b op c finish not_main on ordinary = record { finish = finish; not_main = not_main; comp = c; on = on; ordinary = ordinary }
 
 -- a quiet call and then more

@@ -1,16 +1,12 @@
 -- What a search has seen and found stays so while its lists grow.
 use Rattle.std.proofs.Common.{ℕ, ◌≡◌, ◌<◌, ◌==◌, ◌||◌, true, Some, List, [], ◌∷◌, ◌++◌, length, slice_get, refl, ap, sym, ◌∙◌, arith, append-nil, length-append}
-use Rattle.std.proofs.lemmas.List.{get_or_append_left}
-use Rattle.std.proofs.lemmas.List.Elements.{All-push}
-use Rattle.std.proofs.lemmas.List.Folds.{list_any-append}
-use Rattle.std.proofs.lemmas.Option.{slice_get_within, slice_get-get_or, get_or_from_slice_get}
+use Rattle.std.proofs.lemmas.{List.Elements.All-push, List.Folds.list_any-append, List.get_or_append_left, Option.get_or_from_slice_get, Option.slice_get-get_or, Option.slice_get_within}
 use Rattle.std.proofs.Math.Seq.{get_or-append_seam}
 use Rattle.tc_rules.specs.Prelude.{Verdict, level_of, Entry, Case, past_of}
 use Rattle.tc_step.specs.Prelude.{ScriptView}
 use Rattle.tc_course.specs.declared.witness.Witness.{Witness}
 use Rattle.tc_course.specs.Prelude.{is_found}
-use Rattle.tc_explore.specs.Inside.Simulation.{IsCovered, IsClosedFor}
-use Rattle.tc_explore.specs.Inside.Seen.{IsSame, IsSeen, IsLonger, StandsOn}
+use Rattle.tc_explore.specs.Inside.{Seen.IsLonger, Seen.IsSame, Seen.IsSeen, Seen.StandsOn, Simulation.IsClosedFor, Simulation.IsCovered}
 
 pub seen_at : (states : List Case) (i : ℕ) (t : Case) (r : List Entry) → slice_get states i ≡ Some t → IsSame r (past_of t) → IsSeen states r
 seen_at states i t r here same = (i, t, here, same)

@@ -1,54 +1,45 @@
 -- A history that represents another still does after one more turn of either.
 use Rattle.std.proofs.Common.{ℕ, ◌≡◌, ◌==◌, ◌⊎◌, not, Bool, true, false, Option, Some, None, MatchOption, List, ◌∷◌, length, refl, ap, sym, subst, ◌∙◌, arith, ◌≤◌, ⊎_elim, inl, inr}
 use Rattle.std.proofs.lemmas.Bool.Decides.{nat_tests}
-use Rattle.tc_rules.specs.Prelude.{Verdict, worse, level_of, given, Comp, Entry, Op, Reply, is_fault, is_ok, comp_of, created, starts_run, started_on, phase, start_in, overall, gives, setting, is_active, plain_answer, halting_op, IsLegal}
-use Rattle.tc_entry.specs.declared.op.Op.TheVariants as O
-use Rattle.tc_entry.specs.declared.reply.Reply.TheVariants as R
-use Rattle.tc_entry.specs.declared.phase.Phase.TheVariants as P
+use Rattle.tc_rules.specs.Prelude.{Verdict, worse, level_of, given, Comp, Entry, Op, Reply, is_fault, is_ok, comp_of, created, starts_run, started_on, phase, start_in, overall, gives, setting, is_active, plain_answer, halting_op, IsLegal, Phase}
 use Rattle.tc_step.specs.Prelude.{ScriptView}
 use Rattle.tc_rules.specs.Inside.Step.{next_local}
-use Rattle.tc_rules.proofs.Lemmas.Deciding.{equal_if, if_same, and_left}
-use Rattle.tc_rules.proofs.Lemmas.Going.{others_halt_nothing, halted_by_entry}
-use Rattle.tc_rules.proofs.Lemmas.Kept.{inactive}
+use Rattle.tc_rules.proofs.Lemmas.{Deciding.and_left, Deciding.equal_if, Deciding.if_same, Going.halted_by_entry, Going.others_halt_nothing, Kept.inactive}
 use Rattle.tc_course.specs.Prelude.{CourseState, stand, IsCourse}
-use Rattle.tc_explore.specs.Inside.Simulation.{IsAlike, is_quiet, call_at, IsWakeOf, IsBefore, IsParkedAt, IsFollowed, IsLeaving, IsEnding, IsAhead, IsFor}
-use Rattle.tc_course.proofs.Lemmas.Histories.{course_legal}
-use Rattle.tc_explore.proofs.Alike.{ChangesNothing, alike_sym, alike_unchanged, active_alike, fault_alike, late_alike, met_alike, overall_next, overall_grows, worse_most}
-use Rattle.tc_explore.proofs.Ahead.{KeepsQuiet, ahead_after, ahead_turn}
-use Rattle.tc_course.proofs.Lemmas.Standings.{stand_other, stand_comp}
-use Rattle.tc_explore.proofs.Ordered.{order_stays, order_alike, order_both}
+use Rattle.tc_course.proofs.Lemmas.{course_legal, stand_other, stand_comp}
 use Rattle.tc_verdict.proofs.Lemmas.Order.{worse_right}
-use Rattle.tc_explore.proofs.Places.{keeps_quiet}
+use Rattle.tc_explore.specs.Inside.Simulation.{IsAlike, is_quiet, call_at, IsWakeOf, IsBefore, IsParkedAt, IsFollowed, IsLeaving, IsEnding, IsAhead, IsFor}
+use Rattle.tc_explore.proofs.{Ahead.KeepsQuiet, Ahead.ahead_after, Ahead.ahead_turn, Alike.ChangesNothing, Alike.active_alike, Alike.alike_sym, Alike.alike_unchanged, Alike.fault_alike, Alike.late_alike, Alike.met_alike, Alike.overall_grows, Alike.overall_next, Alike.worse_most, Ordered.order_alike, Ordered.order_both, Ordered.order_stays, Places.keeps_quiet}
 
 -- ---- entries that change nothing
 
 -- the operation makes, starts, halts and kills nothing
 abbrev pub is_passive : Op → Bool
-is_passive (O.Create alive name) = false
-is_passive (O.Start c run args) = false
+is_passive (Op.Create alive name) = false
+is_passive (Op.Start c run args) = false
 is_passive op = not (halting_op op)
 
 made_never : (op : Op) (r : Reply) → is_passive op ≡ true → created op r ≡ None
-made_never (O.Create alive name) r h = absurd cc
+made_never (Op.Create alive name) r h = absurd cc
 made_never _ r h = refl
 
-made_by_ended : (op : Op) → created op R.Ended ≡ None
-made_by_ended (O.Create alive name) = refl
+made_by_ended : (op : Op) → created op Reply.Ended ≡ None
+made_by_ended (Op.Create alive name) = refl
 made_by_ended _ = refl
 
 passive_never_halts : (op : Op) → is_passive op ≡ true → halting_op op ≡ false
-passive_never_halts (O.Stop g) h = absurd cc
-passive_never_halts (O.Kill g) h = absurd cc
-passive_never_halts O.StopCase h = absurd cc
-passive_never_halts O.Finish h = absurd cc
+passive_never_halts (Op.Stop g) h = absurd cc
+passive_never_halts (Op.Kill g) h = absurd cc
+passive_never_halts Op.StopCase h = absurd cc
+passive_never_halts Op.Finish h = absurd cc
 passive_never_halts _ h = refl
 
 starts_none : (op : Op) (b : ℕ) → is_passive op ≡ true → starts_run op b ≡ None
-starts_none (O.Start c run args) b h = absurd cc
+starts_none (Op.Start c run args) b h = absurd cc
 starts_none _ b h = refl
 
 starts_in_none : (e : Entry) (op : Op) (c : ℕ) → is_passive op ≡ true → start_in (record e { op = op }) c ≡ None
-starts_in_none e (O.Start d run args) c h = absurd cc
+starts_in_none e (Op.Start d run args) c h = absurd cc
 starts_in_none e _ c h = if_same (is_ok e.reply) None
 
 pub unchanged_passive : (past : List Entry) (e : Entry) → is_passive e.op ≡ true → is_fault e.reply ≡ false → ChangesNothing past e
@@ -59,7 +50,7 @@ unchanged_passive past e passive plain = record {
   no_halt = λ c. others_halt_nothing _ e c (rw (passive_never_halts e.op passive, plain) refl);
 }
 
-pub unchanged_ended : (past : List Entry) (e : Entry) → e.reply ≡ R.Ended → ChangesNothing past e
+pub unchanged_ended : (past : List Entry) (e : Entry) → e.reply ≡ Reply.Ended → ChangesNothing past e
 unchanged_ended past e r = record {
   made = rw r (made_by_ended e.op);
   no_run = λ b. rw r refl;
@@ -67,22 +58,22 @@ unchanged_ended past e r = record {
   no_halt = λ c. rw r refl;
 }
 
-pub ended_kept : (n : ℕ) (past : List Entry) (e : Entry) → IsLegal n (e ∷ past) → e.reply ≡ R.Ended → overall (e ∷ past) ≡ overall past
+pub ended_kept : (n : ℕ) (past : List Entry) (e : Entry) → IsLegal n (e ∷ past) → e.reply ≡ Reply.Ended → overall (e ∷ past) ≡ overall past
 ended_kept n past e legal r = overall_next n past e legal ∙ rw r refl
 
 -- a quiet call makes the verdict no worse than this one
 set_within : (w : Verdict) (op : Op) (x : Verdict) → is_quiet w op ≡ true → level_of x ≤ level_of w → level_of (next_local (setting op) x) ≤ level_of w
-set_within w (O.SetVerdict v) x h l = let m : level_of (given v) ≤ level_of w = grind (arith, nat_tests) in worse_most x (given v) (level_of w) l m
-set_within w O.GetVerdict x h l = l
-set_within w (O.Running t) x h l = l
-set_within w (O.Alive t) x h l = l
-set_within w (O.Done t) x h l = l
-set_within w (O.Killed t) x h l = l
+set_within w (Op.SetVerdict v) x h l = let m : level_of (given v) ≤ level_of w = grind (arith, nat_tests) in worse_most x (given v) (level_of w) l m
+set_within w Op.GetVerdict x h l = l
+set_within w (Op.Running t) x h l = l
+set_within w (Op.Alive t) x h l = l
+set_within w (Op.Done t) x h l = l
+set_within w (Op.Killed t) x h l = l
 set_within w _ x h l = absurd cc
 
 gift_within : (w : Verdict) (op : Op) (r : Reply) (x : Verdict) → is_fault r ≡ false → is_quiet w op ≡ true → level_of x ≤ level_of w → level_of (next_local (gives op r) x) ≤ level_of w
-gift_within w op R.Ok x f h l = set_within w op x h l
-gift_within w op (R.Fault y) x f h l = absurd cc
+gift_within w op Reply.Ok x f h l = set_within w op x h l
+gift_within w op (Reply.Fault y) x f h l = absurd cc
 gift_within w op _ x f h l = l
 
 pub quiet_within : (w : Verdict) (n : ℕ) (past : List Entry) (e : Entry) → IsLegal n (e ∷ past) → is_quiet w e.op ≡ true → is_fault e.reply ≡ false → level_of (overall past) ≤ level_of w →
@@ -90,15 +81,15 @@ pub quiet_within : (w : Verdict) (n : ℕ) (past : List Entry) (e : Entry) → I
 quiet_within w n past e legal quiet plain l = rw (overall_next n past e legal) (gift_within w e.op e.reply (overall past) plain quiet l)
 
 made_by : (w x y : Verdict) (past : List Entry) (b : ℕ) (op : Op) (r : Reply) → is_quiet w op ≡ true → r ≡ plain_answer past b op → y ≡ next_local (gives op r) x → is_quiet y op ≡ true
-made_by w x y past b (O.SetVerdict v) r h is k =
+made_by w x y past b (Op.SetVerdict v) r h is k =
     let m : y ≡ worse x (given v) = k ∙ rw is refl in
     let l : level_of (given v) ≤ level_of y = subst (λ z. level_of (given v) ≤ level_of z) (sym m) (worse_right x (given v)) in
     grind (arith, nat_tests)
-made_by w x y past b O.GetVerdict r h is k = refl
-made_by w x y past b (O.Running t) r h is k = refl
-made_by w x y past b (O.Alive t) r h is k = refl
-made_by w x y past b (O.Done t) r h is k = refl
-made_by w x y past b (O.Killed t) r h is k = refl
+made_by w x y past b Op.GetVerdict r h is k = refl
+made_by w x y past b (Op.Running t) r h is k = refl
+made_by w x y past b (Op.Alive t) r h is k = refl
+made_by w x y past b (Op.Done t) r h is k = refl
+made_by w x y past b (Op.Killed t) r h is k = refl
 made_by w x y past b _ r h is k = absurd cc
 
 -- once it is made it sets no worse verdict
@@ -106,20 +97,20 @@ pub quiet_made : (w : Verdict) (n : ℕ) (past : List Entry) (b : ℕ) (e : Entr
 quiet_made w n past b e legal quiet is = made_by w (overall past) (overall (e ∷ past)) past b e.op e.reply quiet is (overall_next n past e legal)
 
 quiet_passive : (w : Verdict) (op : Op) → is_quiet w op ≡ true → is_passive op ≡ true
-quiet_passive w (O.SetVerdict v) h = refl
-quiet_passive w O.GetVerdict h = refl
-quiet_passive w (O.Running t) h = refl
-quiet_passive w (O.Alive t) h = refl
-quiet_passive w (O.Done t) h = refl
-quiet_passive w (O.Killed t) h = refl
+quiet_passive w (Op.SetVerdict v) h = refl
+quiet_passive w Op.GetVerdict h = refl
+quiet_passive w (Op.Running t) h = refl
+quiet_passive w (Op.Alive t) h = refl
+quiet_passive w (Op.Done t) h = refl
+quiet_passive w (Op.Killed t) h = refl
 quiet_passive w _ h = absurd cc
 
 pub unchanged_quiet : (w : Verdict) (past : List Entry) (e : Entry) → is_quiet w e.op ≡ true → is_fault e.reply ≡ false → ChangesNothing past e
 unchanged_quiet w past e quiet plain = unchanged_passive past e (quiet_passive w e.op quiet) plain
 
 waits_gain : (w : Verdict) (op wake : Op) (r : Reply) → IsWakeOf op wake → is_fault r ≡ false → (next_local (gives op r) w ≡ w) × (next_local (gives wake r) w ≡ w)
-waits_gain w op wake R.Ok h f = rw (h.waits, h.wakes) (refl, refl)
-waits_gain w op wake (R.Fault x) h f = absurd cc
+waits_gain w op wake Reply.Ok h f = rw (h.waits, h.wakes) (refl, refl)
+waits_gain w op wake (Reply.Fault x) h f = absurd cc
 waits_gain w op wake _ h f = (refl, refl)
 
 waits_passive : (op wake : Op) → IsWakeOf op wake → (is_passive op ≡ true) × (is_passive wake ≡ true)
@@ -221,7 +212,7 @@ pub both : {aim : Verdict} (scripts : List ScriptView) (p q : List Entry) (d e :
     IsAhead aim scripts (d ∷ p) (e ∷ q) → KeepsQuiet (length scripts) q (e ∷ q) →
     (is_active q e.caller.0 ≡ true → IsFollowed scripts (e ∷ q) e.caller.0 (stand (d ∷ p) e.caller.0) (stand (e ∷ q) e.caller.0)) →
     ((b : ℕ) → (e.caller.0 == b) ≡ false → comp_of q b ≡ None → is_active (e ∷ q) b ≡ true → IsFollowed scripts (e ∷ q) b (stand (d ∷ p) b) (stand (e ∷ q) b)) →
-    is_active q e.caller.0 ≡ true → ((c : ℕ) → phase (e ∷ q) c ≡ P.Killed → (phase q c ≡ P.Killed) ⊎ (phase (d ∷ p) c ≡ P.Killed)) → IsFor aim scripts (e ∷ q) (d ∷ p)
+    is_active q e.caller.0 ≡ true → ((c : ℕ) → phase (e ∷ q) c ≡ Phase.Killed → (phase q c ≡ Phase.Killed) ⊎ (phase (d ∷ p) c ≡ Phase.Killed)) → IsFor aim scripts (e ∷ q) (d ∷ p)
 both scripts p q d e cp cq f callers ahead keeps own fresh acts dies = record {
   ahead = ahead;
   runs = λ b act. by_test b act (e.caller.0 == b) refl;

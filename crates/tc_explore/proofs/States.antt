@@ -1,20 +1,16 @@
 -- When a state is closed, and when all are.
-use Rattle.std.proofs.Common.{ℕ, ◌≡◌, ◌+◌, ◌<◌, ◌≤◌, ◌⊎◌, inl, inr, Bool, true, false, Some, List, [], length, reverse, nat_lt, slice_get, get_or, refl, ap, sym, subst, ◌∙◌, arith, append-nil}
-use Rattle.std.proofs.lemmas.Bool.Decides.{nat_tests}
+use Rattle.std.proofs.Common.{ℕ, ◌≡◌, ◌+◌, ◌<◌, ◌≤◌, ◌⊎◌, inl, inr, true, false, Some, List, [], length, reverse, slice_get, get_or, refl, ap, sym, subst, ◌∙◌, arith, append-nil}
 use Rattle.std.proofs.lemmas.Option.{slice_get_within, slice_get-get_or}
-use Rattle.tc_verdict.specs.declared.verdict.Verdict.TheVariants as V
 use Rattle.tc_rules.specs.Prelude.{Entry, Case, past_of, is_over, is_active, Verdict, level_of}
 use Rattle.tc_step.specs.Prelude.{ScriptView}
 use Rattle.tc_course.specs.declared.witness.Witness.{Witness}
 use Rattle.tc_course.specs.Prelude.{is_found, stand, IsCourse}
-use Rattle.tc_explore.specs.Inside.Simulation.{IsCovered, GoesOn, IsClosed, IsWithin}
-use Rattle.tc_explore.specs.Inside.Seen.{IsClosedAt, AreClosed, IsSeen, IsLonger, StandsOn, IsRunClosed, IsState, AllTold}
-use Rattle.tc_explore.proofs.Seeing.{seen_longer, found_longer, closed_for_longer, covered_by, get_more}
-use Rattle.tc_explore.proofs.Completeness.{closed_is_complete}
-use Rattle.tc_explore.proofs.Keeping.{active_stays, main_goes}
+use Rattle.tc_course.proofs.Lemmas.{below_more}
+use Rattle.tc_explore.specs.Inside.{Seen.AllTold, Seen.AreClosed, Seen.IsClosedAt, Seen.IsLonger, Seen.IsRunClosed, Seen.IsSeen, Seen.IsState, Seen.StandsOn, Simulation.GoesOn, Simulation.IsClosed, Simulation.IsCovered, Simulation.IsWithin}
+use Rattle.tc_explore.proofs.{Keeping.active_stays, Keeping.main_goes, NextAim.closed_is_complete, Seeing.closed_for_longer, Seeing.covered_by, Seeing.found_longer, Seeing.get_more, Seeing.seen_longer}
 
 closed_by : {aim : Verdict} (scripts : List ScriptView) (states : List Case) (found : List Witness) (q : List Entry) → IsCourse scripts q → is_over q ≡ false → IsWithin aim q → is_active q 0 ≡ true → (stand q 0).left ≡ false →
-    ((b : ℕ) → b < length scripts → IsRunClosed aim scripts states found q b) → (is_found found V.Error ≡ true) ⊎ (GoesOn scripts q ⊎ (level_of aim < level_of V.Error)) → IsClosed aim scripts (IsSeen states) found q
+    ((b : ℕ) → b < length scripts → IsRunClosed aim scripts states found q b) → (is_found found Verdict.Error ≡ true) ⊎ (GoesOn scripts q ⊎ (level_of aim < level_of Verdict.Error)) → IsClosed aim scripts (IsSeen states) found q
 closed_by scripts states found q course going within main stays runs stuck = record {
   course = course;
   going = going;
@@ -26,7 +22,7 @@ closed_by scripts states found q course going within main stays runs stuck = rec
 }
 
 closed_state : {aim : Verdict} (scripts : List ScriptView) (states : List Case) (found : List Witness) (t : Case) → IsState aim scripts t → ((b : ℕ) → b < length scripts → IsRunClosed aim scripts states found (past_of t) b) →
-    (is_found found V.Error ≡ true) ⊎ (GoesOn scripts (past_of t) ⊎ (level_of aim < level_of V.Error)) → IsClosed aim scripts (IsSeen states) found (past_of t)
+    (is_found found Verdict.Error ≡ true) ⊎ (GoesOn scripts (past_of t) ⊎ (level_of aim < level_of Verdict.Error)) → IsClosed aim scripts (IsSeen states) found (past_of t)
 closed_state scripts states found t s runs stuck =
     let main = main_goes scripts (past_of t) s.opened.on.course s.opened.going in
     closed_by scripts states found (past_of t) s.opened.on.course s.opened.going s.within main (active_stays scripts (past_of t) 0 s.opened.on.course main) runs stuck
@@ -38,19 +34,19 @@ closed_going scripts states found t s runs goes = closed_state scripts states fo
 
 -- none continues, and error is found
 pub closed_stuck : {aim : Verdict} (scripts : List ScriptView) (states : List Case) (before found : List Witness) (t : Case) → IsState aim scripts t → ((b : ℕ) → b < length scripts → IsRunClosed aim scripts states before (past_of t) b) →
-    IsLonger before found → is_found found V.Error ≡ true → IsClosed aim scripts (IsSeen states) found (past_of t)
+    IsLonger before found → is_found found Verdict.Error ≡ true → IsClosed aim scripts (IsSeen states) found (past_of t)
 closed_stuck scripts states before found t s runs more error =
     closed_state scripts states found t s
     (λ b near e own turn goes. closed_for_longer scripts states states before found (past_of t) e ([], sym (append-nil states)) more (runs b near e own turn goes))
     (inl error)
 
 pub closed_error : {aim : Verdict} (scripts : List ScriptView) (states : List Case) (found : List Witness) (t : Case) → IsState aim scripts t → ((b : ℕ) → b < length scripts → IsRunClosed aim scripts states found (past_of t) b) →
-    is_found found V.Error ≡ true → IsClosed aim scripts (IsSeen states) found (past_of t)
+    is_found found Verdict.Error ≡ true → IsClosed aim scripts (IsSeen states) found (past_of t)
 closed_error scripts states found t s runs error = closed_state scripts states found t s runs (inl error)
 
 -- none continues, and error is worse than is looked for
 pub closed_better : {aim : Verdict} (scripts : List ScriptView) (states : List Case) (found : List Witness) (t : Case) → IsState aim scripts t → ((b : ℕ) → b < length scripts → IsRunClosed aim scripts states found (past_of t) b) →
-    level_of aim < level_of V.Error → IsClosed aim scripts (IsSeen states) found (past_of t)
+    level_of aim < level_of Verdict.Error → IsClosed aim scripts (IsSeen states) found (past_of t)
 closed_better scripts states found t s runs better = closed_state scripts states found t s runs (inr (inr better))
 
 pub ruleset state_rules = (closed_going, closed_stuck, closed_error, closed_better)
@@ -60,13 +56,16 @@ pub ruleset state_rules = (closed_going, closed_stuck, closed_error, closed_bett
 pub get_longer : (a b : List Case) (i : ℕ) (t : Case) → IsLonger a b → slice_get a i ≡ Some t → slice_get b i ≡ Some t
 get_longer a b i t more h = ap (λ x. slice_get x i) more.1 ∙ get_more a more.0 i t h
 
+-- a state that is there was there before
+pub at_longer : (a b : List Case) (i : ℕ) (d t : Case) → IsLonger a b → i < length a → slice_get b i ≡ Some t → t ≡ get_or a i d
+at_longer a b i d t more near here =
+    let some : Some t ≡ Some (get_or a i d) = sym here ∙ get_longer a b i (get_or a i d) more (slice_get-get_or a i d near) in cc
+
 -- a copy of the state at a place is closed
 pub closed_at : {aim : Verdict} (scripts : List ScriptView) (a b : List Case) (found : List Witness) (i : ℕ) (u v : Case) → IsLonger a b → i < length a → u.history ≡ v.history → v ≡ get_or a i v → IsClosed aim scripts (IsSeen b) found (past_of u) →
     IsClosedAt aim scripts b found i
 closed_at {aim} scripts a b found i u v more near same at closed t here =
-    let there : slice_get b i ≡ Some (get_or a i v) = get_longer a b i (get_or a i v) more (slice_get-get_or a i v near) in
-    let some : Some t ≡ Some (get_or a i v) = sym here ∙ there in
-    let is : t ≡ get_or a i v = cc in
+    let is = at_longer a b i v t more near here in
     let past : past_of u ≡ past_of t = ap reverse (same ∙ ap (λ (x : Case). x.history) (at ∙ sym is)) in
     subst (IsClosed aim scripts (IsSeen b) found) past closed
 
@@ -81,25 +80,17 @@ closed_longer {aim} scripts a b f g q states found c = record {
   stuck = by_stuck c.stuck;
 }
   where
-    by_stuck : (is_found f V.Error ≡ true) ⊎ (GoesOn scripts q ⊎ (level_of aim < level_of V.Error)) → (is_found g V.Error ≡ true) ⊎ (GoesOn scripts q ⊎ (level_of aim < level_of V.Error))
-    by_stuck (inl h) = inl (found_longer f g V.Error found h)
+    by_stuck : (is_found f Verdict.Error ≡ true) ⊎ (GoesOn scripts q ⊎ (level_of aim < level_of Verdict.Error)) → (is_found g Verdict.Error ≡ true) ⊎ (GoesOn scripts q ⊎ (level_of aim < level_of Verdict.Error))
+    by_stuck (inl h) = inl (found_longer f g Verdict.Error found h)
     by_stuck (inr h) = inr h
 
 -- that many, and one more
 pub closed_ats_more : {aim : Verdict} (scripts : List ScriptView) (a b : List Case) (f g : List Witness) (n : ℕ) → IsLonger a b → IsLonger f g → n < length a → ((i : ℕ) → i < n → IsClosedAt aim scripts a f i) → IsClosedAt aim scripts b g n →
     (i : ℕ) → i < n + 1 → IsClosedAt aim scripts b g i
-closed_ats_more {aim} scripts a b f g n states found within closed last i less = by_place (nat_lt i n) refl
-  where
-    by_place : (t : Bool) → nat_lt i n ≡ t → IsClosedAt aim scripts b g i
-    by_place true h = λ t here.
-        let near : i < n = grind (arith, nat_tests) in
-        let inside : i < length a = omega arith in
-        let was : slice_get a i ≡ Some (get_or a i t) = slice_get-get_or a i t inside in
-        let there : slice_get b i ≡ Some (get_or a i t) = get_longer a b i (get_or a i t) states was in
-        let some : Some t ≡ Some (get_or a i t) = sym here ∙ there in
-        let is : get_or a i t ≡ t = cc in
-        closed_longer scripts a b f g (past_of t) states found (closed i near t (was ∙ ap Some is))
-    by_place false h = let same : n ≡ i = grind (arith, nat_tests) in subst (IsClosedAt aim scripts b g) same last
+closed_ats_more {aim} scripts a b f g n states found within closed last = below_more (IsClosedAt aim scripts b g) n (λ i near t here.
+    let inside : i < length a = omega (arith, near, within) in
+    let was = slice_get-get_or a i t inside ∙ ap Some (sym (at_longer a b i t t states inside here)) in
+    closed_longer scripts a b f g (past_of t) states found (closed i near t was)) last
 
 -- all of them
 pub closed_ats_all : {aim : Verdict} (scripts : List ScriptView) (a : List Case) (f : List Witness) (n : ℕ) → length a ≤ n → ((i : ℕ) → i < n → IsClosedAt aim scripts a f i) → AreClosed aim scripts a f

@@ -1,29 +1,17 @@
 -- Two courses of one key of a search for local verdicts are twins.
 use Rattle.std.proofs.Common.{ℕ, ◌≡◌, ◌==◌, ◌+◌, ◌<◌, ◌≤◌, ◌++◌, nat_lt, if◌then◌else◌, Bool, true, false, Option, Some, None, All, List, [], ◌∷◌, length, refl, ap, sym, subst, ◌∙◌, arith}
-use Rattle.std.proofs.lemmas.Bool.Decides.{nat_tests}
-use Rattle.std.proofs.lemmas.Option.{slice_get_within, get_or_from_slice_get}
-use Rattle.std.specs.Cmp.Lexicographic.{pointwise}
-use Rattle.std.specs.List.{flat_map, list_any, range_with_len}
+use Rattle.std.proofs.lemmas.{Bool.Decides.nat_tests, Option.get_or_from_slice_get, Option.slice_get_within}
+use Rattle.std.specs.{Cmp.Lexicographic.pointwise, List.flat_map, List.list_any, List.range_with_len}
 use Rattle.std.specs.Prelude.{nat_eq}
-use Rattle.tc_rules.specs.Prelude.{Verdict, Entry, Op, Reply, Case, past_of, components, exists, started_on, local, local_if_any, is_active, is_wake}
-use Rattle.tc_entry.specs.declared.op.Op.TheVariants as O
-use Rattle.tc_entry.specs.declared.op.Target.TheVariants as T
-use Rattle.tc_entry.specs.declared.reply.Reply.TheVariants as R
+use Rattle.tc_rules.specs.Prelude.{Verdict, Entry, Op, Reply, Case, past_of, components, exists, started_on, local, local_if_any, is_active, is_wake, Target}
 use Rattle.tc_step.specs.Prelude.{ScriptView}
 use Rattle.tc_rules.specs.declared.component_state.ComponentState.{ComponentState}
 use Rattle.tc_rules.proofs.Lemmas.Deciding.{equal_if}
-use Rattle.tc_explore.specs.declared.search.Met.{Met}
 use Rattle.tc_course.specs.Prelude.{CourseState, stand, after_other_by, IsCourse}
-use Rattle.tc_course.specs.Inside.Standing.{wake_if}
-use Rattle.tc_explore.specs.Inside.Keys.{key_of}
-use Rattle.tc_explore.specs.Inside.Simulation.{IsAlike}
-use Rattle.tc_explore.specs.Inside.Twins.{IsTwin, HasTwinKeys, IsGoing, IsTwinSeen, local_code, local_key, twin_key, wake_key, wake_key_of}
-use Rattle.tc_explore.proofs.Alike.{active_alike, fresh}
-use Rattle.tc_explore.proofs.Keys.{Ends, alike_by_key, append_same, key_found, parts_same, stand_by_key}
-use Rattle.tc_course.proofs.Lemmas.Histories.{course_legal}
-use Rattle.tc_course.proofs.Lemmas.Standings.{run_in_range, stand_own, wake_after_other}
-use Rattle.tc_explore.proofs.Simulation.{some_if}
-use Rattle.tc_explore.proofs.Sameness.{exists_below, same_verdict}
+use Rattle.tc_course.specs.Inside.{wake_if}
+use Rattle.tc_course.proofs.Lemmas.{course_legal, run_in_range, stand_own, wake_after_other}
+use Rattle.tc_explore.specs.{Inside.Simulation.IsAlike, Inside.Twins.HasTwinKeys, Inside.Twins.IsGoing, Inside.Twins.IsTwin, Inside.Twins.IsTwinSeen, Inside.Twins.key_of, Inside.Twins.local_code, Inside.Twins.local_key, Inside.Twins.twin_key, Inside.Twins.wake_key, Inside.Twins.wake_key_of, declared.search.Met.Met}
+use Rattle.tc_explore.proofs.{Alike.active_alike, Alike.fresh, Keys.Ends, Keys.alike_by_key, Keys.append_same, Keys.key_found, Keys.parts_same, Keys.stand_by_key, Sameness.exists_below, Sameness.same_verdict, Simulation.some_if}
 
 -- ---- the Wake to come
 
@@ -32,20 +20,20 @@ is_none_or_wake None = true
 is_none_or_wake (Some op) = is_wake op
 
 after_reply : (op : Op) (r : Reply) → is_none_or_wake (wake_if op r) ≡ true
-after_reply (O.Wait k t) R.Parked = refl
-after_reply (O.Wake k t) R.Parked = refl
-after_reply (O.Create alive name) R.Parked = refl
-after_reply (O.Start c run args) R.Parked = refl
-after_reply (O.Stop g) R.Parked = refl
-after_reply (O.Kill g) R.Parked = refl
-after_reply O.StopCase R.Parked = refl
-after_reply (O.Running t) R.Parked = refl
-after_reply (O.Alive t) R.Parked = refl
-after_reply (O.Done t) R.Parked = refl
-after_reply (O.Killed t) R.Parked = refl
-after_reply (O.SetVerdict v) R.Parked = refl
-after_reply O.GetVerdict R.Parked = refl
-after_reply O.Finish R.Parked = refl
+after_reply (Op.Wait k t) Reply.Parked = refl
+after_reply (Op.Wake k t) Reply.Parked = refl
+after_reply (Op.Create alive name) Reply.Parked = refl
+after_reply (Op.Start c run args) Reply.Parked = refl
+after_reply (Op.Stop g) Reply.Parked = refl
+after_reply (Op.Kill g) Reply.Parked = refl
+after_reply Op.StopCase Reply.Parked = refl
+after_reply (Op.Running t) Reply.Parked = refl
+after_reply (Op.Alive t) Reply.Parked = refl
+after_reply (Op.Done t) Reply.Parked = refl
+after_reply (Op.Killed t) Reply.Parked = refl
+after_reply (Op.SetVerdict v) Reply.Parked = refl
+after_reply Op.GetVerdict Reply.Parked = refl
+after_reply Op.Finish Reply.Parked = refl
 after_reply op _ = refl
 
 only_wakes : (past : List Entry) (b : ℕ) → is_none_or_wake (stand past b).wake ≡ true
@@ -62,9 +50,9 @@ only_wakes (e ∷ past) b = by_test (only_wakes past b) (e.caller.0 == b) refl
 -- what these two numbers say
 abbrev unwake_of : ℕ → ℕ → Option Op
 unwake_of k c =
-    if k == 1 then Some (O.Wake false (T.One (record { 0 = c }))) else if k == 2 then Some (O.Wake true (T.One (record { 0 = c })))
-    else if k == 3 then Some (O.Wake false T.Any) else if k == 4 then Some (O.Wake true T.Any)
-    else if k == 5 then Some (O.Wake false T.All) else if k == 6 then Some (O.Wake true T.All) else None
+    if k == 1 then Some (Op.Wake false (Target.One (record { 0 = c }))) else if k == 2 then Some (Op.Wake true (Target.One (record { 0 = c })))
+    else if k == 3 then Some (Op.Wake false Target.Any) else if k == 4 then Some (Op.Wake true Target.Any)
+    else if k == 5 then Some (Op.Wake false Target.All) else if k == 6 then Some (Op.Wake true Target.All) else None
 
 abbrev unwake : List ℕ → Option Op
 unwake [] = None
@@ -73,18 +61,18 @@ unwake (k ∷ c ∷ rest) = unwake_of k c
 
 unwaken : (o : Option Op) → is_none_or_wake o ≡ true → unwake (wake_key true o) ≡ o
 unwaken None h = refl
-unwaken (Some (O.Wake true (T.One c))) h = refl
-unwaken (Some (O.Wake false (T.One c))) h = refl
-unwaken (Some (O.Wake true T.Any)) h = refl
-unwaken (Some (O.Wake false T.Any)) h = refl
-unwaken (Some (O.Wake true T.All)) h = refl
-unwaken (Some (O.Wake false T.All)) h = refl
+unwaken (Some (Op.Wake true (Target.One c))) h = refl
+unwaken (Some (Op.Wake false (Target.One c))) h = refl
+unwaken (Some (Op.Wake true Target.Any)) h = refl
+unwaken (Some (Op.Wake false Target.Any)) h = refl
+unwaken (Some (Op.Wake true Target.All)) h = refl
+unwaken (Some (Op.Wake false Target.All)) h = refl
 unwaken (Some op) h = absurd cc
 
 wake_length : (a : Bool) (o : Option Op) → length (wake_key a o) ≡ 2
-wake_length true (Some (O.Wake killed (T.One c))) = refl
-wake_length true (Some (O.Wake killed T.Any)) = refl
-wake_length true (Some (O.Wake killed T.All)) = refl
+wake_length true (Some (Op.Wake killed (Target.One c))) = refl
+wake_length true (Some (Op.Wake killed Target.Any)) = refl
+wake_length true (Some (Op.Wake killed Target.All)) = refl
 wake_length a o = refl
 
 -- ---- what two courses of one key have in common

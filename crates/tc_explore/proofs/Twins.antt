@@ -2,24 +2,14 @@
 use Rattle.std.proofs.Common.{ℕ, ◌≡◌, ◌==◌, ◌≤◌, ◌⊎◌, inl, inr, not, if◌then◌else◌, Bool, true, false, Option, Some, None, List, [], ◌∷◌, length, refl, ap, sym, subst, ◌∙◌, arith}
 use Rattle.std.specs.List.{list_all}
 use Rattle.tc_rules.specs.Prelude.{Run, Verdict, Comp, Entry, Op, Phase, Fault, Reply, comps, comp_of, created, started_on, first_some, add_new, ends_case, ends_pass, is_over, phase, local_if_any, overall, gives, awaited, parks, waiting, waits_in_vain, is_still, is_stuck, fault, answer, plain_answer, wake_reply, local_reply, is_active, is_run_of, IsLegal}
-use Rattle.tc_entry.specs.declared.op.Op.TheVariants as O
-use Rattle.tc_entry.specs.declared.phase.Phase.TheVariants as P
-use Rattle.tc_entry.specs.declared.reply.Reply.TheVariants as R
 use Rattle.tc_step.specs.Prelude.{ScriptView}
 use Rattle.tc_rules.specs.declared.awaited.Awaited.{Awaited}
-use Rattle.tc_rules.proofs.Lemmas.Deciding.{self_equal, equal_if, and_left}
-use Rattle.tc_rules.proofs.Lemmas.Going.{halted_by_entry, last_on_it}
+use Rattle.tc_rules.proofs.Lemmas.{Deciding.and_left, Deciding.equal_if, Deciding.self_equal, Going.halted_by_entry, Going.last_on_it}
 use Rattle.tc_course.specs.Prelude.{CourseState, stand, next, after_own, after_other_by, turn, IsTurn, IsCourse}
-use Rattle.tc_course.specs.Inside.Standing.{ends, wake_if}
-use Rattle.tc_explore.specs.Inside.Simulation.{IsAlike, is_quiet}
-use Rattle.tc_explore.specs.Inside.Twins.{IsTwin}
-use Rattle.tc_course.proofs.Lemmas.Histories.{course_legal}
-use Rattle.tc_explore.proofs.Alike.{alike_sym, alike_unchanged, active_alike, fault_alike, holds_alike, exists_same, components_same, phase_next, local_next}
-use Rattle.tc_explore.proofs.Closing.{answer_fault, answer_plain, answer_inactive}
-use Rattle.tc_explore.proofs.LastCalls.{local_kept, turn_by}
-use Rattle.tc_course.proofs.Lemmas.Standings.{stand_own, stand_other, stand_comp, stand_unstarted, wake_after_other}
-use Rattle.tc_explore.proofs.Parking.{alike_then, active_if, phase_running}
-use Rattle.tc_explore.proofs.Simulation.{some_if, unchanged_ended, unchanged_quiet}
+use Rattle.tc_course.specs.Inside.{ends, wake_if}
+use Rattle.tc_course.proofs.Lemmas.{course_legal, stand_own, stand_other, stand_comp, stand_unstarted, wake_after_other}
+use Rattle.tc_explore.specs.Inside.{Simulation.IsAlike, Simulation.is_quiet, Twins.IsTwin}
+use Rattle.tc_explore.proofs.{Alike.active_alike, Alike.alike_sym, Alike.alike_unchanged, Alike.components_same, Alike.exists_same, Alike.fault_alike, Alike.holds_alike, Alike.local_next, Alike.phase_next, Closing.answer_fault, Closing.answer_inactive, Closing.answer_plain, LastCalls.local_kept, LastCalls.turn_by, Parking.active_if, Parking.alike_then, Parking.phase_running, Simulation.some_if, Simulation.unchanged_ended, Simulation.unchanged_quiet}
 
 -- ---- the relation
 
@@ -48,20 +38,20 @@ awaited_by None = None
 awaited_by (Some op) = awaited op
 
 parks_by : (op : Op) (r : Reply) → parks op r ≡ awaited_by (wake_if op r)
-parks_by (O.Wait k t) R.Parked = refl
-parks_by (O.Wake k t) R.Parked = refl
-parks_by (O.Create alive name) R.Parked = refl
-parks_by (O.Start c run args) R.Parked = refl
-parks_by (O.Stop g) R.Parked = refl
-parks_by (O.Kill g) R.Parked = refl
-parks_by O.StopCase R.Parked = refl
-parks_by (O.Running t) R.Parked = refl
-parks_by (O.Alive t) R.Parked = refl
-parks_by (O.Done t) R.Parked = refl
-parks_by (O.Killed t) R.Parked = refl
-parks_by (O.SetVerdict v) R.Parked = refl
-parks_by O.GetVerdict R.Parked = refl
-parks_by O.Finish R.Parked = refl
+parks_by (Op.Wait k t) Reply.Parked = refl
+parks_by (Op.Wake k t) Reply.Parked = refl
+parks_by (Op.Create alive name) Reply.Parked = refl
+parks_by (Op.Start c run args) Reply.Parked = refl
+parks_by (Op.Stop g) Reply.Parked = refl
+parks_by (Op.Kill g) Reply.Parked = refl
+parks_by Op.StopCase Reply.Parked = refl
+parks_by (Op.Running t) Reply.Parked = refl
+parks_by (Op.Alive t) Reply.Parked = refl
+parks_by (Op.Done t) Reply.Parked = refl
+parks_by (Op.Killed t) Reply.Parked = refl
+parks_by (Op.SetVerdict v) Reply.Parked = refl
+parks_by Op.GetVerdict Reply.Parked = refl
+parks_by Op.Finish Reply.Parked = refl
 parks_by op _ = refl
 
 -- what a run waits for is the Wake to come
@@ -84,12 +74,12 @@ module _ (scripts : List ScriptView) (q p : List Entry) (some : 1 ≤ length scr
       by_wait (Some a) w h = ap not (holds_alike t.alike a) ∙ ap (waits_in_vain p) h
 
   still_twin : (c : ℕ) (ph : Phase) → phase q c ≡ ph → is_still q ph ≡ is_still p ph
-  still_twin c (P.Running r) k =
+  still_twin c (Phase.Running r) k =
       let on = last_on_it (length scripts) q c r (omega arith) (course_legal scripts q cq) (phase_running q c r k) in
       vain_twin r.0 (active_if q r.0 (record { 0 = c }) on.0 (ap (is_run_of r.0) k ∙ self_equal r.0))
-  still_twin c P.Inactive k = refl
-  still_twin c P.Stopped k = refl
-  still_twin c P.Killed k = refl
+  still_twin c Phase.Inactive k = refl
+  still_twin c Phase.Stopped k = refl
+  still_twin c Phase.Killed k = refl
 
   all_same_at : (f g : ℕ → Bool) (xs : List ℕ) → ((x : ℕ) → f x ≡ g x) → list_all f xs ≡ list_all g xs
   all_same_at f g [] h = refl
@@ -105,15 +95,15 @@ module _ (scripts : List ScriptView) (q p : List Entry) (some : 1 ≤ length scr
 
 -- the call asks for the status of components
 abbrev is_question : Op → Bool
-is_question (O.Running t) = true
-is_question (O.Alive t) = true
-is_question (O.Done t) = true
-is_question (O.Killed t) = true
+is_question (Op.Running t) = true
+is_question (Op.Alive t) = true
+is_question (Op.Done t) = true
+is_question (Op.Killed t) = true
 is_question op = false
 
 -- the replies are the same, or both answer a question
 abbrev AreReplies : Op → Reply → Reply → Type 0
-AreReplies op r s = (r ≡ s) ⊎ ((is_question op ≡ true) × (x : Bool) × (y : Bool) × (r ≡ R.Answer x) × (s ≡ R.Answer y))
+AreReplies op r s = (r ≡ s) ⊎ ((is_question op ≡ true) × (x : Bool) × (y : Bool) × (r ≡ Reply.Answer x) × (s ≡ Reply.Answer y))
 
 module _ (scripts : List ScriptView) (q p : List Entry) (some : 1 ≤ length scripts) (cq : IsCourse scripts q) (t : IsTwin q p) where
   local_reply_twin : (b : ℕ) → local_reply q (comp_of q b) ≡ local_reply p (comp_of p b)
@@ -121,26 +111,26 @@ module _ (scripts : List ScriptView) (q p : List Entry) (some : 1 ≤ length scr
     where
       by_comp : (o : Option Comp) → local_reply q o ≡ local_reply p o
       by_comp None = refl
-      by_comp (Some c) = ap R.Local (t.locals c.0)
+      by_comp (Some c) = ap Reply.Local (t.locals c.0)
 
   wake_twin : (b : ℕ) (a : Awaited) → wake_reply q b a ≡ wake_reply p b a
   wake_twin b a = rw (holds_alike t.alike a, stuck_twin scripts q p some cq t) refl
 
   plain_twin : (b : ℕ) (op : Op) → AreReplies op (plain_answer q b op) (plain_answer p b op)
-  plain_twin b (O.Create alive name) = inl (rw (components_same t.alike) refl)
-  plain_twin b (O.Start c run args) = inl refl
-  plain_twin b (O.Stop g) = inl refl
-  plain_twin b (O.Kill g) = inl refl
-  plain_twin b O.StopCase = inl refl
-  plain_twin b (O.Running x) = inr (refl, _, _, refl, refl)
-  plain_twin b (O.Alive x) = inr (refl, _, _, refl, refl)
-  plain_twin b (O.Done x) = inr (refl, _, _, refl, refl)
-  plain_twin b (O.Killed x) = inr (refl, _, _, refl, refl)
-  plain_twin b (O.Wait k x) = inl (rw (holds_alike t.alike (record { killed = k; target = x })) refl)
-  plain_twin b (O.Wake k x) = inl (wake_twin b (record { killed = k; target = x }))
-  plain_twin b (O.SetVerdict v) = inl refl
-  plain_twin b O.GetVerdict = inl (local_reply_twin b)
-  plain_twin b O.Finish = inl refl
+  plain_twin b (Op.Create alive name) = inl (rw (components_same t.alike) refl)
+  plain_twin b (Op.Start c run args) = inl refl
+  plain_twin b (Op.Stop g) = inl refl
+  plain_twin b (Op.Kill g) = inl refl
+  plain_twin b Op.StopCase = inl refl
+  plain_twin b (Op.Running x) = inr (refl, _, _, refl, refl)
+  plain_twin b (Op.Alive x) = inr (refl, _, _, refl, refl)
+  plain_twin b (Op.Done x) = inr (refl, _, _, refl, refl)
+  plain_twin b (Op.Killed x) = inr (refl, _, _, refl, refl)
+  plain_twin b (Op.Wait k x) = inl (rw (holds_alike t.alike (record { killed = k; target = x })) refl)
+  plain_twin b (Op.Wake k x) = inl (wake_twin b (record { killed = k; target = x }))
+  plain_twin b (Op.SetVerdict v) = inl refl
+  plain_twin b Op.GetVerdict = inl (local_reply_twin b)
+  plain_twin b Op.Finish = inl refl
 
   reply_twin : (b : ℕ) (op : Op) → is_active q b ≡ true → AreReplies op (answer (length scripts) q b op) (answer (length scripts) p b op)
   reply_twin b op act = by_fault (fault (length scripts) q b op) refl
@@ -192,7 +182,7 @@ twin_ended scripts q p e cp off t = record {
   stands = λ b act. by_caller b act (e.caller.0 == b) refl;
 }
   where
-    r : e.reply ≡ R.Ended
+    r : e.reply ≡ Reply.Ended
     r = cp.0.reply ∙ answer_inactive (length scripts) p e.caller.0 e.op off
 
     after : IsAlike (e ∷ p) p
@@ -207,44 +197,44 @@ twin_ended scripts q p e cp off t = record {
         t.stands b act ∙ sym (stand_other p e b on.0 k (stand_comp scripts p b cp.1 ∙ on.1))
 
 question_quiet : (w : Verdict) (op : Op) → is_question op ≡ true → is_quiet w op ≡ true
-question_quiet w (O.Running t) h = refl
-question_quiet w (O.Alive t) h = refl
-question_quiet w (O.Done t) h = refl
-question_quiet w (O.Killed t) h = refl
+question_quiet w (Op.Running t) h = refl
+question_quiet w (Op.Alive t) h = refl
+question_quiet w (Op.Done t) h = refl
+question_quiet w (Op.Killed t) h = refl
 question_quiet w _ h = absurd cc
 
-gives_answer : (op : Op) (x : Bool) → gives op (R.Answer x) ≡ []
+gives_answer : (op : Op) (x : Bool) → gives op (Reply.Answer x) ≡ []
 gives_answer op x = refl
 
 abbrev entry_of : Run → Op → Reply → Entry
 entry_of caller op reply = record { caller = caller; op = op; reply = reply }
 
 -- what an answered question leaves of its caller
-asked_ends : (caller : Run) (op : Op) (x y : Bool) (o : Option Comp) → is_question op ≡ true → ends o (entry_of caller op (R.Answer x)) ≡ ends o (entry_of caller op (R.Answer y))
+asked_ends : (caller : Run) (op : Op) (x y : Bool) (o : Option Comp) → is_question op ≡ true → ends o (entry_of caller op (Reply.Answer x)) ≡ ends o (entry_of caller op (Reply.Answer y))
 unfolding ends_pass
 asked_ends caller op x y None h = refl
-asked_ends caller (O.Running t) x y (Some own) h = refl
-asked_ends caller (O.Alive t) x y (Some own) h = refl
-asked_ends caller (O.Done t) x y (Some own) h = refl
-asked_ends caller (O.Killed t) x y (Some own) h = refl
+asked_ends caller (Op.Running t) x y (Some own) h = refl
+asked_ends caller (Op.Alive t) x y (Some own) h = refl
+asked_ends caller (Op.Done t) x y (Some own) h = refl
+asked_ends caller (Op.Killed t) x y (Some own) h = refl
 asked_ends caller _ x y (Some own) h = absurd cc
 
-asked_own : (caller : Run) (op : Op) (x y : Bool) (s : CourseState) → is_question op ≡ true → after_own (entry_of caller op (R.Answer x)) s ≡ after_own (entry_of caller op (R.Answer y)) s
-asked_own caller (O.Running t) x y s h = rw (asked_ends caller (O.Running t) x y s.comp h) refl
-asked_own caller (O.Alive t) x y s h = rw (asked_ends caller (O.Alive t) x y s.comp h) refl
-asked_own caller (O.Done t) x y s h = rw (asked_ends caller (O.Done t) x y s.comp h) refl
-asked_own caller (O.Killed t) x y s h = rw (asked_ends caller (O.Killed t) x y s.comp h) refl
+asked_own : (caller : Run) (op : Op) (x y : Bool) (s : CourseState) → is_question op ≡ true → after_own (entry_of caller op (Reply.Answer x)) s ≡ after_own (entry_of caller op (Reply.Answer y)) s
+asked_own caller (Op.Running t) x y s h = rw (asked_ends caller (Op.Running t) x y s.comp h) refl
+asked_own caller (Op.Alive t) x y s h = rw (asked_ends caller (Op.Alive t) x y s.comp h) refl
+asked_own caller (Op.Done t) x y s h = rw (asked_ends caller (Op.Done t) x y s.comp h) refl
+asked_own caller (Op.Killed t) x y s h = rw (asked_ends caller (Op.Killed t) x y s.comp h) refl
 asked_own caller _ x y s h = absurd cc
 
-asked_no_case : (caller : Run) (op : Op) (x : Bool) → is_question op ≡ true → ends_case (entry_of caller op (R.Answer x)) ≡ false
-asked_no_case caller (O.Running t) x h = refl
-asked_no_case caller (O.Alive t) x h = refl
-asked_no_case caller (O.Done t) x h = refl
-asked_no_case caller (O.Killed t) x h = refl
+asked_no_case : (caller : Run) (op : Op) (x : Bool) → is_question op ≡ true → ends_case (entry_of caller op (Reply.Answer x)) ≡ false
+asked_no_case caller (Op.Running t) x h = refl
+asked_no_case caller (Op.Alive t) x h = refl
+asked_no_case caller (Op.Done t) x h = refl
+asked_no_case caller (Op.Killed t) x h = refl
 asked_no_case caller _ x h = absurd cc
 
-asked : (scripts : List ScriptView) (q p : List Entry) (caller : Run) (op : Op) (x y : Bool) → IsCourse scripts (entry_of caller op (R.Answer x) ∷ q) → IsCourse scripts (entry_of caller op (R.Answer y) ∷ p) → is_question op ≡ true →
-    IsTwin q p → IsTwin (entry_of caller op (R.Answer x) ∷ q) (entry_of caller op (R.Answer y) ∷ p)
+asked : (scripts : List ScriptView) (q p : List Entry) (caller : Run) (op : Op) (x y : Bool) → IsCourse scripts (entry_of caller op (Reply.Answer x) ∷ q) → IsCourse scripts (entry_of caller op (Reply.Answer y) ∷ p) → is_question op ≡ true →
+    IsTwin q p → IsTwin (entry_of caller op (Reply.Answer x) ∷ q) (entry_of caller op (Reply.Answer y) ∷ p)
 asked scripts q p caller op x y cq cp question t = record {
   alike = alike_then (d ∷ q) q (e ∷ p) after_q (alike_then q p (e ∷ p) t.alike (alike_sym (e ∷ p) p after_p));
   locals = λ c. local_kept q d c (gives_answer op x) ∙ (t.locals c ∙ sym (local_kept p e c (gives_answer op y)));
@@ -252,10 +242,10 @@ asked scripts q p caller op x y cq cp question t = record {
 }
   where
     d : Entry
-    d = entry_of caller op (R.Answer x)
+    d = entry_of caller op (Reply.Answer x)
 
     e : Entry
-    e = entry_of caller op (R.Answer y)
+    e = entry_of caller op (Reply.Answer y)
 
     after_q : IsAlike (d ∷ q) q
     after_q = alike_unchanged (length scripts) q d (course_legal scripts (d ∷ q) cq) (unchanged_quiet (overall q) q d (question_quiet (overall q) op question) refl)
@@ -296,10 +286,10 @@ matched scripts q p e some cq cp t over act = by_reply (reply_twin scripts q p s
         let mine : IsTurn scripts q e = record { turn = turns; reply = cp.0.reply ∙ sym same; not_idle = cp.0.not_idle } in
         record { entry = e; own = refl; turn = mine; over = rw over refl; twin = twin_both scripts q p e (mine, cq) cp t }
     by_reply (inr h) =
-        let d : Entry = entry_of e.caller e.op (R.Answer h.1) in
+        let d : Entry = entry_of e.caller e.op (Reply.Answer h.1) in
         let mine : IsTurn scripts q d = record { turn = turns; reply = sym h.3; not_idle = refl } in
-        let is : entry_of e.caller e.op (R.Answer h.2) ≡ e = ap (entry_of e.caller e.op) (sym (cp.0.reply ∙ h.4)) in
-        let other : IsCourse scripts (entry_of e.caller e.op (R.Answer h.2) ∷ p) = subst (λ x. IsCourse scripts (x ∷ p)) (sym is) cp in
+        let is : entry_of e.caller e.op (Reply.Answer h.2) ≡ e = ap (entry_of e.caller e.op) (sym (cp.0.reply ∙ h.4)) in
+        let other : IsCourse scripts (entry_of e.caller e.op (Reply.Answer h.2) ∷ p) = subst (λ x. IsCourse scripts (x ∷ p)) (sym is) cp in
         let ends_d : ends_case d ≡ false = asked_no_case e.caller e.op h.1 h.0 in
         let ends_e : ends_case e ≡ false = ap ends_case (sym is) ∙ asked_no_case e.caller e.op h.2 h.0 in
         record {

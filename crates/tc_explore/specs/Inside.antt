@@ -1,7 +1,4 @@
 -- What a search has to show: which histories represent others, and when what comes after them is seen.
 pub mod Simulation
-pub mod Adding
-pub mod Keys
 pub mod Seen
-pub mod Going
 pub mod Twins

@@ -2,15 +2,13 @@
 ghost use Rattle.std.specs.Prelude.{◌≡◌, ◌≤◌, true, false, IfOk, length};
 ghost use Rattle.tc_entry.specs.declared.limits.TheConstants.{BEHAVIOURS};
 ghost use Rattle.tc_course.specs.Prelude.{AllFound};
-ghost use Rattle.tc_explore.specs.Found.{AreFromBest, AreAllMet};
+ghost use Rattle.tc_explore.specs.{Found.AreAllMet, Found.AreFromBest, Inside.Seen.IsNoted};
 ghost use Rattle.tc_explore.specs.Inside.Seen as seen;
-ghost use Rattle.tc_explore.specs.Inside.Seen.{IsNoted};
 
 use crate::findings::{Findings, order};
 use crate::search::{Extent, search_all};
-use crate::told::{is_found, level};
 use std::alloc::Global;
-use tc_course::Witness;
+use tc_course::{Witness, is_found, level};
 use tc_step::Script;
 use tc_verdict::{NoMemory, Verdict};
 

@@ -2,17 +2,15 @@
 //! each setting up to that at once: if it is made later, or not at all, the verdict is no worse.
 ghost use Rattle.std.specs.Prelude.{◌≡◌, ◌≤◌, ◌<◌, true, false, IfOk, IsTrue, length};
 ghost use Rattle.tc_entry.specs.declared.limits.TheConstants.{BEHAVIOURS};
-ghost use Rattle.tc_entry.specs.Reply as reply;
 ghost use Rattle.tc_rules.specs.Prelude.{past_of};
+ghost use Rattle.tc_course.specs.Prelude.{IsOn};
+ghost use Rattle.tc_entry.specs.Reply as reply;
 ghost use Rattle.tc_rules.specs.Answers as answers;
 ghost use Rattle.tc_course.specs.Course as courses;
+ghost use Rattle.tc_explore.specs.Inside.{Seen.IsCalm, Seen.IsCalmAfter, Seen.IsLoudAt, Seen.IsOpen, Seen.IsState, Seen.StandsOn, Simulation.IsWithin};
 ghost use Rattle.tc_explore.specs.Inside.Simulation as moves;
-ghost use Rattle.tc_course.specs.Prelude.{IsOn};
-ghost use Rattle.tc_explore.specs.Inside.Simulation.{IsWithin};
-ghost use Rattle.tc_explore.specs.Inside.Seen.{IsOpen, IsState, IsCalm, IsCalmAfter, IsLoudAt, StandsOn};
 
-use crate::told::level;
-use tc_course::{Course, has_gone_on, next_call};
+use tc_course::{Course, has_gone_on, level, next_call};
 use tc_entry::{Comp, Group, Op, Phase, Target};
 use tc_step::{STEPS, Script};
 use tc_verdict::{NoMemory, Run, Verdict, from_user};
@@ -162,7 +160,7 @@ struct Advance {
 }
 
 // The course with the next call of a run, if nobody can see that it was made.
-#[tactic(auto, using(crate::proofs::Searching::searching_rules, crate::proofs::Keeping::call_rules, tc_course::proofs::Lemmas::Turning::turn_rules))]
+#[tactic(auto, using(crate::proofs::Searching::searching_rules, crate::proofs::Keeping::call_rules, tc_course::proofs::Lemmas::turn_rules))]
 fn with_silent_call(
     aim: Verdict,
     course: Course,

@@ -1,41 +1,18 @@
 //! The search for the overall verdicts of a test case.
 ghost use Rattle.std.specs.Prelude.{◌≡◌, ◌≤◌, [], IfOk, IfSome, length};
 ghost use Rattle.tc_entry.specs.declared.limits.TheConstants.{BEHAVIOURS};
-ghost use Rattle.tc_course.specs.Prelude.{AreWitnesses, AllFound};
-ghost use Rattle.tc_explore.specs.Found.{AreLegal, AreFromBest, AreCovered, AreAllMet, AreReached};
-ghost use Rattle.tc_explore.specs.Limits as limits;
-ghost use Rattle.tc_explore.specs.Limits.{room_of, weight_of};
-ghost use Rattle.tc_explore.specs.declared.explored.Ending.TheVariants.{Complete, Undecided};
+ghost use Rattle.tc_course.specs.Prelude.{AllFound, AreLegal, AreWitnesses};
+ghost use Rattle.tc_course.specs.declared.found.Ending.TheVariants.{Complete, Undecided};
+ghost use Rattle.tc_explore.specs.Found.{AreFromBest, AreCovered, AreAllMet, AreReached, room_of, weight_of};
+ghost use Rattle.tc_explore.specs.Found as limits;
 
 use crate::aims::search_verdicts;
 use crate::findings::no_findings;
 use std::alloc::Global;
-use tc_course::Witness;
+use tc_course::{Ending, Explored};
 use tc_entry::Sequence;
 use tc_step::Script;
 use tc_verdict::NoMemory;
-
-/// How a search ended.
-#[derive(Clone, Copy, PartialEq, Eq, Debug)]
-pub enum Ending {
-    /// No verdict is missed: each complete course of the test case ends with one that was found.
-    Complete,
-    /// The search met its limit.
-    Undecided,
-}
-
-/// What a search has found.
-#[derive(Drop)]
-pub struct Explored {
-    /// A witness of each overall verdict that was found, the best verdict first.
-    pub found: Sequence<Witness>,
-    /// For each run how many calls it carries out at most in the courses that were looked at: its steps, and after them
-    /// the end of its behaviour.
-    pub reached: Sequence<usize>,
-    /// How many states the search looked at.
-    pub states: usize,
-    pub ending: Ending,
-}
 
 // How many entries the states of a search may have room for together: each keeps those of a course, and memory is to hold
 // them.
@@ -81,7 +58,7 @@ pub(crate) fn most_states(scripts: &[Script], limit: usize) -> Option<usize>
 /// search keeps that many states at most, each counted for its weight, and fewer of a test case with many steps. It
 /// comes to its end unless it meets that limit, and then the verdict of each complete course is found. Each number of
 /// calls that is reached has a course too. A test case without behaviours is left undecided.
-#[tactic(auto, using(crate::proofs::Legality::legal_rules, crate::proofs::Noting::noting_rules, crate::proofs::Room::weight_rules))]
+#[tactic(auto, using(crate::proofs::Noting::legal_rules, crate::proofs::Noting::noting_rules, crate::proofs::Room::weight_rules))]
 pub fn explore(alloc: Global, scripts: &[Script], limit: usize) -> Result<Explored, NoMemory>
     requires few { length scripts.now ≤ BEHAVIOURS }
     ensures sound { IfOk result (λ e. AreWitnesses scripts.now e.found) }

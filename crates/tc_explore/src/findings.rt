@@ -1,15 +1,13 @@
 //! What a search has found so far.
 ghost use Rattle.std.specs.Prelude.{◌≡◌, ◌≤◌, [], IfOk, length};
+ghost use Rattle.std.specs.List.Sorted.{IsNonDecreasingBy, IsPermutation};
 ghost use Rattle.tc_rules.specs.Prelude.{past_of, level_of};
 ghost use Rattle.tc_entry.specs.declared.limits.TheConstants.{BEHAVIOURS};
-ghost use Rattle.std.specs.List.Sorted.{IsNonDecreasingBy, IsPermutation};
-ghost use Rattle.tc_explore.specs.Found.{AreReached, Covers};
 ghost use Rattle.tc_course.specs.Prelude.{IsOn};
-ghost use Rattle.tc_explore.specs.Inside.Seen.{IsNoLess, IsNoted};
+ghost use Rattle.tc_explore.specs.{Found.AreReached, Found.Covers, Inside.Seen.IsNoLess, Inside.Seen.IsNoted};
 
-use crate::told::level;
 use std::alloc::Global;
-use tc_course::{Course, Witness};
+use tc_course::{Course, Witness, level};
 use tc_step::Script;
 use tc_verdict::{NoMemory, Run};
 
@@ -21,7 +19,7 @@ pub(crate) struct Findings {
 }
 
 /// Nothing is found yet.
-#[tactic(auto, using(crate::proofs::Noting::noting_rules, crate::proofs::Reaching::reaching_rules))]
+#[tactic(auto, using(crate::proofs::Noting::noting_rules, crate::proofs::Kept::reaching_rules))]
 pub(crate) fn no_findings(alloc: Global, scripts: &[Script]) -> Result<Findings, NoMemory>
     ensures noted { IfOk result (IsNoted scripts.now) }
     ensures none { IfOk result (λ f. f.witnesses.items ≡ []) }

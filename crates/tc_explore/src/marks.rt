@@ -3,15 +3,13 @@ ghost use Rattle.std.specs.Prelude.{◌≡◌, ◌≤◌, ◌<◌, true, [], OnO
 ghost use Rattle.tc_entry.specs.declared.limits.TheConstants.{BEHAVIOURS};
 ghost use Rattle.tc_rules.specs.Prelude.{past_of, is_over};
 ghost use Rattle.tc_course.specs.Prelude.{IsComplete, IsOn};
-ghost use Rattle.tc_explore.specs.Locals.{AreLocals};
-ghost use Rattle.tc_explore.specs.Inside.Twins.{HasLocal, HasLocals, IsMarked, IsMore, IsPadded};
+ghost use Rattle.tc_explore.specs.{Found.AreLocals, Inside.Twins.HasLocal, Inside.Twins.HasLocals, Inside.Twins.IsMarked, Inside.Twins.IsMore, Inside.Twins.IsPadded};
 
-use crate::components::name_at;
-use crate::told::level;
 use crate::turns::step_all;
 use std::alloc::Global;
-use tc_course::Course;
-use tc_entry::{Entry, Name};
+use tc_course::{Course, level};
+use tc_entry::{Comp, Entry, Name};
+use tc_rules::name_of;
 use tc_step::Script;
 use tc_verdict::NoMemory;
 
@@ -47,7 +45,7 @@ fn mark(found: &mut Vec<bool>, at: usize) -> Result<(), NoMemory>
 
 // Takes in the name that the component has in a course which shows a verdict of it first.
 fn name(names: &mut Vec<Option<Name>>, history: &[Entry], comp: u32) -> Result<(), NoMemory> {
-    let given = name_at(history, comp);
+    let given = name_of(history, Comp(comp));
     let at = comp as usize;
     if at >= names.len() {
         names.push(given.map(Name::copy))?;

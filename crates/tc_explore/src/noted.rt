@@ -4,16 +4,13 @@ ghost use Rattle.tc_entry.specs.declared.limits.TheConstants.{BEHAVIOURS};
 ghost use Rattle.tc_verdict.specs.declared.verdict.Verdict.TheVariants.{Error};
 ghost use Rattle.tc_rules.specs.Prelude.{past_of, is_over, overall};
 ghost use Rattle.tc_course.specs.Prelude.{carried_on, IsComplete, IsWitness, IsOn};
-ghost use Rattle.tc_explore.specs.Found.{Covers};
 ghost use Rattle.tc_course.specs.Witnesses as witnesses;
-ghost use Rattle.tc_explore.specs.Inside.Going.{IsSteppedIfActive};
-ghost use Rattle.tc_explore.specs.Inside.Seen.{IsLonger, IsNoLess, IsNoted, IsOpen, AreHeld};
+ghost use Rattle.tc_explore.specs.{Found.Covers, Inside.Seen.AreHeld, Inside.Seen.IsLonger, Inside.Seen.IsNoLess, Inside.Seen.IsNoted, Inside.Seen.IsOpen, Inside.Seen.IsSteppedIfActive};
 
 use crate::findings::{Findings, reach};
-use crate::told::is_found;
 use crate::turns::{step, step_all};
 use std::alloc::Global;
-use tc_course::{Course, Witness};
+use tc_course::{Course, Witness, is_found};
 use tc_entry::Sequence;
 use tc_rules::copied_entries;
 use tc_step::Script;

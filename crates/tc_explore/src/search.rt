@@ -4,20 +4,17 @@ ghost use Rattle.std.specs.Prelude.{◌≡◌, ◌≤◌, ◌<◌, ◌&&◌, ◌
 ghost use Rattle.tc_entry.specs.declared.limits.TheConstants.{BEHAVIOURS};
 ghost use Rattle.tc_rules.specs.Prelude.{past_of, answer};
 ghost use Rattle.tc_course.specs.Prelude.{IsOn, IsNext, entry_made, carried_on, goes_on};
-ghost use Rattle.tc_explore.specs.Inside.Simulation as moves;
-ghost use Rattle.tc_explore.specs.Inside.Simulation.{IsClosed};
 ghost use Rattle.tc_verdict.specs.declared.verdict.Verdict.TheVariants.{Error};
-ghost use Rattle.tc_explore.specs.Found.{AreAllMet};
-ghost use Rattle.tc_explore.specs.Inside.Seen.{AreClosed, IsSeen, IsLonger, IsNoLess, IsNoted, IsOpen, IsState, AreKept, AreKeyed, IsWith, IsFull, AreHeld, IsStillAt, AreStill, AllTold, IsCallClosed, IsRunClosed, AreRunsClosed};
+ghost use Rattle.tc_explore.specs.{Found.AreAllMet, Inside.Seen.AllTold, Inside.Seen.AreClosed, Inside.Seen.AreHeld, Inside.Seen.AreKept, Inside.Seen.AreKeyed, Inside.Seen.AreRunsClosed, Inside.Seen.AreStill, Inside.Seen.IsCallClosed, Inside.Seen.IsFull, Inside.Seen.IsLonger, Inside.Seen.IsNoLess, Inside.Seen.IsNoted, Inside.Seen.IsOpen, Inside.Seen.IsRunClosed, Inside.Seen.IsSeen, Inside.Seen.IsState, Inside.Seen.IsStillAt, Inside.Seen.IsWith, Inside.Simulation.IsClosed};
+ghost use Rattle.tc_explore.specs.Inside.Simulation as moves;
 
 use crate::calm::calmed;
 use crate::findings::{Findings, reach};
 use crate::noted::{note, with_stuck};
 use crate::state_keys::state_key;
-use crate::told::{is_found, level};
 use indexmap::IndexSet;
 use std::alloc::Global;
-use tc_course::{Course, has_gone_on, next_call};
+use tc_course::{Course, has_gone_on, is_found, level, next_call};
 use tc_entry::Op;
 use tc_step::Script;
 use tc_verdict::{NoMemory, Run, Verdict};
@@ -83,7 +80,7 @@ fn place(
 }
 
 /// The course with one more call; the course itself is kept.
-#[tactic(auto, using(crate::proofs::Closed::closed_rules, tc_course::proofs::Lemmas::Turning::turn_rules))]
+#[tactic(auto, using(crate::proofs::Closed::closed_rules, tc_course::proofs::Lemmas::turn_rules))]
 pub(crate) fn with_call(
     alloc: Global,
     scripts: &[Script],
@@ -315,7 +312,7 @@ fn expand_all(
 
 /// Makes the calls of all runs from each state that is met, within a limit. It comes to its end unless it meets the limit.
 /// Then for each complete course whose verdict is no worse than is looked for, a verdict is found that is as bad.
-#[tactic(auto, using(crate::proofs::States::complete_by, tc_course::proofs::Lemmas::Turning::turn_rules, crate::proofs::Seeing::seeing_rules, crate::proofs::Keeping::open_opening, crate::proofs::Kept::kept_rules))]
+#[tactic(auto, using(crate::proofs::States::complete_by, tc_course::proofs::Lemmas::turn_rules, crate::proofs::Seeing::seeing_rules, crate::proofs::Keeping::open_opening, crate::proofs::Kept::kept_rules))]
 pub(crate) fn search_all(
     aim: Verdict,
     alloc: Global,

@@ -2,11 +2,8 @@
 ghost use Rattle.std.specs.Prelude.{◌≡◌, ◌≤◌, ◌<◌, ◌∷◌, true, false, IfOk, OnOk, All, length};
 ghost use Rattle.tc_entry.specs.declared.limits.TheConstants.{BEHAVIOURS};
 ghost use Rattle.tc_rules.specs.Prelude.{past_of};
-ghost use Rattle.tc_explore.specs.Found.{HasCourses};
-ghost use Rattle.tc_explore.specs.Locals.{AllLocalsFound, AreLocals};
 ghost use Rattle.tc_course.specs.Prelude.{entry_made, IsNext};
-ghost use Rattle.tc_explore.specs.Inside.Seen.{IsFull, IsLonger, IsWith};
-ghost use Rattle.tc_explore.specs.Inside.Twins.{AreGoing, AreLocalsClosed, AreLocalsRuns, HasTwinKeys, IsGoing, IsLocalsAfter, IsLocalsRun, IsMore, IsTwinSeen};
+ghost use Rattle.tc_explore.specs.{Found.AllLocalsFound, Found.AreLocals, Found.HasCourses, Inside.Seen.IsFull, Inside.Seen.IsLonger, Inside.Seen.IsWith, Inside.Twins.AreGoing, Inside.Twins.AreLocalsClosed, Inside.Twins.AreLocalsRuns, Inside.Twins.HasTwinKeys, Inside.Twins.IsGoing, Inside.Twins.IsLocalsAfter, Inside.Twins.IsLocalsRun, Inside.Twins.IsMore, Inside.Twins.IsTwinSeen};
 
 use crate::marks::Marks;
 use crate::search::{Extent, Met, extent_of, with_call};
@@ -178,7 +175,7 @@ fn expand_all(
 
 /// Makes the calls of all runs from each state that is met, within a limit. It comes to its end unless it meets the
 /// limit, and then the local verdicts of each complete course are found.
-#[tactic(auto, using(tc_course::proofs::Lemmas::Turning::turn_rules, crate::proofs::Seeing::seeing_rules, crate::proofs::LocalsClosed::opening_rules))]
+#[tactic(auto, using(tc_course::proofs::Lemmas::turn_rules, crate::proofs::Seeing::seeing_rules, crate::proofs::LocalsClosed::opening_rules))]
 pub(crate) fn search_locals(
     alloc: Global,
     scripts: &[Script],

@@ -3,12 +3,10 @@ ghost use Rattle.std.specs.Prelude.{◌≡◌, ◌++◌, ◌∷◌, [], IfOk, On
 ghost use Rattle.std.specs.List.{flat_map, range_with_len};
 ghost use Rattle.tc_rules.specs.Prelude.{past_of};
 ghost use Rattle.tc_rules.specs.Faults as faults;
-ghost use Rattle.tc_explore.specs.Inside.Keys.{comp_code, comp_key, key_of, number_of, phase_code, run_key, run_key_of};
-ghost use Rattle.tc_explore.specs.Inside.Twins.{local_code, local_key, target_key, twin_key, wake_key, wake_key_of};
+ghost use Rattle.tc_explore.specs.Inside.Twins.{comp_code, comp_key, key_of, number_of, phase_code, run_key, run_key_of, local_code, local_key, target_key, twin_key, wake_key, wake_key_of};
 
-use crate::told::level;
 use std::alloc::Global;
-use tc_course::{Course, Standing};
+use tc_course::{Course, Standing, level};
 use tc_entry::{Comp, Op, Phase, Target};
 use tc_verdict::{NoMemory, Run, Verdict};
 
@@ -128,7 +126,7 @@ fn add_runs(course: &Course, key: &mut Vec<u64>, n: u16) -> Result<(), NoMemory>
 }
 
 /// All that what can still come in a case of n behaviours depends on, as numbers.
-#[tactic(auto, unfolding(crate::specs::Inside::Keys::key_of))]
+#[tactic(auto, unfolding(crate::specs::Inside::Twins::key_of))]
 pub(crate) fn state_key(course: &Course, alloc: Global, n: u16) -> Result<Vec<u64>, NoMemory>
     requires { n ≡ course.now.behaviours }
     ensures { IfOk result (λ key. key.items ≡ key_of n (past_of course.now)) }

@@ -2,16 +2,16 @@
 ghost use Rattle.std.specs.Prelude.{◌≡◌, ◌≤◌, ◌<◌, true, IfOk, length};
 ghost use Rattle.tc_entry.specs.declared.limits.TheConstants.{BEHAVIOURS};
 ghost use Rattle.tc_rules.specs.Prelude.{past_of, is_over, overall};
-ghost use Rattle.tc_course.specs.Course as courses;
 ghost use Rattle.tc_course.specs.Prelude.{IsOn};
-ghost use Rattle.tc_explore.specs.Inside.Going.{IsStepped, HasSameLocals};
+ghost use Rattle.tc_course.specs.Course as courses;
+ghost use Rattle.tc_explore.specs.Inside.Seen.{IsStepped, HasSameLocals};
 
 use tc_course::{Course, next_call};
 use tc_step::Script;
 use tc_verdict::{NoMemory, Run};
 
 /// The course with the next call of a run, if that can continue.
-#[tactic(auto, using(tc_course::proofs::Lemmas::Turning::turn_rules, crate::proofs::LastCalls::step_rules))]
+#[tactic(auto, using(tc_course::proofs::Lemmas::turn_rules, crate::proofs::LastCalls::step_rules))]
 pub(crate) fn step(course: Course, scripts: &[Script], run: Run) -> Result<Course, NoMemory>
     requires within { run.0 < length scripts.now }
     requires on { IsOn scripts.now course }

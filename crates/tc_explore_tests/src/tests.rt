@@ -15,6 +15,7 @@ use std::process::Abort;
 use std::test::Fail;
 use tc_entry::{Entry, Name, Op, Reply};
 use tc_explore::{Ending, Explored, Locals, Witness, explore, explore_locals};
+use tc_explored::{append_line, append_locals, append_witnesses, explored_status};
 use tc_rules::{CheckFault, replay_check};
 use tc_step::{GroupPlace, Place, Places, Script, Status, Step, TargetPlace};
 use tc_verdict::{NoMemory, Run, UserVerdict, Verdict};
@@ -517,9 +518,9 @@ fn is_told<R: Abort>(
 ) -> Result<(), Fail> {
     let name = Name::read("t").ok_or("a name")?;
     let mut out = Vec::new(alloc);
-    explored.append_line(&mut out, &name)?;
+    append_line(&mut out, &name, explored)?;
     is(rt, "the line", out.as_slice(), line.as_bytes());
-    is(rt, "the status", explored.status(), status);
+    is(rt, "the status", explored_status(explored), status);
     Ok(())
 }
 
@@ -568,7 +569,7 @@ fn has_histories<R: Abort>(
 ) -> Result<(), Fail> {
     let name = Name::read("t").ok_or("a name")?;
     let mut out = Vec::new(alloc);
-    explored.append_witnesses(&mut out, &name, 1)?;
+    append_witnesses(&mut out, &name, 1, explored)?;
     is(rt, "the histories", out.as_slice(), wanted.as_bytes());
     Ok(())
 }

@@ -1,11 +1,18 @@
--- One entry more of the history.
-use Rattle.std.proofs.Common.{◌≡◌, ◌≢◌, ℕ, suc, ◌+◌, ◌<◌, ◌≤◌, ◌==◌, true, false, List, [], ◌∷◌, ◌++◌, length, get_or, take, reverse, refl, sym, ap, ◌∙◌, subst, add-one, append_assoc, eq-eqb, arith, inl, inr}
+-- Lemmas on what the merge puts in its place, and on what it puts at the end.
+use Rattle.std.proofs.Common.{◌≡◌, ◌≢◌, ℕ, suc, ◌+◌, ◌<◌, ◌≤◌, ◌==◌, true, false, List, [], ◌∷◌, ◌++◌, length, get_or, take, reverse, refl, sym, ap, ◌∙◌, subst, add-one, append_assoc, eq-eqb, arith, inl, inr, zero, filter}
 use Rattle.std.specs.Borrow.{Bor}
 use Rattle.std.proofs.Math.Seq.{take-suc}
-use Rattle.std.proofs.lemmas.List.{reverse-append}
-use Rattle.std.proofs.lemmas.Bool.{ne_eqb, cases_eq, cases_lt}
-use Rattle.tc_rules.specs.Prelude.{Entry, calls_of, in_place, started, verdict_calls_after}
-use Rattle.tc_merge.specs.Inside.{Has, HasRests, IsMovedOn, head_at_start}
+use Rattle.std.proofs.lemmas.{Bool.cases_eq, Bool.cases_lt, Bool.ne_eqb, List.append-nil, List.reverse-append}
+use Rattle.tc_rules.specs.Prelude.{Entry, calls_of, in_place, started, verdict_calls_after, late, is_late, log_of, runs_end}
+use Rattle.tc_rules.specs.declared.run_log.RunLog.{RunLog}
+use Rattle.tc_merge.specs.{Inside.IsMovedOn, Inside.entries_of, Inside.head_at_start, OneCase.Has}
+use Rattle.tc_merge.proofs.Lemmas.Table.{log_of-beyond}
+
+-- the table has the verdict entries of each run that are after this many other entries of its log
+pub record HasRests (table : List (Bor (List Entry))) (log : ℕ → List Entry) (made : ℕ → ℕ) : Type 0 where
+  pub each : (b : ℕ) (d : Bor (List Entry)) → b < length table
+      → (k : ℕ) → verdict_calls_after k (entries_of table b d) ≡ verdict_calls_after (k + made b) (log b)
+  pub none : (b : ℕ) → length table ≤ b → log b ≡ []
 
 pub past_more : (h : List Entry) (i : ℕ) (e : Entry) → i < length h → e ≡ get_or h i e → reverse (take (i + 1) h) ≡ e ∷ reverse (take i h)
 past_more h i e within is =
@@ -55,3 +62,32 @@ calls_after log past b table d got has within beyond =
       | inl below ↦ ap (verdict_calls_after 0) (within below) ∙ (has.each b d below 0 ∙ ap (λ n. verdict_calls_after n (log b)) (omega arith))
       | inr above ↦ ap (verdict_calls_after 0) (beyond above) ∙ sym (ap (verdict_calls_after (calls_of b past)) (has.none b above))
     ]
+
+pub late_none : (log : ℕ → List Entry) (xs : List Entry) → xs ≡ xs ++ late log 0
+unfolding late
+late_none log xs = rw append-nil refl
+
+late_more : (log : ℕ → List Entry) (b : ℕ) → late log (b + 1) ≡ late log b ++ filter is_late (log b)
+unfolding late
+late_more log b = rw add-one refl
+
+pub late_step : (log : ℕ → List Entry) (b : ℕ) (xs ys zs : List Entry) →
+    ys ≡ xs ++ late log b → zs ≡ ys ++ filter is_late (log b) → zs ≡ xs ++ late log (b + 1)
+late_step log b xs ys zs h e = rw (e, h, late_more, append_assoc) refl
+
+-- runs without a log add nothing
+late_until : (f : ℕ → List Entry) (m n : ℕ) → m ≤ n → ((b : ℕ) → m ≤ b → f b ≡ []) → late f n ≡ late f m
+unfolding late
+late_until f m zero below none = let q : m ≡ 0 = omega arith in rw q refl
+late_until f m (suc n) below none =
+    elim (cases_eq m (suc n)) [
+      | inl same ↦ rw same refl
+      | inr other ↦ rw (none n (omega (arith, below, other)), append-nil) (late_until f m n (omega (arith, below, other)) none)
+    ]
+
+-- up to the end of a table, beyond which no run has a log
+pub late_table : (logs : List RunLog) (n : ℕ) → ((b : ℕ) → n ≤ b → log_of logs b ≡ []) → late (log_of logs) n ≡ late (log_of logs) (runs_end logs)
+late_table logs n none = elim (cases_lt n (runs_end logs)) [
+  | inl less ↦ sym (late_until (log_of logs) n (runs_end logs) (omega (arith, less)) none)
+  | inr more ↦ late_until (log_of logs) (runs_end logs) n more (log_of-beyond logs)
+]

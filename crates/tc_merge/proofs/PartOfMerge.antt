@@ -1,16 +1,11 @@
 -- Each log is its run's part of the merge.
 use Rattle.std.proofs.Common.{◌≡◌, ◌≢◌, ℕ, zero, suc, ◌<◌, ◌≤◌, ◌==◌, if◌then◌else◌, Bool, true, false, Option, Some, None, List, [], ◌∷◌, ◌++◌, drop, filter, reverse, refl, sym, ap, ◌∙◌, subst, append_assoc, eq-eqb, arith, ◌⊎◌, inl, inr}
 use Rattle.std.specs.List.{All}
-use Rattle.std.proofs.lemmas.Bool.{ne_eqb, cases_eq, cases_lt}
-use Rattle.std.proofs.lemmas.List.{append-nil, reverse-append, reverse-reverse}
-use Rattle.std.proofs.lemmas.List.Elements.{filter-append}
-use Rattle.tc_rules.specs.Prelude.{Run, Comp, Entry, Op, is_ended, is_ok, comp_of, first_some, starts_run, is_other, is_late, is_verdict_call, verdict_calls_after, calls_of, started, run_of, in_place, late, log_of, runs_end, merge, is_by, part}
-use Rattle.tc_entry.specs.declared.op.Op.TheVariants as O
+use Rattle.std.proofs.lemmas.{Bool.cases_eq, Bool.cases_lt, Bool.ne_eqb, List.Elements.filter-append, List.append-nil, List.reverse-append, List.reverse-reverse}
+use Rattle.tc_rules.specs.Prelude.{Run, Comp, Entry, Op, is_ended, is_ok, comp_of, first_some, starts_run, is_other, is_late, is_verdict_call, verdict_calls_after, calls_of, started, started_run, in_place, late, log_of, runs_end, merge, is_by, part}
 use Rattle.tc_rules.specs.declared.run_log.RunLog.{RunLog}
-use Rattle.tc_merge.specs.Inside.{head_at_start}
-use Rattle.tc_merge.specs.OneCase.{AreByStarted, AreStartedOnce, AreOfOneCase, stops_when_late}
-use Rattle.tc_merge.proofs.InPlace.{calls_same, calls_more}
-use Rattle.tc_merge.proofs.Lemmas.Table.{log_of-beyond}
+use Rattle.tc_merge.specs.{Inside.head_at_start, OneCase.AreByStarted, OneCase.AreOfOneCase, OneCase.AreStartedOnce, OneCase.stops_when_late}
+use Rattle.tc_merge.proofs.{InPlace.calls_more, InPlace.calls_same, Lemmas.Table.log_of-beyond}
 
 -- the part of a history by run b, as it computes
 abbrev pub entries_by : List Entry → ℕ → List Entry
@@ -36,14 +31,14 @@ is_run None b = false
 abbrev starts_in : Entry → ℕ → Option Comp
 starts_in e b = if is_ok e.reply then starts_run e.op b else None
 
-starts_none : (ok : Bool) (op : Op) (b : ℕ) → is_run (if ok then run_of op else None) b ≡ false → (if ok then starts_run op b else None) ≡ None
+starts_none : (ok : Bool) (op : Op) (b : ℕ) → is_run (if ok then started_run op else None) b ≡ false → (if ok then starts_run op b else None) ≡ None
 starts_none false op b h = refl
-starts_none true (O.Start c run args) b h = rw h refl
+starts_none true (Op.Start c run args) b h = rw h refl
 starts_none true _ b h = refl
 
-starts_some : (ok : Bool) (op : Op) (b : ℕ) (run : Run) → (if ok then run_of op else None) ≡ Some run → run.0 ≡ b → (if ok then starts_run op b else None) ≢ None
+starts_some : (ok : Bool) (op : Op) (b : ℕ) (run : Run) → (if ok then started_run op else None) ≡ Some run → run.0 ≡ b → (if ok then starts_run op b else None) ≢ None
 starts_some false op b run is same = absurd cc
-starts_some true (O.Start c r args) b run is same =
+starts_some true (Op.Start c r args) b run is same =
     let k : r ≡ run = cc in
     let test : (r.0 == b) ≡ true = eq-eqb r.0 b (ap (λ (x : Run). x.0) k ∙ same) in
     λ h. let q : Some c ≡ None = rw test at h in cc

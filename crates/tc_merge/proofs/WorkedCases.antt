@@ -2,12 +2,7 @@
 use Rattle.std.proofs.Common.{ℕ, zero, suc, ◌<◌, ◌≡◌, ◌≢◌, ◌==◌, true, false, Option, Some, None, List, [], ◌∷◌, filter, get_or, length, reverse, refl, sym, ap, subst, arith, ◌∙◌}
 use Rattle.std.specs.List.{All, AllByRecursion}
 use Rattle.std.proofs.lemmas.Bool.{ne_eqb}
-use Rattle.tc_rules.specs.Prelude.{Run, UserVerdict, Comp, Entry, Op, Reply, comp_of, exists, phase, running, alive, done, killed, holds, is_stuck, all_exist, start_fault, components, fault, is_active, answer, IsLegal, local, overall, is_other, log_of, merge, late, part}
-use Rattle.tc_verdict.specs.declared.user_verdict.UserVerdict.TheVariants as U
-use Rattle.tc_verdict.specs.declared.verdict.Verdict.TheVariants as V
-use Rattle.tc_entry.specs.declared.op.Group.TheVariants as G
-use Rattle.tc_entry.specs.declared.op.Op.TheVariants as O
-use Rattle.tc_entry.specs.declared.reply.Reply.TheVariants as R
+use Rattle.tc_rules.specs.Prelude.{Run, UserVerdict, Comp, Entry, Op, Reply, comp_of, exists, phase, running, alive, done, killed, holds, is_stuck, all_exist, start_fault, components, fault, is_active, answer, IsLegal, local, overall, is_other, log_of, merge, late, part, Verdict, Group}
 use Rattle.tc_rules.specs.declared.run_log.RunLog.{RunLog}
 use Rattle.tc_merge.specs.OneCase.{AreOfOneCase, stops_when_late}
 
@@ -21,22 +16,22 @@ abbrev run : ℕ → Run
 run b = record { 0 = b }
 
 abbrev set : ℕ → UserVerdict → Reply → Entry
-set b v r = entry b (O.SetVerdict v) r
+set b v r = entry b (Op.SetVerdict v) r
 
 abbrev get : ℕ → Reply → Entry
-get b r = entry b O.GetVerdict r
+get b r = entry b Op.GetVerdict r
 
 abbrev create : Entry
-create = entry 0 (O.Create true None) (R.Made (comp 1))
+create = entry 0 (Op.Create true None) (Reply.Made (comp 1))
 
 abbrev start : ℕ → Entry
-start b = entry 0 (O.Start (comp 1) (run b) []) R.Ok
+start b = entry 0 (Op.Start (comp 1) (run b) []) Reply.Ok
 
 abbrev stop : Entry
-stop = entry 0 (O.Stop (G.One (comp 1))) R.Ok
+stop = entry 0 (Op.Stop (Group.One (comp 1))) Reply.Ok
 
 abbrev finish : Entry
-finish = entry 0 O.Finish R.Ok
+finish = entry 0 Op.Finish Reply.Ok
 
 abbrev history : List Entry
 history = create ∷ start 1 ∷ stop ∷ start 2 ∷ finish ∷ []
@@ -45,19 +40,19 @@ abbrev main_log : RunLog
 main_log = record {
   run = run 0;
   comp = comp 0;
-  entries = set 0 U.None R.Ok ∷ create ∷ start 1 ∷ get 0 (R.Local V.None) ∷ stop ∷ start 2 ∷ finish ∷ [];
+  entries = set 0 UserVerdict.None Reply.Ok ∷ create ∷ start 1 ∷ get 0 (Reply.Local Verdict.None) ∷ stop ∷ start 2 ∷ finish ∷ [];
 }
 
 abbrev first_log : RunLog
-first_log = record { run = run 1; comp = comp 1; entries = set 1 U.Inconc R.Ok ∷ set 1 U.Fail R.Ended ∷ [] }
+first_log = record { run = run 1; comp = comp 1; entries = set 1 UserVerdict.Inconc Reply.Ok ∷ set 1 UserVerdict.Fail Reply.Ended ∷ [] }
 
 abbrev second_log : RunLog
-second_log = record { run = run 2; comp = comp 1; entries = get 2 (R.Local V.Inconc) ∷ set 2 U.Pass R.Ok ∷ get 2 R.Ended ∷ [] }
+second_log = record { run = run 2; comp = comp 1; entries = get 2 (Reply.Local Verdict.Inconc) ∷ set 2 UserVerdict.Pass Reply.Ok ∷ get 2 Reply.Ended ∷ [] }
 
 abbrev merged : List Entry
 merged =
-    set 0 U.None R.Ok ∷ create ∷ start 1 ∷ get 0 (R.Local V.None) ∷ set 1 U.Inconc R.Ok ∷ stop ∷ start 2
-    ∷ get 2 (R.Local V.Inconc) ∷ set 2 U.Pass R.Ok ∷ finish ∷ set 1 U.Fail R.Ended ∷ get 2 R.Ended ∷ []
+    set 0 UserVerdict.None Reply.Ok ∷ create ∷ start 1 ∷ get 0 (Reply.Local Verdict.None) ∷ set 1 UserVerdict.Inconc Reply.Ok ∷ stop ∷ start 2
+    ∷ get 2 (Reply.Local Verdict.Inconc) ∷ set 2 UserVerdict.Pass Reply.Ok ∷ finish ∷ set 1 UserVerdict.Fail Reply.Ended ∷ get 2 Reply.Ended ∷ []
 
 merge_of_three_logs : merge history (second_log ∷ main_log ∷ first_log ∷ []) ≡ merged
 unfolding merge late
@@ -75,7 +70,7 @@ merged_is_legal : IsLegal 3 (reverse merged)
 unfolding exists phase running alive done killed local overall holds is_stuck all_exist start_fault components fault is_active answer
 merged_is_legal = (refl, (refl, (refl, (refl, (refl, (refl, (refl, (refl, (refl, (refl, (refl, (refl, tt))))))))))))
 
-merged_is_inconc : overall (reverse merged) ≡ V.Inconc
+merged_is_inconc : overall (reverse merged) ≡ Verdict.Inconc
 unfolding exists phase running alive done killed local overall holds is_stuck all_exist start_fault components fault is_active answer
 merged_is_inconc = refl
 

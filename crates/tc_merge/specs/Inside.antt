@@ -1,7 +1,6 @@
 -- What only the way the merge is made needs: no public clause names a word of this file.
-use Rattle.std.specs.Prelude.{ℕ, suc, ◌≡◌, ◌<◌, ◌≤◌, ◌+◌, Option, List, [], length, reverse, slice_index_or}
-use Rattle.std.specs.Borrow.{Bor}
-use Rattle.std.specs.Option.{option_map_or}
+use Rattle.std.specs.Prelude.{ℕ, suc, ◌≡◌, ◌<◌, Option, List, [], length, reverse, slice_index_or}
+use Rattle.std.specs.{Borrow.Bor, Option.option_map_or}
 use Rattle.tc_rules.specs.Prelude.{Run, Entry, in_place, verdict_calls_after}
 
 -- what the table has of run b, and this if it has no such run
@@ -23,14 +22,3 @@ head_at_start log run = option_map_or (λ b. verdict_calls_after 0 (log b.0)) ru
 -- the history with the verdict entries that are put in place; the history is in the order in which it was made
 abbrev pub placed : (ℕ → List Entry) → List Entry → List Entry
 placed log history = in_place log (reverse history)
-
--- the table has the log of each run, by its number; the runs beyond it have none
-pub record Has (table : List (Bor (List Entry))) (log : ℕ → List Entry) : Type 0 where
-  pub each : (b : ℕ) (d : Bor (List Entry)) → b < length table → (slice_index_or table b d).now ≡ log b
-  pub none : (b : ℕ) → length table ≤ b → log b ≡ []
-
--- the table has the verdict entries of each run that are after this many other entries of its log
-pub record HasRests (table : List (Bor (List Entry))) (log : ℕ → List Entry) (made : ℕ → ℕ) : Type 0 where
-  pub each : (b : ℕ) (d : Bor (List Entry)) → b < length table
-      → (k : ℕ) → verdict_calls_after k (entries_of table b d) ≡ verdict_calls_after (k + made b) (log b)
-  pub none : (b : ℕ) → length table ≤ b → log b ≡ []

@@ -1,6 +1,7 @@
--- When a history without verdict entries and logs come from one case.
-use Rattle.std.specs.Prelude.{ℕ, ◌≡◌, ◌≢◌, ◌≤◌, ◌==◌, if◌then◌else◌, Bool, true, false, Some, None, List, [], ◌∷◌, filter, reverse, All, count_by}
-use Rattle.tc_rules.specs.Prelude.{Run, Entry, comp_of, is_other, is_late, log_of, started, part}
+-- When a history without verdict entries and logs come from one case, and the logs by the numbers of their runs.
+use Rattle.std.specs.Prelude.{ℕ, ◌≡◌, ◌≢◌, ◌≤◌, ◌==◌, if◌then◌else◌, Bool, true, false, Some, None, List, [], ◌∷◌, filter, reverse, All, count_by, ◌<◌, length, slice_index_or}
+use Rattle.std.specs.Borrow.{Bor}
+use Rattle.tc_rules.specs.Prelude.{Run, Entry, comp_of, is_other, is_late, log_of, logged, started, part}
 use Rattle.tc_rules.specs.declared.run_log.RunLog.{RunLog}
 
 -- each entry is by a run that was started before it: run 0 is from the opening
@@ -45,3 +46,12 @@ is_log_of b l = l.run.0 == b
 -- no run has two logs
 abbrev pub HaveDistinctRuns : List RunLog → Type 0
 HaveDistinctRuns logs = (b : ℕ) → count_by (is_log_of b) logs ≤ 1
+
+-- if they come from one case, and no run has two logs, this is as long as the logs together
+abbrev pub IsAsLong : List Entry → List RunLog → List Entry → Type 0
+IsAsLong history logs all = AreOfOneCase history logs → HaveDistinctRuns logs → length all ≡ logged logs
+
+-- the table has the log of each run, by its number; the runs beyond it have none
+pub record Has (table : List (Bor (List Entry))) (log : ℕ → List Entry) : Type 0 where
+  pub each : (b : ℕ) (d : Bor (List Entry)) → b < length table → (slice_index_or table b d).now ≡ log b
+  pub none : (b : ℕ) → length table ≤ b → log b ≡ []

@@ -1,7 +1,7 @@
 //! The logs by the number of their run.
-ghost use Rattle.std.specs.Prelude.{◌≡◌, ◌≢◌, ◌≤◌, ◌<◌, ℕ, [], IfOk, IfSome, length, slice_index_or};
+ghost use Rattle.std.specs.Prelude.{◌≡◌, ◌≢◌, ◌≤◌, ◌<◌, ℕ, [], IfOk, IfSome, length, slice_index_or, sum_by};
 ghost use Rattle.tc_rules.specs.Merge as rules;
-ghost use Rattle.tc_merge.specs.Inside.{Has, IsMovedOn, entries_of};
+ghost use Rattle.tc_merge.specs.{Inside.IsMovedOn, Inside.entries_of, OneCase.Has};
 
 use crate::heads::after_other;
 use std::alloc::Global;
@@ -10,12 +10,12 @@ use tc_rules::RunLog;
 use tc_verdict::NoMemory;
 
 /// How many entries the logs have together, unless they are too many to count.
-pub(crate) fn entry_count(logs: &[RunLog]) -> Option<usize>
-    ensures { IfSome result (λ n. n ≡ rules.logged logs.now) }
+pub(crate) fn entry_count(logs: &[&[Entry]]) -> Option<usize>
+    ensures { IfSome result (λ n. n ≡ sum_by (λ log. length log.now) logs.now) }
 {
     let mut count: usize = 0;
     for log in logs {
-        count = count.checked_add(log.entries.as_slice().len())?;
+        count = count.checked_add(log.len())?;
     }
     Some(count)
 }

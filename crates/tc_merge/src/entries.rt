@@ -24,8 +24,8 @@ pub(crate) fn is_late(entry: &Entry) -> bool
     is_verdict_call(&entry.op) && entry.reply.is_ended()
 }
 
-fn run_of(op: &Op) -> Option<Run>
-    ensures { result ≡ rules.run_of op.now }
+fn started_run(op: &Op) -> Option<Run>
+    ensures { result ≡ rules.started_run op.now }
 {
     match op {
         Op::Start { run, .. } => Some(*run),
@@ -38,7 +38,7 @@ pub(crate) fn started(entry: &Entry) -> Option<Run>
     ensures { result ≡ rules.started entry.now }
 {
     if entry.reply.is_ok() {
-        run_of(&entry.op)
+        started_run(&entry.op)
     } else {
         None
     }

@@ -6,5 +6,5 @@ mod entries;
 mod heads;
 mod merging;
 
-pub use merging::merge;
+pub use merging::{merge, merge_by_run};
 pub use tc_rules::RunLog;

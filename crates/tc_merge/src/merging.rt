@@ -1,9 +1,8 @@
 //! The merge of a history with the logs of its runs.
-ghost use Rattle.std.specs.Prelude.{◌≡◌, ◌++◌, ℕ, IfOk, OnOk, filter, length};
-ghost use Rattle.tc_rules.specs.Merge as rules;
-ghost use Rattle.tc_merge.specs.Inside.{Has, head_at_start, placed};
-ghost use Rattle.tc_merge.specs.OneCase.{AreOfOneCase, HaveDistinctRuns};
+ghost use Rattle.std.specs.Prelude.{◌≡◌, ◌++◌, ℕ, IfOk, List, OnOk, filter, length};
 ghost use Rattle.tc_rules.specs.Prelude.{part};
+ghost use Rattle.tc_rules.specs.Merge as rules;
+ghost use Rattle.tc_merge.specs.{Inside.head_at_start, Inside.placed, OneCase.AreOfOneCase, OneCase.Has, OneCase.IsAsLong};
 
 use crate::by_run::{at_run, entry_count, logs_by_run, move_on};
 use crate::entries::started;
@@ -52,6 +51,25 @@ fn add_all_late(all: &mut Vec<Entry>, logs: &[&[Entry]]) -> Result<(), NoMemory>
     Ok(())
 }
 
+/// The merge, as `merge` makes it, of a history with the logs in a table by the numbers of their runs.
+pub fn merge_by_run(
+    alloc: Global,
+    table_history: &[Entry],
+    logs: &[&[Entry]],
+) -> Result<Vec<Entry>, NoMemory>
+    ensures { IfOk result (λ v. (all : List RunLog) → Has logs.now (rules.log_of all) → v.items ≡ rules.merge table_history.now all) }
+{
+    let Some(count) = entry_count(logs) else {
+        return Err(NoMemory);
+    };
+    let mut all = Vec::with_capacity(alloc, count)?;
+    let mut rests = Vec::with_capacity(alloc, logs.len())?;
+    rests.extend_from_slice(logs)?;
+    add_history(&mut all, table_history, logs, &mut rests)?;
+    add_all_late(&mut all, logs)?;
+    Ok(all)
+}
+
 /// The history with the verdict entries of the logs put in: at the opening those at the head of run 0's log; after each
 /// entry those that follow it in its caller's log. After an entry that starts a run come also those at the head of that
 /// run's log. At the end come those replied Ended, in the order of their runs. A run without a log has the empty log.
@@ -66,15 +84,9 @@ pub fn merge(
     ensures merged { IfOk result (λ v. v.items ≡ rules.merge table_history.now logs.now) }
     ensures kept { IfOk result (λ v. filter rules.is_other v.items ≡ filter rules.is_other table_history.now) }
     ensures parts { IfOk result (λ v. AreOfOneCase table_history.now logs.now → (b : ℕ) → part v.items b ≡ rules.log_of logs.now b) }
-    ensures as_long { IfOk result (λ v. AreOfOneCase table_history.now logs.now → HaveDistinctRuns logs.now → length v.items ≡ rules.logged logs.now) }
+    ensures as_long { IfOk result (λ v. IsAsLong table_history.now logs.now v.items) }
 {
-    let Some(count) = entry_count(logs) else {
-        return Err(NoMemory);
-    };
-    let mut all = Vec::with_capacity(alloc, count)?;
     let by_run = logs_by_run(alloc, logs)?;
-    let mut rests = logs_by_run(alloc, logs)?;
-    add_history(&mut all, table_history, &by_run, &mut rests)?;
-    add_all_late(&mut all, &by_run)?;
+    let all = merge_by_run(alloc, table_history, &by_run)?;
     Ok(all)
 }

@@ -1,15 +1,11 @@
--- What the engine answers, by what the program answers to the words of its line.
-use Rattle.std.proofs.Common.{ℕ, ◌≡◌, ◌∙◌, ◌⊎◌, List, [], All, Option, Some, Result, Ok, Err, IfOk, IfErr, OnErr, inl, inr, refl, subst}
-use Rattle.std.proofs.lemmas.Result.{IfErr-weaker}
-use Rattle.std.specs.Str.{IsUtf8}
-use Rattle.std.specs.declared.io.ErrorKind.{ErrorKind as IoKind}
-use Rattle.std.specs.declared.io.ErrorKind.TheVariants.{OutOfMemory}
+-- The words of a line, and what the engine answers, by what the program answers to them.
+use Rattle.std.proofs.Common.{ℕ, ◌≡◌, ◌∙◌, ◌⊎◌, List, [], All, Option, Some, Result, Ok, Err, IfOk, IfErr, OnErr, inl, inr, refl, subst, ◌++◌, ◌∷◌, ap, sym}
+use Rattle.std.proofs.lemmas.{List.Elements.All-head, List.Elements.All-tail, Result.IfErr-weaker}
+use Rattle.std.specs.{Str.IsUtf8, declared.io.ErrorKind.ErrorKind as IoKind, declared.io.ErrorKind.TheVariants.OutOfMemory}
 use Rattle.clap.specs.declared.error.kind.ErrorKind.{ErrorKind}
 use Rattle.tc_command.specs.declared.read.Refused.{Refused}
-use Rattle.tc_command.specs.declared.read.Refused.TheVariants as R
-use Rattle.tc_program.specs.declared.outcome.Outcome.{Outcome}
-use Rattle.tc_program.specs.Prelude.{IsAnsweredAlone, IsNoTask, IsRefused, IsUnreadInput, Streams}
-use Rattle.tc_page_program.specs.Engine.{Answers, line_words}
+use Rattle.tc_program.specs.Prelude.{IsAnsweredAlone, IsNoTask, IsRefused, IsUnreadInput, Streams, Outcome}
+use Rattle.tc_page_program.specs.Engine.{Answers, line_words, words_from}
 
 -- the two outputs before and after
 abbrev streams_of : List ℕ → List ℕ → List ℕ → List ℕ → Streams
@@ -25,8 +21,8 @@ module _ {U V : Type 0} (more : U → V) (s : Streams) (outcome : Outcome) where
   }
 
   refused : (why : Refused) → IsRefused why s U outcome → IsRefused why s V outcome
-  refused (R.Line error) r = no_task _ r
-  refused (R.Word fault) r = (r.0, more r.1)
+  refused (Refused.Line error) r = no_task _ r
+  refused (Refused.Word fault) r = (r.0, more r.1)
 
 on_error : {A E : Type 0} (r : Result A E) (U : Type 0) → OnErr r U → OnErr r (Unit {0})
 on_error (Ok a) U so = tt
@@ -64,3 +60,15 @@ module _ {A E : Type 0} (texts : A → List (List ℕ)) (kind : E → IoKind) (l
     status_is = refl;
     answered = inr (kind e, subst (λ xs. IsUnreadInput (kind e) (Some xs) (Some told) outcome) silent unread, same unwritten ∙ begins, not_had);
   }
+
+-- what is so of all of a list is so of one in the middle of it
+in_middle : {C : Type 0} (P : C → Type 0) (before after : List C) (c : C) → All P (before ++ (c ∷ after)) → P c
+in_middle P [] after c all = All-head P c after all
+in_middle P (b ∷ before) after c all = in_middle P before after c (All-tail P b (before ++ (c ∷ after)) all)
+
+-- if each word is a text, the one that ends here is
+pub is_text : (before all : List (List ℕ)) (word left rest : List ℕ) (byte : ℕ) → before ++ words_from word left ≡ all → left ≡ byte ∷ rest → byte ≡ 0
+    → All IsUtf8 all → IsUtf8 word
+is_text before all word left rest byte is at zero each =
+    let now : before ++ (word ∷ words_from [] rest) ≡ all = subst (λ l. before ++ words_from word l ≡ all) (at ∙ ap (λ b. b ∷ rest) zero) is in
+    in_middle IsUtf8 before (words_from [] rest) word (subst (λ ws. All IsUtf8 ws) (sym now) each)

@@ -1,10 +1,7 @@
 -- What the engine answers.
 use Rattle.std.specs.Prelude.{ℕ, ◌≡◌, ◌≤◌, ◌==◌, ◌⊎◌, ◌++◌, ◌∷◌, All, List, [], Some, codes, drop, if◌then◌else◌, length}
-use Rattle.std.specs.declared.io.ErrorKind.{ErrorKind as IoKind}
-use Rattle.std.specs.declared.io.ErrorKind.TheVariants.{OutOfMemory}
-use Rattle.std.specs.Str.{IsUtf8}
-use Rattle.tc_program.specs.declared.outcome.Outcome.{Outcome}
-use Rattle.tc_program.specs.Prelude.{IsAnsweredAlone, IsUnreadInput}
+use Rattle.std.specs.{Str.IsUtf8, declared.io.ErrorKind.ErrorKind as IoKind, declared.io.ErrorKind.TheVariants.OutOfMemory}
+use Rattle.tc_program.specs.Prelude.{IsAnsweredAlone, IsUnreadInput, Outcome}
 
 -- the words of what is left of a line, if the first has these bytes before it; each word ends with a zero byte
 abbrev pub words_from : List ℕ → List ℕ → List (List ℕ)

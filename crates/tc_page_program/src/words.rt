@@ -1,8 +1,6 @@
 //! The words of a line.
 ghost use Rattle.std.specs.Prelude.{◌≡◌, ◌⊎◌, All, IfOk, IfErr, map, string_bytes};
-ghost use Rattle.std.specs.IoError.{error_kind};
-ghost use Rattle.std.specs.declared.io.ErrorKind.TheVariants.{OutOfMemory};
-ghost use Rattle.std.specs.Str.{IsUtf8};
+ghost use Rattle.std.specs.{IoError.error_kind, Str.IsUtf8, declared.io.ErrorKind.TheVariants.OutOfMemory};
 ghost use Rattle.tc_page_program.specs.Engine.{line_words as spec_words};
 
 use std::alloc::Global;

@@ -30,7 +30,7 @@ case t 2~0 finish~1 getver => evidence 1 t 2~0 finish -> ok~1 ! no line feed~end
 case t 2~0 finish~end => evidence 1 t 2~0 finish -> ok~end none~ => ttrun: line 3: no line feed~ttrun: the input ended inside a test case~ => none, refused
 case t 1 =>  =>  => line 1, no line feed
 end~case t 1~ =>  =>  => line 1, no test case is open
-case t 257~ =>  =>  => line 1, bad line
+case t 257~ =>  =>  => line 1, a test case has 1 to 256 behaviours
 case t 1~~0 finish~end~0 finish~ => evidence 1 t 1~0 finish -> ok~end none~ => ttrun: line 2: bad line~ => line 5, no test case is open
 case t 256~behaviour 255 z~255 # a~255 ! a~256 # a~0 finish~end~ => evidence 1 t 256~behaviour 255 z~255 # a~255 ! bad line~0 finish -> ok~end none~ => ttrun: line 5: no such run~ => none, refused
 case t 2~case t 2~end~end~ => evidence 1 t 2~end none~ => ttrun: line 2: a test case is open~ => line 4, no test case is open

@@ -1,61 +1,26 @@
 -- What comes of a text, and of an input.
-use Rattle.std.proofs.Common.{ℕ, false, ◌≡◌, ◌≤◌, List, [], Option, None, Some, IfSome, IfOk, IfErr, Result, Ok, Err, inl, inr, length, refl, subst}
+use Rattle.std.proofs.Common.{ℕ, Bool, ◌≡◌, ◌∙◌, ◌≤◌, List, Option, IfSome, Result, Ok, Err, inl, inr, length, refl, subst, sym}
 use Rattle.std.specs.Prelude.{◌≢◌, ◌⊎◌, MatchResult}
-use Rattle.std.specs.Global.{Vec}
-use Rattle.tc_program.specs.declared.reply.Answer.{Answer}
 use Rattle.std.specs.Io.KnownBytes.{Keeps}
-use Rattle.tc_command.specs.declared.task.Choice.{Choice}
-use Rattle.tc_command.specs.declared.task.RunOptions.{RunOptions}
-use Rattle.tc_command.specs.declared.task.Task.{Task}
-use Rattle.tc_command.specs.declared.task.Task.TheVariants as T
-use Rattle.tc_program.specs.declared.limits.TheConstants.{HISTORY_LIMIT}
-use Rattle.tc_program.specs.declared.fault.RunFault.{RunFault}
-use Rattle.tc_program.specs.declared.fault.RunFault.TheVariants as F
-use Rattle.tc_program.specs.Fault.{run_fault_line}
+use Rattle.tc_answer.specs.{Inside.GivesAnswer, declared.fault.RunFault.RunFault, declared.limits.TheConstants.HISTORY_LIMIT, declared.outcome.Outcome.Outcome, declared.reply.Answer.Answer}
+use Rattle.tc_command.specs.declared.task.{Choice.Choice, RunOptions.RunOptions, Task.Task}
+use Rattle.tc_answer.specs.Prelude.{run_fault_line, IsUnread, IsPrintedRefusal, Streams}
 use Rattle.tc_stream.specs.Prelude.{IsRead}
-use Rattle.tc_program.specs.Input.{IsUnread}
-use Rattle.tc_program.specs.Inside.{GivesAnswer, IsUnbegun, WritesTo}
-use Rattle.tc_program.specs.Limits.{limit_of}
-use Rattle.tc_program.specs.Made.{Does, IsMade}
-use Rattle.tc_program.specs.Alone.{IsNotBegun}
-use Rattle.tc_program.specs.Program.{IsCarriedOut, IsDone, IsDoneBy}
-use Rattle.tc_program.specs.Stderr.{IsPrintedRefusal}
-use Rattle.tc_program.specs.Streams.{Streams}
-use Rattle.tc_program.specs.declared.outcome.Outcome.{Outcome}
-
-pub keeps_same : (held : Option (List ℕ)) → Keeps held held
-keeps_same None = tt
-keeps_same (Some xs) = refl
-
--- an answer of these parts
-abbrev pub answer_of : List ℕ → List ℕ → ℕ → Answer
-answer_of out told status = record { out = out; told = told; status = status }
+use Rattle.tc_judge.specs.Prelude.{IsChecked, IsMadeOfInput, IsSilent, RefusesBlocks}
+use Rattle.tc_judge.specs.{Check.NameBlocks, Inside.block_name, Inside.is_picked}
+use Rattle.tc_program.specs.{Alone.IsNotBegun, Explained.IsToldOf, Inside.IsMadeInParts, Inside.IsUnbegun, Inside.WritesTo, Limits.limit_of, Made.Does, Made.IsMade, Program.IsCarriedOut, Program.IsDone, Program.IsDoneBy}
 
 -- what comes of an input that is read is what comes of its text
 pub read_does : (task : Task) (input before after : Option (List ℕ)) (text : List ℕ) (r : Result ℕ RunFault) → length text ≤ limit_of task → IfSome input (λ given. text ≡ given)
     → WritesTo task text before after r → Does task input before after r
 read_does task input before after text (Ok status) fits all does = (text, fits, all, does)
-read_does task input before after text (Err F.Write) fits all does = (text, fits, all, does)
+read_does task input before after text (Err RunFault.Write) fits all does = (text, fits, all, does)
 read_does task input before after text (Err fault) fits all does = (inr (text, fits, all, does.0), does.1)
 
 -- the same of a text that is lent
 pub lent_does : (task : Task) (input before after : Option (List ℕ)) (text lent : List ℕ) (r : Result ℕ RunFault) → lent ≡ text → length text ≤ limit_of task
     → IfSome input (λ given. text ≡ given) → WritesTo task lent before after r → Does task input before after r
 lent_does task input before after text lent r same fits all does = read_does task input before after text r fits all (subst (λ t. WritesTo task t before after r) same does)
-
--- what is so if there is an answer, and if there is none
-pub made_of : {A E : Type 0} (P : A → Type 0) (Q : E → Type 0) (r : Result A E) → IfOk r P → IfErr r Q → MatchResult r P Q
-made_of P Q (Ok x) done refused = done
-made_of P Q (Err e) done refused = refused
-
-pub both_ok : {A E : Type 0} (P Q S : A → Type 0) (r : Result A E) → ((x : A) → P x → Q x → S x) → IfOk r P → IfOk r Q → IfOk r S
-both_ok P Q S (Ok x) both p q = both x p q
-both_ok P Q S (Err e) both p q = tt
-
--- some text is made, if one is
-pub some_text : {E : Type 0} (r : Result (Vec ℕ) E) → (text : List ℕ) × IfOk r (λ v. v.items ≡ text)
-some_text (Ok v) = (v.items, refl)
-some_text (Err e) = ([], tt)
 
 -- a task that makes an answer is done if the answer is given
 pub done_by : (task : Task) (Made : Result Answer RunFault → Type 0) (Refused : RunFault → Type 0) (Runs : RunOptions → Type 0) (a : Answer) (s : Streams) (outcome : Outcome)
@@ -71,36 +36,69 @@ IsDoneWhole task input s outcome =
     ⊎ ((fault : RunFault) × IsUnread (limit_of task) input fault × Keeps s.before s.after × IsPrintedRefusal s.untold s.told (run_fault_line fault) outcome)
 
 -- a task that is no service is carried out by its whole input
-pub carried_out : (task : Task) (input : Option (List ℕ)) (s : Streams) (outcome : Outcome) → task ≢ T.Serve → IsDoneWhole task input s outcome
+pub carried_out : (task : Task) (input : Option (List ℕ)) (s : Streams) (outcome : Outcome) → task ≢ Task.Serve → IsDoneWhole task input s outcome
     → IsCarriedOut task input s outcome
-carried_out T.Serve input s outcome other done = absurd (other refl)
+carried_out Task.Serve input s outcome other done = absurd (other refl)
 carried_out task input s outcome other done = done
 
--- the input was checked part by part, and this was made of it: it was given
-pub parts_given : (choice : Choice) (input : Option (List ℕ)) (made : Result Answer RunFault) (a : Answer) (s : Streams) (outcome : Outcome) → IsRead HISTORY_LIMIT input (λ text. IsMade (T.Check choice false) text made)
-    → made ≡ Ok a → GivesAnswer a s outcome → IsCarriedOut (T.Check choice false) input s outcome
-parts_given choice input made a s outcome read is gives = inl (
-  read.0,
-  read.1,
-  read.2,
-  done_by (T.Check choice false) (IsMade (T.Check choice false) read.0) _ _ a s outcome (subst (λ m. IsMade (T.Check choice false) read.0 m) is read.3) gives,
-)
+-- this was made of the input part by part: it was given
+pub parts_given : (task : Task) (input : Option (List ℕ)) (made : Result Answer RunFault) (a : Answer) (s : Streams) (outcome : Outcome) → IsMadeInParts task input made
+    → made ≡ Ok a → GivesAnswer a s outcome → IsCarriedOut task input s outcome
+parts_given task input made a s outcome parts is gives = carried_out task input s outcome parts.2 (by parts.0)
+  where
+    by : IsMadeOfInput (limit_of task) input (IsMade task) made → IsDoneWhole task input s outcome
+    by (inl read) = inl (read.0, read.1, read.2, done_by task (IsMade task read.0) _ _ a s outcome (subst (IsMade task read.0) is read.3) gives)
+    by (inr unread) = let no : Ok a ≡ Err unread.0 = sym is ∙ unread.1 in absurd cc
 
--- or it was refused, and no fault is explained
-pub parts_refused : (choice : Choice) (input : Option (List ℕ)) (made : Result Answer RunFault) (fault : RunFault) (s : Streams) (outcome : Outcome) → IsRead HISTORY_LIMIT input (λ text. IsMade (T.Check choice false) text made)
-    → made ≡ Err fault → Keeps s.before s.after → IsPrintedRefusal s.untold s.told (run_fault_line fault) outcome → IsCarriedOut (T.Check choice false) input s outcome
-parts_refused choice input made fault s outcome read is keeps refusal = inl (
-  read.0,
-  read.1,
-  read.2,
-  IsDoneBy.refused fault (subst (λ m. IsMade (T.Check choice false) read.0 m) is read.3) keeps (run_fault_line fault, refl, refusal),
-)
+-- or there is none, and no fault is explained
+pub parts_refused : (task : Task) (input : Option (List ℕ)) (made : Result Answer RunFault) (fault : RunFault) (s : Streams) (outcome : Outcome) → IsMadeInParts task input made
+    → made ≡ Err fault → Keeps s.before s.after → IsPrintedRefusal s.untold s.told (run_fault_line fault) outcome → IsCarriedOut task input s outcome
+parts_refused task input made fault s outcome parts is keeps refusal = carried_out task input s outcome parts.2 (by parts.0)
+  where
+    told : (text : List ℕ) → IsToldOf task text fault (run_fault_line fault)
+    told text = rw parts.1 refl
+
+    by : IsMadeOfInput (limit_of task) input (IsMade task) made → IsDoneWhole task input s outcome
+    by (inl read) =
+        inl (read.0, read.1, read.2, IsDoneBy.refused fault (subst (IsMade task read.0) is read.3) keeps (run_fault_line fault, told read.0, refusal))
+    by (inr unread) = let same : fault ≡ unread.0 = cc in inr (fault, subst (IsUnread (limit_of task) input) (sym same) unread.2, keeps, refusal)
+
+-- what is made of an input for one choice is made for another that chooses the same
+pub made_for : (some choice : Choice) (explains : Bool) (input : Option (List ℕ)) (made : Result Answer RunFault) → some.only.items ≡ choice.only.items → some.failed ≡ choice.failed
+    → IsMadeOfInput HISTORY_LIMIT input (IsMade (Task.Check some explains)) made → IsMadeOfInput HISTORY_LIMIT input (IsMade (Task.Check choice explains)) made
+made_for some choice explains input made only failed (inl read) =
+    inl (
+      read.0,
+      read.1,
+      read.2,
+      subst (λ f. MatchResult made (λ a. IsSilent (IsChecked (λ b. is_picked choice.only.items f (block_name b) b.verdict) read.0) a × NameBlocks choice.only.items read.0)
+          (RefusesBlocks choice.only.items read.0)) failed
+          (subst (λ o. MatchResult made (λ a. IsSilent (IsChecked (λ b. is_picked o some.failed (block_name b) b.verdict) read.0) a × NameBlocks o read.0) (RefusesBlocks o read.0)) only read.3),
+    )
+made_for some choice explains input made only failed (inr unread) = inr unread
+
+-- what is made of an input that is checked was written
+pub checked_does : (choice : Choice) (explains : Bool) (input before after : Option (List ℕ)) (a : Answer) (r : Result ℕ RunFault)
+    → IsMadeOfInput HISTORY_LIMIT input (IsMade (Task.Check choice explains)) (Ok a)
+    → ((text : List ℕ) → IsMade (Task.Check choice explains) text (Ok a) → WritesTo (Task.Check choice explains) text before after r) → Does (Task.Check choice explains) input before after r
+checked_does choice explains input before after a r (inl read) writes = read_does (Task.Check choice explains) input before after read.0 r read.1 read.2 (writes read.0 read.3)
+checked_does choice explains input before after a r (inr unread) writes = let no : Ok a ≡ Err unread.0 = unread.1 in absurd cc
+
+-- nothing is made of an input that is checked: it was not read, or is refused
+pub unchecked : (choice : Choice) (explains : Bool) (input before after : Option (List ℕ)) (fault : RunFault) → IsMadeOfInput HISTORY_LIMIT input (IsMade (Task.Check choice explains)) (Err fault)
+    → Keeps before after → Does (Task.Check choice explains) input before after (Err fault)
+unchecked choice explains input before after RunFault.Write (inl read) keeps = absurd read.3
+unchecked choice explains input before after RunFault.Write (inr unread) keeps =
+    let same : RunFault.Write ≡ unread.0 = cc in absurd (subst (IsUnread HISTORY_LIMIT input) (sym same) unread.2)
+unchecked choice explains input before after fault (inl read) keeps = (inr read, keeps)
+unchecked choice explains input before after fault (inr unread) keeps =
+    let same : fault ≡ unread.0 = cc in (inl (subst (IsUnread HISTORY_LIMIT input) (sym same) unread.2), keeps)
 
 -- where no thread can be started, a text that is lent is done or left, so the task is carried out by its whole input or left
 pub done_or_left : (task : Task) (input : Option (List ℕ)) (text lent : List ℕ) (s : Streams) (outcome : Outcome) → lent ≡ text → length text ≤ limit_of task
-    → IfSome input (λ given. text ≡ given) → task ≢ T.Serve → IsDone task lent s outcome ⊎ IsNotBegun task lent s outcome → IsCarriedOut task input s outcome ⊎ IsUnbegun task input s outcome
+    → IfSome input (λ given. text ≡ given) → task ≢ Task.Serve → IsDone task lent s outcome ⊎ IsNotBegun task lent s outcome → IsCarriedOut task input s outcome ⊎ IsUnbegun task input s outcome
 done_or_left task input text lent s outcome same fits all other (inl done) =
     inl (carried_out task input s outcome other (inl (text, fits, all, subst (λ t. IsDone task t s outcome) same done)))
-done_or_left (T.Run o) input text lent s outcome same fits all other (inr left) =
-    inr (text, fits, all, subst (λ t. IsNotBegun (T.Run o) t s outcome) same left)
+done_or_left (Task.Run o) input text lent s outcome same fits all other (inr left) =
+    inr (text, fits, all, subst (λ t. IsNotBegun (Task.Run o) t s outcome) same left)
 done_or_left task input text lent s outcome same fits all other (inr left) = absurd left

@@ -5,11 +5,9 @@ use Rattle.std.specs.Prelude.{MatchBool}
 use Rattle.tc_text.specs.Prelude.{Line, TellsAmong}
 use Rattle.tc_text.proofs.Lemmas.Among.{among_some}
 use Rattle.tc_command.specs.declared.task.Task.{Task}
-use Rattle.tc_program.specs.Inside.{notes_of}
-use Rattle.tc_program.specs.declared.fault.RunFault.{RunFault}
-use Rattle.tc_program.specs.Explained.{IsToldOf, explains, is_of_text, number_of, part_of}
-use Rattle.tc_program.specs.Fault.{run_fault_line}
-use Rattle.tc_program.specs.Limits.{has_blocks}
+use Rattle.tc_answer.specs.declared.fault.RunFault.{RunFault}
+use Rattle.tc_answer.specs.Prelude.{number_of, run_fault_line}
+use Rattle.tc_program.specs.{Explained.IsToldOf, Explained.explains, Explained.is_of_text, Explained.part_of, Inside.notes_of, Limits.has_blocks}
 
 some_if : (b : Bool) (notes : List Line) (line : List ℕ) → (told : List ℕ) × MatchBool b (TellsAmong notes line told) (told ≡ line)
 some_if true notes line = among_some notes line

@@ -1,19 +1,9 @@
 -- The lemmas of this crate.
 pub mod Doing
-pub mod Playing
-pub mod Legal
 pub mod Replays
-pub mod Running
-pub mod Telling
-pub mod Chosen
 pub mod OwnCases
-pub mod Passing
-pub mod Scripted
-pub mod Checks
 pub mod Exploring
-pub mod Faults
 pub mod WrittenHistories
-pub mod Beside
-pub mod Splitting
 pub mod Reporting
 pub mod Explaining
+pub mod ListedNames

@@ -3,48 +3,32 @@ use Rattle.std.proofs.Common.{ℕ, ◌≡◌, All, Bool, false, true, List, Opti
 use Rattle.std.specs.Prelude.{◌≢◌, ◌⊎◌}
 use Rattle.std.specs.Global.{Vec}
 use Rattle.tc_book.specs.Prelude.{PassState}
-use Rattle.tc_campaign.specs.Prelude.{IsCalled, case_name, chosen, have_names, HasNames, outline_of}
-use Rattle.tc_campaign.specs.declared.case.Case.{Case}
+use Rattle.tc_campaign.specs.Prelude.{IsCalled, HasNames, outline_of}
+use Rattle.tc_answer.specs.Prelude.{case_name, chosen, have_names, AreChosenOf, run_fault_line, IsPrintedRefusal, Streams}
+use Rattle.tc_exec.specs.declared.{job.Back.Back, test_case.Case.Case}
 use Rattle.tc_command.specs.Prelude.{IsCasesReading, IsReading}
-use Rattle.tc_command.specs.declared.read.Refused.{Refused}
-use Rattle.tc_command.specs.declared.task.Choice.{Choice}
-use Rattle.tc_command.specs.declared.task.RunOptions.{RunOptions}
-use Rattle.tc_command.specs.declared.task.Task.{Task}
-use Rattle.tc_command.specs.declared.task.Task.TheVariants as T
-use Rattle.tc_exec.specs.declared.job.Back.{Back}
+use Rattle.tc_command.specs.declared.{read.Refused.Refused, task.Choice.Choice, task.RunOptions.RunOptions, task.Task.Task}
 use Rattle.tc_report.specs.declared.fault.OutFault.{OutFault}
-use Rattle.tc_program.proofs.Chosen.{all_chosen}
-use Rattle.tc_program.specs.Alone.{IsAnsweredAlone}
-use Rattle.tc_program.specs.Answer.{IsAnsweredBy, IsRefused}
-use Rattle.tc_program.specs.Cases.{DoesCases, IsMadeOfCases, RefusesCases, WereMade}
-use Rattle.tc_program.specs.Choosing.{AreChosenOf}
-use Rattle.tc_program.specs.Fault.{run_fault_line, of_output}
-use Rattle.tc_program.specs.Inside.{IsOfCases, RefusesNames, IsUnbegun}
-use Rattle.tc_program.specs.Made.{IsListed}
-use Rattle.tc_program.specs.Program.{IsCarriedOut, IsDoneBy}
-use Rattle.tc_program.specs.Run.{IsRun, IsUnwrittenRun}
-use Rattle.tc_program.specs.Stderr.{IsPrintedRefusal}
-use Rattle.tc_program.specs.Streams.{Streams}
-use Rattle.tc_program.specs.declared.fault.RunFault.{RunFault}
-use Rattle.tc_program.specs.declared.fault.RunFault.TheVariants as F
-use Rattle.tc_program.specs.declared.outcome.Outcome.{Outcome}
-use Rattle.tc_program.specs.declared.reply.Answer.{Answer}
+use Rattle.tc_answer.proofs.Lemmas.Chosen.{all_chosen}
+use Rattle.tc_run.specs.Prelude.{of_output, IsRun, IsUnwrittenRun}
+use Rattle.tc_answer.specs.{Inside.RefusesNames, declared.fault.RunFault.RunFault, declared.outcome.Outcome.Outcome, declared.reply.Answer.Answer}
+use Rattle.tc_program.specs.{Alone.IsAnsweredAlone, Answer.IsAnsweredBy, Answer.IsRefused, Cases.DoesCases, Cases.IsMadeOfCases, Cases.RefusesCases, Cases.WereMade, Inside.IsOfCases, Inside.IsUnbegun, Made.IsListed, Program.IsCarriedOut, Program.IsDoneBy}
 
 -- what such arguments ask for is a run or a list
 pub of_cases : (words : List (List ℕ)) (task : Task) → IsCasesReading words (Ok task) → IsOfCases task
-of_cases words (T.Run o) reads = tt
-of_cases words (T.List choice explains) reads = tt
-of_cases words (T.Replay explains) reads = absurd reads.1
-of_cases words (T.Check choice explains) reads = absurd reads.1
-of_cases words (T.Compare form choice explains) reads = absurd reads.1
-of_cases words (T.Report form choice explains) reads = absurd reads.1
-of_cases words (T.Explore o) reads = absurd reads.1
-of_cases words T.Serve reads = absurd reads.1
+of_cases words (Task.Run o) reads = tt
+of_cases words (Task.List choice explains) reads = tt
+of_cases words (Task.Replay explains) reads = absurd reads.1
+of_cases words (Task.Check choice explains) reads = absurd reads.1
+of_cases words (Task.Compare form choice explains) reads = absurd reads.1
+of_cases words (Task.Report form choice explains) reads = absurd reads.1
+of_cases words (Task.Explore o) reads = absurd reads.1
+of_cases words Task.Serve reads = absurd reads.1
 
 -- such a task is one of these two
-pub no_other : (task : Task) → IsOfCases task → ((o : RunOptions) → task ≢ T.Run o) → ((choice : Choice) (explains : Bool) → task ≢ T.List choice explains) → ⊥
-no_other (T.Run o) is no_run no_list = no_run o refl
-no_other (T.List choice explains) is no_run no_list = no_list choice explains refl
+pub no_other : (task : Task) → IsOfCases task → ((o : RunOptions) → task ≢ Task.Run o) → ((choice : Choice) (explains : Bool) → task ≢ Task.List choice explains) → ⊥
+no_other (Task.Run o) is no_run no_list = no_run o refl
+no_other (Task.List choice explains) is no_run no_list = no_list choice explains refl
 no_other task is no_run no_list = is
 
 -- what holds of the value of an answer
@@ -75,20 +59,20 @@ module _ {B E : Type 0} (made : Result (Vec (Case B)) E) where
   -- a choice that is refused of these is refused
   pub unchosen_made : (v : Vec (Case B)) (choice : Choice) (fault : RunFault) → made ≡ Ok v → RefusesNames (have_names case_name choice.only.items v.items) fault
       → RefusesCases (WereMade made) choice fault
-  unchosen_made v choice F.Only is have = (v.items, subst (λ r. WereMade r v.items) (sym is) refl, have)
-  unchosen_made v choice F.NoMemory is have = tt
+  unchosen_made v choice RunFault.Only is have = (v.items, subst (λ r. WereMade r v.items) (sym is) refl, have)
+  unchosen_made v choice RunFault.NoMemory is have = tt
   unchosen_made v choice fault is have = absurd have
 
   -- the list of the chosen ones is what a task makes that asks for it
-  pub list_made : (task : Task) (choice : Choice) (explains : Bool) (a : Answer) → task ≡ T.List choice explains → IsListed case_name (AreChosenOf case_name (WereMade made) choice) a
+  pub list_made : (task : Task) (choice : Choice) (explains : Bool) (a : Answer) → task ≡ Task.List choice explains → IsListed case_name (AreChosenOf case_name (WereMade made) choice) a
       → IsMadeOfCases (WereMade made) task (Ok a)
   list_made task choice explains a is listed = subst (λ t. IsMadeOfCases (WereMade made) t (Ok a)) (sym is) listed
 
-  pub list_refused : (task : Task) (choice : Choice) (explains : Bool) (fault : RunFault) → task ≡ T.List choice explains → RefusesCases (WereMade made) choice fault
+  pub list_refused : (task : Task) (choice : Choice) (explains : Bool) (fault : RunFault) → task ≡ Task.List choice explains → RefusesCases (WereMade made) choice fault
       → IsMadeOfCases (WereMade made) task (Err fault)
   list_refused task choice explains fault is refused = subst (λ t. IsMadeOfCases (WereMade made) t (Err fault)) (sym is) refused
 
-  pub run_refused : (task : Task) (o : RunOptions) (fault : RunFault) → task ≡ T.Run o → RefusesCases (WereMade made) o.choice fault
+  pub run_refused : (task : Task) (o : RunOptions) (fault : RunFault) → task ≡ Task.Run o → RefusesCases (WereMade made) o.choice fault
       → IsMadeOfCases (WereMade made) task (Err fault)
   run_refused task o fault is refused = subst (λ t. IsMadeOfCases (WereMade made) t (Err fault)) (sym is) refused
 
@@ -99,7 +83,7 @@ named_still (Ok v) choice ks names are =
     subst (All HasNames) (sym are.are) (all_chosen HasNames case_name choice.only.items choice.shard are.all (subst (All HasNames) are.spelled names))
 named_still (Err e) choice ks names are = absurd are.spelled
 
-module _ {B E : Type 0} (called : B → PassState → Back → Type 0) (made : Result (Vec (Case B)) E) (task : Task) (o : RunOptions) (is : task ≡ T.Run o)
+module _ {B E : Type 0} (called : B → PassState → Back → Type 0) (made : Result (Vec (Case B)) E) (task : Task) (o : RunOptions) (is : task ≡ Task.Run o)
     (ks : List (Case B)) (are : AreChosenOf case_name (WereMade made) o.choice ks) where
   -- a run of the chosen ones is what a task does that asks for it
   pub ran : (s : Streams) (outcome : Outcome) → IsRun outline_of (IsCalled called) ks o s outcome → DoesCases called (WereMade made) task s outcome

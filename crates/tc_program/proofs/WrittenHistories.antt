@@ -2,28 +2,19 @@
 use Rattle.std.proofs.Common.{ℕ, ◌≡◌, ◌≢◌, ◌∙◌, ◌+◌, ◌≤◌, Bool, true, false, All, inr, List, [], ◌∷◌, ◌++◌, length, map, reverse, take, refl, ap, sym, subst, arith}
 use Rattle.std.specs.Prelude.{◌==◌}
 use Rattle.std.specs.List.{AllZip, flat_map}
-use Rattle.std.proofs.lemmas.Bool.Decides.{nat_tests}
-use Rattle.std.proofs.lemmas.List.{length-take}
-use Rattle.std.proofs.lemmas.List.Elements.{All-nil, All-cons, All-head, All-tail, All-take}
-use Rattle.std.proofs.lemmas.List.Folds.{list_any-append}
+use Rattle.std.proofs.lemmas.{Bool.Decides.nat_tests, List.Elements.All-cons, List.Elements.All-head, List.Elements.All-nil, List.Elements.All-tail, List.Elements.All-take, List.Folds.list_any-append, List.length-take}
 use Rattle.tc_rules.specs.Prelude.{IsName, Entry, IsLegal, overall, IsOneHistory}
 use Rattle.tc_blocks.specs.Prelude.{AreEntries, entries_of, is_about, is_met, AreBlocks, AreEvidence, AreLines, IsHeader, block_lines, format_of, text_of_block}
-use Rattle.tc_blocks.specs.declared.block.Block.{Block}
-use Rattle.tc_blocks.specs.declared.header.Kind.{Kind}
-use Rattle.tc_blocks.specs.declared.header.Kind.TheVariants as K
-use Rattle.tc_blocks.specs.declared.line.Line.{Line}
-use Rattle.tc_blocks.specs.declared.line.Line.TheVariants as L
+use Rattle.tc_blocks.specs.declared.{block.Block.Block, header.Kind.Kind, line.Line.Line}
 use Rattle.tc_blocks.proofs.Lemmas.WrittenEvidence.{written_evidence}
-use Rattle.tc_report.specs.declared.results.Finished.{Finished}
-use Rattle.tc_report.specs.declared.results.Results.{Results}
+use Rattle.tc_report.specs.{Inside.case_lines, Inside.namings, declared.results.Finished.Finished, declared.results.Results.Results}
 use Rattle.tc_report.specs.Prelude.{blocks_text, case_block, finished_header}
-use Rattle.tc_report.specs.Inside.{case_lines, namings}
 use Rattle.tc_campaign.specs.Prelude.{Outline}
 use Rattle.tc_campaign.specs.Inside.{IsReported}
-use Rattle.tc_program.specs.Check.{Checks, legal_line}
-use Rattle.tc_program.specs.WrittenHistories.{AreReported}
-use Rattle.tc_program.specs.Inside.{FitsItsTypes, WasRun, WereRun, each, legal_case}
-use Rattle.tc_program.proofs.Legal.{AreRight, IsRight, block_line, only_legal}
+use Rattle.tc_judge.specs.{Check.AreAllLegal, Check.Checks, Check.IsLegalBlock, Inside.each}
+use Rattle.tc_judge.specs.Prelude.{legal_line}
+use Rattle.tc_judge.proofs.Lemmas.Legal.{block_line, only_legal}
+use Rattle.tc_program.specs.{Inside.FitsItsTypes, Inside.WasRun, Inside.WereRun, Inside.legal_case, WrittenHistories.AreReported}
 
 -- the block of a finished test case, which begins in this line
 abbrev pub block_of : Kind → ℕ → Finished → Block
@@ -59,32 +50,34 @@ evidence_of kind r ran =
 
 -- ---- a legal block is found legal, and nothing else
 
-only_entries : (es : List Entry) → entries_of (map L.Entry es) ≡ es
+only_entries : (es : List Entry) → entries_of (map Line.Entry es) ≡ es
 only_entries [] = refl
 only_entries (e ∷ es) = ap (λ l. e ∷ l) (only_entries es)
 
-behind_namings : (run : ℕ) (names : List (List ℕ)) (es : List Entry) → entries_of (namings run names ++ map L.Entry es) ≡ es
+behind_namings : (run : ℕ) (names : List (List ℕ)) (es : List Entry) → entries_of (namings run names ++ map Line.Entry es) ≡ es
 behind_namings run [] es = only_entries es
 behind_namings run (name ∷ names) es = behind_namings (run + 1) names es
 
 -- the entries of its block are those of a finished test case
 pub same_entries : (kind : Kind) (f : Finished) → entries_of (case_lines kind f) ≡ f.report.history
-same_entries K.Evidence f = behind_namings 0 (take f.report.behaviours f.names) f.report.history
-same_entries K.History1 f = only_entries f.report.history
-same_entries K.History2 f = only_entries f.report.history
+same_entries Kind.Evidence f = behind_namings 0 (take f.report.behaviours f.names) f.report.history
+same_entries Kind.History1 f = only_entries f.report.history
+same_entries Kind.History2 f = only_entries f.report.history
 
 -- the block of a test case that was run
-right_of : (kind : Kind) (line : ℕ) (f : Finished) → WasRun kind f → IsRight (block_of kind line f)
+right_of : (kind : Kind) (line : ℕ) (f : Finished) → WasRun kind f → IsLegalBlock (block_of kind line f)
 right_of kind line f ran =
-    let same = sym (same_entries kind f) in (
-      subst (λ (es : List Entry). IsLegal f.report.behaviours (reverse es)) same ran.report.legal,
-      ran.report.verdict ∙ ap (λ (es : List Entry). overall (reverse es)) same,
-    )
+    let same = sym (same_entries kind f) in
+    record {
+      replies = subst (λ (es : List Entry). IsLegal f.report.behaviours (reverse es)) same ran.report.legal;
+      verdict = ran.report.verdict ∙ ap (λ (es : List Entry). overall (reverse es)) same;
+    }
 
-pub are_right : (kind : Kind) (line : ℕ) (fs : List Finished) → All (WasRun kind) fs → AreRight (blocks_of kind line fs)
-are_right kind line [] all = tt
+pub are_right : (kind : Kind) (line : ℕ) (fs : List Finished) → All (WasRun kind) fs → AreAllLegal (blocks_of kind line fs)
+are_right kind line [] all = All-nil IsLegalBlock
 are_right kind line (f ∷ fs) all =
-    (right_of kind line f (All-head (WasRun kind) f fs all), are_right kind (after kind line f) fs (All-tail (WasRun kind) f fs all))
+    All-cons IsLegalBlock (block_of kind line f) (blocks_of kind (after kind line f) fs) (right_of kind line f (All-head (WasRun kind) f fs all))
+    (are_right kind (after kind line f) fs (All-tail (WasRun kind) f fs all))
 
 same_lines : (kind : Kind) (line : ℕ) (fs : List Finished) → flat_map block_line (blocks_of kind line fs) ≡ flat_map legal_case fs
 same_lines kind line [] = refl
@@ -111,25 +104,25 @@ have_histories [] (f ∷ fs) each = absurd each
 have_histories (c ∷ cases) [] each = absurd each
 have_histories (c ∷ cases) (f ∷ fs) each = All-cons HasHistory f fs each.0.one_history (have_histories cases fs each.1)
 
-entries_inside : (kind : Kind) (n : ℕ) (before : List Line) (es : List Entry) → format_of kind ≡ 2 → AreEntries 2 es → AreLines kind n before (map L.Entry es)
+entries_inside : (kind : Kind) (n : ℕ) (before : List Line) (es : List Entry) → format_of kind ≡ 2 → AreEntries 2 es → AreLines kind n before (map Line.Entry es)
 entries_inside kind n before [] two fit = tt
-entries_inside kind n before (e ∷ es) two fit = (rw two fit.0, entries_inside kind n (before ++ L.Entry e ∷ []) es two fit.1)
+entries_inside kind n before (e ∷ es) two fit = (rw two fit.0, entries_inside kind n (before ++ Line.Entry e ∷ []) es two fit.1)
 
 -- no run from this one on is met
 abbrev AreUnmet : ℕ → List Line → Type 0
 AreUnmet run before = (k : ℕ) → run ≤ k → is_met k before ≡ false
 
-unmet_more : (run : ℕ) (name : List ℕ) (before : List Line) → AreUnmet run before → AreUnmet (run + 1) (before ++ L.Named (record { 0 = run }) name ∷ [])
+unmet_more : (run : ℕ) (name : List ℕ) (before : List Line) → AreUnmet run before → AreUnmet (run + 1) (before ++ Line.Named (record { 0 = run }) name ∷ [])
 unmet_more run name before unmet k later =
     let other : (run == k) ≡ false = grind (arith, nat_tests) in
-    list_any-append (is_about k) before (L.Named (record { 0 = run }) name ∷ []) ∙ rw (unmet k (omega (arith, later)), other) refl
+    list_any-append (is_about k) before (Line.Named (record { 0 = run }) name ∷ []) ∙ rw (unmet k (omega (arith, later)), other) refl
 
 namings_inside : (n run : ℕ) (names : List (List ℕ)) (before : List Line) (es : List Entry) → run + length names ≤ n → All IsName names → AreUnmet run before
-    → AreEntries 2 es → AreLines K.Evidence n before (namings run names ++ map L.Entry es)
-namings_inside n run [] before es few named unmet fit = entries_inside K.Evidence n before es refl fit
+    → AreEntries 2 es → AreLines Kind.Evidence n before (namings run names ++ map Line.Entry es)
+namings_inside n run [] before es few named unmet fit = entries_inside Kind.Evidence n before es refl fit
 namings_inside n run (name ∷ names) before es few named unmet fit = (
   record { evidence = refl; few = omega (arith, few); name_is = All-head IsName name names named; first = unmet run (omega arith) },
-  namings_inside n (run + 1) names (before ++ L.Named (record { 0 = run }) name ∷ []) es (omega (arith, few)) (All-tail IsName name names named)
+  namings_inside n (run + 1) names (before ++ Line.Named (record { 0 = run }) name ∷ []) es (omega (arith, few)) (All-tail IsName name names named)
       (unmet_more run name before unmet) fit,
 )
 
@@ -137,19 +130,19 @@ take_few : {A : Type 0} (n : ℕ) (xs : List A) → length (take n xs) ≤ n
 take_few n xs = omega (arith, length-take n xs)
 
 -- the lines of finished test cases may be inside of a history of format 2, and of evidence
-inside_of : (kind : Kind) (f : Finished) → kind ≢ K.History1 → FitsItsTypes f → AreLines kind f.report.behaviours [] (case_lines kind f)
-inside_of K.History1 f other fits = absurd (other refl)
-inside_of K.History2 f other fits = entries_inside K.History2 f.report.behaviours [] f.report.history refl fits.2
-inside_of K.Evidence f other fits =
+inside_of : (kind : Kind) (f : Finished) → kind ≢ Kind.History1 → FitsItsTypes f → AreLines kind f.report.behaviours [] (case_lines kind f)
+inside_of Kind.History1 f other fits = absurd (other refl)
+inside_of Kind.History2 f other fits = entries_inside Kind.History2 f.report.behaviours [] f.report.history refl fits.2
+inside_of Kind.Evidence f other fits =
     namings_inside f.report.behaviours 0 (take f.report.behaviours f.names) [] f.report.history
     (omega (arith, take_few f.report.behaviours f.names)) (All-take IsName f.report.behaviours f.names fits.1) (λ k later. refl) fits.2
 
-second : (kind : Kind) → kind ≢ K.History1 → format_of kind ≡ 2
-second K.History1 other = absurd (other refl)
-second K.History2 other = refl
-second K.Evidence other = refl
+second : (kind : Kind) → kind ≢ Kind.History1 → format_of kind ≡ 2
+second Kind.History1 other = absurd (other refl)
+second Kind.History2 other = refl
+second Kind.Evidence other = refl
 
-pub reported_were_run : (kind : Kind) (cases : List Outline) (r : Results) → kind ≢ K.History1 → All FitsItsTypes r.finished → AreReported cases r → WereRun kind r
+pub reported_were_run : (kind : Kind) (cases : List Outline) (r : Results) → kind ≢ Kind.History1 → All FitsItsTypes r.finished → AreReported cases r → WereRun kind r
 reported_were_run kind cases r other fit reported = record {
   some = reported.some;
   each = λ k d within.

@@ -3,20 +3,16 @@ use Rattle.std.specs.Prelude.{ℕ, ◌⊎◌, List, Option, Ok, codes, false}
 use Rattle.std.specs.Io.KnownBytes.{Keeps}
 use Rattle.tc_command.specs.Prelude.{IsReading}
 use Rattle.tc_command.specs.declared.task.Task.{Task}
-use Rattle.tc_command.specs.declared.task.Task.TheVariants as T
 use Rattle.tc_reader.specs.Prelude.{CampaignView}
-use Rattle.tc_program.specs.declared.outcome.Outcome.{Outcome}
-use Rattle.tc_program.specs.Answer.{AnswersWords}
-use Rattle.tc_program.specs.Fault.{said}
+use Rattle.tc_answer.specs.declared.outcome.Outcome.{Outcome}
+use Rattle.tc_answer.specs.Prelude.{said, IsPrintedRefusal, Streams}
 use Rattle.tc_stream.specs.Prelude.{IsRead}
-use Rattle.tc_program.specs.Limits.{limit_of}
-use Rattle.tc_program.specs.Passed.{AreToRun}
-use Rattle.tc_program.specs.Stderr.{IsPrintedRefusal}
-use Rattle.tc_program.specs.Streams.{Streams}
+use Rattle.tc_judge.specs.Prelude.{AreToRun}
+use Rattle.tc_program.specs.{Answer.AnswersWords, Limits.limit_of}
 
 -- the task is a run of test cases that the text spells: it was not begun, nothing was written, and it is printed that it needs threads
 abbrev pub IsNotBegun : Task → List ℕ → Streams → Outcome → Type 0
-IsNotBegun (T.Run o) text s outcome =
+IsNotBegun (Task.Run o) text s outcome =
     ((cases : CampaignView) × AreToRun o.choice text cases) × Keeps s.before s.after
     × IsPrintedRefusal s.untold s.told (said (codes "a run needs threads, and there are none here: try explore")) outcome
 IsNotBegun task text s outcome = ⊥

@@ -1,23 +1,16 @@
 -- What the program does with its arguments.
 use Rattle.std.specs.Prelude.{ℕ, ◌≡◌, ◌≢◌, ◌⊎◌, Bool, List, Option, Result, IfOk, IfErr, OnErr, codes}
-use Rattle.std.specs.Io.KnownBytes.{Appends, Keeps}
-use Rattle.std.specs.declared.io.ErrorKind.{ErrorKind as IoKind}
+use Rattle.std.specs.{Io.KnownBytes.Appends, Io.KnownBytes.Keeps, declared.io.ErrorKind.ErrorKind as IoKind}
 use Rattle.std.specs.declared.io.ErrorKind.TheVariants as IoKinds
 use Rattle.clap.specs.Values.{kind_of}
 use Rattle.clap.specs.declared.error.kind.ErrorKind.{ErrorKind}
 use Rattle.clap.specs.declared.error.kind.ErrorKind.TheVariants as Kinds
-use Rattle.tc_command.specs.declared.read.Refused.{Refused}
-use Rattle.tc_command.specs.declared.read.Refused.TheVariants as R
-use Rattle.tc_command.specs.declared.task.Task.{Task}
+use Rattle.tc_command.specs.declared.{read.Refused.Refused, task.Task.Task}
 use Rattle.tc_command.specs.Prelude.{IsReading, word_fault_text}
-use Rattle.tc_program.specs.declared.fault.RunFault.TheVariants as F
-use Rattle.tc_program.specs.declared.outcome.Outcome.{Outcome}
-use Rattle.tc_program.specs.Fault.{run_fault_line, said}
-use Rattle.tc_program.specs.Output.{LeavesUnwritten}
+use Rattle.tc_answer.specs.declared.{fault.RunFault.RunFault, outcome.Outcome.Outcome}
+use Rattle.tc_answer.specs.Prelude.{run_fault_line, said, Streams, IsPrintedRefusal, IsTold}
+use Rattle.tc_run.specs.Prelude.{LeavesUnwritten}
 use Rattle.tc_program.specs.Program.{IsCarriedOut}
-use Rattle.tc_program.specs.Streams.{Streams}
-use Rattle.tc_program.specs.Stderr.{IsPrintedRefusal, IsTold}
-use Rattle.tc_program.specs.declared.fault.RunFault.{RunFault}
 
 -- the arguments are refused, and not because memory ran out; they ask neither for help nor for the version
 abbrev pub IsMistake : ErrorKind → Type 0
@@ -33,7 +26,7 @@ IsHelped s outcome = (text : List ℕ) ×
 -- the arguments are not available, since memory ran out or one is no text; the line says which, and takes no memory if
 -- it is the second
 abbrev pub IsUnreadInput : IoKind → Option (List ℕ) → Option (List ℕ) → Outcome → Type 0
-IsUnreadInput IoKinds.OutOfMemory untold told outcome = IsPrintedRefusal untold told (run_fault_line F.NoMemory) outcome
+IsUnreadInput IoKinds.OutOfMemory untold told outcome = IsPrintedRefusal untold told (run_fault_line RunFault.NoMemory) outcome
 IsUnreadInput kind untold told outcome = (outcome.status ≡ 3) × IsTold untold told (said (codes "an argument is not UTF-8")) outcome.told
 
 -- what comes of arguments that clap takes for no task, by the kind of its error: help, the version or a refusal was
@@ -42,12 +35,12 @@ pub record IsNoTask (kind : ErrorKind) (streams : Streams) (Unwritten : Type 0) 
   pub help : kind ≡ Kinds.DisplayHelp → IsHelped streams outcome
   pub version : kind ≡ Kinds.DisplayVersion → IsHelped streams outcome
   pub mistake : IsMistake kind → ((text : List ℕ) × IsPrintedRefusal streams.untold streams.told text outcome) × Unwritten
-  pub memory : kind ≡ Kinds.OutOfMemory → IsPrintedRefusal streams.untold streams.told (run_fault_line F.NoMemory) outcome × Unwritten
+  pub memory : kind ≡ Kinds.OutOfMemory → IsPrintedRefusal streams.untold streams.told (run_fault_line RunFault.NoMemory) outcome × Unwritten
 
 -- the same of any arguments that are refused: if a value names nothing, the line says so, and nothing was written
 abbrev pub IsRefused : Refused → Streams → Type 0 → Outcome → Type 0
-IsRefused (R.Line error) streams Unwritten outcome = IsNoTask (kind_of error) streams Unwritten outcome
-IsRefused (R.Word fault) streams Unwritten outcome = IsPrintedRefusal streams.untold streams.told (said (word_fault_text fault)) outcome × Unwritten
+IsRefused (Refused.Line error) streams Unwritten outcome = IsNoTask (kind_of error) streams Unwritten outcome
+IsRefused (Refused.Word fault) streams Unwritten outcome = IsPrintedRefusal streams.untold streams.told (said (word_fault_text fault)) outcome × Unwritten
 
 -- The arguments are read as what they ask for by the rules of a command line. They are a task, which was carried out; or
 -- they ask for no task, and the input was not read.

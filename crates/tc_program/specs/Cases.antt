@@ -2,24 +2,14 @@
 use Rattle.std.specs.Prelude.{ℕ, ◌≡◌, List, MatchResult, Result, IsOkAnd}
 use Rattle.std.specs.Global.{Vec}
 use Rattle.tc_book.specs.Prelude.{PassState}
-use Rattle.tc_campaign.specs.Prelude.{IsCalled, case_name, outline_of}
-use Rattle.tc_campaign.specs.declared.case.Case.{Case}
+use Rattle.tc_campaign.specs.Prelude.{IsCalled, outline_of}
+use Rattle.tc_answer.specs.Prelude.{case_name, AreChosenOf, LackName, run_fault_line, IsPrintedRefusal, Streams}
+use Rattle.tc_exec.specs.declared.{job.Back.Back, test_case.Case.Case}
 use Rattle.tc_command.specs.Prelude.{IsCasesReading}
-use Rattle.tc_command.specs.declared.task.Choice.{Choice}
-use Rattle.tc_command.specs.declared.task.Task.{Task}
-use Rattle.tc_command.specs.declared.task.Task.TheVariants as T
-use Rattle.tc_exec.specs.declared.job.Back.{Back}
-use Rattle.tc_program.specs.Answer.{IsAnsweredBy}
-use Rattle.tc_program.specs.Choosing.{AreChosenOf, LackName}
-use Rattle.tc_program.specs.Fault.{run_fault_line}
-use Rattle.tc_program.specs.Made.{IsListed}
-use Rattle.tc_program.specs.Program.{IsDoneBy, RunsCases}
-use Rattle.tc_program.specs.Stderr.{IsPrintedRefusal}
-use Rattle.tc_program.specs.Streams.{Streams}
-use Rattle.tc_program.specs.declared.fault.RunFault.{RunFault}
-use Rattle.tc_program.specs.declared.fault.RunFault.TheVariants as F
-use Rattle.tc_program.specs.declared.outcome.Outcome.{Outcome}
-use Rattle.tc_program.specs.declared.reply.Answer.{Answer}
+use Rattle.tc_command.specs.declared.task.{Choice.Choice, Task.Task}
+use Rattle.tc_run.specs.Prelude.{RunsCases}
+use Rattle.tc_answer.specs.declared.{fault.RunFault.RunFault, outcome.Outcome.Outcome, reply.Answer.Answer}
+use Rattle.tc_program.specs.{Answer.IsAnsweredBy, Made.IsListed, Program.IsDoneBy}
 
 -- these are the test cases that were made
 abbrev pub WereMade : {B E : Type 0} → Result (Vec (Case B)) E → List (Case B) → Type 0
@@ -28,14 +18,14 @@ WereMade made all = IsOkAnd made (λ v. v.items ≡ all)
 module _ {B : Type 0} (Are : List (Case B) → Type 0) where
   -- the choice is refused, since no test case has a name that is asked for, or memory ran out
   abbrev pub RefusesCases : Choice → RunFault → Type 0
-  RefusesCases choice F.Only = LackName case_name Are choice
-  RefusesCases choice F.NoMemory = Unit {0}
+  RefusesCases choice RunFault.Only = LackName case_name Are choice
+  RefusesCases choice RunFault.NoMemory = Unit {0}
   RefusesCases choice fault = ⊥
 
   -- the answer is what a task, a list of the test cases, makes of them; or a task, a list or a run, refuses them
   abbrev pub IsMadeOfCases : Task → Result Answer RunFault → Type 0
-  IsMadeOfCases (T.List choice explains) made = MatchResult made (IsListed case_name (AreChosenOf case_name Are choice)) (RefusesCases choice)
-  IsMadeOfCases (T.Run o) made = MatchResult made (λ a. ⊥) (RefusesCases o.choice)
+  IsMadeOfCases (Task.List choice explains) made = MatchResult made (IsListed case_name (AreChosenOf case_name Are choice)) (RefusesCases choice)
+  IsMadeOfCases (Task.Run o) made = MatchResult made (λ a. ⊥) (RefusesCases o.choice)
   IsMadeOfCases task made = ⊥
 
 module _ {B : Type 0} (called : B → PassState → Back → Type 0) (Are : List (Case B) → Type 0) where

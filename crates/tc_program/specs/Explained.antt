@@ -1,46 +1,34 @@
 -- What is printed about a text that is refused.
-use Rattle.std.specs.Prelude.{ℕ, Bool, MatchBool, true, false, ◌≡◌, ◌&&◌, Option, Some, None, List, []}
+use Rattle.std.specs.Prelude.{ℕ, Bool, MatchBool, true, false, ◌≡◌, ◌&&◌, Option, List, []}
 use Rattle.std.specs.Option.{option_map_or}
-use Rattle.tc_text.specs.declared.fault.TextFault.TheVariants as X
 use Rattle.tc_explain.specs.Prelude.{explanation}
 use Rattle.tc_text.specs.Prelude.{TellsAmong}
 use Rattle.tc_command.specs.declared.task.Task.{Task}
-use Rattle.tc_command.specs.declared.task.Task.TheVariants as T
-use Rattle.tc_program.specs.declared.fault.RunFault.{RunFault}
-use Rattle.tc_program.specs.declared.fault.RunFault.TheVariants as F
-use Rattle.tc_program.specs.declared.outcome.Outcome.{Outcome}
-use Rattle.tc_program.specs.Compared.{blocks_part, script_part}
-use Rattle.tc_program.specs.Fault.{run_fault_line}
+use Rattle.tc_answer.specs.declared.{fault.RunFault.RunFault, outcome.Outcome.Outcome}
+use Rattle.tc_answer.specs.Prelude.{blocks_part, script_part, run_fault_line, IsPrintedRefusal, number_of}
 use Rattle.tc_program.specs.Limits.{has_blocks}
-use Rattle.tc_program.specs.Stderr.{IsPrintedRefusal}
 
 -- the task is asked to explain a fault of its text
 abbrev pub explains : Task → Bool
-explains (T.Replay asked) = asked
-explains (T.Check choice asked) = asked
-explains (T.Compare form choice asked) = asked
-explains (T.Report form choice asked) = asked
-explains (T.List choice asked) = asked
-explains (T.Run o) = o.explains
-explains (T.Explore o) = o.explains
-explains T.Serve = false
+explains (Task.Replay asked) = asked
+explains (Task.Check choice asked) = asked
+explains (Task.Compare form choice asked) = asked
+explains (Task.Report form choice asked) = asked
+explains (Task.List choice asked) = asked
+explains (Task.Run o) = o.explains
+explains (Task.Explore o) = o.explains
+explains Task.Serve = false
 
 -- the part of a text that the lines of this fault are counted in: all of it, or, of a script with blocks after it, the script
 -- or the blocks
 abbrev pub part_of : Bool → RunFault → List ℕ → List ℕ
-part_of true (F.Script fault) text = script_part text
+part_of true (RunFault.Script fault) text = script_part text
 part_of true fault text = blocks_part text
 part_of false fault text = text
 
--- the number of the line that a fault is in, if it is in one
-abbrev pub number_of : RunFault → Option ℕ
-number_of (F.Text (X.At line kind)) = Some line
-number_of (F.Script fault) = Some fault.line
-number_of fault = None
-
 -- the fault is one of the text, by which it is refused
 abbrev pub is_of_text : RunFault → Bool
-is_of_text F.NoMemory = false
+is_of_text RunFault.NoMemory = false
 is_of_text fault = true
 
 -- this is printed for the text of a task that has this fault: its line, and if it is explained lines after it, among which are

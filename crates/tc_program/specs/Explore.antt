@@ -3,16 +3,14 @@ use Rattle.std.specs.Prelude.{MatchBool, ℕ, ◌≡◌, ◌==◌, ◌≤◌, if
 use Rattle.std.specs.List.{AllZip, flat_map, list_any}
 use Rattle.tc_command.specs.declared.task.ExploreOptions.{ExploreOptions}
 use Rattle.tc_reader.specs.Prelude.{CampaignView}
-use Rattle.tc_explore.specs.Prelude.{details as of_details, most_states, AreFromBest, AreLegal, AreAllMet, AreReached, HasCourses, AllLocalsFound, AreLocals, locals_lines, explored_line, explored_status, witnesses_text}
-use Rattle.tc_text.specs.Prelude.{TellsAmong}
-use Rattle.tc_course.specs.Prelude.{AllFound, AreWitnesses}
-use Rattle.tc_explore.specs.declared.explored.Ending.TheVariants as E
-use Rattle.tc_explore.specs.declared.explored.Explored.{Explored}
-use Rattle.tc_explore.specs.declared.locals.Locals.{Locals}
+use Rattle.tc_explore.specs.Prelude.{most_states, AreFromBest, AreAllMet, AreReached, HasCourses, AllLocalsFound, AreLocals}
+use Rattle.tc_explored.specs.Prelude.{details as of_details, locals_text, explored_line, explored_status, witnesses_text}
+use Rattle.tc_course.specs.Prelude.{AllFound, AreLegal, AreWitnesses}
+use Rattle.tc_course.specs.declared.found.{Ending.Ending, Explored.Explored, Locals.Locals}
 use Rattle.tc_step.specs.Prelude.{ScriptView}
+use Rattle.tc_judge.specs.Prelude.{AreToRun}
+use Rattle.tc_answer.specs.Prelude.{CaseView, scripts_of}
 use Rattle.tc_program.specs.declared.explore.ExploredCase.{ExploredCase}
-use Rattle.tc_program.specs.Passed.{AreToRun}
-use Rattle.tc_program.specs.Scripted.{CaseView, scripts_of}
 
 -- Each local verdict that was found of the components of these scripts has a complete course. If the search says that it is
 -- complete, that of each complete course was found, and otherwise it looked at as many states as it may. For each state that it
@@ -20,17 +18,17 @@ use Rattle.tc_program.specs.Scripted.{CaseView, scripts_of}
 pub record TellsLocals (states : ℕ) (scripts : List ScriptView) (before after : List ℕ) : Type 0 where
   pub locals : Locals
   pub sound : AreLocals scripts locals.found
-  pub complete : locals.ending ≡ E.Complete → AllLocalsFound scripts locals.found
+  pub complete : locals.ending ≡ Ending.Complete → AllLocalsFound scripts locals.found
   pub met : HasCourses scripts locals.states
   pub most : locals.states ≤ most_states scripts states
-  pub undecided : locals.ending ≡ E.Undecided → 1 ≤ length scripts → locals.states ≡ most_states scripts states
-  pub told : TellsAmong (locals_lines locals) before after
+  pub undecided : locals.ending ≡ Ending.Undecided → 1 ≤ length scripts → locals.states ≡ most_states scripts states
+  pub told : after ≡ before ++ locals_text locals
 
 -- what is printed after the line of a test case: its local verdicts, and its details, if they are asked for
 abbrev pub TellsAfter : ExploreOptions → List ScriptView → Explored → List ℕ → Type 0
 TellsAfter o scripts e text =
     (middle : List ℕ) × MatchBool o.locals (TellsLocals o.states scripts [] middle) (middle ≡ [])
-    × TellsAmong (if o.details then of_details scripts e else []) middle text
+    × (text ≡ middle ++ (if o.details then of_details scripts e else []))
 
 -- A test case was explored, and each verdict that was found has one witness: a complete course of its scripts, which is legal.
 -- If the search says that it is complete, the verdict of each complete course of its scripts was found. If it says that it is
@@ -42,11 +40,11 @@ pub record IsExplored (o : ExploreOptions) (c : CaseView) (e : ExploredCase) : T
   pub sound : AreWitnesses (scripts_of c.1) e.explored.found
   pub legal : AreLegal (scripts_of c.1) e.explored.found
   pub ordered : AreFromBest e.explored.found
-  pub complete : e.explored.ending ≡ E.Complete → AllFound (scripts_of c.1) e.explored.found
+  pub complete : e.explored.ending ≡ Ending.Complete → AllFound (scripts_of c.1) e.explored.found
   pub reached : AreReached (scripts_of c.1) e.explored.reached
   pub met : AreAllMet (scripts_of c.1) e.explored.reached e.explored.states
   pub most : e.explored.states ≤ most_states (scripts_of c.1) o.states
-  pub undecided : e.explored.ending ≡ E.Undecided → 1 ≤ length (scripts_of c.1) → e.explored.states ≡ most_states (scripts_of c.1) o.states
+  pub undecided : e.explored.ending ≡ Ending.Undecided → 1 ≤ length (scripts_of c.1) → e.explored.states ≡ most_states (scripts_of c.1) o.states
   pub details_are : TellsAfter o (scripts_of c.1) e.explored e.details
 
 -- what is written of a test case: its line and its details, or the histories of its witnesses

@@ -1,28 +1,16 @@
 -- The definitions that the contracts of this crate cite.
-pub mod Replay
-pub mod Fault
-pub mod Input
-pub mod Streams
-pub mod Output
-pub mod Limits
-pub mod Stderr
-pub mod Explained
-pub mod Run
-pub mod Scripted
-pub mod Choosing
-pub mod Explore
-pub mod Made
-pub mod Serve
-pub mod Program
-pub mod Answer
 pub mod Alone
+pub mod Answer
 pub mod Cases
-pub mod Check
-pub mod Compared
-pub mod Passed
-pub mod Inside
+pub mod Explained
+pub mod Explore
+pub mod Limits
+pub mod Made
+pub mod Program
+pub mod Replay
+pub mod Serve
 pub mod WrittenHistories
-pub mod Report
+pub mod Inside
 pub mod Prelude
 pub use Rattle.tc_stream.specs.Prelude as OfStream
 pub use Rattle.tc_text.specs.Prelude as OfText
@@ -40,4 +28,7 @@ pub use Rattle.tc_script.specs.Prelude as OfScript
 pub use Rattle.tc_explain.specs.Prelude as OfExplain
 pub use Rattle.tc_course.specs.Prelude as OfCourse
 pub use Rattle.tc_explore.specs.Prelude as OfExplore
-pub use Rattle.tc_page.specs.Prelude as OfPage
+pub use Rattle.tc_explored.specs.Prelude as OfExplored
+pub use Rattle.tc_answer.specs.Prelude as OfAnswer
+pub use Rattle.tc_judge.specs.Prelude as OfJudge
+pub use Rattle.tc_run.specs.Prelude as OfRun

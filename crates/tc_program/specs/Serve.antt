@@ -2,24 +2,18 @@
 use Rattle.std.specs.Prelude.{ℕ, ◌≡◌, Bool, true, false, if◌then◌else◌, List, Option, Result, Ok, Err}
 use Rattle.std.specs.Io.KnownBytes.{Keeps}
 use Rattle.tc_report.specs.Prelude.{verdict_status}
-use Rattle.tc_serve.specs.declared.fault.ServeFault.{ServeFault}
-use Rattle.tc_serve.specs.declared.fault.ServeFault.TheVariants as S
-use Rattle.tc_serve.specs.declared.service.Ending.{Ending}
-use Rattle.tc_serve.specs.declared.service.Served.{Served}
+use Rattle.tc_serve.specs.declared.{fault.ServeFault.ServeFault, service.Ending.Ending, service.Served.Served}
 use Rattle.tc_serve.specs.Prelude.{IsServiceEnd, devices, refused_line_text}
-use Rattle.tc_program.specs.declared.fault.RunFault.TheVariants as F
-use Rattle.tc_program.specs.declared.outcome.Outcome.{Outcome}
-use Rattle.tc_program.specs.Fault.{run_fault_line}
-use Rattle.tc_program.specs.Streams.{Streams}
-use Rattle.tc_program.specs.Stderr.{IsPrintedRefusal}
+use Rattle.tc_answer.specs.declared.{fault.RunFault.RunFault, outcome.Outcome.Outcome}
+use Rattle.tc_answer.specs.Prelude.{run_fault_line, Streams, IsPrintedRefusal}
 
 -- the line of a fault that ended a service
 abbrev pub service_line : ServeFault → List ℕ
-service_line (S.Line n why) = refused_line_text n why
-service_line S.TooLong = run_fault_line F.TooLong
-service_line S.Read = run_fault_line F.Read
-service_line S.Write = run_fault_line F.Write
-service_line S.NoMemory = run_fault_line F.NoMemory
+service_line (ServeFault.Line n why) = refused_line_text n why
+service_line ServeFault.TooLong = run_fault_line RunFault.TooLong
+service_line ServeFault.Read = run_fault_line RunFault.Read
+service_line ServeFault.Write = run_fault_line RunFault.Write
+service_line ServeFault.NoMemory = run_fault_line RunFault.NoMemory
 
 -- the status of a service: 3 if a line was refused or a fault ended it, and otherwise that of the worst verdict
 abbrev pub service_status : Result Served ServeFault → ℕ
@@ -31,7 +25,7 @@ service_status (Err fault) = 3
 abbrev pub IsServiceStatus : Bool → Result Served ServeFault → Option (List ℕ) → Option (List ℕ) → Outcome → Type 0
 IsServiceStatus true (Ok served) untold told outcome = Keeps untold told × (outcome ≡ record { status = service_status (Ok served); told = Ok tt })
 IsServiceStatus true (Err fault) untold told outcome = IsPrintedRefusal untold told (service_line fault) outcome
-IsServiceStatus false ended untold told outcome = Keeps untold told × (outcome ≡ record { status = service_status ended; told = Err F.Write })
+IsServiceStatus false ended untold told outcome = Keeps untold told × (outcome ≡ record { status = service_status ended; told = Err RunFault.Write })
 
 -- the input was served, line by line, until it or the service ended, and that was settled
 pub record Serves (input : Option (List ℕ)) (s : Streams) (outcome : Outcome) : Type 0 where

@@ -5,17 +5,11 @@ use Rattle.tc_report.specs.declared.results.Results.{Results}
 use Rattle.tc_rules.specs.Prelude.{IsBehaviours}
 use Rattle.tc_campaign.specs.Prelude.{Outline}
 use Rattle.tc_exec.specs.Prelude.{IsCaseReport}
-use Rattle.tc_command.specs.declared.task.Choice.{Choice}
-use Rattle.tc_command.specs.declared.task.ReportForm.{ReportForm}
-use Rattle.tc_command.specs.declared.task.Task.TheVariants as T
+use Rattle.tc_command.specs.declared.task.{Choice.Choice, ReportForm.ReportForm, Task.Task}
 use Rattle.tc_report.specs.Prelude.{case_summary}
-use Rattle.tc_program.specs.declared.reply.Answer.{Answer}
-use Rattle.tc_program.specs.Check.{RefusesBlocks, legal_line}
-use Rattle.tc_program.specs.Choosing.{ChoosesEach}
+use Rattle.tc_answer.specs.declared.{fault.RunFault.RunFault, reply.Answer.Answer}
+use Rattle.tc_judge.specs.Prelude.{AnswersCases, ChoosesEach, RefusesBlocks, legal_line}
 use Rattle.tc_program.specs.Made.{IsMade}
-use Rattle.tc_program.specs.Report.{AnswersCases}
-use Rattle.tc_program.specs.declared.fault.RunFault.{RunFault}
-use Rattle.tc_program.specs.declared.fault.RunFault.TheVariants as F
 
 -- what `run_campaign` says of its results, if some test case is finished: each finished one has the report of its case,
 -- and 1 to 256 behaviours
@@ -30,8 +24,8 @@ found_legal r = record { out = flat_map (λ f. legal_line f.name (length f.repor
 
 -- this text of the results is checked and reported so, whatever else is asked for, and refused only if memory runs out
 pub record AreFoundLegal (text : List ℕ) (r : Results) : Type 0 where
-  pub checked_so : (choice : Choice) (explains : Bool) (a : Answer) → ChoosesEach choice → IsMade (T.Check choice explains) text (Ok a)
+  pub checked_so : (choice : Choice) (explains : Bool) (a : Answer) → ChoosesEach choice → IsMade (Task.Check choice explains) text (Ok a)
       → a ≡ found_legal r
   pub reported_so : (form : ReportForm) (choice : Choice) (explains : Bool) (a : Answer) → ChoosesEach choice
-      → IsMade (T.Report form choice explains) text (Ok a) → AnswersCases form text [] (map case_summary r.finished) a
-  pub refused_so : (fault : RunFault) → RefusesBlocks [] text fault → fault ≡ F.NoMemory
+      → IsMade (Task.Report form choice explains) text (Ok a) → AnswersCases form text [] (map case_summary r.finished) a
+  pub refused_so : (fault : RunFault) → RefusesBlocks [] text fault → fault ≡ RunFault.NoMemory

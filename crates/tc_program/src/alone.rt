@@ -2,26 +2,21 @@
 ghost use Rattle.std.specs.Prelude.{◌≡◌, ◌≢◌, ◌⊎◌, IfOk, IfErr, OnErr, map, string_bytes};
 ghost use Rattle.std.specs.IoError.{error_kind};
 ghost use Rattle.tc_command.specs.declared.task.Task.TheVariants.{Run, Serve};
-ghost use Rattle.tc_program.specs.Alone.{IsAnsweredAlone, IsNotBegun};
-ghost use Rattle.tc_program.specs.Answer.{IsUnreadInput};
-ghost use Rattle.tc_program.specs.Inside.{IsUnbegun};
-ghost use Rattle.tc_program.specs.Program.{IsCarriedOut, IsDone};
-ghost use Rattle.tc_program.specs.Streams.{held_streams};
+ghost use Rattle.tc_answer.specs.Prelude.{held_streams};
+ghost use Rattle.tc_program.specs.{Alone.IsAnsweredAlone, Alone.IsNotBegun, Answer.IsUnreadInput, Inside.IsUnbegun, Program.IsCarriedOut, Program.IsDone};
 
 use crate::answering::{answer_refused, answer_unread};
 use crate::carrying_out::made_text;
 use crate::explained::refuse_text;
-use crate::input::read_text;
 use crate::limits::limit_of;
 use crate::made::finish;
-use crate::outcome::Outcome;
-use crate::passed::cases_to_run;
 use crate::serve::serve_input;
-use crate::stderr::{refuse, refuse_words};
 use std::alloc::Global;
 use std::io;
 use std::io::{Read, Write};
+use tc_answer::{Outcome, read_text, refuse, refuse_words};
 use tc_command::{RunOptions, Task, read_task};
+use tc_judge::cases_to_run;
 
 // Refuses the text of the task, a run, or says that the run needs threads.
 fn leave_run<W: Write, E: Write>(

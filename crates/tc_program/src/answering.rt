@@ -3,17 +3,11 @@ ghost use Rattle.std.specs.Prelude.{◌≡◌, IfOk, IfErr, OnErr, List, ℕ, ma
 ghost use Rattle.std.specs.IoError.{error_kind};
 ghost use Rattle.clap.specs.Values.{kind_of};
 ghost use Rattle.clap.specs.declared.error.kind.ErrorKind.TheVariants.{DisplayHelp, DisplayVersion, OutOfMemory};
-ghost use Rattle.tc_program.specs.Answer.{AnswersWords, IsHelped, IsMistake, IsUnreadInput};
-ghost use Rattle.tc_program.specs.Fault.{run_fault_line};
-ghost use Rattle.tc_program.specs.Inside.{ShowsNoTask, ShowsText};
-ghost use Rattle.tc_program.specs.Stderr.{IsPrintedRefusal};
-ghost use Rattle.tc_program.specs.declared.fault.RunFault.TheVariants.{NoMemory as WithoutMemory};
-ghost use Rattle.tc_program.specs.Streams.{held_streams};
+ghost use Rattle.tc_answer.specs.Prelude.{run_fault_line, IsPrintedRefusal, held_streams};
+ghost use Rattle.tc_answer.specs.declared.fault.RunFault.TheVariants.{NoMemory as WithoutMemory};
+ghost use Rattle.tc_program.specs.{Answer.AnswersWords, Answer.IsHelped, Answer.IsMistake, Answer.IsUnreadInput, Inside.ShowsNoTask, Inside.ShowsText};
 
 use crate::carrying_out::carry_out;
-use crate::fault::RunFault;
-use crate::outcome::{Outcome, REFUSED};
-use crate::stderr::{refuse, refuse_with, refuse_words, tell};
 use clap::Error;
 use clap::error::ErrorKind;
 use std::alloc::Global;
@@ -22,6 +16,7 @@ use std::io::{Read, Write};
 use std::sync::Wait;
 use std::thread::Threads;
 use std::time::Clock;
+use tc_answer::{Outcome, REFUSED, RunFault, refuse, refuse_with, refuse_words, tell};
 use tc_command::{Refused, read_task};
 use tc_rules::NoMemory;
 use tc_stream::write_whole;

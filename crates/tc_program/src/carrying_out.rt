@@ -1,34 +1,45 @@
 //! What the program does with a task.
-ghost use Rattle.std.specs.Prelude.{◌≡◌, ◌≢◌, [], false, IfSome};
-ghost use Rattle.tc_command.specs.declared.task.RunOptions.{RunOptions as AnyOptions};
-ghost use Rattle.tc_command.specs.declared.task.Task.TheVariants.{Check, Run, Serve};
-ghost use Rattle.tc_program.specs.Made.{IsMade};
-ghost use Rattle.tc_program.specs.Program.{IsCarriedOut, IsDone};
-ghost use Rattle.tc_program.specs.Streams.{held_streams};
+ghost use Rattle.std.specs.Prelude.{◌≡◌, ◌≢◌, IfErr, IfOk, MatchOption};
+ghost use Rattle.tc_answer.specs.Inside.{AreReadyAs};
+ghost use Rattle.tc_command.specs.declared.task.Task.TheVariants.{Run, Serve};
+ghost use Rattle.tc_judge.specs.Prelude.{AreToRun, RefusesRun};
+ghost use Rattle.tc_answer.specs.Prelude.{held_streams};
+ghost use Rattle.tc_program.specs.{Inside.IsMadeInParts, Made.IsMade, Program.IsCarriedOut, Program.IsDone};
 
-use crate::checking::{check_input, check_text};
-use crate::compare::{compare_text, report_compared};
 use crate::explained::refuse_text;
 use crate::explore::explore_text;
-use crate::fault::RunFault;
-use crate::input::read_text;
 use crate::limits::limit_of;
 use crate::listing::list_text;
-use crate::made::{finish, give_answer};
-use crate::outcome::Outcome;
-use crate::passed::ready_cases;
+use crate::made::finish;
 use crate::replaying::replay_text;
-use crate::reply::Answer;
-use crate::report::report_text;
-use crate::run::run_cases;
 use crate::serve::serve_input;
-use crate::stderr::refuse;
 use std::alloc::Global;
 use std::io::{Read, Write};
 use std::sync::Wait;
 use std::thread::Threads;
 use std::time::Clock;
-use tc_command::{Choice, RunOptions, Task};
+use tc_answer::{Answer, Outcome, RunFault, give_answer, read_text, refuse};
+use tc_campaign::Case;
+use tc_command::{Choice, ReportForm, RunOptions, Task};
+use tc_judge::{
+    cases_to_run, check_input, check_text, compare_text, report_compared, report_input, report_text,
+};
+use tc_run::{fault_of, run_cases, with_jobs};
+use tc_script::ScriptJob;
+
+// The test cases that a run is asked for, of the campaign that the text spells, with jobs that run their scripts.
+fn ready_cases<R: Wait + Copy + Send + 'static>(
+    rt: &R,
+    alloc: Global,
+    text: &[u8],
+    choice: &Choice,
+) -> Result<Vec<Case<ScriptJob<R>>>, RunFault>
+    ensures chosen { IfOk result (λ cases. AreReadyAs (AreToRun choice.now text.now) cases.items) }
+    ensures refused { IfErr result (RefusesRun choice.now text.now) }
+{
+    let cases = cases_to_run(alloc, text, choice)?;
+    Ok(with_jobs(rt, alloc, cases)?)
+}
 
 // Runs the chosen test cases of the script that the text is, as the task, a run, asks for it.
 fn run_text<R, W: Write, E: Write>(
@@ -51,13 +62,13 @@ where
     };
     match run_cases(rt, alloc, cases, options, writer, errors) {
         Ok(outcome) => outcome,
-        Err(fault) => refuse(alloc, errors, RunFault::from(fault)),
+        Err(fault) => refuse(alloc, errors, fault_of(fault)),
     }
 }
 
 /// What is made of the text for a task that is no run.
 pub(crate) fn made_text(alloc: Global, task: &Task, text: &[u8]) -> Result<Answer, RunFault>
-    requires no_run { (o : AnyOptions) → task.now ≢ Run o }
+    requires no_run { (o : RunOptions) → task.now ≢ Run o }
     requires no_service { task.now ≢ Serve }
     ensures { IsMade task.now text.now result }
 {
@@ -108,35 +119,24 @@ where
     }
 }
 
-// The choice of a check that is made part by part: no pattern is matched with names, and no fault is explained.
-fn checked_in_parts(task: &Task) -> Option<&Choice>
-    ensures { IfSome result (λ choice. (task.now ≡ Check choice.now false) × (choice.now.only.items ≡ [])) }
+// What is made of the input part by part, if neither an explanation nor the form needs its text.
+fn made_in_parts<I: Read>(
+    alloc: Global,
+    task: &Task,
+    reader: &mut I,
+) -> Option<Result<Answer, RunFault>>
+    ensures { MatchOption result (reader.new ≡ reader.old) (IsMadeInParts task.now (I.remaining reader.old)) }
 {
     match task {
-        Task::Check { choice, explains } if !*explains && choice.only.is_empty() => Some(choice),
+        Task::Check { choice, explains } if !*explains => Some(check_input(alloc, choice, reader)),
+        Task::Report {
+            form,
+            choice,
+            explains,
+        } if !*explains && *form != ReportForm::Html => {
+            Some(report_input(alloc, form, choice, reader))
+        }
         _ => None,
-    }
-}
-
-// Checks the input, part by part: no pattern is matched with its names, and no fault of it is explained.
-fn check_parts<I: Read, W: Write, E: Write>(
-    alloc: Global,
-    choice: &Choice,
-    reader: &mut I,
-    writer: &mut W,
-    errors: &mut E,
-) -> Outcome
-    requires { choice.now.only.items ≡ [] }
-    ensures { IsCarriedOut (Check choice.now false) (I.remaining reader.old)
-        (held_streams W.contents writer.old writer.new E.contents errors.old errors.new) result }
-{
-    let made = match check_input(alloc, choice, reader) {
-        Ok(made) => made,
-        Err(fault) => return refuse(alloc, errors, fault),
-    };
-    match made {
-        Ok(answer) => give_answer(alloc, &answer, writer, errors),
-        Err(fault) => refuse(alloc, errors, fault),
     }
 }
 
@@ -176,8 +176,9 @@ where
     if let Task::Serve = task {
         return serve_input(alloc, reader, writer, errors);
     }
-    match checked_in_parts(task) {
-        Some(choice) => check_parts(alloc, choice, reader, writer, errors),
+    match made_in_parts(alloc, task, reader) {
+        Some(Ok(answer)) => give_answer(alloc, &answer, writer, errors),
+        Some(Err(fault)) => refuse(alloc, errors, fault),
         None => do_input(rt, alloc, task, reader, writer, errors),
     }
 }

@@ -3,18 +3,14 @@ ghost use Rattle.std.specs.Prelude.{◌≡◌, [], IfOk, OnOk};
 ghost use Rattle.std.specs.Option.{option_map};
 ghost use Rattle.tc_explain.specs.Prelude.{explanation};
 ghost use Rattle.tc_text.specs.Prelude.{TellsAmong};
-ghost use Rattle.tc_program.specs.Explained.{IsExplained, IsToldOf, explains as spec_explains, is_of_text as spec_of_text, number_of, part_of as spec_part_of};
-ghost use Rattle.tc_program.specs.Limits.{has_blocks as spec_blocks};
-ghost use Rattle.tc_program.specs.Inside.{notes_of};
+ghost use Rattle.tc_answer.specs.Prelude.{number_of};
+ghost use Rattle.tc_program.specs.{Explained.IsExplained, Explained.IsToldOf, Explained.explains as spec_explains, Explained.is_of_text as spec_of_text, Explained.part_of as spec_part_of, Inside.notes_of, Limits.has_blocks as spec_blocks};
 
-use crate::fault::{RunFault, fault_line};
 use crate::limits::has_blocks;
-use crate::outcome::Outcome;
-use crate::split::split;
-use crate::stderr::refuse_with;
 use crate::unknown::{append_unknown, names_of_blocks, names_of_script};
 use std::alloc::Global;
 use std::io::Write;
+use tc_answer::{Outcome, RunFault, fault_line, refuse_with, split_script};
 use tc_command::{Choice, Task};
 use tc_entry::{Name, NoMemory, Pattern};
 use tc_explain::{Refusal, explain};
@@ -52,7 +48,7 @@ fn part_of<'a>(task: &Task, fault: RunFault, text: &'a [u8]) -> &'a [u8]
     if !has_blocks(task) {
         return text;
     }
-    let (script, blocks) = split(text);
+    let (script, blocks) = split_script(text);
     match fault {
         RunFault::Script(_) => script,
         _ => blocks,
@@ -118,7 +114,7 @@ fn choice_of(task: &Task) -> Option<&Choice> {
 fn names_in(alloc: Global, task: &Task, text: &[u8]) -> Result<Vec<Name>, RunFault> {
     match task {
         Task::Check { .. } | Task::Report { .. } => names_of_blocks(alloc, text),
-        _ if has_blocks(task) => names_of_script(alloc, split(text).0),
+        _ if has_blocks(task) => names_of_script(alloc, split_script(text).0),
         _ => names_of_script(alloc, text),
     }
 }

@@ -1,21 +1,24 @@
 //! The subcommand `explore`.
-ghost use Rattle.std.specs.Prelude.{◌≡◌, ◌≤◌, [], All, IfOk, IfErr, OnOk, length};
+ghost use Rattle.std.specs.Prelude.{◌≡◌, ◌≤◌, ◌++◌, [], All, IfOk, IfErr, OnOk, if◌then◌else◌, length};
 ghost use Rattle.std.specs.List.{AllZip, flat_map};
 ghost use Rattle.tc_entry.specs.declared.limits.TheConstants.{BEHAVIOURS};
-ghost use Rattle.tc_explore.specs.Prelude.{AreLegal};
-ghost use Rattle.tc_text.specs.Prelude.{TellsAmong};
-ghost use Rattle.tc_program.specs.Inside.{HasFewJobs, IsExploredOf, details_if, TellsLocalsIf};
-ghost use Rattle.tc_program.specs.Explore.{Explores, TellsAfter, TellsLocals, has_status as status_in, status_of_all, explored_text};
-ghost use Rattle.tc_program.specs.Passed.{RefusesRun};
+ghost use Rattle.tc_course.specs.Prelude.{AreLegal};
+ghost use Rattle.tc_explored.specs.Prelude.{details as of_details};
+ghost use Rattle.tc_judge.specs.Inside.{HasFewJobs};
+ghost use Rattle.tc_judge.specs.Prelude.{RefusesRun};
+ghost use Rattle.tc_program.specs.{Explore.Explores, Explore.TellsAfter, Explore.TellsLocals, Explore.explored_text, Explore.has_status as status_in, Explore.status_of_all, Inside.IsExploredOf, Inside.TellsLocalsIf};
 
-use crate::fault::RunFault;
-use crate::passed::cases_to_run;
-use crate::reply::Answer;
 use std::alloc::Global;
+use tc_answer::{Answer, RunFault};
 use tc_campaign::Case;
 use tc_command::ExploreOptions;
 use tc_entry::{Name, Sequence};
 use tc_explore::{Explored, explore, explore_locals};
+use tc_explored::{
+    append_details, append_line, append_locals as append_locals_lines, append_witnesses,
+    explored_status,
+};
+use tc_judge::cases_to_run;
 use tc_step::Script;
 use tc_verdict::NoMemory;
 
@@ -39,7 +42,7 @@ fn append_locals(
     ensures { OnOk result (TellsLocals states scripts.now out.old.items out.new.items) }
 {
     let locals = explore_locals(alloc, scripts, states)?;
-    locals.append_lines(alloc, out)?;
+    append_locals_lines(alloc, out, &locals)?;
     Ok(())
 }
 
@@ -63,7 +66,6 @@ fn append_locals_if(
 }
 
 // Appends the details of a test case with these scripts, if they are asked for.
-#[tactic(auto, using(tc_text::proofs::Lemmas::Among::among_none))]
 fn append_details_if(
     alloc: Global,
     out: &mut Vec<u8>,
@@ -73,10 +75,10 @@ fn append_details_if(
 ) -> Result<(), NoMemory>
     requires few { length scripts.now ≤ BEHAVIOURS }
     requires legal { AreLegal scripts.now explored.now.found }
-    ensures { OnOk result (TellsAmong (details_if details scripts.now explored.now) out.old.items out.new.items) }
+    ensures { OnOk result (out.new.items ≡ out.old.items ++ (if details then of_details scripts.now explored.now else [])) }
 {
     if details {
-        explored.append_details(alloc, out, scripts)?;
+        append_details(alloc, out, scripts, explored)?;
     }
     Ok(())
 }
@@ -149,10 +151,9 @@ fn text_of(
     let mut out = Vec::new(alloc);
     for case in explored {
         if histories {
-            case.explored
-                .append_witnesses(&mut out, &case.name, case.behaviours)?;
+            append_witnesses(&mut out, &case.name, case.behaviours, &case.explored)?;
         } else {
-            case.explored.append_line(&mut out, &case.name)?;
+            append_line(&mut out, &case.name, &case.explored)?;
             out.extend_from_slice(case.details.as_slice())?;
         }
     }
@@ -163,7 +164,9 @@ fn text_of(
 fn has_status(explored: &[ExploredCase], status: u8) -> bool
     ensures { result ≡ status_in status explored.now }
 {
-    explored.iter().any(|case| case.explored.status() == status)
+    explored
+        .iter()
+        .any(|case| explored_status(&case.explored) == status)
 }
 
 // The status of the test cases.

@@ -1,12 +1,11 @@
 //! What the program's parts say together: each function changes nothing, and its contract is the law.
 ghost use Rattle.std.specs.Prelude.{All, List, map};
 ghost use Rattle.tc_rules.specs.Prelude.{IsName};
-ghost use Rattle.tc_blocks.specs.declared.header.Kind.TheVariants as kinds;
-ghost use Rattle.tc_command.specs.declared.task.Form.TheVariants as forms;
+ghost use Rattle.tc_blocks.specs.declared.header.Kind.{Kind};
+ghost use Rattle.tc_command.specs.declared.task.Form.{Form};
 ghost use Rattle.tc_campaign.specs.Prelude.{Outline};
-ghost use Rattle.tc_program.specs.Inside.{FitsItsTypes, WereRun};
-ghost use Rattle.tc_program.specs.Output.{results_in_form};
-ghost use Rattle.tc_program.specs.WrittenHistories.{AreFoundLegal, AreReported};
+ghost use Rattle.tc_run.specs.Prelude.{results_in_form};
+ghost use Rattle.tc_program.specs.{Inside.FitsItsTypes, Inside.WereRun, WrittenHistories.AreFoundLegal, WrittenHistories.AreReported};
 
 use tc_blocks::laws::entries_fit;
 use tc_campaign::{Finished, Results};
@@ -46,9 +45,9 @@ fn cases_fit(cases: &[Finished])
 // those of their types.
 fn were_run(results: &Results)
     ensures histories { (cases : List Outline)
-        → AreReported cases results.now → WereRun kinds.History2 results.now }
+        → AreReported cases results.now → WereRun Kind.History2 results.now }
     ensures evidence { (cases : List Outline)
-        → AreReported cases results.now → WereRun kinds.Evidence results.now }
+        → AreReported cases results.now → WereRun Kind.Evidence results.now }
 {
     cases_fit(results.finished.as_slice());
 }
@@ -57,9 +56,9 @@ fn were_run(results: &Results)
 /// It is refused only if memory runs out.
 pub fn written_is_legal(results: &Results)
     ensures histories { (cases : List Outline) → AreReported cases results.now
-        → AreFoundLegal (results_in_form forms.History (map (λ c. c.name) cases) results.now) results.now }
+        → AreFoundLegal (results_in_form Form.History (map (λ c. c.name) cases) results.now) results.now }
     ensures evidence { (cases : List Outline) → AreReported cases results.now
-        → AreFoundLegal (results_in_form forms.Evidence (map (λ c. c.name) cases) results.now) results.now }
+        → AreFoundLegal (results_in_form Form.Evidence (map (λ c. c.name) cases) results.now) results.now }
 {
     were_run(results);
 }

@@ -1,14 +1,9 @@
-//! How many bytes an input may have.
+//! How many bytes the input of a task may have.
 ghost use Rattle.std.specs.Prelude.{◌≡◌};
 ghost use Rattle.tc_program.specs.Limits.{has_blocks as spec_blocks, limit_of as spec_limit};
 
+use tc_answer::{HISTORY_LIMIT, SCRIPT_LIMIT};
 use tc_command::Task;
-
-/// How many bytes a script may have, or a list of moves.
-pub const SCRIPT_LIMIT: usize = 1_048_576;
-
-/// How many bytes a text of histories may have, also after a script.
-pub const HISTORY_LIMIT: usize = 16_777_216;
 
 /// Whether the text of the task has histories or evidence after a script.
 pub(crate) fn has_blocks(task: &Task) -> bool

@@ -1,17 +1,16 @@
 //! The list of the chosen test cases of a script.
 ghost use Rattle.std.specs.Prelude.{◌≡◌, [], IfOk, IfErr};
 ghost use Rattle.std.specs.List.{flat_map};
-ghost use Rattle.tc_campaign.specs.Prelude.{case_name};
-ghost use Rattle.tc_program.specs.Inside.{case_line, list_text as text_of_list, script_name};
-ghost use Rattle.tc_program.specs.Made.{IsListed};
-ghost use Rattle.tc_program.specs.Passed.{AreToRun, RefusesRun};
+ghost use Rattle.tc_answer.specs.Prelude.{case_name};
+ghost use Rattle.tc_answer.specs.Inside.{script_name};
+ghost use Rattle.tc_judge.specs.Prelude.{AreToRun, RefusesRun};
+ghost use Rattle.tc_program.specs.{Inside.case_line, Inside.list_text as text_of_list, Made.IsListed};
 
-use crate::fault::RunFault;
-use crate::passed::cases_to_run;
-use crate::reply::Answer;
 use std::alloc::Global;
+use tc_answer::{Answer, RunFault};
 use tc_campaign::Case;
 use tc_command::Choice;
+use tc_judge::cases_to_run;
 use tc_verdict::NoMemory;
 
 // The names of the test cases, each with a line feed.

@@ -1,33 +1,24 @@
 //! What a program with test cases of its own does with its arguments.
 ghost use Rattle.std.specs.Prelude.{◌≡◌, All, IfOk, IfErr, OnErr, map, string_bytes};
 ghost use Rattle.std.specs.IoError.{error_kind};
-ghost use Rattle.tc_campaign.specs.Prelude.{case_name, HasNames};
+ghost use Rattle.tc_answer.specs.Prelude.{case_name, AreChosenOf, held_streams};
+ghost use Rattle.tc_campaign.specs.Prelude.{HasNames};
 ghost use Rattle.tc_command.specs.declared.task.Task.TheVariants.{List, Run};
-ghost use Rattle.tc_program.specs.Answer.{IsUnreadInput};
-ghost use Rattle.tc_program.specs.Cases.{DoesCases, IsAnsweredWithCases, RefusesCases, WereMade};
-ghost use Rattle.tc_program.specs.Choosing.{AreChosenOf};
-ghost use Rattle.tc_program.specs.Inside.{IsOfCases};
-ghost use Rattle.tc_program.specs.Made.{IsListed};
-ghost use Rattle.tc_program.specs.Streams.{held_streams};
+ghost use Rattle.tc_program.specs.{Answer.IsUnreadInput, Cases.DoesCases, Cases.IsAnsweredWithCases, Cases.RefusesCases, Cases.WereMade, Inside.IsOfCases, Made.IsListed};
 
 use crate::answering::{answer_refused, answer_unread};
-use crate::cases::choose_cases;
-use crate::fault::RunFault;
 use crate::listing::listed;
-use crate::made::give_answer;
-use crate::outcome::Outcome;
-use crate::reply::Answer;
-use crate::run::run_cases;
-use crate::stderr::refuse;
 use std::alloc::Global;
 use std::io;
 use std::io::Write;
 use std::sync::Wait;
 use std::thread::Threads;
 use std::time::Clock;
+use tc_answer::{Answer, Outcome, RunFault, choose_cases, give_answer, refuse};
 use tc_campaign::Case;
 use tc_command::{Choice, RunOptions, Task, read_cases_task};
 use tc_exec::Callable;
+use tc_run::{fault_of, run_cases};
 use tc_verdict::NoMemory;
 
 // The chosen ones of the test cases that were made.
@@ -99,7 +90,7 @@ where
     };
     match run_cases(rt, alloc, cases, options, writer, errors) {
         Ok(outcome) => outcome,
-        Err(fault) => refuse(alloc, errors, RunFault::from(fault)),
+        Err(fault) => refuse(alloc, errors, fault_of(fault)),
     }
 }
 

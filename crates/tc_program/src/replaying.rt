@@ -2,20 +2,15 @@
 ghost use Rattle.std.specs.Prelude.{◌≡◌, ◌++◌, ◌∷◌, [], Bool, IfOk, IfErr, OnOk};
 ghost use Rattle.tc_text.specs.Prelude.{reply_text, IsListFault};
 ghost use Rattle.tc_command.specs.declared.task.Task.TheVariants.{Replay};
-ghost use Rattle.tc_program.specs.Inside.{ArePlayed};
-ghost use Rattle.tc_program.specs.Made.{Does};
-ghost use Rattle.tc_program.specs.Fault.{RefusesText};
-ghost use Rattle.tc_program.specs.Replay.{Replays};
+ghost use Rattle.tc_answer.specs.Prelude.{RefusesText};
 ghost use Rattle.tc_report.specs.Prelude.{verdict_status as spec_status};
+ghost use Rattle.tc_program.specs.{Inside.ArePlayed, Made.Does, Replay.Replays};
 
-use crate::fault::RunFault;
-use crate::input::read_text;
-use crate::limits::SCRIPT_LIMIT;
 use crate::made::write_answer;
-use crate::reply::Answer;
-use crate::short::play_short;
 use std::alloc::Global;
 use std::io::{Read, Write};
+use tc_answer::{Answer, RunFault, SCRIPT_LIMIT, read_text};
+use tc_judge::play_short;
 use tc_report::{append_verdict, verdict_status};
 use tc_rules::{CaseState, NoMemory, Op, Reply, Run, Verdict};
 use tc_text::{ShortOp, TakesMoves, append_text, read_moves_into, write_reply};

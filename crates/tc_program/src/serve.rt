@@ -1,14 +1,11 @@
 //! The subcommand `serve`.
 ghost use Rattle.std.specs.Prelude.{◌≡◌, IfOk};
+ghost use Rattle.tc_answer.specs.Prelude.{IsPrintedRefusal, held_streams};
 ghost use Rattle.tc_program.specs.Serve.{IsServiceStatus, Serves, service_line as spec_line, service_status as spec_status};
-ghost use Rattle.tc_program.specs.Stderr.{IsPrintedRefusal};
-ghost use Rattle.tc_program.specs.Streams.{held_streams};
 
-use crate::fault::{RunFault, fault_line};
-use crate::outcome::{Outcome, REFUSED};
-use crate::stderr::refuse_with;
 use std::alloc::Global;
 use std::io::{Read, Write};
+use tc_answer::{Outcome, REFUSED, RunFault, fault_line, refuse_with};
 use tc_report::verdict_status;
 use tc_serve::{Ending, ServeFault, Served, append_refusal, serve};
 use tc_verdict::NoMemory;

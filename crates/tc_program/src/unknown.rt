@@ -2,15 +2,14 @@
 ghost use Rattle.std.specs.Prelude.{[], OnOk};
 ghost use Rattle.tc_text.specs.Prelude.{TellsAmong};
 
-use crate::compare::read_blocks;
-use crate::fault::RunFault;
-use crate::script::read_script;
 use std::alloc::Global;
+use tc_answer::{RunFault, read_script};
+use tc_blocks::read_evidence;
 use tc_entry::{Name, NoMemory, Pattern};
 
 /// The names of the blocks of a text.
 pub(crate) fn names_of_blocks(alloc: Global, text: &[u8]) -> Result<Vec<Name>, RunFault> {
-    let blocks = read_blocks(alloc, text)?;
+    let blocks = read_evidence(alloc, text)?;
     let mut names = Vec::new(alloc);
     for block in blocks.as_slice() {
         names.push(block.header.name.copy())?;

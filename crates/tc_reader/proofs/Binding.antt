@@ -1,30 +1,11 @@
 -- If the references of a behaviour are bound, each place of its steps is.
 use Rattle.std.proofs.Common.{ℕ, suc, ◌≡◌, ◌∙◌, ◌+◌, ◌<◌, Bool, true, false, Option, Some, None, List, [], ◌∷◌, ◌++◌, length, map, All, nat_eq, refl, sym, ap, arith, rules, cond}
 use Rattle.std.specs.Prelude.{◌||◌, not, if◌then◌else◌}
-use Rattle.std.specs.List.{list_any, position_or_len}
-use Rattle.std.specs.Option.{option_map, option_or}
-use Rattle.std.specs.Cmp.Lexicographic.{pointwise, bytes_decides}
-use Rattle.std.proofs.lemmas.List.{length-append}
-use Rattle.std.proofs.lemmas.List.Elements.{All-cons}
-use Rattle.std.proofs.lemmas.List.Folds.{list_any-append}
-use Rattle.tc_reader.specs.declared.kind.ScriptKind.{ScriptKind}
-use Rattle.tc_reader.specs.declared.kind.ScriptKind.TheVariants as F
-use Rattle.tc_reader.specs.declared.line.Call.TheVariants as C
-use Rattle.tc_reader.specs.declared.line.Line.{Line}
-use Rattle.tc_reader.specs.declared.line.Line.TheVariants as L
-use Rattle.tc_reader.specs.Words.{is_text}
-use Rattle.tc_step.specs.declared.place.Place.{Place}
-use Rattle.tc_step.specs.declared.place.Place.TheVariants as P
-use Rattle.tc_step.specs.declared.place.GroupPlace.{GroupPlace}
-use Rattle.tc_step.specs.declared.place.GroupPlace.TheVariants as G
-use Rattle.tc_step.specs.declared.place.TargetPlace.{TargetPlace}
-use Rattle.tc_step.specs.declared.place.TargetPlace.TheVariants as T
+use Rattle.std.specs.{Cmp.Lexicographic.bytes_decides, Cmp.Lexicographic.pointwise, List.list_any, List.position_or_len, Option.option_map, Option.option_or}
+use Rattle.std.proofs.lemmas.List.{Elements.All-cons, Folds.list_any-append, length-append}
+use Rattle.tc_step.specs.declared.place.{GroupPlace.GroupPlace, Place.Place, TargetPlace.TargetPlace}
 use Rattle.tc_step.specs.Prelude.{group_map, target_map, IsBound, AreBound, of_group, of_target}
-use Rattle.tc_reader.specs.Names.{among, index_of, add, all_of, has_twice}
-use Rattle.tc_reader.specs.Scope.{Head, scope_of, bound}
-use Rattle.tc_reader.specs.Campaign.{steps, step_of, place}
-use Rattle.tc_reader.specs.FirstPass.{at_next}
-use Rattle.tc_reader.specs.SecondPass.{misnamed, name_fault, is_unbound}
+use Rattle.tc_reader.specs.{Campaign.place, Campaign.step_of, Campaign.steps, FirstPass.at_next, Names.add, Names.all_of, Names.among, Names.has_twice, Names.index_of, Scope.Head, Scope.bound, Scope.scope_of, SecondPass.is_unbound, SecondPass.misnamed, SecondPass.name_fault, Words.is_text, declared.kind.ScriptKind.ScriptKind, declared.line.Call.Call, declared.line.Line.Line}
 
 pub named_next : (past : List Line) (l : Line) (rest : List Line) → misnamed past (l ∷ rest) ≡ None → (name_fault (scope_of past (l ∷ rest)) l ≡ None) × (misnamed (l ∷ past) rest ≡ None)
 named_next past l rest is = by (name_fault (scope_of past (l ∷ rest)) l) is
@@ -54,9 +35,9 @@ known false e = absurd cc
 
 place_bound : (ns : List (List ℕ)) (r : Place (List ℕ)) → is_unbound ns r ≡ false → IsBound (length ns) (place ns r)
 unfolding among index_of
-place_bound ns P.Main e = tt
-place_bound ns P.Own e = tt
-place_bound ns (P.Bound n) e = found_below (is_text n) ns (known (among n ns) e)
+place_bound ns Place.Main e = tt
+place_bound ns Place.Own e = tt
+place_bound ns (Place.Bound n) e = found_below (is_text n) ns (known (among n ns) e)
 
 all_bound : (ns : List (List ℕ)) (rs : List (Place (List ℕ))) → list_any (is_unbound ns) rs ≡ false → All (IsBound (length ns)) (map (place ns) rs)
 all_bound ns [] e = search rules
@@ -65,13 +46,13 @@ all_bound ns (r ∷ rs) e =
     All-cons (IsBound (length ns)) (place ns r) (map (place ns) rs) (place_bound ns r two.0) (all_bound ns rs two.1)
 
 group_bound : (ns : List (List ℕ)) (g : GroupPlace (Place (List ℕ))) → list_any (is_unbound ns) (of_group g) ≡ false → All (IsBound (length ns)) (of_group (group_map (place ns) g))
-group_bound ns (G.One r) e = all_bound ns (r ∷ []) e
-group_bound ns G.All e = search rules
+group_bound ns (GroupPlace.One r) e = all_bound ns (r ∷ []) e
+group_bound ns GroupPlace.All e = search rules
 
 target_bound : (ns : List (List ℕ)) (t : TargetPlace (Place (List ℕ))) → list_any (is_unbound ns) (of_target t) ≡ false → All (IsBound (length ns)) (of_target (target_map (place ns) t))
-target_bound ns (T.One r) e = all_bound ns (r ∷ []) e
-target_bound ns T.Any e = search rules
-target_bound ns T.All e = search rules
+target_bound ns (TargetPlace.One r) e = all_bound ns (r ∷ []) e
+target_bound ns TargetPlace.Any e = search rules
+target_bound ns TargetPlace.All e = search rules
 
 -- ---- what the lack of a fault says
 
@@ -133,38 +114,38 @@ new_to_none (m ∷ ms) = (refl, new_to_none ms)
 are_bound : (hs : List Head) (past rest : List Line) → misnamed past rest ≡ None → AreBound (length (bound past)) (steps hs (bound past) rest)
 unfolding step_of
 are_bound hs past [] named = tt
-are_bound hs past (L.TestCase n ∷ rest) named = tt
-are_bound hs past (L.Behaviour n ps ∷ rest) named = tt
-are_bound hs past (L.End ∷ rest) named = tt
-are_bound hs past (L.Skipped ∷ rest) named = are_bound hs (L.Skipped ∷ past) rest (named_next past L.Skipped rest named).1
-are_bound hs past (L.Step (C.Create n alive given_name) ∷ rest) named =
-    let two = named_next past (L.Step (C.Create n alive given_name)) rest named in
-    let new : add n (bound past) ≡ bound past ++ n ∷ [] = add_new n (bound past) (no_fault _ F.Twice two.0) in
+are_bound hs past (Line.TestCase n ∷ rest) named = tt
+are_bound hs past (Line.Behaviour n ps ∷ rest) named = tt
+are_bound hs past (Line.End ∷ rest) named = tt
+are_bound hs past (Line.Skipped ∷ rest) named = are_bound hs (Line.Skipped ∷ past) rest (named_next past Line.Skipped rest named).1
+are_bound hs past (Line.Step (Call.Create n alive given_name) ∷ rest) named =
+    let two = named_next past (Line.Step (Call.Create n alive given_name)) rest named in
+    let new : add n (bound past) ≡ bound past ++ n ∷ [] = add_new n (bound past) (no_fault _ ScriptKind.Twice two.0) in
     let long : length (add n (bound past)) ≡ length (bound past) + 1 = ap length new ∙ one_longer n (bound past) in
-    (search rules, rw (← long) (are_bound hs (L.Step (C.Create n alive given_name) ∷ past) rest two.1))
-are_bound hs past (L.Step (C.Start on b args) ∷ rest) named =
-    let two = named_next past (L.Step (C.Start on b args)) rest named in
-    (all_bound (bound past) (on ∷ args) ((no_first _ F.NoReference _ two.0).0), are_bound hs (L.Step (C.Start on b args) ∷ past) rest two.1)
-are_bound hs past (L.Step (C.Stop g) ∷ rest) named =
-    let two = named_next past (L.Step (C.Stop g)) rest named in
-    (group_bound (bound past) g (no_fault _ F.NoReference two.0), are_bound hs (L.Step (C.Stop g) ∷ past) rest two.1)
-are_bound hs past (L.Step (C.Kill g) ∷ rest) named =
-    let two = named_next past (L.Step (C.Kill g)) rest named in
-    (group_bound (bound past) g (no_fault _ F.NoReference two.0), are_bound hs (L.Step (C.Kill g) ∷ past) rest two.1)
-are_bound hs past (L.Step (C.Ask s t) ∷ rest) named =
-    let two = named_next past (L.Step (C.Ask s t)) rest named in
-    (target_bound (bound past) t (no_fault _ F.NoReference two.0), are_bound hs (L.Step (C.Ask s t) ∷ past) rest two.1)
-are_bound hs past (L.Step (C.Wait killed t) ∷ rest) named =
-    let two = named_next past (L.Step (C.Wait killed t)) rest named in
-    (target_bound (bound past) t (no_fault _ F.NoReference two.0), are_bound hs (L.Step (C.Wait killed t) ∷ past) rest two.1)
-are_bound hs past (L.Step (C.SetVerdict v) ∷ rest) named = (search rules, are_bound hs (L.Step (C.SetVerdict v) ∷ past) rest (named_next past (L.Step (C.SetVerdict v)) rest named).1)
-are_bound hs past (L.Step C.StopCase ∷ rest) named = (search rules, are_bound hs (L.Step C.StopCase ∷ past) rest (named_next past (L.Step C.StopCase) rest named).1)
-are_bound hs past (L.Step C.GetVerdict ∷ rest) named = (search rules, are_bound hs (L.Step C.GetVerdict ∷ past) rest (named_next past (L.Step C.GetVerdict) rest named).1)
+    (search rules, rw (← long) (are_bound hs (Line.Step (Call.Create n alive given_name) ∷ past) rest two.1))
+are_bound hs past (Line.Step (Call.Start on b args) ∷ rest) named =
+    let two = named_next past (Line.Step (Call.Start on b args)) rest named in
+    (all_bound (bound past) (on ∷ args) ((no_first _ ScriptKind.NoReference _ two.0).0), are_bound hs (Line.Step (Call.Start on b args) ∷ past) rest two.1)
+are_bound hs past (Line.Step (Call.Stop g) ∷ rest) named =
+    let two = named_next past (Line.Step (Call.Stop g)) rest named in
+    (group_bound (bound past) g (no_fault _ ScriptKind.NoReference two.0), are_bound hs (Line.Step (Call.Stop g) ∷ past) rest two.1)
+are_bound hs past (Line.Step (Call.Kill g) ∷ rest) named =
+    let two = named_next past (Line.Step (Call.Kill g)) rest named in
+    (group_bound (bound past) g (no_fault _ ScriptKind.NoReference two.0), are_bound hs (Line.Step (Call.Kill g) ∷ past) rest two.1)
+are_bound hs past (Line.Step (Call.Ask s t) ∷ rest) named =
+    let two = named_next past (Line.Step (Call.Ask s t)) rest named in
+    (target_bound (bound past) t (no_fault _ ScriptKind.NoReference two.0), are_bound hs (Line.Step (Call.Ask s t) ∷ past) rest two.1)
+are_bound hs past (Line.Step (Call.Wait killed t) ∷ rest) named =
+    let two = named_next past (Line.Step (Call.Wait killed t)) rest named in
+    (target_bound (bound past) t (no_fault _ ScriptKind.NoReference two.0), are_bound hs (Line.Step (Call.Wait killed t) ∷ past) rest two.1)
+are_bound hs past (Line.Step (Call.SetVerdict v) ∷ rest) named = (search rules, are_bound hs (Line.Step (Call.SetVerdict v) ∷ past) rest (named_next past (Line.Step (Call.SetVerdict v)) rest named).1)
+are_bound hs past (Line.Step Call.StopCase ∷ rest) named = (search rules, are_bound hs (Line.Step Call.StopCase ∷ past) rest (named_next past (Line.Step Call.StopCase) rest named).1)
+are_bound hs past (Line.Step Call.GetVerdict ∷ rest) named = (search rules, are_bound hs (Line.Step Call.GetVerdict ∷ past) rest (named_next past (Line.Step Call.GetVerdict) rest named).1)
 
 -- those of a behaviour with these parameters
-pub places_bound : (hs : List Head) (past : List Line) (n : List ℕ) (ps : List (List ℕ)) (rest : List Line) → name_fault (scope_of past (L.Behaviour n ps ∷ rest)) (L.Behaviour n ps) ≡ None
-    → misnamed (L.Behaviour n ps ∷ past) rest ≡ None → AreBound (length ps) (steps hs (all_of [] ps) rest)
+pub places_bound : (hs : List Head) (past : List Line) (n : List ℕ) (ps : List (List ℕ)) (rest : List Line) → name_fault (scope_of past (Line.Behaviour n ps ∷ rest)) (Line.Behaviour n ps) ≡ None
+    → misnamed (Line.Behaviour n ps ∷ past) rest ≡ None → AreBound (length ps) (steps hs (all_of [] ps) rest)
 places_bound hs past n ps rest here named =
-    let once = neither (among n (scope_of past (L.Behaviour n ps ∷ rest)).behaviours) (has_twice ps) (no_first _ F.Twice _ here).0 in
+    let once = neither (among n (scope_of past (Line.Behaviour n ps ∷ rest)).behaviours) (has_twice ps) (no_first _ ScriptKind.Twice _ here).0 in
     let long : length (all_of [] ps) ≡ length ps = all_length [] ps once.1 (new_to_none ps) ∙ omega arith in
-    rw (← long) (are_bound hs (L.Behaviour n ps ∷ past) rest named)
+    rw (← long) (are_bound hs (Line.Behaviour n ps ∷ past) rest named)

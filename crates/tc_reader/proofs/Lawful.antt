@@ -1,40 +1,14 @@
 -- Each test case of lines without a fault starts its own behaviours, with their numbers of arguments.
-use Rattle.std.proofs.Common.{ℕ, suc, ◌≡◌, ◌∙◌, ◌+◌, ◌≤◌, Bool, true, false, Option, Some, None, List, [], ◌∷◌, ◌++◌, length, map, All, refl, sym, ap, arith, rules, append_assoc, cond}
+use Rattle.std.proofs.Common.{ℕ, suc, ◌≡◌, ◌∙◌, ◌+◌, ◌≤◌, Bool, true, false, Option, Some, None, List, [], ◌∷◌, ◌++◌, length, map, All, refl, sym, ap, arith, rules, append_assoc, cond, Result, Ok, Err}
 use Rattle.std.specs.Prelude.{◌&&◌, ◌||◌, not, if◌then◌else◌, ◌==◌, is_some, slice_get, IfSome}
-use Rattle.std.specs.Option.{option_map, option_map_or}
-use Rattle.std.specs.Map.{lookup}
-use Rattle.std.specs.List.{list_any, position_or_len}
-use Rattle.std.proofs.lemmas.List.{length-map, map-append, append-nil}
-use Rattle.std.proofs.lemmas.List.Elements.{All-cons}
-use Rattle.std.proofs.lemmas.List.Folds.{list_any-append}
-use Rattle.std.proofs.lemmas.Bool.Decides.{nat_tests}
+use Rattle.std.specs.{List.list_any, List.position_or_len, Map.lookup, Option.option_map, Option.option_map_or}
+use Rattle.std.proofs.lemmas.{Bool.Decides.nat_tests, List.Elements.All-cons, List.Folds.list_any-append, List.append-nil, List.length-map, List.map-append}
 use Rattle.tc_entry.specs.declared.limits.TheConstants.{BEHAVIOURS}
-use Rattle.tc_reader.specs.declared.kind.ScriptKind.TheVariants as F
-use Rattle.tc_reader.specs.declared.line.Call.{Call}
-use Rattle.tc_reader.specs.declared.line.Call.TheVariants as C
-use Rattle.tc_reader.specs.declared.line.Line.{Line}
-use Rattle.tc_reader.specs.declared.line.Line.TheVariants as L
-use Rattle.tc_reader.specs.Words.{is_text}
 use Rattle.tc_step.specs.Prelude.{ScriptView}
-use Rattle.tc_reader.specs.Names.{Word, among, index_of, add, all_of, has_twice}
-use Rattle.tc_reader.specs.Scope.{Head, heads, heads_behind, heads_around, parameters_of, cases_before, behaviours_before, with_bound}
-use Rattle.tc_reader.specs.Inside.Heads.{add_head, names_of}
-use Rattle.tc_reader.specs.Campaign.{place, steps, step_of, behaviours, cases}
-use Rattle.tc_reader.specs.SecondPass.{misnamed}
-use Rattle.tc_reader.specs.Inside.Building.{AreCases}
-use Rattle.tc_reader.specs.Law.{signatures, StartsOne, IsCase}
-use Rattle.tc_reader.proofs.Binding.{named_next, neither, either, differ, add_new, no_first, no_fault}
+use Rattle.tc_reader.specs.{Campaign.IsCase, Campaign.StartsOne, Campaign.behaviours, Campaign.cases, Campaign.place, Campaign.signatures, Campaign.step_of, Campaign.steps, Inside.AreCases, Inside.add_head, Inside.names_of, Names.Word, Names.add, Names.all_of, Names.among, Names.has_twice, Names.index_of, Scope.Head, Scope.behaviours_before, Scope.cases_before, Scope.heads, Scope.heads_around, Scope.heads_behind, Scope.parameters_of, Scope.with_bound, SecondPass.misnamed, Words.is_text, declared.kind.ScriptKind.ScriptKind, declared.line.Call.Call, declared.line.Line.Line}
+use Rattle.tc_reader.proofs.{Binding.add_new, Binding.differ, Binding.either, Binding.named_next, Binding.neither, Binding.no_fault, Binding.no_first, Heading.there}
 
 -- ---- a behaviour and its place
-
-there : (n : Word) (hs : List Head) → is_some (parameters_of n hs) ≡ among n (names_of hs)
-unfolding parameters_of among
-there n [] = refl
-there n (h ∷ hs) = by (is_text n h.0) (there n hs)
-  where
-    by : (b : Bool) → is_some (lookup (is_text n) hs) ≡ list_any (is_text n) (names_of hs) → is_some (cond b (Some h.1) (lookup (is_text n) hs)) ≡ (b || list_any (is_text n) (names_of hs))
-    by true e = refl
-    by false e = e
 
 at_place : (n : Word) (hs : List Head) (k : ℕ) → parameters_of n hs ≡ Some k → option_map (λ h. h.1) (slice_get hs (index_of n (names_of hs))) ≡ Some k
 unfolding parameters_of index_of
@@ -48,7 +22,7 @@ at_place n (h ∷ hs) k e = by (is_text n h.0) (at_place n hs k) e
 
 -- ---- the behaviours that are judged with are those of the campaign
 
-none_used : (twice other main : Bool) → (if twice || other then Some F.Twice else if main then Some F.MainParameters else None) ≡ None → (twice ≡ false) × (main ≡ false)
+none_used : (twice other main : Bool) → (if twice || other then Some ScriptKind.Twice else if main then Some ScriptKind.MainParameters else None) ≡ None → (twice ≡ false) × (main ≡ false)
 none_used true other main e = absurd cc
 none_used false true main e = absurd cc
 none_used false false true e = absurd cc
@@ -56,73 +30,73 @@ none_used false false false e = (refl, refl)
 
 heads_are : (gs hs : List Head) (past rest : List Line) → misnamed past rest ≡ None → names_of hs ≡ behaviours_before past → heads_behind hs rest ≡ hs ++ signatures (behaviours gs rest)
 heads_are gs hs past [] named same = sym (append-nil hs)
-heads_are gs hs past (L.TestCase n ∷ rest) named same = sym (append-nil hs)
-heads_are gs hs past (L.Skipped ∷ rest) named same = heads_are gs hs (L.Skipped ∷ past) rest (named_next past L.Skipped rest named).1 same
-heads_are gs hs past (L.End ∷ rest) named same = heads_are gs hs (L.End ∷ past) rest (named_next past L.End rest named).1 same
-heads_are gs hs past (L.Step call ∷ rest) named same = heads_are gs hs (L.Step call ∷ past) rest (named_next past (L.Step call) rest named).1 same
-heads_are gs hs past (L.Behaviour n ps ∷ rest) named same =
-    let two = named_next past (L.Behaviour n ps) rest named in
+heads_are gs hs past (Line.TestCase n ∷ rest) named same = sym (append-nil hs)
+heads_are gs hs past (Line.Skipped ∷ rest) named same = heads_are gs hs (Line.Skipped ∷ past) rest (named_next past Line.Skipped rest named).1 same
+heads_are gs hs past (Line.End ∷ rest) named same = heads_are gs hs (Line.End ∷ past) rest (named_next past Line.End rest named).1 same
+heads_are gs hs past (Line.Step call ∷ rest) named same = heads_are gs hs (Line.Step call ∷ past) rest (named_next past (Line.Step call) rest named).1 same
+heads_are gs hs past (Line.Behaviour n ps ∷ rest) named same =
+    let two = named_next past (Line.Behaviour n ps) rest named in
     let new : among n (behaviours_before past) ≡ false = (none_used (among n (behaviours_before past)) _ _ two.0).0 in
     let absent : is_some (parameters_of n hs) ≡ false = there n hs ∙ ap (among n) same ∙ new in
     let grown : add_head n (length ps) hs ≡ hs ++ (n, length ps) ∷ [] = rw absent refl in
-    let names : names_of (hs ++ (n, length ps) ∷ []) ≡ behaviours_before (L.Behaviour n ps ∷ past) =
+    let names : names_of (hs ++ (n, length ps) ∷ []) ≡ behaviours_before (Line.Behaviour n ps ∷ past) =
     rw new (map-append (λ h. h.0) hs ((n, length ps) ∷ []) ∙ ap (λ ns. ns ++ n ∷ []) same) in
-    ap (λ xs. heads_behind xs rest) grown ∙ heads_are gs (hs ++ (n, length ps) ∷ []) (L.Behaviour n ps ∷ past) rest two.1 names ∙ append_assoc hs ((n, length ps) ∷ []) (signatures (behaviours gs rest))
+    ap (λ xs. heads_behind xs rest) grown ∙ heads_are gs (hs ++ (n, length ps) ∷ []) (Line.Behaviour n ps ∷ past) rest two.1 names ∙ append_assoc hs ((n, length ps) ∷ []) (signatures (behaviours gs rest))
 
 -- ---- starts
 
-equal_counts : (given expected : ℕ) → (if given == expected then None else Some F.Arguments) ≡ None → expected ≡ given
+equal_counts : (given expected : ℕ) → (if given == expected then None else Some ScriptKind.Arguments) ≡ None → expected ≡ given
 equal_counts given expected e = by (given == expected) refl e
   where
-    by : (b : Bool) → (given == expected) ≡ b → (if b then None else Some F.Arguments) ≡ None → expected ≡ given
+    by : (b : Bool) → (given == expected) ≡ b → (if b then None else Some ScriptKind.Arguments) ≡ None → expected ≡ given
     by true same e = grind (arith, nat_tests, same)
     by false same e = absurd cc
 
-right_count : (o : Option ℕ) (given : ℕ) → option_map_or (λ expected. if given == expected then None else Some F.Arguments) o (Some F.UnknownBehaviour) ≡ None → o ≡ Some given
+right_count : (o : Option ℕ) (given : ℕ) → option_map_or (λ expected. if given == expected then None else Some ScriptKind.Arguments) o (Some ScriptKind.UnknownBehaviour) ≡ None → o ≡ Some given
 right_count None given e = absurd cc
 right_count (Some expected) given e = ap Some (equal_counts given expected e)
 
 length-of_map : {X Y : Type 0} (f : X → Y) (xs : List X) → length (map f xs) ≡ length xs
 length-of_map f xs = length-map xs f
 
-starts_at : (hs : List Head) (ns : List Word) (past : List Line) (call : Call) (rest : List Line) → heads_around past (L.Step call ∷ rest) ≡ hs → misnamed past (L.Step call ∷ rest) ≡ None → StartsOne hs (step_of hs ns call)
+starts_at : (hs : List Head) (ns : List Word) (past : List Line) (call : Call) (rest : List Line) → heads_around past (Line.Step call ∷ rest) ≡ hs → misnamed past (Line.Step call ∷ rest) ≡ None → StartsOne hs (step_of hs ns call)
 unfolding step_of
-starts_at hs ns past (C.Start on b args) rest same named =
-    let known = no_first _ F.NoReference _ (named_next past (L.Step (C.Start on b args)) rest named).0 in
-    let given = right_count (parameters_of b (heads_around past (L.Step (C.Start on b args) ∷ rest))) (length args) known.1 in
+starts_at hs ns past (Call.Start on b args) rest same named =
+    let known = no_first _ ScriptKind.NoReference _ (named_next past (Line.Step (Call.Start on b args)) rest named).0 in
+    let given = right_count (parameters_of b (heads_around past (Line.Step (Call.Start on b args) ∷ rest))) (length args) known.1 in
     at_place b hs (length args) (ap (parameters_of b) (sym same) ∙ given) ∙ ap Some (sym (length-of_map (place ns) args))
-starts_at hs ns past (C.Create n alive given_name) rest same named = tt
-starts_at hs ns past (C.Stop g) rest same named = tt
-starts_at hs ns past (C.Kill g) rest same named = tt
-starts_at hs ns past (C.Ask s t) rest same named = tt
-starts_at hs ns past (C.Wait killed t) rest same named = tt
-starts_at hs ns past (C.SetVerdict v) rest same named = tt
-starts_at hs ns past C.StopCase rest same named = tt
-starts_at hs ns past C.GetVerdict rest same named = tt
+starts_at hs ns past (Call.Create n alive given_name) rest same named = tt
+starts_at hs ns past (Call.Stop g) rest same named = tt
+starts_at hs ns past (Call.Kill g) rest same named = tt
+starts_at hs ns past (Call.Ask s t) rest same named = tt
+starts_at hs ns past (Call.Wait killed t) rest same named = tt
+starts_at hs ns past (Call.SetVerdict v) rest same named = tt
+starts_at hs ns past Call.StopCase rest same named = tt
+starts_at hs ns past Call.GetVerdict rest same named = tt
 
 starts_of : (hs : List Head) (ns : List Word) (past rest : List Line) → heads_around past rest ≡ hs → misnamed past rest ≡ None → All (StartsOne hs) (steps hs ns rest)
 starts_of hs ns past [] same named = search rules
-starts_of hs ns past (L.TestCase n ∷ rest) same named = search rules
-starts_of hs ns past (L.Behaviour n ps ∷ rest) same named = search rules
-starts_of hs ns past (L.End ∷ rest) same named = search rules
-starts_of hs ns past (L.Skipped ∷ rest) same named = starts_of hs ns (L.Skipped ∷ past) rest same (named_next past L.Skipped rest named).1
-starts_of hs ns past (L.Step call ∷ rest) same named =
+starts_of hs ns past (Line.TestCase n ∷ rest) same named = search rules
+starts_of hs ns past (Line.Behaviour n ps ∷ rest) same named = search rules
+starts_of hs ns past (Line.End ∷ rest) same named = search rules
+starts_of hs ns past (Line.Skipped ∷ rest) same named = starts_of hs ns (Line.Skipped ∷ past) rest same (named_next past Line.Skipped rest named).1
+starts_of hs ns past (Line.Step call ∷ rest) same named =
     All-cons (StartsOne hs) (step_of hs ns call) (steps hs (with_bound call ns) rest) (starts_at hs ns past call rest same named)
-    (starts_of hs (with_bound call ns) (L.Step call ∷ past) rest same (named_next past (L.Step call) rest named).1)
+    (starts_of hs (with_bound call ns) (Line.Step call ∷ past) rest same (named_next past (Line.Step call) rest named).1)
 
 abbrev StartsAll : List Head → Word × ScriptView → Type 0
 StartsAll hs b = All (StartsOne hs) b.1.steps
 
 starts_in : (hs : List Head) (past rest : List Line) → heads_around past rest ≡ hs → misnamed past rest ≡ None → All (StartsAll hs) (behaviours hs rest)
 starts_in hs past [] same named = search rules
-starts_in hs past (L.TestCase n ∷ rest) same named = search rules
-starts_in hs past (L.Skipped ∷ rest) same named = starts_in hs (L.Skipped ∷ past) rest same (named_next past L.Skipped rest named).1
-starts_in hs past (L.End ∷ rest) same named = starts_in hs (L.End ∷ past) rest same (named_next past L.End rest named).1
-starts_in hs past (L.Step call ∷ rest) same named = starts_in hs (L.Step call ∷ past) rest same (named_next past (L.Step call) rest named).1
-starts_in hs past (L.Behaviour n ps ∷ rest) same named =
-    let left = (named_next past (L.Behaviour n ps) rest named).1 in
+starts_in hs past (Line.TestCase n ∷ rest) same named = search rules
+starts_in hs past (Line.Skipped ∷ rest) same named = starts_in hs (Line.Skipped ∷ past) rest same (named_next past Line.Skipped rest named).1
+starts_in hs past (Line.End ∷ rest) same named = starts_in hs (Line.End ∷ past) rest same (named_next past Line.End rest named).1
+starts_in hs past (Line.Step call ∷ rest) same named = starts_in hs (Line.Step call ∷ past) rest same (named_next past (Line.Step call) rest named).1
+starts_in hs past (Line.Behaviour n ps ∷ rest) same named =
+    let left = (named_next past (Line.Behaviour n ps) rest named).1 in
     All-cons (StartsAll hs) (n, record { parameters = length ps; steps = steps hs (all_of [] ps) rest }) (behaviours hs rest)
-    (starts_of hs (all_of [] ps) (L.Behaviour n ps ∷ past) rest same left) (starts_in hs (L.Behaviour n ps ∷ past) rest same left)
+    (starts_of hs (all_of [] ps) (Line.Behaviour n ps ∷ past) rest same left) (starts_in hs (Line.Behaviour n ps ∷ past) rest same left)
 
 -- ---- the main component's behaviour
 
@@ -132,11 +106,11 @@ no_parameters (p ∷ ps) ns none e = let long : length ns ≡ 0 = ap length none
 
 main_is : (hs : List Head) (past rest : List Line) → behaviours_before past ≡ [] → misnamed past rest ≡ None → IfSome (slice_get (behaviours hs rest) 0) (λ b. b.1.parameters ≡ 0)
 main_is hs past [] none named = search rules
-main_is hs past (L.TestCase n ∷ rest) none named = search rules
-main_is hs past (L.Skipped ∷ rest) none named = main_is hs (L.Skipped ∷ past) rest none (named_next past L.Skipped rest named).1
-main_is hs past (L.End ∷ rest) none named = main_is hs (L.End ∷ past) rest none (named_next past L.End rest named).1
-main_is hs past (L.Step call ∷ rest) none named = main_is hs (L.Step call ∷ past) rest none (named_next past (L.Step call) rest named).1
-main_is hs past (L.Behaviour n ps ∷ rest) none named = no_parameters ps (behaviours_before past) none (none_used (among n (behaviours_before past)) _ _ (named_next past (L.Behaviour n ps) rest named).0).1
+main_is hs past (Line.TestCase n ∷ rest) none named = search rules
+main_is hs past (Line.Skipped ∷ rest) none named = main_is hs (Line.Skipped ∷ past) rest none (named_next past Line.Skipped rest named).1
+main_is hs past (Line.End ∷ rest) none named = main_is hs (Line.End ∷ past) rest none (named_next past Line.End rest named).1
+main_is hs past (Line.Step call ∷ rest) none named = main_is hs (Line.Step call ∷ past) rest none (named_next past (Line.Step call) rest named).1
+main_is hs past (Line.Behaviour n ps ∷ rest) none named = no_parameters ps (behaviours_before past) none (none_used (among n (behaviours_before past)) _ _ (named_next past (Line.Behaviour n ps) rest named).0).1
 
 -- ---- distinct names
 
@@ -150,50 +124,54 @@ twice_behind n (m ∷ ns) once new =
 
 behaviour_names : (gs : List Head) (past rest : List Line) → misnamed past rest ≡ None → has_twice (behaviours_before past) ≡ false → has_twice (behaviours_before past ++ map (λ b. b.0) (behaviours gs rest)) ≡ false
 behaviour_names gs past [] named once = ap has_twice (append-nil (behaviours_before past)) ∙ once
-behaviour_names gs past (L.TestCase n ∷ rest) named once = ap has_twice (append-nil (behaviours_before past)) ∙ once
-behaviour_names gs past (L.Skipped ∷ rest) named once = behaviour_names gs (L.Skipped ∷ past) rest (named_next past L.Skipped rest named).1 once
-behaviour_names gs past (L.End ∷ rest) named once = behaviour_names gs (L.End ∷ past) rest (named_next past L.End rest named).1 once
-behaviour_names gs past (L.Step call ∷ rest) named once = behaviour_names gs (L.Step call ∷ past) rest (named_next past (L.Step call) rest named).1 once
-behaviour_names gs past (L.Behaviour n ps ∷ rest) named once =
-    let two = named_next past (L.Behaviour n ps) rest named in
+behaviour_names gs past (Line.TestCase n ∷ rest) named once = ap has_twice (append-nil (behaviours_before past)) ∙ once
+behaviour_names gs past (Line.Skipped ∷ rest) named once = behaviour_names gs (Line.Skipped ∷ past) rest (named_next past Line.Skipped rest named).1 once
+behaviour_names gs past (Line.End ∷ rest) named once = behaviour_names gs (Line.End ∷ past) rest (named_next past Line.End rest named).1 once
+behaviour_names gs past (Line.Step call ∷ rest) named once = behaviour_names gs (Line.Step call ∷ past) rest (named_next past (Line.Step call) rest named).1 once
+behaviour_names gs past (Line.Behaviour n ps ∷ rest) named once =
+    let two = named_next past (Line.Behaviour n ps) rest named in
     let new : among n (behaviours_before past) ≡ false = (none_used (among n (behaviours_before past)) _ _ two.0).0 in
     let grown : add n (behaviours_before past) ≡ behaviours_before past ++ n ∷ [] = add_new n (behaviours_before past) new in
-    let next = behaviour_names gs (L.Behaviour n ps ∷ past) rest two.1 (ap has_twice grown ∙ twice_behind n (behaviours_before past) once new) in
+    let next = behaviour_names gs (Line.Behaviour n ps ∷ past) rest two.1 (ap has_twice grown ∙ twice_behind n (behaviours_before past) once new) in
     ap has_twice (sym (append_assoc (behaviours_before past) (n ∷ []) (map (λ b. b.0) (behaviours gs rest))) ∙ ap (λ ns. ns ++ map (λ b. b.0) (behaviours gs rest)) (sym grown)) ∙ next
 
 pub case_names : (past rest : List Line) → misnamed past rest ≡ None → has_twice (cases_before past) ≡ false → has_twice (cases_before past ++ map (λ t. t.0) (cases rest)) ≡ false
 case_names past [] named once = ap has_twice (append-nil (cases_before past)) ∙ once
-case_names past (L.Skipped ∷ rest) named once = case_names (L.Skipped ∷ past) rest (named_next past L.Skipped rest named).1 once
-case_names past (L.End ∷ rest) named once = case_names (L.End ∷ past) rest (named_next past L.End rest named).1 once
-case_names past (L.Step call ∷ rest) named once = case_names (L.Step call ∷ past) rest (named_next past (L.Step call) rest named).1 once
-case_names past (L.Behaviour n ps ∷ rest) named once = case_names (L.Behaviour n ps ∷ past) rest (named_next past (L.Behaviour n ps) rest named).1 once
-case_names past (L.TestCase n ∷ rest) named once =
-    let two = named_next past (L.TestCase n) rest named in
-    let new : among n (cases_before past) ≡ false = no_fault _ F.Twice two.0 in
+case_names past (Line.Skipped ∷ rest) named once = case_names (Line.Skipped ∷ past) rest (named_next past Line.Skipped rest named).1 once
+case_names past (Line.End ∷ rest) named once = case_names (Line.End ∷ past) rest (named_next past Line.End rest named).1 once
+case_names past (Line.Step call ∷ rest) named once = case_names (Line.Step call ∷ past) rest (named_next past (Line.Step call) rest named).1 once
+case_names past (Line.Behaviour n ps ∷ rest) named once = case_names (Line.Behaviour n ps ∷ past) rest (named_next past (Line.Behaviour n ps) rest named).1 once
+case_names past (Line.TestCase n ∷ rest) named once =
+    let two = named_next past (Line.TestCase n) rest named in
+    let new : among n (cases_before past) ≡ false = no_fault _ ScriptKind.Twice two.0 in
     let grown : add n (cases_before past) ≡ cases_before past ++ n ∷ [] = add_new n (cases_before past) new in
-    let next = case_names (L.TestCase n ∷ past) rest two.1 (ap has_twice grown ∙ twice_behind n (cases_before past) once new) in
+    let next = case_names (Line.TestCase n ∷ past) rest two.1 (ap has_twice grown ∙ twice_behind n (cases_before past) once new) in
     ap has_twice (sym (append_assoc (cases_before past) (n ∷ []) (map (λ t. t.0) (cases rest))) ∙ ap (λ ns. ns ++ map (λ t. t.0) (cases rest)) (sym grown)) ∙ next
 
 -- ---- test cases
 
-case_is : (past : List Line) (n : Word) (rest : List Line) → length (heads rest) ≤ BEHAVIOURS → misnamed (L.TestCase n ∷ past) rest ≡ None → IsCase (behaviours (heads rest) rest)
+case_is : (past : List Line) (n : Word) (rest : List Line) → length (heads rest) ≤ BEHAVIOURS → misnamed (Line.TestCase n ∷ past) rest ≡ None → IsCase (behaviours (heads rest) rest)
 unfolding heads
 case_is past n rest few named =
-    let same : heads rest ≡ signatures (behaviours (heads rest) rest) = heads_are (heads rest) [] (L.TestCase n ∷ past) rest named refl in
+    let same : heads rest ≡ signatures (behaviours (heads rest) rest) = heads_are (heads rest) [] (Line.TestCase n ∷ past) rest named refl in
     let long : length (heads rest) ≡ length (behaviours (heads rest) rest) = ap length same ∙ length-map (behaviours (heads rest) rest) (λ b. (b.0, b.1.parameters)) in
     record {
       few = omega (arith, few, long);
-      distinct = behaviour_names (heads rest) (L.TestCase n ∷ past) rest named refl;
-      main = main_is (heads rest) (L.TestCase n ∷ past) rest refl named;
-      starts = rw (← same) (starts_in (heads rest) (L.TestCase n ∷ past) rest refl named);
+      distinct = behaviour_names (heads rest) (Line.TestCase n ∷ past) rest named refl;
+      main = main_is (heads rest) (Line.TestCase n ∷ past) rest refl named;
+      starts = rw (← same) (starts_in (heads rest) (Line.TestCase n ∷ past) rest refl named);
     }
 
 pub cases_are : (past ls : List Line) → AreCases ls → misnamed past ls ≡ None → All (λ t. IsCase t.1) (cases ls)
 cases_are past [] are named = search rules
-cases_are past (L.TestCase n ∷ rest) are named =
-    let left = (named_next past (L.TestCase n) rest named).1 in
-    All-cons (λ t. IsCase t.1) (n, behaviours (heads rest) rest) (cases rest) (case_is past n rest are.0 left) (cases_are (L.TestCase n ∷ past) rest are.2 left)
-cases_are past (L.Skipped ∷ rest) are named = cases_are (L.Skipped ∷ past) rest are (named_next past L.Skipped rest named).1
-cases_are past (L.End ∷ rest) are named = cases_are (L.End ∷ past) rest are (named_next past L.End rest named).1
-cases_are past (L.Step call ∷ rest) are named = cases_are (L.Step call ∷ past) rest are (named_next past (L.Step call) rest named).1
-cases_are past (L.Behaviour n ps ∷ rest) are named = cases_are (L.Behaviour n ps ∷ past) rest are (named_next past (L.Behaviour n ps) rest named).1
+cases_are past (Line.TestCase n ∷ rest) are named =
+    let left = (named_next past (Line.TestCase n) rest named).1 in
+    All-cons (λ t. IsCase t.1) (n, behaviours (heads rest) rest) (cases rest) (case_is past n rest are.0 left) (cases_are (Line.TestCase n ∷ past) rest are.2 left)
+cases_are past (Line.Skipped ∷ rest) are named = cases_are (Line.Skipped ∷ past) rest are (named_next past Line.Skipped rest named).1
+cases_are past (Line.End ∷ rest) are named = cases_are (Line.End ∷ past) rest are (named_next past Line.End rest named).1
+cases_are past (Line.Step call ∷ rest) are named = cases_are (Line.Step call ∷ past) rest are (named_next past (Line.Step call) rest named).1
+cases_are past (Line.Behaviour n ps ∷ rest) are named = cases_are (Line.Behaviour n ps ∷ past) rest are (named_next past (Line.Behaviour n ps) rest named).1
+
+abbrev pub with_front : {B E : Type 0} → List B → Result (List B) E → Result (List B) E
+with_front ys (Ok zs) = Ok (ys ++ zs)
+with_front ys (Err e) = Err e

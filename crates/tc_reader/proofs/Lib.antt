@@ -1,18 +1,13 @@
 -- The lemmas of this crate.
-pub mod Counting
-pub mod FirstPass
-pub mod Positions
-pub mod Adding
-pub mod SecondPass
+pub mod Heading
 pub mod Binding
 pub mod Lawful
+pub mod Placed
 pub mod Sound
-pub mod Behind
-pub mod Few
-pub mod Kept
-pub mod Each
+pub mod Making
+pub mod Walked
+pub mod WalkedText
 pub mod Naming
 pub mod Skipping
 pub mod Spelled
 pub mod Taking
-pub mod WholeLines

@@ -1,10 +1,7 @@
 -- The test for a name, and what a name is.
 use Rattle.std.proofs.Common.{ℕ, ◌≡◌, ◌≢◌, ◌≤◌, Bool, true, false, List, [], ◌∷◌, length, codes, refl, arith, rules, tests}
 use Rattle.std.specs.Prelude.{◌&&◌, ◌||◌, not, nat_eq, nat_le, IsTrue, All, IfSome, slice_get}
-use Rattle.std.specs.List.{list_all}
-use Rattle.std.specs.Char.{is_ascii_alphabetic}
-use Rattle.std.specs.Cmp.Lexicographic.{pointwise, bytes_decides}
-use Rattle.std.specs.Bool.{Decides}
+use Rattle.std.specs.{Bool.Decides, Char.is_ascii_alphabetic, Cmp.Lexicographic.bytes_decides, Cmp.Lexicographic.pointwise, List.list_all}
 use Rattle.std.proofs.lemmas.Bool.Decides.{nat_tests, Decides-by_and}
 use Rattle.tc_entry.specs.declared.limits.TheConstants.{NAME_BYTES}
 use Rattle.tc_entry.specs.Prelude.{IsName, is_name_byte}

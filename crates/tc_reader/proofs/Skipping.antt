@@ -1,17 +1,11 @@
--- Lines at the head of a text that say nothing.
-use Rattle.std.proofs.Common.{ℕ, zero, suc, ◌≡◌, ◌∙◌, ◌+◌, ◌≤◌, Bool, true, false, Ok, List, [], ◌∷◌, ◌++◌, length, refl, sym, ap, subst, cond, arith}
-use Rattle.std.specs.Prelude.{filter, All}
-use Rattle.std.specs.List.{slice_split, onto_first}
-use Rattle.std.proofs.lemmas.Bool.Decides.{nat_tests}
-use Rattle.std.proofs.lemmas.List.{append_assoc}
-use Rattle.std.proofs.lemmas.List.Elements.{All-nil, All-cons, All-append}
-use Rattle.tc_reader.specs.declared.line.Line.TheVariants as L
-use Rattle.tc_reader.specs.Text.{lines, words}
-use Rattle.tc_reader.specs.Line.{line_of, line_with}
-use Rattle.tc_reader.specs.declared.text.Part.TheVariants as P
-use Rattle.tc_reader.specs.Skipping.{BeginsWith}
-use Rattle.tc_reader.specs.Inside.Indented.{is_newline, is_space, is_some_text, spaces, IsIndented, HasBefore}
-use Rattle.tc_reader.specs.Inside.Skips.{SkipsOne, Skips}
+-- Lines at the head of a text that say nothing, and what the first pass remembers of the lines before.
+use Rattle.std.proofs.Common.{ℕ, zero, suc, ◌≡◌, ◌∙◌, ◌+◌, ◌≤◌, Bool, true, false, Ok, List, [], ◌∷◌, ◌++◌, length, refl, sym, ap, subst, cond, arith, Result, Err}
+use Rattle.std.specs.Prelude.{filter, All, nat_le, nat_lt, ◌||◌, if◌then◌else◌, Option, Some, None}
+use Rattle.std.specs.{List.onto_first, List.slice_split, Option.option_map_or}
+use Rattle.std.proofs.lemmas.{Bool.Decides.nat_tests, List.Elements.All-append, List.Elements.All-cons, List.Elements.All-nil, List.append_assoc}
+use Rattle.tc_entry.specs.declared.limits.TheConstants.{ARGUMENTS, BEHAVIOURS}
+use Rattle.tc_step.specs.declared.limits.TheConstants.{STEPS}
+use Rattle.tc_reader.specs.{FirstPass.argument_count, FirstPass.behaviours_in, FirstPass.cases_in, FirstPass.open_after, FirstPass.opened, FirstPass.passes_limit, FirstPass.placed, FirstPass.steps_in, Inside.HasBefore, Inside.IsIndented, Inside.Skips, Inside.SkipsOne, Inside.counted, Inside.counted_with, Inside.counts_of, Inside.is_newline, Inside.is_some_text, Inside.is_space, Inside.spaces, Line.line_of, Line.line_with, Skipping.BeginsWith, Text.lines, Text.words, declared.counts.Counts.Counts, declared.kind.ScriptKind.ScriptKind, declared.line.Line.Line, declared.open.Open.Open, declared.text.Part.Part}
 use Rattle.tc_reader.proofs.Taking.{HasNoEnd, lines_next}
 
 one_space_more : (n : ℕ) (bytes : List ℕ) → spaces n (32 ∷ bytes) ≡ spaces (suc n) bytes
@@ -32,20 +26,20 @@ words_behind zero bytes = refl
 words_behind (suc n) bytes = words_behind n bytes
 
 -- a line that is blank
-blank : (n : ℕ) → line_of (spaces n []) ≡ Ok L.Skipped
+blank : (n : ℕ) → line_of (spaces n []) ≡ Ok Line.Skipped
 unfolding line_of words
 blank n = rw (words_behind n []) refl
 
 -- a comment
-comment : (n : ℕ) (bytes : List ℕ) → line_of (spaces n (35 ∷ bytes)) ≡ Ok L.Skipped
+comment : (n : ℕ) (bytes : List ℕ) → line_of (spaces n (35 ∷ bytes)) ≡ Ok Line.Skipped
 unfolding line_of words
 comment n bytes = rw (words_behind n (35 ∷ bytes)) (by (slice_split is_space bytes))
   where
-    by : (ps : List (List ℕ)) → line_with (spaces n (35 ∷ bytes)) (filter is_some_text (onto_first 35 ps)) ≡ Ok L.Skipped
+    by : (ps : List (List ℕ)) → line_with (spaces n (35 ∷ bytes)) (filter is_some_text (onto_first 35 ps)) ≡ Ok Line.Skipped
     by [] = refl
     by (p ∷ ps) = at (is_some_text (35 ∷ p)) (grind (arith, nat_tests))
       where
-        at : (b : Bool) → b ≡ true → line_with (spaces n (35 ∷ bytes)) (cond b ((35 ∷ p) ∷ filter is_some_text ps) (filter is_some_text ps)) ≡ Ok L.Skipped
+        at : (b : Bool) → b ≡ true → line_with (spaces n (35 ∷ bytes)) (cond b ((35 ∷ p) ∷ filter is_some_text ps) (filter is_some_text ps)) ≡ Ok Line.Skipped
         at true e = refl
         at false e = absurd cc
 
@@ -68,7 +62,7 @@ indented_within text bytes is = let same : length text ≡ length (spaces is.man
 pub ruleset indenting_rules = (not_indented, indented_within)
 
 -- the line up to a line feed says nothing
-skips_line : (n : ℕ) (text front rest : List ℕ) → HasNoEnd front → text ≡ spaces n (front ++ 10 ∷ rest) → line_of (spaces n front) ≡ Ok L.Skipped → SkipsOne (lines text) (lines rest)
+skips_line : (n : ℕ) (text front rest : List ℕ) → HasNoEnd front → text ≡ spaces n (front ++ 10 ∷ rest) → line_of (spaces n front) ≡ Ok Line.Skipped → SkipsOne (lines text) (lines rest)
 skips_line n text front rest none is silent = record {
   line = spaces n front;
   is = ap lines (is ∙ spaces_before n front (10 ∷ rest)) ∙ lines_next (spaces n front) rest (no_end n front none);
@@ -111,17 +105,57 @@ skips_first ls left one = (left, one, refl)
 
 -- they are the lines that a text begins with
 begins : (n : ℕ) (ls left : List (List ℕ)) → Skips n ls left
-    → (silent : List (List ℕ)) × (ls ≡ silent ++ left) × (length silent ≡ n) × All (λ line. line_of line ≡ Ok L.Skipped) silent
-begins zero ls left is = ([], is, refl, All-nil (λ line. line_of line ≡ Ok L.Skipped))
+    → (silent : List (List ℕ)) × (ls ≡ silent ++ left) × (length silent ≡ n) × All (λ line. line_of line ≡ Ok Line.Skipped) silent
+begins zero ls left is = ([], is, refl, All-nil (λ line. line_of line ≡ Ok Line.Skipped))
 begins (suc n) ls left is =
     let more = begins n is.0 left is.2 in (
       is.1.line ∷ more.0,
       is.1.is ∙ ap (λ xs. is.1.line ∷ xs) more.1,
       ap suc more.2,
-      All-cons (λ line. line_of line ≡ Ok L.Skipped) is.1.line more.0 is.1.silent more.3,
+      All-cons (λ line. line_of line ≡ Ok Line.Skipped) is.1.line more.0 is.1.silent more.3,
     )
 
-pub begins_with : (more : ℕ) (ls left : List (List ℕ)) → Skips (suc more) ls left → BeginsWith (P.Skipped more) ls left
+pub begins_with : (more : ℕ) (ls left : List (List ℕ)) → Skips (suc more) ls left → BeginsWith (Part.Skipped more) ls left
 begins_with more ls left is = begins (suc more) ls left is
 
 pub ruleset skipping_rules = (skips_first)
+
+abbrev made : Open → ℕ → ℕ → ℕ → Counts
+made o c b s = record { state = o; cases = c; behaviours = b; steps = s }
+
+-- what `counted` answers, against `placed`
+abbrev pub Agrees : List Line → Line → Result Counts ScriptKind → Type 0
+Agrees past l (Ok s) = (placed past l ≡ Ok l) × (s ≡ counts_of (l ∷ past))
+Agrees past l (Err kind) = placed past l ≡ Err kind
+
+pub skipped_agrees : (past : List Line) → Agrees past Line.Skipped (Ok (counts_of past))
+unfolding opened cases_in behaviours_in steps_in
+skipped_agrees past = (refl, refl)
+
+-- what is open after a line that may be there
+opens : (past : List Line) (l : Line) (o : Open) → open_after l (opened past) ≡ Some o → opened (l ∷ past) ≡ o
+unfolding opened
+opens past l o is = rw is refl
+
+within : (past : List Line) (l : Line) (s : Counts) (b : Bool) → (placed past l ≡ (if b then Err ScriptKind.TooMany else Ok l)) → s ≡ counts_of (l ∷ past) → Agrees past l (if b then Err ScriptKind.TooMany else Ok s)
+within past l s true is same = is
+within past l s false is same = (is, same)
+
+-- a line that may be there, by its kind
+counts_at : (past : List Line) (l : Line) (o : Open) → opened (l ∷ past) ≡ o → (placed past l ≡ (if passes_limit l past then Err ScriptKind.TooMany else Ok l))
+    → Agrees past l (counted_with l o (counts_of past))
+unfolding cases_in behaviours_in steps_in
+counts_at past Line.Skipped o e is = (is, rw e refl)
+counts_at past (Line.TestCase n) o e is = within past (Line.TestCase n) _ (nat_le 1000 (cases_in past)) is (rw e (ap (λ k. made o k 0 (steps_in past)) (omega arith)))
+counts_at past (Line.Behaviour n ps) o e is =
+    within past (Line.Behaviour n ps) _ (nat_le BEHAVIOURS (behaviours_in past) || nat_lt ARGUMENTS (length ps)) is (rw e (ap (λ k. made o (cases_in past) k 0) (omega arith)))
+counts_at past Line.End o e is = (is, rw e refl)
+counts_at past (Line.Step call) o e is =
+    within past (Line.Step call) _ (nat_le STEPS (steps_in past) || nat_lt ARGUMENTS (argument_count call)) is (rw e (ap (λ k. made o (cases_in past) (behaviours_in past) k) (omega arith)))
+
+pub counted_agrees : (past : List Line) (l : Line) → Agrees past l (counted (counts_of past) l)
+counted_agrees past l = by (open_after l (opened past)) refl
+  where
+    by : (o : Option Open) → open_after l (opened past) ≡ o → Agrees past l (option_map_or (λ o. counted_with l o (counts_of past)) o (Err ScriptKind.BadPlace))
+    by None e = rw e refl
+    by (Some o) e = counts_at past l o (opens past l o e) (rw e refl)

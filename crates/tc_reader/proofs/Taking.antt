@@ -1,15 +1,10 @@
 -- Taking the first line of a text.
 use Rattle.std.proofs.Common.{ℕ, suc, ◌≡◌, ◌∙◌, ◌+◌, ◌-◌, ◌<◌, ◌≤◌, Bool, true, false, List, [], ◌∷◌, ◌++◌, length, take, drop, refl, sym, ap, get_or, arith, drop-cons}
 use Rattle.std.specs.Prelude.{◌==◌, if◌then◌else◌, slice_index, All, Some, None}
-use Rattle.std.proofs.lemmas.Bool.Decides.{nat_tests}
-use Rattle.std.proofs.lemmas.List.{append-nil, take-append-drop, get_or-take, length-take-le, length-drop, take_all}
-use Rattle.std.proofs.lemmas.Grind.{get_or_default_zero}
-use Rattle.std.proofs.lemmas.List.Splits.{slice_split_at, slice_split_none, length-slice_split}
-use Rattle.std.proofs.lemmas.List.Sums.{count_by-le-length}
+use Rattle.std.proofs.lemmas.{Bool.Decides.nat_tests, Grind.get_or_default_zero, List.Splits.length-slice_split, List.Splits.slice_split_at, List.Splits.slice_split_none, List.Sums.count_by-le-length, List.append-nil, List.get_or-take, List.length-drop, List.length-take-le, List.take-append-drop, List.take_all}
 use Rattle.memchr.specs.Find.{IsFirstByte, is_byte}
 use Rattle.std.specs.List.{slice_split}
-use Rattle.tc_reader.specs.Text.{lines, without_end}
-use Rattle.tc_reader.specs.Inside.Indented.{is_newline}
+use Rattle.tc_reader.specs.{Inside.is_newline, Text.lines, Text.without_end}
 
 -- no byte of the text is a line feed
 abbrev pub HasNoEnd : List ℕ → Type 0

@@ -1,33 +1,23 @@
 -- What is open at a line, and which lines are out of place. `past` lists the lines before, the newest first.
 use Rattle.std.specs.Prelude.{ℕ, ◌+◌, ◌||◌, not, nat_le, nat_lt, Bool, true, false, if◌then◌else◌, Option, Some, None, is_some, Result, Ok, Err, List, [], ◌∷◌, length, filter, reverse}
-use Rattle.std.specs.Option.{unwrap_or}
-use Rattle.std.specs.Result.{result_map_both}
+use Rattle.std.specs.{Option.unwrap_or, Result.result_map_both}
 use Rattle.tc_entry.specs.declared.limits.TheConstants.{ARGUMENTS, BEHAVIOURS}
 use Rattle.tc_step.specs.declared.limits.TheConstants.{STEPS}
-use Rattle.tc_reader.specs.declared.kind.ScriptKind.{ScriptKind}
-use Rattle.tc_reader.specs.declared.kind.ScriptKind.TheVariants as F
-use Rattle.tc_reader.specs.declared.fault.ScriptFault.{ScriptFault}
-use Rattle.tc_reader.specs.declared.open.Open.{Open}
-use Rattle.tc_reader.specs.declared.open.Open.TheVariants as O
-use Rattle.tc_reader.specs.declared.line.Call.{Call}
-use Rattle.tc_reader.specs.declared.line.Call.TheVariants as C
-use Rattle.tc_reader.specs.declared.line.Line.{Line}
-use Rattle.tc_reader.specs.declared.line.Line.TheVariants as L
-use Rattle.tc_reader.specs.Line.{line_of, ◌>>=◌}
+use Rattle.tc_reader.specs.{Line.line_of, Line.◌>>=◌, declared.fault.ScriptFault.ScriptFault, declared.kind.ScriptKind.ScriptKind, declared.line.Call.Call, declared.line.Line.Line, declared.open.Open.Open}
 
 -- it begins a test case
 abbrev pub is_case : Line → Bool
-is_case (L.TestCase n) = true
+is_case (Line.TestCase n) = true
 is_case _ = false
 
 -- it begins a behaviour
 abbrev pub is_behaviour : Line → Bool
-is_behaviour (L.Behaviour n ps) = true
+is_behaviour (Line.Behaviour n ps) = true
 is_behaviour _ = false
 
 -- it is a step
 abbrev pub is_step : Line → Bool
-is_step (L.Step call) = true
+is_step (Line.Step call) = true
 is_step _ = false
 
 -- the lines after the newest one that passes
@@ -37,19 +27,19 @@ since p (l ∷ past) = if p l then [] else l ∷ since p past
 
 -- what is open after a line, by what is open before it, if the line may be there
 abbrev pub open_after : Line → Open → Option Open
-open_after L.Skipped o = Some o
-open_after (L.TestCase n) O.Nothing = Some O.NewCase
-open_after (L.Behaviour n ps) O.NewCase = Some O.Behaviour
-open_after (L.Behaviour n ps) O.Case = Some O.Behaviour
-open_after L.End O.Case = Some O.Nothing
-open_after L.End O.Behaviour = Some O.Case
-open_after (L.Step call) O.Behaviour = Some O.Behaviour
+open_after Line.Skipped o = Some o
+open_after (Line.TestCase n) Open.Nothing = Some Open.NewCase
+open_after (Line.Behaviour n ps) Open.NewCase = Some Open.Behaviour
+open_after (Line.Behaviour n ps) Open.Case = Some Open.Behaviour
+open_after Line.End Open.Case = Some Open.Nothing
+open_after Line.End Open.Behaviour = Some Open.Case
+open_after (Line.Step call) Open.Behaviour = Some Open.Behaviour
 open_after _ _ = None
 
 -- what is open after these lines, each of which may be where it is
 unfoldable pub opened : List Line → Open
-opened [] = O.Nothing
-opened (l ∷ past) = unwrap_or (open_after l (opened past)) O.Nothing
+opened [] = Open.Nothing
+opened (l ∷ past) = unwrap_or (open_after l (opened past)) Open.Nothing
 
 -- the test cases so far
 unfoldable pub cases_in : List Line → ℕ
@@ -65,26 +55,26 @@ steps_in past = length (filter is_step (since is_behaviour past))
 
 -- how many arguments a call gives
 abbrev pub argument_count : Call → ℕ
-argument_count (C.Start on b args) = length args
+argument_count (Call.Start on b args) = length args
 argument_count _ = 0
 
 -- the line passes a limit
 abbrev pub passes_limit : Line → List Line → Bool
-passes_limit (L.TestCase n) past = nat_le 1000 (cases_in past)
-passes_limit (L.Behaviour n ps) past = nat_le BEHAVIOURS (behaviours_in past) || nat_lt ARGUMENTS (length ps)
-passes_limit (L.Step call) past = nat_le STEPS (steps_in past) || nat_lt ARGUMENTS (argument_count call)
+passes_limit (Line.TestCase n) past = nat_le 1000 (cases_in past)
+passes_limit (Line.Behaviour n ps) past = nat_le BEHAVIOURS (behaviours_in past) || nat_lt ARGUMENTS (length ps)
+passes_limit (Line.Step call) past = nat_le STEPS (steps_in past) || nat_lt ARGUMENTS (argument_count call)
 passes_limit _ past = false
 
 -- the line, if it may be there and passes no limit
 abbrev pub placed : List Line → Line → Result Line ScriptKind
 placed past l =
-    if not (is_some (open_after l (opened past))) then Err F.BadPlace
-    else if passes_limit l past then Err F.TooMany
+    if not (is_some (open_after l (opened past))) then Err ScriptKind.BadPlace
+    else if passes_limit l past then Err ScriptKind.TooMany
     else Ok l
 
 -- a text may end where this is open, after that many test cases: no test case is open, and there is one
 abbrev pub ends_well : Open → ℕ → Bool
-ends_well O.Nothing count = nat_lt 0 count
+ends_well Open.Nothing count = nat_lt 0 count
 ends_well _ count = false
 
 -- a fault of the line after these
@@ -97,7 +87,7 @@ judged past bytes = result_map_both (λ l. l) (at_next past) (line_of bytes >>= 
 
 -- the lines of a text, the first ones read already: all of them, or the first fault, BadByte to Cut
 abbrev pub parsed : List Line → List (List ℕ) → Result (List Line) ScriptFault
-parsed past [] = if ends_well (opened past) (cases_in past) then Ok (reverse past) else Err (at_next past F.Cut)
+parsed past [] = if ends_well (opened past) (cases_in past) then Ok (reverse past) else Err (at_next past ScriptKind.Cut)
 parsed past (bytes ∷ more) = do
   l ← judged past bytes
   parsed (l ∷ past) more

@@ -4,9 +4,6 @@ pub mod FirstPass
 pub mod Scope
 pub mod SecondPass
 pub mod Campaign
-pub mod Reading
-pub mod Law
-pub mod Fault
 pub mod Inside
 pub mod Text
 pub mod Words

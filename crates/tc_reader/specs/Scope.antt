@@ -2,37 +2,32 @@
 -- after it.
 use Rattle.std.specs.Prelude.{ℕ, Option, is_some, if◌then◌else◌, List, [], ◌∷◌, ◌++◌, length}
 use Rattle.std.specs.Map.{lookup}
-use Rattle.tc_reader.specs.Words.{is_text}
-use Rattle.tc_reader.specs.declared.line.Call.{Call}
-use Rattle.tc_reader.specs.declared.line.Call.TheVariants as C
-use Rattle.tc_reader.specs.declared.line.Line.{Line}
-use Rattle.tc_reader.specs.declared.line.Line.TheVariants as L
-use Rattle.tc_reader.specs.Names.{Word, add, all_of}
+use Rattle.tc_reader.specs.{Names.Word, Names.add, Names.all_of, Words.is_text, declared.line.Call.Call, declared.line.Line.Line}
 
 -- the names of the test cases before
 abbrev pub cases_before : List Line → List Word
 cases_before [] = []
-cases_before (L.TestCase n ∷ past) = add n (cases_before past)
+cases_before (Line.TestCase n ∷ past) = add n (cases_before past)
 cases_before (_ ∷ past) = cases_before past
 
 -- the names of the behaviours before, in the same test case
 abbrev pub behaviours_before : List Line → List Word
 behaviours_before [] = []
-behaviours_before (L.TestCase n ∷ past) = []
-behaviours_before (L.Behaviour n ps ∷ past) = add n (behaviours_before past)
+behaviours_before (Line.TestCase n ∷ past) = []
+behaviours_before (Line.Behaviour n ps ∷ past) = add n (behaviours_before past)
 behaviours_before (_ ∷ past) = behaviours_before past
 
 -- the names that are bound after a call
 abbrev pub with_bound : Call → List Word → List Word
-with_bound (C.Create n alive given_name) ns = add n ns
+with_bound (Call.Create n alive given_name) ns = add n ns
 with_bound _ ns = ns
 
 -- the names that are bound in the behaviour that is open: its parameters, and then what the creates before bind, in the
 -- order of the text. The name that a create gives its component binds nothing.
 abbrev pub bound : List Line → List Word
 bound [] = []
-bound (L.Behaviour n ps ∷ past) = all_of [] ps
-bound (L.Step call ∷ past) = with_bound call (bound past)
+bound (Line.Behaviour n ps ∷ past) = all_of [] ps
+bound (Line.Step call ∷ past) = with_bound call (bound past)
 bound (_ ∷ past) = bound past
 
 -- a behaviour: its name, and the number of its parameters
@@ -46,8 +41,8 @@ parameters_of n hs = lookup (is_text n) hs
 -- with the behaviours of these lines after them, up to the next test case, and of each name the first
 abbrev pub heads_behind : List Head → List Line → List Head
 heads_behind hs [] = hs
-heads_behind hs (L.TestCase n ∷ rest) = hs
-heads_behind hs (L.Behaviour n ps ∷ rest) = heads_behind (if is_some (parameters_of n hs) then hs else hs ++ (n, length ps) ∷ []) rest
+heads_behind hs (Line.TestCase n ∷ rest) = hs
+heads_behind hs (Line.Behaviour n ps ∷ rest) = heads_behind (if is_some (parameters_of n hs) then hs else hs ++ (n, length ps) ∷ []) rest
 heads_behind hs (_ ∷ rest) = heads_behind hs rest
 
 -- the behaviours of the test case whose lines these begin with
@@ -57,7 +52,7 @@ heads rest = heads_behind [] rest
 -- the behaviours of the test case that the lines before have begun
 abbrev pub heads_around : List Line → List Line → List Head
 heads_around [] rest = []
-heads_around (L.TestCase n ∷ past) rest = heads rest
+heads_around (Line.TestCase n ∷ past) rest = heads rest
 heads_around (l ∷ past) rest = heads_around past (l ∷ rest)
 
 -- the names at a line: the test cases and the behaviours that are used, what is bound, and the behaviours of the test case

@@ -1,17 +1,10 @@
 -- Single words of a script.
 use Rattle.std.specs.Prelude.{ℕ, ◌&&◌, ◌||◌, not, nat_eq, nat_le, Bool, false, if◌then◌else◌, Option, Some, None, List, [], ◌∷◌, length, codes}
-use Rattle.std.specs.List.{find, list_all}
-use Rattle.std.specs.Map.{lookup}
-use Rattle.std.specs.Char.{is_ascii_alphabetic}
-use Rattle.std.specs.Cmp.Lexicographic.{pointwise}
-use Rattle.tc_reader.specs.declared.line.Keyword.{Keyword}
-use Rattle.tc_reader.specs.declared.line.Keyword.TheVariants as K
-use Rattle.tc_step.specs.declared.step.Status.TheVariants as S
+use Rattle.std.specs.{Char.is_ascii_alphabetic, Cmp.Lexicographic.pointwise, List.find, List.list_all, Map.lookup}
+use Rattle.tc_step.specs.declared.step.Status.{Status}
 use Rattle.tc_entry.specs.declared.limits.TheConstants.{NAME_BYTES}
-use Rattle.tc_entry.specs.Prelude.{is_name_byte}
-use Rattle.tc_verdict.specs.declared.user_verdict.UserVerdict.{UserVerdict}
-use Rattle.tc_verdict.specs.declared.user_verdict.UserVerdict.TheVariants as V
-use Rattle.tc_verdict.specs.Prelude.{given, name_of}
+use Rattle.tc_entry.specs.Prelude.{is_name_byte, UserVerdict, given, name_of}
+use Rattle.tc_reader.specs.declared.line.Keyword.{Keyword}
 
 -- two texts are one
 unfoldable pub is_text : List ℕ → List ℕ → Bool
@@ -35,10 +28,10 @@ name word = if is_name word then Some word else None
 -- the keywords, by their spelling
 abbrev pub keywords : List (List ℕ × Keyword)
 keywords =
-    (codes "testcase", K.TestCase) ∷ (codes "behaviour", K.Behaviour) ∷ (codes "end", K.End) ∷ (codes "create", K.Create)
-    ∷ (codes "start", K.Start) ∷ (codes "stop", K.Stop) ∷ (codes "kill", K.Kill) ∷ (codes "stopcase", K.StopCase)
-    ∷ (codes "running", K.Ask S.Running) ∷ (codes "alive", K.Ask S.Alive) ∷ (codes "done", K.Ask S.Done) ∷ (codes "killed", K.Ask S.Killed)
-    ∷ (codes "wait", K.Wait) ∷ (codes "setverdict", K.SetVerdict) ∷ (codes "getverdict", K.GetVerdict) ∷ []
+    (codes "testcase", Keyword.TestCase) ∷ (codes "behaviour", Keyword.Behaviour) ∷ (codes "end", Keyword.End) ∷ (codes "create", Keyword.Create)
+    ∷ (codes "start", Keyword.Start) ∷ (codes "stop", Keyword.Stop) ∷ (codes "kill", Keyword.Kill) ∷ (codes "stopcase", Keyword.StopCase)
+    ∷ (codes "running", Keyword.Ask Status.Running) ∷ (codes "alive", Keyword.Ask Status.Alive) ∷ (codes "done", Keyword.Ask Status.Done) ∷ (codes "killed", Keyword.Ask Status.Killed)
+    ∷ (codes "wait", Keyword.Wait) ∷ (codes "setverdict", Keyword.SetVerdict) ∷ (codes "getverdict", Keyword.GetVerdict) ∷ []
 
 -- the keyword of this spelling
 unfoldable pub keyword : List ℕ → Option Keyword
@@ -46,4 +39,4 @@ keyword word = lookup (is_text word) keywords
 
 -- what setverdict may set
 unfoldable pub verdict : List ℕ → Option UserVerdict
-verdict word = find (λ v. is_text word (name_of (given v))) (V.None ∷ V.Pass ∷ V.Inconc ∷ V.Fail ∷ [])
+verdict word = find (λ v. is_text word (name_of (given v))) (UserVerdict.None ∷ UserVerdict.Pass ∷ UserVerdict.Inconc ∷ UserVerdict.Fail ∷ [])

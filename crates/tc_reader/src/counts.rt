@@ -42,7 +42,7 @@ fn open_after(line: &Line, state: Open) -> Option<Open>
 }
 
 impl Counts {
-    ghost use Rattle.tc_reader.specs.Inside.Counts.{counted, counted_with, may_end};
+    ghost use Rattle.tc_reader.specs.Inside.{counted, counted_with, may_end};
 
     // What is remembered after the line, if this is open then and it passes no limit.
     fn with(self, line: &Line, state: Open) -> Result<Counts, ScriptKind>

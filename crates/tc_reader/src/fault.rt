@@ -1,6 +1,6 @@
 //! The first fault of a script.
-ghost use Rattle.std.specs.Prelude.{Some};
-ghost use Rattle.tc_reader.specs.Fault.{script_fault_text, read_fault_text};
+ghost use Rattle.std.specs.Prelude.{◌≡◌, Some};
+ghost use Rattle.tc_reader.specs.{ScriptKind.script_fault_text, ScriptKind.read_fault_text, declared.fault.ReadFault.ReadFault};
 
 use crate::{LineFault, ScriptKind};
 use std::alloc::{AllocError, AllocFailed};
@@ -46,10 +46,7 @@ impl fmt::Display for ReadFault {
 }
 
 impl From<AllocError> for ReadFault {
-    ghost use Rattle.std.specs.Prelude.{◌≡◌};
-    ghost use Rattle.tc_reader.specs.declared.fault.ReadFault.TheVariants as faults;
-
-    ghost from_gives = { λ _ f. f ≡ faults.NoMemory };
+    ghost from_gives = { λ _ f. f ≡ ReadFault.NoMemory };
 
     fn from(_error: AllocError) -> ReadFault {
         ReadFault::NoMemory
@@ -57,10 +54,7 @@ impl From<AllocError> for ReadFault {
 }
 
 impl<T: Drop> From<AllocFailed<T>> for ReadFault {
-    ghost use Rattle.std.specs.Prelude.{◌≡◌};
-    ghost use Rattle.tc_reader.specs.declared.fault.ReadFault.TheVariants as faults;
-
-    ghost from_gives = { λ _ f. f ≡ faults.NoMemory };
+    ghost from_gives = { λ _ f. f ≡ ReadFault.NoMemory };
 
     fn from(_error: AllocFailed<T>) -> ReadFault {
         ReadFault::NoMemory

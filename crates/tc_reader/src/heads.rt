@@ -1,11 +1,8 @@
 //! The behaviours of a test case, each with the number of its parameters.
-ghost use Rattle.std.specs.Prelude.{◌≡◌, ◌≤◌, [], length, OnOk, IfOk};
-ghost use Rattle.tc_reader.specs.Names.{index_of};
-ghost use Rattle.tc_reader.specs.Scope.{parameters_of, heads};
-ghost use Rattle.tc_reader.specs.Inside.Heads.{names_of, add_head};
+ghost use Rattle.std.specs.Prelude.{◌≡◌, ◌==◌, ◌≤◌, [], length, OnOk};
+ghost use Rattle.tc_reader.specs.{Inside.add_head, Inside.names_of, Names.index_of, Scope.parameters_of};
 
-use crate::kept_lines::{First, Rest};
-use crate::{Line, Name};
+use crate::Name;
 use indexmap::IndexMap;
 use std::alloc::{AllocError, Global};
 use std::marker::Model;
@@ -32,6 +29,13 @@ impl Heads {
         Heads {
             map: IndexMap::new(alloc),
         }
+    }
+
+    /// Whether there is no behaviour.
+    pub(crate) fn is_empty(&self) -> bool
+        ensures { result ≡ (length self.now == 0) }
+    {
+        self.map.is_empty()
     }
 
     /// How many parameters the behaviour of that name has, if there is one.
@@ -64,25 +68,4 @@ impl Heads {
         self.map.insert(name.copy(), parameters)?;
         Ok(())
     }
-}
-
-/// The behaviours of the test case whose lines these begin with.
-#[tactic(auto, unfolding(crate::specs::Scope::heads), using(crate::proofs::Behind::heading_rules))]
-pub(crate) fn heads_of(alloc: Global, lines: &Rest) -> Result<Heads, AllocError>
-    ensures { IfOk result (λ h. h ≡ heads lines.now) }
-{
-    let mut found = Heads::new(alloc);
-    let mut rest = lines.copy();
-    while let Some((first, others)) = rest.split_first() {
-        match first {
-            First::Skipped(_) => {}
-            First::Other(Line::TestCase(_)) => return Ok(found),
-            First::Other(Line::Behaviour(name, parameters)) => {
-                found.add(name, parameters.as_slice().len())?;
-            }
-            _ => {}
-        }
-        rest = others;
-    }
-    Ok(found)
 }

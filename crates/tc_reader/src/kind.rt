@@ -1,6 +1,6 @@
 //! What is wrong with a line of a script.
 ghost use Rattle.std.specs.Prelude.{◌≡◌, Some};
-ghost use Rattle.tc_reader.specs.ScriptKind.{line_fault_text, script_kind_text};
+ghost use Rattle.tc_reader.specs.{ScriptKind.line_fault_text, ScriptKind.script_kind_text, declared.kind.LineFault.LineFault};
 
 use std::alloc::{AllocError, AllocFailed};
 use std::fmt;
@@ -84,10 +84,7 @@ impl fmt::Display for LineFault {
 }
 
 impl From<ScriptKind> for LineFault {
-    ghost use Rattle.std.specs.Prelude.{◌≡◌};
-    ghost use Rattle.tc_reader.specs.declared.kind.LineFault.TheVariants as faults;
-
-    ghost from_gives = { λ kind f. f ≡ faults.Kind kind };
+    ghost from_gives = { λ kind f. f ≡ LineFault.Kind kind };
 
     fn from(kind: ScriptKind) -> LineFault {
         LineFault::Kind(kind)
@@ -95,10 +92,7 @@ impl From<ScriptKind> for LineFault {
 }
 
 impl From<AllocError> for LineFault {
-    ghost use Rattle.std.specs.Prelude.{◌≡◌};
-    ghost use Rattle.tc_reader.specs.declared.kind.LineFault.TheVariants as faults;
-
-    ghost from_gives = { λ _ f. f ≡ faults.NoMemory };
+    ghost from_gives = { λ _ f. f ≡ LineFault.NoMemory };
 
     fn from(_error: AllocError) -> LineFault {
         LineFault::NoMemory
@@ -106,10 +100,7 @@ impl From<AllocError> for LineFault {
 }
 
 impl<T: Drop> From<AllocFailed<T>> for LineFault {
-    ghost use Rattle.std.specs.Prelude.{◌≡◌};
-    ghost use Rattle.tc_reader.specs.declared.kind.LineFault.TheVariants as faults;
-
-    ghost from_gives = { λ _ f. f ≡ faults.NoMemory };
+    ghost from_gives = { λ _ f. f ≡ LineFault.NoMemory };
 
     fn from(_error: AllocFailed<T>) -> LineFault {
         LineFault::NoMemory

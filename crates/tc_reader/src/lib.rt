@@ -4,22 +4,22 @@
 mod campaign;
 mod counts;
 mod fault;
-mod first_pass;
 mod heads;
-mod kept_lines;
 mod kind;
 mod limits;
 mod line;
 mod line_reading;
+mod made;
 mod names;
 mod open;
 mod plain;
 mod reading;
 mod scope;
-mod second_pass;
 mod spelling;
+mod starts;
 mod steps;
 mod text;
+mod walk;
 mod word;
 
 pub use campaign::{Campaign, CaseScript};

@@ -1,8 +1,6 @@
 //! A line is read as its form, or by its first fault.
 ghost use Rattle.std.specs.Prelude.{◌≡◌, map};
-ghost use Rattle.tc_reader.specs.Inside.Creating.{create_named};
-ghost use Rattle.tc_reader.specs.Line.{word_name, reference, group_named, target_named, create, form, line_of, are_printable, is_comment as comment, each, Gives};
-ghost use Rattle.tc_reader.specs.declared.line.Keyword.TheVariants as K;
+ghost use Rattle.tc_reader.specs.{Inside.create_named, Line.Gives, Line.are_printable, Line.create, Line.each, Line.form, Line.group_named, Line.is_comment as comment, Line.line_of, Line.reference, Line.target_named, Line.word_name};
 
 use crate::kind::{LineFault, ScriptKind};
 use crate::line::{Call, Keyword, Line};
@@ -71,7 +69,7 @@ fn read_target(word: &[u8]) -> Result<TargetPlace<Place<Name>>, ScriptKind>
 #[tactic(auto, unfolding(crate::specs::Line::form))]
 #[inline(never)]
 fn read_test_case(words: &[&[u8]]) -> Result<Line, LineFault>
-    ensures { Gives result (form K.TestCase (map (λ w. w.now) words.now)) }
+    ensures { Gives result (form Keyword.TestCase (map (λ w. w.now) words.now)) }
 {
     match words {
         [word] => {
@@ -120,7 +118,7 @@ fn read_create_of(word: &[u8], alive: bool, rest: &[&[u8]]) -> Result<Line, Line
 #[tactic(auto, unfolding(crate::specs::Line::form))]
 #[inline(never)]
 fn read_create(words: &[&[u8]]) -> Result<Line, LineFault>
-    ensures { Gives result (form K.Create (map (λ w. w.now) words.now)) }
+    ensures { Gives result (form Keyword.Create (map (λ w. w.now) words.now)) }
 {
     match words {
         [word] => read_create_of(word, false, &[]),
@@ -160,7 +158,7 @@ fn read_references(alloc: Global, words: &[&[u8]]) -> Result<Sequence<Place<Name
 #[tactic(auto, unfolding(crate::specs::Line::form))]
 #[inline(never)]
 fn read_behaviour(alloc: Global, words: &[&[u8]]) -> Result<Line, LineFault>
-    ensures { Gives result (form K.Behaviour (map (λ w. w.now) words.now)) }
+    ensures { Gives result (form Keyword.Behaviour (map (λ w. w.now) words.now)) }
 {
     match words {
         [word, parameters @ ..] => {
@@ -175,7 +173,7 @@ fn read_behaviour(alloc: Global, words: &[&[u8]]) -> Result<Line, LineFault>
 #[tactic(auto, unfolding(crate::specs::Line::form))]
 #[inline(never)]
 fn read_start(alloc: Global, words: &[&[u8]]) -> Result<Line, LineFault>
-    ensures { Gives result (form K.Start (map (λ w. w.now) words.now)) }
+    ensures { Gives result (form Keyword.Start (map (λ w. w.now) words.now)) }
 {
     match words {
         [on, behaviour, args @ ..] => {
@@ -195,7 +193,7 @@ fn read_start(alloc: Global, words: &[&[u8]]) -> Result<Line, LineFault>
 #[tactic(auto, unfolding(crate::specs::Line::form))]
 #[inline(never)]
 fn read_wait(words: &[&[u8]]) -> Result<Line, LineFault>
-    ensures { Gives result (form K.Wait (map (λ w. w.now) words.now)) }
+    ensures { Gives result (form Keyword.Wait (map (λ w. w.now) words.now)) }
 {
     match words {
         [status, target] => {
@@ -216,7 +214,7 @@ fn read_wait(words: &[&[u8]]) -> Result<Line, LineFault>
 #[tactic(auto, unfolding(crate::specs::Line::form))]
 #[inline(never)]
 fn read_stop(words: &[&[u8]]) -> Result<Line, LineFault>
-    ensures { Gives result (form K.Stop (map (λ w. w.now) words.now)) }
+    ensures { Gives result (form Keyword.Stop (map (λ w. w.now) words.now)) }
 {
     match words {
         [word] => {
@@ -230,7 +228,7 @@ fn read_stop(words: &[&[u8]]) -> Result<Line, LineFault>
 #[tactic(auto, unfolding(crate::specs::Line::form))]
 #[inline(never)]
 fn read_kill(words: &[&[u8]]) -> Result<Line, LineFault>
-    ensures { Gives result (form K.Kill (map (λ w. w.now) words.now)) }
+    ensures { Gives result (form Keyword.Kill (map (λ w. w.now) words.now)) }
 {
     match words {
         [word] => {
@@ -243,7 +241,7 @@ fn read_kill(words: &[&[u8]]) -> Result<Line, LineFault>
 
 #[tactic(auto, unfolding(crate::specs::Line::form))]
 fn read_stop_case(words: &[&[u8]]) -> Result<Line, LineFault>
-    ensures { Gives result (form K.StopCase (map (λ w. w.now) words.now)) }
+    ensures { Gives result (form Keyword.StopCase (map (λ w. w.now) words.now)) }
 {
     match words {
         [] => Ok(Line::Step(Call::StopCase)),
@@ -254,7 +252,7 @@ fn read_stop_case(words: &[&[u8]]) -> Result<Line, LineFault>
 #[tactic(auto, unfolding(crate::specs::Line::form))]
 #[inline(never)]
 fn read_ask(status: Status, words: &[&[u8]]) -> Result<Line, LineFault>
-    ensures { Gives result (form (K.Ask status) (map (λ w. w.now) words.now)) }
+    ensures { Gives result (form (Keyword.Ask status) (map (λ w. w.now) words.now)) }
 {
     match words {
         [word] => {
@@ -267,7 +265,7 @@ fn read_ask(status: Status, words: &[&[u8]]) -> Result<Line, LineFault>
 
 #[tactic(auto, unfolding(crate::specs::Line::form))]
 fn read_set_verdict(words: &[&[u8]]) -> Result<Line, LineFault>
-    ensures { Gives result (form K.SetVerdict (map (λ w. w.now) words.now)) }
+    ensures { Gives result (form Keyword.SetVerdict (map (λ w. w.now) words.now)) }
 {
     match words {
         [word] => match read_verdict(word) {
@@ -280,7 +278,7 @@ fn read_set_verdict(words: &[&[u8]]) -> Result<Line, LineFault>
 
 #[tactic(auto, unfolding(crate::specs::Line::form))]
 fn read_end(words: &[&[u8]]) -> Result<Line, LineFault>
-    ensures { Gives result (form K.End (map (λ w. w.now) words.now)) }
+    ensures { Gives result (form Keyword.End (map (λ w. w.now) words.now)) }
 {
     if words.is_empty() {
         Ok(Line::End)
@@ -291,7 +289,7 @@ fn read_end(words: &[&[u8]]) -> Result<Line, LineFault>
 
 #[tactic(auto, unfolding(crate::specs::Line::form))]
 fn read_get_verdict(words: &[&[u8]]) -> Result<Line, LineFault>
-    ensures { Gives result (form K.GetVerdict (map (λ w. w.now) words.now)) }
+    ensures { Gives result (form Keyword.GetVerdict (map (λ w. w.now) words.now)) }
 {
     match words {
         [] => Ok(Line::Step(Call::GetVerdict)),

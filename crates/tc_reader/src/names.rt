@@ -1,7 +1,6 @@
 //! Distinct names, in their order.
-ghost use Rattle.std.specs.Prelude.{◌≡◌, ◌==◌, ◌≤◌, length, [], OnOk, OnErr, IfOk, not};
-ghost use Rattle.tc_reader.specs.Words.{is_text};
-ghost use Rattle.tc_reader.specs.Names.{among, index_of, add};
+ghost use Rattle.std.specs.Prelude.{◌≡◌, ◌<◌, length, [], OnOk, OnErr, IfOk, IfSome, not};
+ghost use Rattle.tc_reader.specs.{Inside.place_in, Names.add, Names.among, Words.is_text};
 
 use crate::Name;
 use indexmap::IndexSet;
@@ -56,23 +55,13 @@ impl Names {
         self.set.contains(name)
     }
 
-    /// Whether there is no name.
-    pub(crate) fn is_empty(&self) -> bool
-        ensures { result ≡ (length self.now == 0) }
+    /// The place of the name, if it is one of them.
+    #[tactic(auto, unfolding(crate::specs::Words::is_text))]
+    pub(crate) fn find(&self, name: &Name) -> Option<usize>
+        ensures place { result ≡ place_in self.now name.now }
+        ensures within { IfSome result (λ place. place < length self.now) }
     {
-        self.set.is_empty()
-    }
-
-    /// The place of the name; the number of names if it is none of them.
-    #[tactic(auto, unfolding(crate::specs::Words::is_text, crate::specs::Names::index_of))]
-    pub(crate) fn place_of(&self, name: &Name) -> usize
-        ensures place { result ≡ index_of name.now self.now }
-        ensures within { result ≤ length self.now }
-    {
-        match self.set.get_index_of(name) {
-            Some(index) => index,
-            None => self.set.len(),
-        }
+        self.set.get_index_of(name)
     }
 
     /// Adds the name after the others, if it is none of them.

@@ -1,29 +1,101 @@
-//! The campaign of a text, or its first fault.
-ghost use Rattle.std.specs.Prelude.{◌≡◌, false, IfOk, All, map};
-ghost use Rattle.tc_reader.specs.Campaign.{campaign};
-ghost use Rattle.tc_reader.specs.Reading.{Reads};
-ghost use Rattle.tc_reader.specs.Law.{IsCase};
-ghost use Rattle.tc_reader.specs.Names.{has_twice};
+//! The campaign of a text, or its first fault, in one walk over its lines.
+ghost use Rattle.std.specs.Prelude.{◌≡◌, ◌≤◌, ◌+◌, ◌^◌, [], false, IfOk, OnOk, All, map};
+ghost use Rattle.tc_reader.specs.{Campaign.IsCase, Campaign.Reads, Campaign.campaign, Inside.IsCampaign, Inside.MayTake, Inside.Takes, Inside.begins, Inside.counts_of, Line.line_of, Names.has_twice};
 
-use crate::campaign::{Campaign, campaign_of};
-use crate::fault::ReadFault;
-use crate::first_pass::parse;
-use crate::second_pass::first_misnamed;
+use crate::campaign::Campaign;
+use crate::counts::Counts;
+use crate::fault::{ReadFault, ScriptFault};
+use crate::open::Open;
+use crate::walk::Walk;
+use crate::{LineFault, Lines, Part, ScriptKind, read_line};
 use std::alloc::Global;
 
+/// Takes the next line, of this number. It answers what is remembered after it.
+#[tactic(auto, using(crate::proofs::WalkedText::line_rules))]
+fn take_line<'t>(
+    alloc: Global,
+    walk: &mut Walk,
+    counts: Counts,
+    number: usize,
+    text: &'t [u8],
+    words: &mut Vec<&'t [u8]>,
+) -> Result<Counts, ReadFault>
+    requires may_take { MayTake counts walk.old }
+    ensures taken { Takes number counts walk.old walk.new result (line_of text.now) }
+{
+    let line = match read_line(alloc, text, words) {
+        Ok(line) => line,
+        Err(LineFault::Kind(kind)) => {
+            return Err(ReadFault::Script(ScriptFault { line: number, kind }));
+        }
+        Err(LineFault::NoMemory) => return Err(ReadFault::NoMemory),
+    };
+    match counts.with_line(&line) {
+        Ok(counts) => {
+            walk.take(alloc, number, &line)?;
+            Ok(counts)
+        }
+        Err(kind) => Err(ReadFault::Script(ScriptFault { line: number, kind })),
+    }
+}
+
+#[tactic(auto, unfolding(crate::specs::FirstPass::opened, crate::specs::FirstPass::cases_in, crate::specs::FirstPass::behaviours_in, crate::specs::FirstPass::steps_in))]
+fn opening() -> Counts
+    ensures { result ≡ counts_of [] }
+{
+    Counts {
+        state: Open::Nothing,
+        cases: 0,
+        behaviours: 0,
+        steps: 0,
+    }
+}
+
+/// Walks over the lines of a text, up to its first fault.
+fn walk_lines(alloc: Global, text: &[u8], walk: &mut Walk) -> Result<(), ReadFault>
+    requires { walk.old ≡ begins }
+    ensures answer { Reads (λ _. walk.new.made.done) result (campaign text.now) }
+    ensures law { OnOk result (IsCampaign walk.new.made.done) }
+{
+    let mut counts = opening();
+    let mut words = Vec::new(alloc);
+    let mut rest = Lines::new(text);
+    let mut line = 1;
+    while let Some(part) = rest.next_part() {
+        match part {
+            Part::Skipped(more) => line += usize::from(more) + 1,
+            Part::Line(bytes) => {
+                counts = match take_line(alloc, walk, counts, line, bytes, &mut words) {
+                    Ok(counts) => counts,
+                    Err(fault) => return Err(fault),
+                };
+                line += 1;
+            }
+        }
+    }
+    if !counts.has_ended() {
+        let kind = ScriptKind::Cut;
+        return Err(ReadFault::Script(ScriptFault { line, kind }));
+    }
+    walk.end(alloc)?;
+    match walk.fault() {
+        Some(fault) => Err(ReadFault::Script(fault)),
+        None => Ok(()),
+    }
+}
+
 /// The campaign that a text spells; otherwise its first fault. Memory may run out instead.
-#[tactic(auto, unfolding(crate::specs::Campaign::campaign), using(crate::proofs::Sound::sound_rules))]
 pub fn read_campaign(alloc: Global, bytes: &[u8]) -> Result<Campaign, ReadFault>
     ensures answer { Reads (λ c. c) result (campaign bytes.now) }
     ensures names { IfOk result (λ c. has_twice (map (λ t. t.0) c) ≡ false) }
     ensures cases { IfOk result (λ c. All (λ t. IsCase t.1) c) }
 {
-    let lines = match parse(alloc, bytes) {
-        Ok(lines) => lines,
-        Err(fault) => return Err(fault),
-    };
-    match first_misnamed(alloc, &lines.rest())? {
-        Some(fault) => Err(ReadFault::Script(fault)),
-        None => Ok(campaign_of(alloc, &lines.rest())?),
+    let mut walk = Walk::new(alloc);
+    match walk_lines(alloc, bytes, &mut walk) {
+        Ok(()) => Ok(walk.into_campaign()),
+        Err(fault) => {
+            drop(walk);
+            Err(fault)
+        }
     }
 }

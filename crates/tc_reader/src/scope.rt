@@ -1,17 +1,13 @@
 //! The names that a line may not use again, and those that it may refer to.
-ghost use Rattle.std.specs.Prelude.{◌≡◌, [], Some, None, if◌then◌else◌, IfOk, OnOk};
-ghost use Rattle.tc_step.specs.Prelude.{of_group, of_target};
-ghost use Rattle.tc_reader.specs.Names.{add, all_of, has_twice};
-ghost use Rattle.tc_reader.specs.declared.line.Call.TheVariants as C;
-ghost use Rattle.tc_reader.specs.declared.line.Line.TheVariants as L;
-ghost use Rattle.tc_reader.specs.Scope.{heads, with_bound};
-ghost use Rattle.tc_reader.specs.SecondPass.{is_unbound, any_unbound, name_fault};
-ghost use Rattle.tc_reader.specs.Inside.Passing.{scope_after};
+ghost use Rattle.std.specs.Prelude.{◌≡◌, ◌≤◌, ◌<◌, ◌+◌, length, [], Some, None, if◌then◌else◌, IfOk, OnOk};
+ghost use Rattle.tc_entry.specs.declared.limits.TheConstants.{ARGUMENTS};
+ghost use Rattle.tc_step.specs.declared.limits.TheConstants.{STEPS};
+ghost use Rattle.tc_reader.specs.{FirstPass.argument_count, Inside.binds_again, Inside.head_fault, Inside.made_step, Inside.names_after, Inside.names_at, Names.all_of, Names.has_twice, SecondPass.name_fault, declared.line.Line.Line};
 
-use crate::heads::{Heads, heads_of};
-use crate::kept_lines::Rest;
+use crate::heads::Heads;
 use crate::names::{Names, is_one_of};
-use crate::{Call, GroupPlace, Line, Name, Place, ScriptKind, TargetPlace};
+use crate::steps::step_at;
+use crate::{Call, Name, ScriptKind, Step};
 use std::alloc::{AllocError, Global};
 use std::marker::Model;
 
@@ -19,17 +15,16 @@ use std::marker::Model;
 #[derive(Drop)]
 pub(crate) struct Scope {
     cases: Names,
-    behaviours: Names,
     bound: Names,
     heads: Heads,
 }
 
 impl Model for Scope {
-    ghost use Rattle.tc_reader.specs.Scope.{ScopeView};
+    ghost use Rattle.tc_reader.specs.Inside.{NamesView};
 
-    ghost Value = { ScopeView };
+    ghost Value = { NamesView };
 
-    ghost view = { λ s. record { cases = s.cases; behaviours = s.behaviours; bound = s.bound; heads = s.heads } };
+    ghost view = { λ s. record { cases = s.cases; bound = s.bound; heads = s.heads } };
 }
 
 fn fault_where(is_fault: bool, kind: ScriptKind) -> Option<ScriptKind>
@@ -53,7 +48,7 @@ fn any_twice(names: &[Name]) -> bool
 }
 
 /// The names that are bound where a behaviour with these parameters begins.
-pub(crate) fn bound_by(alloc: Global, parameters: &[Name]) -> Result<Names, AllocError>
+fn bound_by(alloc: Global, parameters: &[Name]) -> Result<Names, AllocError>
     ensures { IfOk result (λ n. n ≡ all_of [] parameters.now) }
 {
     let mut names = Names::new(alloc);
@@ -63,167 +58,105 @@ pub(crate) fn bound_by(alloc: Global, parameters: &[Name]) -> Result<Names, Allo
     Ok(names)
 }
 
-/// Binds the component of a create.
-pub(crate) fn bind(bound: &mut Names, call: &Call) -> Result<(), AllocError>
-    ensures { OnOk result (bound.new ≡ with_bound call.now bound.old) }
-{
-    match call {
-        Call::Create { name, .. } => {
-            bound.add(name.copy())?;
-            Ok(())
-        }
-        _ => Ok(()),
-    }
-}
-
 impl Scope {
     /// The names before the first line.
     pub(crate) fn new(alloc: Global) -> Scope
-        ensures { result ≡ record { cases = []; behaviours = []; bound = []; heads = [] } }
+        ensures { result ≡ record { cases = []; bound = []; heads = [] } }
     {
         Scope {
             cases: Names::new(alloc),
-            behaviours: Names::new(alloc),
             bound: Names::new(alloc),
             heads: Heads::new(alloc),
         }
     }
 
-    fn is_unbound(&self, place: &Place<Name>) -> bool
-        ensures { result ≡ is_unbound self.now.bound place.now }
+    /// The behaviours of the test case that is open.
+    pub(crate) fn heads(&self) -> &Heads
+        ensures { result.now ≡ self.now.heads }
     {
-        match place {
-            Place::Bound(name) => !self.bound.contains(name),
-            _ => false,
-        }
+        &self.heads
     }
 
-    fn is_group_unbound(&self, group: &GroupPlace<Place<Name>>) -> bool
-        ensures { result ≡ any_unbound self.now (of_group group.now) }
+    /// What is wrong with the name of a test case.
+    pub(crate) fn fault_of_case(&self, name: &Name) -> Option<ScriptKind>
+        ensures { result ≡ name_fault (names_at self.now) (Line.TestCase name.now) }
     {
-        match group {
-            GroupPlace::One(place) => self.is_unbound(place),
-            GroupPlace::All => false,
-        }
+        fault_where(self.cases.contains(name), ScriptKind::Twice)
     }
 
-    fn is_target_unbound(&self, target: &TargetPlace<Place<Name>>) -> bool
-        ensures { result ≡ any_unbound self.now (of_target target.now) }
+    /// What is wrong with the names of a behaviour.
+    pub(crate) fn fault_of_behaviour(&self, name: &Name, parameters: &[Name]) -> Option<ScriptKind>
+        ensures { result ≡ head_fault self.now.heads name.now parameters.now }
     {
-        match target {
-            TargetPlace::One(place) => self.is_unbound(place),
-            _ => false,
-        }
-    }
-
-    fn is_any_unbound(&self, places: &[Place<Name>]) -> bool
-        ensures { result ≡ any_unbound self.now places.now }
-    {
-        places.iter().any(|place| self.is_unbound(place))
-    }
-
-    fn fault_of_behaviour(&self, name: &Name, parameters: &[Name]) -> Option<ScriptKind>
-        ensures { result ≡ name_fault self.now (L.Behaviour name.now parameters.now) }
-    {
-        if self.behaviours.contains(name) || any_twice(parameters) {
+        if self.heads.parameters_of(name).is_some() || any_twice(parameters) {
             return Some(ScriptKind::Twice);
         }
         let has_parameters = !parameters.is_empty();
         fault_where(
-            self.behaviours.is_empty() && has_parameters,
+            self.heads.is_empty() && has_parameters,
             ScriptKind::MainParameters,
         )
     }
 
-    fn fault_of_start(
-        &self,
-        on: &Place<Name>,
-        name: &Name,
-        args: &[Place<Name>],
-    ) -> Option<ScriptKind>
-        ensures { result ≡ name_fault self.now (L.Step (C.Start on.now name.now args.now)) }
-    {
-        if self.is_unbound(on) || self.is_any_unbound(args) {
-            return Some(ScriptKind::NoReference);
-        }
-        match self.heads.parameters_of(name) {
-            None => Some(ScriptKind::UnknownBehaviour),
-            Some(expected) if args.len() == expected => None,
-            Some(_) => Some(ScriptKind::Arguments),
-        }
-    }
-
-    fn fault_of_call(&self, call: &Call) -> Option<ScriptKind>
-        ensures { result ≡ name_fault self.now (L.Step call.now) }
+    // Whether a call creates a component by a name that is bound.
+    fn binds_again(&self, call: &Call) -> bool
+        ensures { result ≡ binds_again self.now.bound call.now }
     {
         match call {
-            Call::Create { name, .. } => {
-                fault_where(self.bound.contains(name), ScriptKind::Twice)
-            }
-            Call::Start {
-                on,
-                behaviour,
-                args,
-            } => self.fault_of_start(on, behaviour, args.as_slice()),
-            Call::Stop(group) | Call::Kill(group) => {
-                fault_where(self.is_group_unbound(group), ScriptKind::NoReference)
-            }
-            Call::Ask(_, target) | Call::Wait { target, .. } => {
-                fault_where(self.is_target_unbound(target), ScriptKind::NoReference)
-            }
-            Call::StopCase | Call::SetVerdict(_) | Call::GetVerdict => None,
+            Call::Create { name, .. } => self.bound.contains(name),
+            _ => false,
         }
     }
 
-    /// The first fault of a line among these names.
-    pub(crate) fn fault_of(&self, line: &Line) -> Option<ScriptKind>
-        ensures { result ≡ name_fault self.now line.now }
+    /// The step of a call, or what is wrong with its names. The behaviour of a start is looked up when its test case
+    /// ends.
+    pub(crate) fn step_of(&self, call: &Call) -> Result<Step, ScriptKind>
+        requires few_bound { length self.now.bound < ARGUMENTS + STEPS }
+        requires few_arguments { argument_count call.now ≤ ARGUMENTS }
+        ensures { result ≡ made_step self.now.bound call.now }
     {
-        match line {
-            Line::TestCase(name) => fault_where(self.cases.contains(name), ScriptKind::Twice),
-            Line::Behaviour(name, parameters) => {
-                self.fault_of_behaviour(name, parameters.as_slice())
-            }
-            Line::Step(call) => self.fault_of_call(call),
-            Line::Skipped | Line::End => None,
+        if self.binds_again(call) {
+            return Err(ScriptKind::Twice);
+        }
+        match step_at(&self.bound, call) {
+            Some(step) => Ok(step),
+            None => Err(ScriptKind::NoReference),
         }
     }
 
-    fn take_case(&mut self, alloc: Global, name: &Name, rest: &Rest) -> Result<(), AllocError>
-        ensures { OnOk result (self.new
-            ≡ record { cases = add name.now self.old.cases; behaviours = []; bound = self.old.bound; heads = heads rest.now }) }
+    /// Continues after the line that begins a test case.
+    pub(crate) fn take_case(&mut self, alloc: Global, name: &Name) -> Result<(), AllocError>
+        ensures { OnOk result (self.new ≡ names_after self.old (Line.TestCase name.now)) }
     {
         self.cases.add(name.copy())?;
-        self.behaviours = Names::new(alloc);
-        self.heads = heads_of(alloc, rest)?;
+        self.heads = Heads::new(alloc);
         Ok(())
     }
 
-    fn take_behaviour(
+    /// Continues after the line that begins a behaviour.
+    pub(crate) fn take_behaviour(
         &mut self,
         alloc: Global,
         name: &Name,
         parameters: &[Name],
     ) -> Result<(), AllocError>
-        ensures { OnOk result (self.new
-            ≡ record self.old { behaviours = add name.now self.old.behaviours; bound = all_of [] parameters.now }) }
+        ensures { OnOk result (self.new ≡ names_after self.old (Line.Behaviour name.now parameters.now)) }
     {
-        self.behaviours.add(name.copy())?;
+        self.heads.add(name, parameters.len())?;
         self.bound = bound_by(alloc, parameters)?;
         Ok(())
     }
 
-    /// Continues after a line, with the lines after it.
-    pub(crate) fn take(&mut self, alloc: Global, line: &Line, rest: &Rest) -> Result<(), AllocError>
-        ensures { OnOk result (self.new ≡ scope_after self.old line.now rest.now) }
+    /// Continues after a call.
+    pub(crate) fn take_call(&mut self, call: &Call) -> Result<(), AllocError>
+        ensures { OnOk result (self.new ≡ names_after self.old (Line.Step call.now)) }
     {
-        match line {
-            Line::TestCase(name) => self.take_case(alloc, name, rest),
-            Line::Behaviour(name, parameters) => {
-                self.take_behaviour(alloc, name, parameters.as_slice())
+        match call {
+            Call::Create { name, .. } => {
+                self.bound.add(name.copy())?;
+                Ok(())
             }
-            Line::Step(call) => bind(&mut self.bound, call),
-            Line::Skipped | Line::End => Ok(()),
+            _ => Ok(()),
         }
     }
 }

@@ -1,7 +1,6 @@
 //! The words of the script language: keywords and verdicts.
 ghost use Rattle.std.specs.Prelude.{◌≡◌, Some};
-ghost use Rattle.tc_reader.specs.Words.{is_text, keyword, verdict};
-ghost use Rattle.tc_reader.specs.Inside.Spelling.{keyword_text, spelled_so};
+ghost use Rattle.tc_reader.specs.{Inside.keyword_text, Inside.spelled_as, Words.is_text, Words.keyword, Words.verdict};
 
 use crate::line::Keyword;
 use tc_entry::UserVerdict;
@@ -15,25 +14,6 @@ pub fn is_word(word: &[u8], spelling: &[u8]) -> bool
 {
     word == spelling
 }
-
-/// All keywords, in the order of their table.
-pub(crate) const KEYWORDS: [Keyword; 15] = [
-    Keyword::TestCase,
-    Keyword::Behaviour,
-    Keyword::End,
-    Keyword::Create,
-    Keyword::Start,
-    Keyword::Stop,
-    Keyword::Kill,
-    Keyword::StopCase,
-    Keyword::Ask(Status::Running),
-    Keyword::Ask(Status::Alive),
-    Keyword::Ask(Status::Done),
-    Keyword::Ask(Status::Killed),
-    Keyword::Wait,
-    Keyword::SetVerdict,
-    Keyword::GetVerdict,
-];
 
 impl Keyword {
     /// Its spelling.
@@ -69,29 +49,40 @@ impl Keyword {
     }
 }
 
-// Whether the word is this keyword.
+// The keyword, if the word is its spelling.
 #[inline(always)]
-fn is_keyword(word: &[u8], keyword: Keyword) -> bool
-    ensures { result ≡ is_text word.now (keyword_text keyword) }
+fn if_spelled(word: &[u8], keyword: Keyword) -> Option<Keyword>
+    ensures { result ≡ spelled_as word.now keyword }
 {
-    is_word(word, keyword.spelling().as_bytes())
+    if is_word(word, keyword.spelling().as_bytes()) {
+        Some(keyword)
+    } else {
+        None
+    }
 }
 
-/// The keyword of this spelling.
+/// The keyword of this spelling. Its first byte says which few it may be.
 pub fn read_keyword(word: &[u8]) -> Option<Keyword>
     ensures { result ≡ keyword word.now }
 {
-    find_keyword(word)
-}
-
-#[tactic(auto, unfolding(crate::specs::Inside::Spelling::spelled_so))]
-fn find_keyword(word: &[u8]) -> Option<Keyword>
-    ensures { result ≡ spelled_so word.now }
-{
-    KEYWORDS
-        .iter()
-        .copied()
-        .find(|keyword| is_keyword(word, *keyword))
+    let (first, _) = word.split_first()?;
+    match *first {
+        b'a' => if_spelled(word, Keyword::Ask(Status::Alive)),
+        b'b' => if_spelled(word, Keyword::Behaviour),
+        b'c' => if_spelled(word, Keyword::Create),
+        b'd' => if_spelled(word, Keyword::Ask(Status::Done)),
+        b'e' => if_spelled(word, Keyword::End),
+        b'g' => if_spelled(word, Keyword::GetVerdict),
+        b'k' => if_spelled(word, Keyword::Kill).or(if_spelled(word, Keyword::Ask(Status::Killed))),
+        b'r' => if_spelled(word, Keyword::Ask(Status::Running)),
+        b's' => if_spelled(word, Keyword::Start)
+            .or(if_spelled(word, Keyword::Stop))
+            .or(if_spelled(word, Keyword::StopCase))
+            .or(if_spelled(word, Keyword::SetVerdict)),
+        b't' => if_spelled(word, Keyword::TestCase),
+        b'w' => if_spelled(word, Keyword::Wait),
+        _ => None,
+    }
 }
 
 /// What `setverdict` may set, by its name.

@@ -1,133 +1,103 @@
-//! The steps of a behaviour, from its lines.
-ghost use Rattle.std.specs.Prelude.{◌≡◌, ◌≤◌, ◌<◌, ◌+◌, [], length, IfOk, OnOk, map};
-ghost use Rattle.tc_entry.specs.declared.limits.TheConstants.{ARGUMENTS, BEHAVIOURS};
+//! The step of a call, if what it names is bound.
+ghost use Rattle.std.specs.Prelude.{◌≡◌, ◌≤◌, ◌<◌, ◌+◌, length, map, if◌then◌else◌, Some, None};
+ghost use Rattle.std.specs.List.{list_any};
+ghost use Rattle.tc_entry.specs.declared.limits.TheConstants.{ARGUMENTS};
+ghost use Rattle.tc_step.specs.Prelude.{of_group, of_target, group_map, target_map};
 ghost use Rattle.tc_step.specs.declared.limits.TheConstants.{STEPS};
-ghost use Rattle.tc_reader.specs.Campaign.{place as the_place, step_of, steps};
-ghost use Rattle.tc_reader.specs.Names.{all_of};
-ghost use Rattle.tc_reader.specs.FirstPass.{argument_count};
-ghost use Rattle.tc_reader.specs.Inside.Building.{HaveFewArguments, behind_steps};
+ghost use Rattle.tc_reader.specs.{Campaign.place as the_place, FirstPass.argument_count, Inside.if_bound, Inside.step_if_bound, SecondPass.is_unbound};
 
-use crate::heads::Heads;
-use crate::kept_lines::{First, Rest};
 use crate::names::Names;
-use crate::scope::{bind, bound_by};
-use crate::{Call, Line, Name};
-use std::alloc::{AllocError, Global};
-use tc_step::{Place, Places, Run, Step};
+use crate::{Call, Name};
+use tc_step::{GroupPlace, Place, Places, Run, Step, TargetPlace};
 
-/// The component that a line names, if these names are bound.
-fn place_at(bound: &Names, place: &Place<Name>) -> Place
+/// The component that a line names.
+fn place_at(bound: &Names, place: &Place<Name>) -> Option<Place>
     requires { length bound.now < ARGUMENTS + STEPS }
-    ensures { result ≡ the_place bound.now place.now }
+    ensures { result ≡ (if is_unbound bound.now place.now then None else Some (the_place bound.now place.now)) }
 {
-    place.map(|name| bound.place_of(name) as u16)
+    match place {
+        Place::Main => Some(Place::Main),
+        Place::Own => Some(Place::Own),
+        Place::Bound(name) => match bound.find(name) {
+            Some(index) => Some(Place::Bound(index as u16)),
+            None => None,
+        },
+    }
 }
 
 /// The components that a start gives as arguments.
-fn places_of(bound: &Names, named: &[Place<Name>]) -> Places
+fn places_at(bound: &Names, named: &[Place<Name>]) -> Option<Places>
     requires few_bound { length bound.now < ARGUMENTS + STEPS }
     requires few { length named.now ≤ ARGUMENTS }
-    ensures { result ≡ map (the_place bound.now) named.now }
+    ensures { result ≡ if_bound bound.now named.now (map (the_place bound.now) named.now) }
 {
     let mut places = Places::new();
     for place in named {
+        let place = place_at(bound, place)?;
         // By the clause `few` there is room.
-        let _ = places.push(place_at(bound, place));
+        let _ = places.push(place);
     }
-    places
+    Some(places)
 }
 
-/// The step of a call, if these names are bound.
+fn group_at(bound: &Names, group: &GroupPlace<Place<Name>>) -> Option<GroupPlace>
+    requires { length bound.now < ARGUMENTS + STEPS }
+    ensures { result ≡ if_bound bound.now (of_group group.now) (group_map (the_place bound.now) group.now) }
+{
+    match group {
+        GroupPlace::One(place) => match place_at(bound, place) {
+            Some(place) => Some(GroupPlace::One(place)),
+            None => None,
+        },
+        GroupPlace::All => Some(GroupPlace::All),
+    }
+}
+
+fn target_at(bound: &Names, target: &TargetPlace<Place<Name>>) -> Option<TargetPlace>
+    requires { length bound.now < ARGUMENTS + STEPS }
+    ensures { result ≡ if_bound bound.now (of_target target.now) (target_map (the_place bound.now) target.now) }
+{
+    match target {
+        TargetPlace::One(place) => match place_at(bound, place) {
+            Some(place) => Some(TargetPlace::One(place)),
+            None => None,
+        },
+        TargetPlace::Any => Some(TargetPlace::Any),
+        TargetPlace::All => Some(TargetPlace::All),
+    }
+}
+
+/// The step of a call, if what it names is bound. The run of a start is set when its test case ends.
 #[tactic(auto, unfolding(crate::specs::Campaign::step_of))]
-fn step_at(heads: &Heads, bound: &Names, call: &Call) -> Step
-    requires few_heads { length heads.now ≤ BEHAVIOURS }
+pub(crate) fn step_at(bound: &Names, call: &Call) -> Option<Step>
     requires few_bound { length bound.now < ARGUMENTS + STEPS }
     requires few_arguments { argument_count call.now ≤ ARGUMENTS }
-    ensures { result ≡ step_of heads.now bound.now call.now }
+    ensures { result ≡ step_if_bound bound.now call.now }
 {
     match call {
         Call::Create {
             alive,
             given_name,
             ..
-        } => Step::Create {
+        } => Some(Step::Create {
             alive: *alive,
             name: given_name.as_ref().map(Name::copy),
-        },
-        Call::Start {
-            on,
-            behaviour,
-            args,
-        } => Step::Start {
-            on: place_at(bound, on),
-            run: Run(heads.place_of(behaviour) as u16),
-            args: places_of(bound, args.as_slice()),
-        },
-        Call::Stop(group) => Step::Stop(group.map(|place| place_at(bound, place))),
-        Call::Kill(group) => Step::Kill(group.map(|place| place_at(bound, place))),
-        Call::Ask(status, target) => Step::Ask(*status, target.map(|place| place_at(bound, place))),
-        Call::Wait { killed, target } => Step::Wait {
-            killed: *killed,
-            target: target.map(|place| place_at(bound, place)),
-        },
-        Call::StopCase => Step::StopCase,
-        Call::SetVerdict(setting) => Step::SetVerdict(*setting),
-        Call::GetVerdict => Step::GetVerdict,
-    }
-}
-
-/// The steps up to the end of a behaviour, whose lines these begin with, if these names are bound; and the lines from
-/// that end on.
-fn steps_into<'l>(
-    heads: &Heads,
-    bound: &mut Names,
-    found: &mut Vec<Step>,
-    lines: &Rest<'l>,
-) -> Result<Rest<'l>, AllocError>
-    requires few_heads { length heads.now ≤ BEHAVIOURS }
-    requires few_arguments { HaveFewArguments lines.now }
-    requires none { found.old.items ≡ [] }
-    requires few_bound { length bound.old ≤ ARGUMENTS + length found.old.items }
-    requires few_steps { length (steps heads.now bound.old lines.now) ≤ STEPS }
-    ensures steps { OnOk result (found.new.items ≡ steps heads.now bound.old lines.now) }
-    ensures behind { IfOk result (λ r. r ≡ behind_steps lines.now) }
-{
-    let mut rest = lines.copy();
-    while let Some((first, others)) = rest.split_first() {
-        match first {
-            First::Set(setting) => found.push(Step::SetVerdict(setting))?,
-            First::Get => found.push(Step::GetVerdict)?,
-            First::Skipped(_) => {}
-            First::Other(Line::Skipped) => {}
-            First::Other(Line::Step(call)) => {
-                found.push(step_at(heads, bound, call))?;
-                bind(bound, call)?;
-            }
-            First::Other(_) => return Ok(rest),
+        }),
+        Call::Start { on, args, .. } => {
+            let on = place_at(bound, on)?;
+            let args = places_at(bound, args.as_slice())?;
+            let run = Run(0);
+            Some(Step::Start { on, run, args })
         }
-        rest = others;
+        Call::Stop(group) => Some(Step::Stop(group_at(bound, group)?)),
+        Call::Kill(group) => Some(Step::Kill(group_at(bound, group)?)),
+        Call::Ask(status, target) => Some(Step::Ask(*status, target_at(bound, target)?)),
+        Call::Wait { killed, target } => Some(Step::Wait {
+            killed: *killed,
+            target: target_at(bound, target)?,
+        }),
+        Call::StopCase => Some(Step::StopCase),
+        Call::SetVerdict(setting) => Some(Step::SetVerdict(*setting)),
+        Call::GetVerdict => Some(Step::GetVerdict),
     }
-    Ok(rest)
-}
-
-/// The steps up to the end of a behaviour with these parameters, whose lines these begin with, and the lines from that
-/// end on.
-pub(crate) fn steps_of<'l>(
-    alloc: Global,
-    heads: &Heads,
-    parameters: &[Name],
-    lines: &Rest<'l>,
-) -> Result<(Vec<Step>, Rest<'l>), AllocError>
-    requires few_heads { length heads.now ≤ BEHAVIOURS }
-    requires few_arguments { HaveFewArguments lines.now }
-    requires few_parameters { length parameters.now ≤ ARGUMENTS }
-    requires few_steps { length (steps heads.now (all_of [] parameters.now) lines.now) ≤ STEPS }
-    ensures steps { IfOk result (λ v. v.0.items ≡ steps heads.now (all_of [] parameters.now) lines.now) }
-    ensures behind { IfOk result (λ v. v.1 ≡ behind_steps lines.now) }
-{
-    let mut bound = bound_by(alloc, parameters)?;
-    let mut found = Vec::new(alloc);
-    let rest = steps_into(heads, &mut bound, &mut found, lines);
-    drop(bound);
-    Ok((found, rest?))
 }

@@ -1,9 +1,6 @@
 //! The lines of a text, and the words of a line.
 ghost use Rattle.std.specs.Prelude.{suc, ◌≡◌, ◌≤◌, [], ◌∷◌, length, OnOk, IfSome, MatchOption, map};
-ghost use Rattle.tc_reader.specs.Text.{lines, words};
-ghost use Rattle.tc_reader.specs.Skipping.{BeginsWith};
-ghost use Rattle.tc_reader.specs.Inside.Indented.{IsIndented, HasBefore};
-ghost use Rattle.tc_reader.specs.Inside.Skips.{Skips, SkipsOne};
+ghost use Rattle.tc_reader.specs.{Inside.HasBefore, Inside.IsIndented, Inside.Skips, Inside.SkipsOne, Skipping.BeginsWith, Text.lines, Text.words};
 
 use memchr::memchr;
 use std::alloc::AllocError;
@@ -143,6 +140,7 @@ impl<'t> Lines<'t> {
 
     /// Takes the lines at the head that say nothing, 256 at most. If the first says something, or the text ends in it,
     /// takes this line.
+    #[tactic(auto, using(crate::proofs::Skipping::begins_with))]
     #[inline(always)]
     pub fn next_part(&mut self) -> Option<Part<'t>>
         ensures { MatchOption result ((self.old ≡ []) × (self.new ≡ [])) (λ part. BeginsWith part self.old self.new) }

@@ -47,7 +47,7 @@ fn the_nearest_keyword(rt: HostRuntime) -> Result<(), Fail> {
         b"testcase t\nbehaviour main\n  setverdct pass\nend\nend\n",
         3,
         BAD_LINE,
-        "  line: `  setverdct pass`\n  column 3: `setverdct`\n  understood there: end create start stop kill stopcase running alive done killed wait setverdict getverdict\n  nearest: setverdict\n  a behaviour began in line 2\n  a test case began in line 1\n",
+        "  line: `  setverdct pass`\n  column 3: `setverdct`\n  expected: end create start stop kill stopcase running alive done killed wait setverdict getverdict\n  nearest: setverdict\n  a behaviour began in line 2\n  a test case began in line 1\n",
     )?;
     expect(
         &rt,
@@ -55,7 +55,7 @@ fn the_nearest_keyword(rt: HostRuntime) -> Result<(), Fail> {
         b"testcse t\n",
         1,
         BAD_LINE,
-        "  line: `testcse t`\n  column 1: `testcse`\n  understood there: testcase\n  nearest: testcase\n",
+        "  line: `testcse t`\n  column 1: `testcse`\n  expected: testcase\n  nearest: testcase\n",
     )
 }
 
@@ -114,7 +114,7 @@ fn expect_rows(rt: &impl Abort, alloc: Global, before: &Before, rows: &str) -> R
     Ok(())
 }
 
-// The words of a line, and what is understood after them.
+// The words of a line, and what is expected after them.
 const SCRIPT_PLACES: &str = "\
 testcase => the name of a test case
 testcase t => the end of the call
@@ -208,14 +208,12 @@ end inconc => the end of the line
 end fail => the end of the line
 end error => the end of the line";
 
-/// After the words of each of these rows a word that may be nowhere is printed, and what is understood there.
+/// After the words of each of these rows a word that may be nowhere is printed, and what is expected there.
 fn expect_places(rt: &impl Abort, alloc: Global, before: &Before, rows: &str) -> Result<(), Fail> {
     for row in rows.lines() {
         let (words, wanted) = row.split_once(" => ").ok_or("a row")?;
         let column = words.len() + 2;
-        let row = format!(in alloc;
-            "{words} - => column {column}: `-`;  understood there: {wanted}"
-        )?;
+        let row = format!(in alloc; "{words} - => column {column}: `-`;  expected: {wanted}")?;
         expect_row(rt, alloc, before, row.as_str())?;
     }
     Ok(())
@@ -239,12 +237,12 @@ fn places_of_histories(rt: HostRuntime) -> Result<(), Fail> {
 #[test]
 fn words_of_a_form(rt: HostRuntime) -> Result<(), Fail> {
     let rows = "\
-create p named => column 15: the end of the line;  understood there: a name
-create p  other => column 11: `other`;  understood there: alive, named, or the end of the call
-start mtc => column 10: the end of the line;  understood there: the behaviour that is started
-start all b => column 7: `all`;  understood there: a component
-stop any => column 6: `any`;  understood there: all or a component
-setverdict unset => column 12: `unset`;  understood there: none, pass, inconc or fail";
+create p named => column 15: the end of the line;  expected: a name
+create p  other => column 11: `other`;  expected: alive, named, or the end of the call
+start mtc => column 10: the end of the line;  expected: the behaviour that is started
+start all b => column 7: `all`;  expected: a component
+stop any => column 6: `any`;  expected: all or a component
+setverdict unset => column 12: `unset`;  expected: none, pass, inconc or fail";
     expect_rows(&rt, rt.alloc(), &SCRIPT, rows)
 }
 
@@ -364,7 +362,7 @@ fn first_lines(rt: HostRuntime) -> Result<(), Fail> {
         b"history 3 a 1",
         1,
         Refusal::Histories(TextKind::FirstLine),
-        "  line: `history 3 a 1`\n  understood there: history F NAME N, with F 1 or 2, and N from 1 to 64 or to 256\n",
+        "  line: `history 3 a 1`\n  expected: history F NAME N, with F 1 or 2, and N from 1 to 64 or to 256\n",
     )?;
     expect(
         &rt,
@@ -372,7 +370,7 @@ fn first_lines(rt: HostRuntime) -> Result<(), Fail> {
         b"behaviours 0",
         1,
         Refusal::Moves(TextKind::FirstLine),
-        "  line: `behaviours 0`\n  understood there: behaviours N, with N from 1 to 256\n",
+        "  line: `behaviours 0`\n  expected: behaviours N, with N from 1 to 256\n",
     )
 }
 
@@ -437,7 +435,7 @@ fn what_is_open(rt: HostRuntime) -> Result<(), Fail> {
         b"testcase t\nend\n",
         2,
         Refusal::Script(ScriptKind::BadPlace),
-        "  line: `end`\n  column 1: `end`\n  understood there: behaviour\n  a test case has a behaviour or more\n  a test case began in line 1\n",
+        "  line: `end`\n  column 1: `end`\n  expected: behaviour\n  a test case has a behaviour or more\n  a test case began in line 1\n",
     )?;
     expect(
         &rt,
@@ -487,10 +485,10 @@ fn lines_of_moves(rt: HostRuntime) -> Result<(), Fail> {
     let rows = "\
 0  finish => column 3: a space too many
 0 finish  => column 9: a space too many
-x finish => column 1: `x`;  understood there: the number of a run
-0 finsh => column 3: `finsh`;  understood there: create start stop kill stopcase running alive done killed wait setverdict getverdict wake finish;  nearest: finish
-0 start 1 => column 10: the end of the line;  understood there: the behaviour that is started
-0 stop p => column 8: `p`;  understood there: all or a component
+x finish => column 1: `x`;  expected: the number of a run
+0 finsh => column 3: `finsh`;  expected: create start stop kill stopcase running alive done killed wait setverdict getverdict wake finish;  nearest: finish
+0 start 1 => column 10: the end of the line;  expected: the behaviour that is started
+0 stop p => column 8: `p`;  expected: all or a component
 0 stop 01 => column 8: `01`;  a number begins with 0 only if it is 0
 00 create => column 1: `00`;  a number begins with 0 only if it is 0
 00 create alive => column 1: `00`;  a number begins with 0 only if it is 0
@@ -501,32 +499,32 @@ x finish => column 1: `x`;  understood there: the number of a run
 #[test]
 fn lines_of_histories(rt: HostRuntime) -> Result<(), Fail> {
     let rows = "\
-0 finish => column 9: the end of the line;  understood there: -> and a reply
-0 create => column 9: the end of the line;  understood there: -> and a reply
-0 create alive => column 15: the end of the line;  understood there: -> and a reply
-0 start 1 1 => column 12: the end of the line;  understood there: -> and a reply
-0 finish ok => column 10: `ok`;  understood there: -> and a reply
-0 finish - > ok => column 10: `-`;  understood there: -> and a reply
-0 create ok => column 10: `ok`;  understood there: alive, named, or the end of the call
-x finish -> ok => column 1: `x`;  understood there: the number of a run, or end
-end other => column 5: `other`;  understood there: none, pass, inconc, fail or error
-end pass 1 => column 10: `1`;  understood there: the end of the line";
+0 finish => column 9: the end of the line;  expected: -> and a reply
+0 create => column 9: the end of the line;  expected: -> and a reply
+0 create alive => column 15: the end of the line;  expected: -> and a reply
+0 start 1 1 => column 12: the end of the line;  expected: -> and a reply
+0 finish ok => column 10: `ok`;  expected: -> and a reply
+0 finish - > ok => column 10: `-`;  expected: -> and a reply
+0 create ok => column 10: `ok`;  expected: alive, named, or the end of the call
+x finish -> ok => column 1: `x`;  expected: the number of a run, or end
+end other => column 5: `other`;  expected: none, pass, inconc, fail or error
+end pass 1 => column 10: `1`;  expected: the end of the line";
     expect_rows(&rt, rt.alloc(), &HISTORY, rows)
 }
 
 #[test]
 fn replies_of_histories(rt: HostRuntime) -> Result<(), Fail> {
     let rows = "\
-0 finish -> => column 12: the end of the line;  understood there: made ok true false none pass inconc fail error matched parked ended
-0 create -> mad 1 => column 13: `mad`;  understood there: made ok true false none pass inconc fail error matched parked ended;  nearest: made
-0 wait done 1 -> matchd => column 18: `matchd`;  understood there: made ok true false none pass inconc fail error matched parked ended;  nearest: matched
-0 create -> made => column 17: the end of the line;  understood there: the number of a component
-0 create -> made p => column 18: `p`;  understood there: the number of a component
-0 create -> made 1 2 => column 20: `2`;  understood there: the end of the line
-0 finish -> ok now => column 16: `now`;  understood there: the end of the line
-0 finish -> ok -> ok => column 16: `->`;  understood there: the end of the line
-0 stop 1 -> error no-componant => column 19: `no-componant`;  understood there: no-component not-main start-main already-running not-startable no-behaviour too-many stuck, or the end of the line;  nearest: no-component
-0 stop 1 -> error stuck 1 => column 25: `1`;  understood there: the end of the line";
+0 finish -> => column 12: the end of the line;  expected: made ok true false none pass inconc fail error matched parked ended
+0 create -> mad 1 => column 13: `mad`;  expected: made ok true false none pass inconc fail error matched parked ended;  nearest: made
+0 wait done 1 -> matchd => column 18: `matchd`;  expected: made ok true false none pass inconc fail error matched parked ended;  nearest: matched
+0 create -> made => column 17: the end of the line;  expected: the number of a component
+0 create -> made p => column 18: `p`;  expected: the number of a component
+0 create -> made 1 2 => column 20: `2`;  expected: the end of the line
+0 finish -> ok now => column 16: `now`;  expected: the end of the line
+0 finish -> ok -> ok => column 16: `->`;  expected: the end of the line
+0 stop 1 -> error no-componant => column 19: `no-componant`;  expected: no-component not-main start-main already-running not-startable no-behaviour too-many stuck, or the end of the line;  nearest: no-component
+0 stop 1 -> error stuck 1 => column 25: `1`;  expected: the end of the line";
     expect_rows(&rt, rt.alloc(), &HISTORY, rows)
 }
 
@@ -551,7 +549,7 @@ fn long_lines_are_cut(rt: HostRuntime) -> Result<(), Fail> {
         b"create 1111111111111111111111111111111111111111111111111111111111111111111111",
         1,
         BAD_LINE,
-        "  line: `create 11111111111111111111111111111111111111111111111111111`..\n  column 8: `111111111111111111111111111111111111111111111111111111111111`..\n  understood there: the name of a component\n",
+        "  line: `create 11111111111111111111111111111111111111111111111111111`..\n  column 8: `111111111111111111111111111111111111111111111111111111111111`..\n  expected: the name of a component\n",
     )
 }
 
@@ -564,7 +562,7 @@ fn moves_of_the_words_that_are_no_keywords(rt: HostRuntime) {
 /// The words that are understood, by what is printed.
 fn words_in(told: &[u8]) -> Result<&str, Fail> {
     let told = str::from_utf8(told).map_err(|_| "a text")?;
-    let (_, rest) = told.split_once("  understood there: ").ok_or("words")?;
+    let (_, rest) = told.split_once("  expected: ").ok_or("words")?;
     let (words, _) = rest.split_once('\n').ok_or("a line")?;
     Ok(
         words

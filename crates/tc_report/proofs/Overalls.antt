@@ -3,10 +3,7 @@ use Rattle.std.proofs.Common.{ℕ, ◌≡◌, ◌∙◌, ◌+◌, ◌<◌, List,
 use Rattle.std.proofs.lemmas.List.{map-append, take_more}
 use Rattle.tc_rules.specs.Prelude.{Verdict, worse, worst}
 use Rattle.tc_verdict.proofs.Lemmas.Order.{worst-more}
-use Rattle.tc_report.specs.declared.results.Finished.{Finished}
-use Rattle.tc_report.specs.declared.summary.Summary.{Summary}
-use Rattle.tc_report.specs.Status.{counted_as, worst_of}
-use Rattle.tc_report.specs.Summary.{case_summary}
+use Rattle.tc_report.specs.{Status.counted_as, Status.worst_of, Summary.case_summary, declared.results.Finished.Finished, declared.summary.Summary.Summary}
 
 abbrev counted : Summary → Verdict
 counted s = counted_as s.ending

@@ -1,20 +1,10 @@
 -- The fields of a record are written as they are.
 use Rattle.std.proofs.Common.{ℕ, ◌≡◌, ◌<◌, ◌≤◌, true, false, List, [], ◌∷◌, ◌++◌, map, ap, refl, arith, length, slice_index_or}
-use Rattle.std.specs.List.{list_any, All, join_with_byte}
-use Rattle.std.specs.Fmt.{decimal, IsBoundedDecimal}
-use Rattle.std.proofs.lemmas.Grind.{get_or_default_zero}
-use Rattle.std.proofs.lemmas.Bool.Decides.{nat_tests}
-use Rattle.std.proofs.lemmas.List.{append-nil}
-use Rattle.std.proofs.lemmas.List.Folds.{list_any_none}
-use Rattle.std.proofs.lemmas.List.Elements.{All-nil, All-cons, All-head, All-tail}
+use Rattle.std.specs.{Fmt.IsBoundedDecimal, Fmt.decimal, List.All, List.join_with_byte, List.list_any}
+use Rattle.std.proofs.lemmas.{Bool.Decides.nat_tests, Grind.get_or_default_zero, List.Elements.All-cons, List.Elements.All-head, List.Elements.All-nil, List.Elements.All-tail, List.Folds.list_any_none, List.append-nil}
 use Rattle.csv.specs.Writing.{default_writer, needs_byte, field_text, fields_text, row_text, is_blank}
 use Rattle.tc_rules.specs.Prelude.{Verdict, name_of, is_name_byte, IsName}
-use Rattle.tc_verdict.specs.declared.verdict.Verdict.TheVariants as V
-use Rattle.tc_report.specs.declared.results.CaseEnd.{CaseEnd}
-use Rattle.tc_report.specs.declared.results.CaseEnd.TheVariants as C
-use Rattle.tc_report.specs.declared.summary.Summary.{Summary}
-use Rattle.tc_report.specs.Inside.{csv_line}
-use Rattle.tc_report.specs.Csv.{counts_of, end_word}
+use Rattle.tc_report.specs.{Csv.counts_of, Csv.end_word, Inside.csv_line, declared.results.CaseEnd.CaseEnd, declared.summary.Summary.Summary}
 
 -- no byte of the field calls for quotes
 abbrev pub IsUnquoted : List ℕ → Type 0
@@ -38,18 +28,18 @@ decimal-unquoted : (n : ℕ) → IsBoundedDecimal n → IsUnquoted (decimal n)
 decimal-unquoted n digits = list_any_none (needs_byte default_writer) (decimal n) (λ k d h. needs-word_byte (slice_index_or (decimal n) k d) (digit_above n digits k d h))
 
 verdict-unquoted : (v : Verdict) → IsUnquoted (name_of v)
-verdict-unquoted V.None = refl
-verdict-unquoted V.Pass = refl
-verdict-unquoted V.Inconc = refl
-verdict-unquoted V.Fail = refl
-verdict-unquoted V.Error = refl
+verdict-unquoted Verdict.None = refl
+verdict-unquoted Verdict.Pass = refl
+verdict-unquoted Verdict.Inconc = refl
+verdict-unquoted Verdict.Fail = refl
+verdict-unquoted Verdict.Error = refl
 
 end-unquoted : (ending : CaseEnd) → IsUnquoted (end_word ending)
-end-unquoted (C.Over v) = verdict-unquoted v
-end-unquoted C.Unfinished = refl
-end-unquoted (C.Aborted why) = refl
-end-unquoted C.Missing = refl
-end-unquoted C.NotRun = refl
+end-unquoted (CaseEnd.Over v) = verdict-unquoted v
+end-unquoted CaseEnd.Unfinished = refl
+end-unquoted (CaseEnd.Aborted why) = refl
+end-unquoted CaseEnd.Missing = refl
+end-unquoted CaseEnd.NotRun = refl
 
 counts-unquoted : (ns : List ℕ) (rest : List (List ℕ)) → All IsBoundedDecimal ns → All IsUnquoted rest → All IsUnquoted (map decimal ns ++ rest)
 counts-unquoted [] rest digits plain = plain

@@ -1,14 +1,9 @@
 -- Words that a text holds, one after another, and the test cases that are shown in a summary.
 use Rattle.std.proofs.Common.{ℕ, ◌≡◌, ◌∙◌, ◌+◌, ◌<◌, nat_lt, true, false, List, [], ◌∷◌, ◌++◌, if◌then◌else◌, codes, length, map, take, get_or, refl, sym, ap, subst, append_assoc}
 use Rattle.std.specs.List.{AllZip, concat}
-use Rattle.std.proofs.lemmas.List.{append-nil, map-append, take_more}
-use Rattle.std.proofs.lemmas.List.Elements.{filter-append}
+use Rattle.std.proofs.lemmas.List.{Elements.filter-append, append-nil, map-append, take_more}
 use Rattle.tc_text.specs.Prelude.{Holds, Line, ends_word}
-use Rattle.tc_report.specs.Csv.{end_word}
-use Rattle.tc_report.specs.Inside.{AddsShown, AddsWords, AreShown}
-use Rattle.tc_report.specs.Status.{counted_as, verdict_status}
-use Rattle.tc_report.specs.SummaryText.{IsShown, IsSummary, by_verdicts, counts_text, failed_of, why}
-use Rattle.tc_report.specs.declared.summary.Summary.{Summary}
+use Rattle.tc_report.specs.{Csv.end_word, Inside.AddsShown, Inside.AddsWords, Inside.AreShown, Status.counted_as, Status.verdict_status, SummaryText.IsShown, SummaryText.IsSummary, SummaryText.by_verdicts, SummaryText.counts_text, SummaryText.failed_of, SummaryText.why, declared.summary.Summary.Summary}
 
 -- ---- words
 

@@ -1,22 +1,14 @@
--- The pieces of a text, written one after the other.
-use Rattle.std.proofs.Common.{ℕ, ◌≡◌, ◌∙◌, ◌+◌, arith, List, [], ◌∷◌, ◌++◌, Option, Some, None, length, take, refl, sym, ap, subst, append_assoc}
-use Rattle.std.proofs.lemmas.List.{append-nil, flat_map_more, length-append, take-append-le}
-use Rattle.std.proofs.lemmas.List.Folds.{flat_map-map}
+-- The pieces of a text, appended or written one after the other.
+use Rattle.std.proofs.Common.{ℕ, ◌≡◌, ◌∙◌, ◌+◌, arith, List, [], ◌∷◌, ◌++◌, Option, Some, None, length, take, refl, sym, ap, subst, append_assoc, map, Result, Ok, Err, OnErr, codes}
+use Rattle.std.proofs.lemmas.List.{Concat.flat_map-append, Folds.flat_map-map, append-nil, flat_map_more, length-append, take-append-le}
 use Rattle.std.proofs.Math.Seq.{take-append-add}
-use Rattle.std.specs.Io.KnownBytes.{Appends, Keeps}
+use Rattle.std.specs.{Io.KnownBytes.Appends, Io.KnownBytes.Keeps, List.flat_map}
 use Rattle.tc_stream.specs.Prelude.{AppendsPrefix}
-use Rattle.tc_report.specs.declared.fault.OutFault.{OutFault}
-use Rattle.tc_report.specs.declared.fault.OutFault.TheVariants as O
-use Rattle.tc_report.specs.declared.live_form.LiveForm.{LiveForm}
-use Rattle.tc_report.specs.declared.live_form.LiveForm.TheVariants as F
-use Rattle.tc_report.specs.declared.results.CampaignEnd.{CampaignEnd}
-use Rattle.tc_report.specs.declared.results.Finished.{Finished}
-use Rattle.tc_report.specs.Csv.{columns_text, row_line}
-use Rattle.tc_report.specs.Live.{closing_text, part_text}
-use Rattle.tc_report.specs.Inside.{form_text, text_so_far}
-use Rattle.tc_report.specs.Output.{LeavesPrefix}
-use Rattle.tc_report.specs.Summary.{case_summary}
-use Rattle.tc_report.specs.Tally.{tally_of_cases}
+use Rattle.tc_blocks.specs.Prelude.{end_text, entry_line, with_lf, header_text, line_text}
+use Rattle.tc_blocks.specs.declared.{header.Kind.Kind, line.Line.Line}
+use Rattle.tc_rules.specs.declared.refusal.CaseError.{CaseError}
+use Rattle.tc_rules.specs.Prelude.{refusal_text}
+use Rattle.tc_report.specs.{Blocks.case_block, Blocks.finished_header, Blocks.name_lines, Csv.columns_text, Csv.row_line, Inside.form_text, Inside.text_so_far, Live.closing_text, Live.part_text, Output.LeavesPrefix, Report.abort_text, Report.tally_of_cases, Summary.case_summary, declared.fault.OutFault.OutFault, declared.live_form.LiveForm.LiveForm, declared.results.CampaignEnd.CampaignEnd, declared.results.Finished.Finished}
 
 -- two texts, one after the other
 pub appends_both : (a b c : Option (List ℕ)) (xs ys : List ℕ) → Appends a b xs → Appends b c ys → Appends a c (xs ++ ys)
@@ -32,8 +24,8 @@ keeps_appends (Some s) (Some t) xs p = p ∙ sym (append-nil s)
 
 -- what a fault leaves of a text is a prefix
 pub left_is_prefix : (a b : Option (List ℕ)) (xs : List ℕ) (fault : OutFault) → LeavesPrefix a b xs fault → AppendsPrefix a b xs
-left_is_prefix a b xs O.NoMemory p = (0, omega arith, keeps_appends a b xs p)
-left_is_prefix a b xs O.Write p = p
+left_is_prefix a b xs OutFault.NoMemory p = (0, omega arith, keeps_appends a b xs p)
+left_is_prefix a b xs OutFault.Write p = p
 
 -- a text, and then a prefix of another
 pub prefix_behind : (a b c : Option (List ℕ)) (xs ys : List ℕ) → Appends a b xs → AppendsPrefix b c ys → AppendsPrefix a c (xs ++ ys)
@@ -54,7 +46,77 @@ so_far_more form fs f = flat_map_more (part_text form) _ fs f
 -- the whole text is what comes up to the last test case, and what follows it
 pub whole_text : (form : LiveForm) (fs : List Finished) (ending : CampaignEnd)
     → text_so_far form fs ++ closing_text form (tally_of_cases fs) ending ≡ form_text form (record { finished = fs; ending = ending })
-whole_text F.Text fs ending = refl
-whole_text F.Csv fs ending = append-nil _ ∙ ap (λ l. columns_text ++ l) (sym (flat_map-map row_line case_summary fs))
-whole_text F.History fs ending = append-nil _
-whole_text F.Evidence fs ending = append-nil _
+whole_text LiveForm.Text fs ending = refl
+whole_text LiveForm.Csv fs ending = append-nil _ ∙ ap (λ l. columns_text ++ l) (sym (flat_map-map row_line case_summary fs))
+whole_text LiveForm.History fs ending = append-nil _
+whole_text LiveForm.Evidence fs ending = append-nil _
+
+pub joined_two : (old first second a : List ℕ) → a ≡ old ++ first → a ++ second ≡ old ++ (first ++ second)
+joined_two old first second a p = rw p (append_assoc old first second)
+
+pub joined : (old first second third a b : List ℕ) → a ≡ old ++ first → b ≡ a ++ second → b ++ third ≡ old ++ (first ++ (second ++ third))
+joined old first second third a b p q = rw (q, p) (append_assoc (old ++ first) second third ∙ append_assoc old first (second ++ third))
+
+pub joined_five : (old a b d f e x y z w : List ℕ) → x ≡ old ++ a → y ≡ x ++ b → z ≡ y ++ d → w ≡ z ++ f
+    → w ++ e ≡ old ++ (a ++ (b ++ (d ++ (f ++ e))))
+joined_five old a b d f e x y z w p q r s =
+    rw (s, r, q, p) (append_assoc (((old ++ a) ++ b) ++ d) f e ∙ (append_assoc ((old ++ a) ++ b) d (f ++ e) ∙ (append_assoc (old ++ a) b (d ++ (f ++ e)) ∙ append_assoc old a (b ++ (d ++ (f ++ e))))))
+
+-- its pieces, one after the other
+pieces : (kind : Kind) (f : Finished)
+    → with_lf (header_text (finished_header kind f)) ++ (flat_map (λ l. with_lf (line_text l)) (name_lines kind f)
+    ++ (flat_map entry_line f.report.history ++ with_lf (end_text f.report.verdict))) ≡ case_block kind f
+pieces kind f =
+    let last = with_lf (end_text f.report.verdict) in
+    let names = flat_map (λ l. with_lf (line_text l)) (name_lines kind f) in
+    ap (λ inside. with_lf (header_text (finished_header kind f)) ++ inside)
+    (sym (append_assoc names (flat_map entry_line f.report.history) last)
+    ∙ ap (λ lines. (names ++ lines) ++ last) (sym (flat_map-map (λ l. with_lf (line_text l)) Line.Entry f.report.history))
+    ∙ ap (λ lines. lines ++ last) (sym (flat_map-append (λ l. with_lf (line_text l)) (name_lines kind f) (map Line.Entry f.report.history))))
+
+-- what appends them appends the block
+pub all_appended : (kind : Kind) (f : Finished) (old a b c d : List ℕ) → a ≡ old ++ with_lf (header_text (finished_header kind f))
+    → b ≡ a ++ flat_map (λ l. with_lf (line_text l)) (name_lines kind f) → c ≡ b ++ flat_map entry_line f.report.history
+    → d ≡ c ++ with_lf (end_text f.report.verdict) → d ≡ old ++ case_block kind f
+all_appended kind f old a b c d first second third last =
+    let header = with_lf (header_text (finished_header kind f)) in
+    let names = flat_map (λ l. with_lf (line_text l)) (name_lines kind f) in
+    let entries = flat_map entry_line f.report.history in
+    let end = with_lf (end_text f.report.verdict) in
+    rw (last, third, second, first) (append_assoc ((old ++ header) ++ names) entries end ∙ append_assoc (old ++ header) names (entries ++ end)
+    ∙ append_assoc old header (names ++ (entries ++ end)) ∙ ap (λ l. old ++ l) (pieces kind f))
+
+-- what holds if there is a fault
+pub when_err : {T E P : Type 0} (r : Result T E) → P → OnErr r P
+when_err (Ok x) p = tt
+when_err (Err e) p = p
+
+module _ (name : List ℕ) (why : CaseError) where
+  abbrev pub first : List ℕ
+  first = codes "ttrun: aborted at " ++ name
+
+  abbrev pub second : List ℕ
+  second = codes ": " ++ refusal_text why
+
+  abbrev pub last : List ℕ
+  last = codes "\n"
+
+  -- its pieces, one after the other
+  abort_pieces : first ++ (second ++ last) ≡ abort_text (CampaignEnd.Aborted name why)
+  abort_pieces = append_assoc (codes "ttrun: aborted at ") name (second ++ last)
+      ∙ ap (λ l. codes "ttrun: aborted at " ++ l) (sym (append_assoc name second last))
+
+  module _ (a b c d : Option (List ℕ)) where
+    pub all_out : Appends a b first → Appends b c second → Appends c d last → Appends a d (abort_text (CampaignEnd.Aborted name why))
+    all_out p q r = subst (Appends a d) abort_pieces (appends_both a b d first (second ++ last) p (appends_both b c d second last q r))
+
+    pub last_left : Appends a b first → Appends b c second → AppendsPrefix c d last → AppendsPrefix a d (abort_text (CampaignEnd.Aborted name why))
+    last_left p q r = subst (AppendsPrefix a d) abort_pieces (prefix_behind a b d first (second ++ last) p (prefix_behind b c d second last q r))
+
+  module _ (a b c : Option (List ℕ)) where
+    pub second_left : Appends a b first → AppendsPrefix b c second → AppendsPrefix a c (abort_text (CampaignEnd.Aborted name why))
+    second_left p q = subst (AppendsPrefix a c) abort_pieces (prefix_behind a b c first (second ++ last) p (prefix_longer b c second last q))
+
+  module _ (a b : Option (List ℕ)) where
+    pub first_left : AppendsPrefix a b first → AppendsPrefix a b (abort_text (CampaignEnd.Aborted name why))
+    first_left p = subst (AppendsPrefix a b) abort_pieces (prefix_longer a b first (second ++ last) p)

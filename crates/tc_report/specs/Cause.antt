@@ -1,12 +1,8 @@
 -- The call that decided the verdict of a test case, and its caller.
 use Rattle.std.specs.Prelude.{ℕ, nat_lt, if◌then◌else◌, Option, None, List, [], ◌++◌, codes, length, reverse, slice_get, take}
-use Rattle.std.specs.Option.{option_and_then, option_map, option_map_or}
-use Rattle.std.specs.Fmt.{decimal}
+use Rattle.std.specs.{Fmt.decimal, Option.option_and_then, Option.option_map, Option.option_map_or}
 use Rattle.tc_rules.specs.Prelude.{level_of, Comp, Entry, deciding, component_name, comp_of, part}
-use Rattle.tc_report.specs.declared.cause.Cause.{Cause}
-use Rattle.tc_report.specs.declared.results.CaseEnd.{CaseEnd}
-use Rattle.tc_report.specs.declared.results.CaseEnd.TheVariants as C
-use Rattle.tc_report.specs.Report.{call_text}
+use Rattle.tc_report.specs.{Report.call_text, declared.cause.Cause.Cause, declared.results.CaseEnd.CaseEnd}
 
 -- the entry at this place of a history, and its caller: the component of the run, its name, the entries of the run, and how
 -- many of them come before
@@ -25,7 +21,7 @@ deciding_cause history = option_and_then (λ at. option_map (cause_by history at
 
 -- what is said of a test case with this end: nothing if it is not over, and nothing if its verdict is none or pass
 abbrev pub cause_of : CaseEnd → List Entry → Option Cause
-cause_of (C.Over v) history = if nat_lt 1 (level_of v) then deciding_cause history else None
+cause_of (CaseEnd.Over v) history = if nat_lt 1 (level_of v) then deciding_cause history else None
 cause_of ending history = None
 
 -- a component by its number, and its name if it has one

@@ -1,13 +1,8 @@
 -- The CSV report of test cases.
 use Rattle.std.specs.Prelude.{ℕ, List, [], ◌∷◌, ◌++◌, length, map, codes}
-use Rattle.std.specs.List.{flat_map, join_with_byte}
-use Rattle.std.specs.Fmt.{decimal}
+use Rattle.std.specs.{Fmt.decimal, List.flat_map, List.join_with_byte}
 use Rattle.tc_rules.specs.Prelude.{Verdict, name_of}
-use Rattle.tc_verdict.specs.declared.verdict.Verdict.TheVariants as V
-use Rattle.tc_report.specs.declared.results.CaseEnd.{CaseEnd}
-use Rattle.tc_report.specs.declared.results.CaseEnd.TheVariants as C
-use Rattle.tc_report.specs.declared.summary.Summary.{Summary}
-use Rattle.tc_report.specs.Tally.{count_of}
+use Rattle.tc_report.specs.{Report.count_of, declared.results.CaseEnd.CaseEnd, declared.summary.Summary.Summary}
 
 -- the header
 abbrev pub columns_text : List ℕ
@@ -15,15 +10,15 @@ columns_text = codes "testcase,components,none,pass,inconc,fail,error,verdict\n"
 
 -- how many components a test case has, and how many of them have each local verdict
 abbrev pub counts_of : List Verdict → List ℕ
-counts_of locals = length locals ∷ map (λ v. count_of v locals) (V.None ∷ V.Pass ∷ V.Inconc ∷ V.Fail ∷ V.Error ∷ [])
+counts_of locals = length locals ∷ map (λ v. count_of v locals) (Verdict.None ∷ Verdict.Pass ∷ Verdict.Inconc ∷ Verdict.Fail ∷ Verdict.Error ∷ [])
 
 -- the word for the end of a test case: its overall verdict, or that it is not over, has no report, is missing or was not run
 abbrev pub end_word : CaseEnd → List ℕ
-end_word (C.Over v) = name_of v
-end_word C.Unfinished = codes "unfinished"
-end_word (C.Aborted why) = codes "aborted"
-end_word C.Missing = codes "missing"
-end_word C.NotRun = codes "notrun"
+end_word (CaseEnd.Over v) = name_of v
+end_word CaseEnd.Unfinished = codes "unfinished"
+end_word (CaseEnd.Aborted why) = codes "aborted"
+end_word CaseEnd.Missing = codes "missing"
+end_word CaseEnd.NotRun = codes "notrun"
 
 -- the line of a test case: its name, the counts, and its end, with a comma between them, and LF
 abbrev pub row_line : Summary → List ℕ

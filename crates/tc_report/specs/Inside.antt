@@ -1,34 +1,12 @@
 -- What the functions inside say, which no public clause names.
 use Rattle.std.specs.Prelude.{ℕ, ◌≡◌, ◌+◌, ◌==◌, Bool, true, false, MatchOption, Option, List, [], ◌∷◌, ◌++◌, filter, length, map, slice_get}
-use Rattle.std.specs.Global.{Vec}
+use Rattle.std.specs.{Global.Vec, List.enumerate_from, List.flat_map, List.join_with_byte, Option.option_and_then, Option.option_map_or}
 use Rattle.csv.specs.declared.writer.Writer.{Writer}
 use Rattle.csv.specs.Writing.{default_writer, writer_setup, fields_written, has_written, writer_under, writer_pending}
-use Rattle.tc_report.specs.Cause.{named_text}
-use Rattle.tc_report.specs.Csv.{csv_of, columns_text}
-use Rattle.std.specs.List.{enumerate_from, flat_map, join_with_byte}
-use Rattle.std.specs.Option.{option_and_then, option_map_or}
-use Rattle.tc_report.specs.declared.live_form.LiveForm.{LiveForm}
-use Rattle.tc_report.specs.Summary.{case_summary}
-use Rattle.tc_report.specs.Report.{report_text}
-use Rattle.tc_report.specs.Blocks.{blocks_text, name_lines}
-use Rattle.tc_report.specs.Tally.{tally_of_cases}
 use Rattle.tc_rules.specs.Prelude.{Comp, Entry, name_in, created, Verdict, level_of}
-use Rattle.tc_blocks.specs.declared.header.Kind.{Kind}
-use Rattle.tc_report.specs.declared.results.Results.{Results}
-use Rattle.tc_report.specs.declared.live_form.LiveForm.TheVariants as F
-use Rattle.tc_blocks.specs.declared.header.Kind.TheVariants as K
-use Rattle.tc_report.specs.declared.results.Finished.{Finished}
-use Rattle.tc_report.specs.declared.results.Tally.{Tally}
-use Rattle.tc_verdict.specs.declared.verdict.Verdict.TheVariants as V
-use Rattle.tc_blocks.specs.declared.line.Line.{Line as BlockLine}
-use Rattle.tc_blocks.specs.declared.line.Line.TheVariants as L
-use Rattle.tc_report.specs.Live.{opening_text, part_text}
-use Rattle.tc_report.specs.Observers.{AreTaken}
-use Rattle.tc_report.specs.declared.fault.OutFault.{OutFault}
-use Rattle.tc_report.specs.Progress.{Names, Prints, failed}
-use Rattle.tc_report.specs.SummaryText.{IsShown}
-use Rattle.tc_report.specs.declared.summary.Summary.{Summary}
+use Rattle.tc_blocks.specs.declared.{header.Kind.Kind, line.Line.Line as BlockLine}
 use Rattle.tc_text.specs.Prelude.{Holds, Line, ends_word}
+use Rattle.tc_report.specs.{Blocks.blocks_text, Blocks.name_lines, Cause.named_text, Csv.columns_text, Csv.csv_of, Live.opening_text, Live.part_text, Observers.AreTaken, Progress.Names, Progress.Prints, Progress.failed, Report.report_text, Report.tally_of_cases, Summary.case_summary, SummaryText.IsShown, declared.fault.OutFault.OutFault, declared.live_form.LiveForm.LiveForm, declared.results.Finished.Finished, declared.results.Results.Results, declared.results.Tally.Tally, declared.summary.Summary.Summary}
 
 -- the bytes in memory, and then those that the writer holds back
 abbrev pub written_by : Writer (Vec ℕ) → List ℕ
@@ -51,10 +29,10 @@ csv_line fields = join_with_byte 44 fields ++ (10 ∷ [])
 
 -- the text of the results in this form
 abbrev pub form_text : LiveForm → Results → List ℕ
-form_text F.Text r = report_text r
-form_text F.Csv r = csv_of (map case_summary r.finished)
-form_text F.History r = blocks_text K.History2 r
-form_text F.Evidence r = blocks_text K.Evidence r
+form_text LiveForm.Text r = report_text r
+form_text LiveForm.Csv r = csv_of (map case_summary r.finished)
+form_text LiveForm.History r = blocks_text Kind.History2 r
+form_text LiveForm.Evidence r = blocks_text Kind.Evidence r
 
 -- what of it comes up to the last of these test cases
 abbrev pub text_so_far : LiveForm → List Finished → List ℕ
@@ -70,7 +48,7 @@ made_name e = option_map_or (λ (c : Comp). name_in e.op ∷ []) (created e.op e
 
 -- the lines inside the block of a finished test case: the names, and then the entries
 abbrev pub case_lines : Kind → Finished → List BlockLine
-case_lines kind f = name_lines kind f ++ map L.Entry f.report.history
+case_lines kind f = name_lines kind f ++ map BlockLine.Entry f.report.history
 
 -- how many of the test cases have the overall verdict v
 abbrev pub cases_of : Verdict → List Finished → ℕ
@@ -78,7 +56,7 @@ cases_of v cases = length (filter (λ f. level_of f.report.verdict == level_of v
 
 -- a line for the name of each behaviour, from that of this run on
 abbrev pub namings : ℕ → List (List ℕ) → List BlockLine
-namings run names = map (λ p. L.Named (record { 0 = p.0 }) p.1) (enumerate_from run names)
+namings run names = map (λ p. BlockLine.Named (record { 0 = p.0 }) p.1) (enumerate_from run names)
 
 module _ {O : Type 0} (takes : O → Finished → O → Bool → Type 0) where
   -- the observer was given each of these test cases once, in their order, and ended the campaign at the last
@@ -99,11 +77,11 @@ one_if false = 0
 abbrev pub tally_with : Tally → Verdict → Tally
 tally_with t v = record {
   cases = t.cases + 1;
-  none = t.none + one_if (level_of v == level_of V.None);
-  pass = t.pass + one_if (level_of v == level_of V.Pass);
-  inconc = t.inconc + one_if (level_of v == level_of V.Inconc);
-  fail = t.fail + one_if (level_of v == level_of V.Fail);
-  error = t.error + one_if (level_of v == level_of V.Error);
+  none = t.none + one_if (level_of v == level_of Verdict.None);
+  pass = t.pass + one_if (level_of v == level_of Verdict.Pass);
+  inconc = t.inconc + one_if (level_of v == level_of Verdict.Inconc);
+  fail = t.fail + one_if (level_of v == level_of Verdict.Fail);
+  error = t.error + one_if (level_of v == level_of Verdict.Error);
 }
 
 -- so far each of these was reported, and a text has those that have failed; or a line was not printed whole

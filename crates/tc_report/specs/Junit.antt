@@ -1,17 +1,9 @@
 -- The JUnit report: XML, as servers of continuous integration read it. No text in it needs an escape: names have only
 -- letters, digits and `_`.
 use Rattle.std.specs.Prelude.{ℕ, ◌==◌, Option, Some, None, List, [], ◌++◌, length, filter, codes, unwrap_or}
-use Rattle.std.specs.List.{flat_map}
-use Rattle.std.specs.Fmt.{decimal}
+use Rattle.std.specs.{Fmt.decimal, List.flat_map}
 use Rattle.tc_rules.specs.Prelude.{refusal_text, Verdict, level_of, name_of}
-use Rattle.tc_verdict.specs.declared.verdict.Verdict.TheVariants as V
-use Rattle.tc_report.specs.declared.cause.Cause.{Cause}
-use Rattle.tc_report.specs.declared.results.CaseEnd.{CaseEnd}
-use Rattle.tc_report.specs.declared.results.CaseEnd.TheVariants as C
-use Rattle.tc_report.specs.Cause.{cause_text}
-use Rattle.tc_report.specs.Report.{local_lines, shown_entry}
-use Rattle.tc_report.specs.declared.summary.Summary.{Summary}
-use Rattle.tc_report.specs.Status.{counted_as, verdict_status}
+use Rattle.tc_report.specs.{Cause.cause_text, Report.local_lines, Report.shown_entry, Status.counted_as, Status.verdict_status, declared.cause.Cause.Cause, declared.results.CaseEnd.CaseEnd, declared.summary.Summary.Summary}
 
 -- how many of the test cases count with this status: 1 is a failure, and 2 an error
 abbrev pub with_status : ℕ → List Summary → ℕ
@@ -54,15 +46,15 @@ verdict_element first v (Some c) last =
 
 -- what is said of the end of a test case: nothing if its verdict is pass
 unfoldable pub end_element : CaseEnd → Option Cause → List ℕ
-end_element (C.Over V.None) cause = codes "<skipped/>\n"
-end_element (C.Over V.Pass) cause = []
-end_element (C.Over V.Inconc) cause = verdict_element (codes "<failure type=\"inconc\" message=\"") V.Inconc cause (codes "</failure>\n")
-end_element (C.Over V.Fail) cause = verdict_element (codes "<failure type=\"fail\" message=\"") V.Fail cause (codes "</failure>\n")
-end_element (C.Over V.Error) cause = verdict_element (codes "<error type=\"error\" message=\"") V.Error cause (codes "</error>\n")
-end_element C.Unfinished cause = codes "<error type=\"unfinished\" message=\"the test case is not over\"/>\n"
-end_element (C.Aborted why) cause = codes "<error type=\"aborted\" message=\"" ++ (refusal_text why ++ codes "\"/>\n")
-end_element C.Missing cause = codes "<error type=\"missing\" message=\"there is no history of the test case\"/>\n"
-end_element C.NotRun cause = codes "<skipped message=\"not run\"/>\n"
+end_element (CaseEnd.Over Verdict.None) cause = codes "<skipped/>\n"
+end_element (CaseEnd.Over Verdict.Pass) cause = []
+end_element (CaseEnd.Over Verdict.Inconc) cause = verdict_element (codes "<failure type=\"inconc\" message=\"") Verdict.Inconc cause (codes "</failure>\n")
+end_element (CaseEnd.Over Verdict.Fail) cause = verdict_element (codes "<failure type=\"fail\" message=\"") Verdict.Fail cause (codes "</failure>\n")
+end_element (CaseEnd.Over Verdict.Error) cause = verdict_element (codes "<error type=\"error\" message=\"") Verdict.Error cause (codes "</error>\n")
+end_element CaseEnd.Unfinished cause = codes "<error type=\"unfinished\" message=\"the test case is not over\"/>\n"
+end_element (CaseEnd.Aborted why) cause = codes "<error type=\"aborted\" message=\"" ++ (refusal_text why ++ codes "\"/>\n")
+end_element CaseEnd.Missing cause = codes "<error type=\"missing\" message=\"there is no history of the test case\"/>\n"
+end_element CaseEnd.NotRun cause = codes "<skipped message=\"not run\"/>\n"
 
 -- the first tag of a test case, with its name and that of its suite
 unfoldable pub name_tag : List ℕ → List ℕ → List ℕ

@@ -1,11 +1,7 @@
 -- The definitions that the contracts of this crate cite.
 pub mod Cause
-pub mod Tally
-pub mod Names
 pub mod Summary
 pub mod Status
-pub mod Ending
-pub mod Stopping
 pub mod Progress
 pub mod Report
 pub mod Csv
@@ -14,9 +10,7 @@ pub mod Blocks
 pub mod SummaryText
 pub mod Output
 pub mod Observers
-pub mod Kept
 pub mod Live
-pub mod Laws
 pub mod Inside
 pub mod Prelude
 pub use Rattle.tc_stream.specs.Prelude as OfStream

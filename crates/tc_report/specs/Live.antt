@@ -2,36 +2,24 @@
 use Rattle.std.specs.Prelude.{ℕ, ◌≡◌, Bool, true, false, List, [], ◌∷◌, ◌++◌, IsSomeAnd, Option}
 use Rattle.std.specs.Io.KnownBytes.{Appends}
 use Rattle.tc_rules.specs.Prelude.{worse}
-use Rattle.tc_blocks.specs.declared.header.Kind.TheVariants as K
-use Rattle.tc_report.specs.declared.live_form.LiveForm.{LiveForm}
-use Rattle.tc_report.specs.declared.live_form.LiveForm.TheVariants as F
-use Rattle.tc_report.specs.declared.live.LiveWriter.{LiveWriter}
-use Rattle.tc_report.specs.declared.results.CampaignEnd.{CampaignEnd}
-use Rattle.tc_report.specs.declared.results.Finished.{Finished}
-use Rattle.tc_report.specs.declared.results.Tally.{Tally}
-use Rattle.tc_report.specs.Blocks.{case_block}
-use Rattle.tc_report.specs.Csv.{columns_text, row_line}
-use Rattle.tc_report.specs.Ending.{ending_line}
-use Rattle.tc_report.specs.Output.{LeavesPrefix}
-use Rattle.tc_report.specs.Report.{case_text}
-use Rattle.tc_report.specs.Summary.{case_summary}
-use Rattle.tc_report.specs.Tally.{tally_line, tally_of_cases}
+use Rattle.tc_blocks.specs.declared.header.Kind.{Kind}
+use Rattle.tc_report.specs.{Blocks.case_block, Csv.columns_text, Csv.row_line, Output.LeavesPrefix, Report.case_text, Report.ending_line, Report.tally_line, Report.tally_of_cases, Summary.case_summary, declared.live.LiveWriter.LiveWriter, declared.live_form.LiveForm.LiveForm, declared.results.CampaignEnd.CampaignEnd, declared.results.Finished.Finished, declared.results.Tally.Tally}
 
 -- what is before the test cases, in this form
 abbrev pub opening_text : LiveForm → List ℕ
-opening_text F.Csv = columns_text
+opening_text LiveForm.Csv = columns_text
 opening_text form = []
 
 -- what says one test case
 abbrev pub part_text : LiveForm → Finished → List ℕ
-part_text F.Text f = case_text f
-part_text F.Csv f = row_line (case_summary f)
-part_text F.History f = case_block K.History2 f
-part_text F.Evidence f = case_block K.Evidence f
+part_text LiveForm.Text f = case_text f
+part_text LiveForm.Csv f = row_line (case_summary f)
+part_text LiveForm.History f = case_block Kind.History2 f
+part_text LiveForm.Evidence f = case_block Kind.Evidence f
 
 -- what is after the test cases
 abbrev pub closing_text : LiveForm → Tally → CampaignEnd → List ℕ
-closing_text F.Text tally ending = tally_line tally ++ ending_line ending
+closing_text LiveForm.Text tally ending = tally_line tally ++ ending_line ending
 closing_text form tally ending = []
 
 module _ {W : Type 0} (contents : W → Option (List ℕ)) where

@@ -1,16 +1,12 @@
 -- What other crates cite of these definitions.
 pub use Rattle.tc_report.specs.Blocks.{blocks_text, case_block, finished_header}
 pub use Rattle.tc_report.specs.Csv.{csv_of}
-pub use Rattle.tc_report.specs.Ending.{abort_text, aborted_text, is_aborted}
+pub use Rattle.tc_report.specs.Report.{abort_text, aborted_text, is_aborted, report_text, verdict_line, tally_of_cases}
 pub use Rattle.tc_report.specs.Junit.{junit_of}
-pub use Rattle.tc_report.specs.Kept.{Keeps}
+pub use Rattle.tc_report.specs.Observers.{Keeps, AreTaken, IsMet}
 pub use Rattle.tc_report.specs.Live.{closing_text, opening_text}
-pub use Rattle.tc_report.specs.Observers.{AreTaken}
 pub use Rattle.tc_report.specs.Output.{LeavesPrefix}
 pub use Rattle.tc_report.specs.Progress.{HasTold, IsToldBy}
-pub use Rattle.tc_report.specs.Report.{report_text, verdict_line}
 pub use Rattle.tc_report.specs.Status.{ending_status, results_status, verdict_status, worst_of}
-pub use Rattle.tc_report.specs.Stopping.{IsMet}
 pub use Rattle.tc_report.specs.Summary.{bare_summary, block_summary, case_summary, results_summaries, summary_of}
 pub use Rattle.tc_report.specs.SummaryText.{IsSummary}
-pub use Rattle.tc_report.specs.Tally.{tally_of_cases}

@@ -2,10 +2,7 @@
 use Rattle.std.specs.Prelude.{ℕ, ◌≡◌, nat_lt, Bool, true, false, List, [], ◌∷◌, ◌++◌, MatchOption, Option, Result, Ok, Err, codes, filter}
 use Rattle.std.specs.Io.KnownBytes.{Appends, Keeps}
 use Rattle.tc_rules.specs.Prelude.{name_of, is_name_byte}
-use Rattle.tc_report.specs.declared.fault.OutFault.{OutFault}
-use Rattle.tc_report.specs.declared.progress.Progress.{Progress}
-use Rattle.tc_report.specs.declared.results.Finished.{Finished}
-use Rattle.tc_report.specs.Status.{verdict_status}
+use Rattle.tc_report.specs.{Status.verdict_status, declared.fault.OutFault.OutFault, declared.progress.Progress.Progress, declared.results.Finished.Finished}
 
 -- the name of a finished test case and its overall verdict, each after a space
 abbrev pub told : Finished → List ℕ

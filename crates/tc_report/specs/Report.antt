@@ -1,20 +1,59 @@
--- The text report of a campaign.
-use Rattle.std.specs.Prelude.{ℕ, List, [], ◌∷◌, ◌++◌, codes, slice_get, unwrap_or}
-use Rattle.std.specs.List.{enumerate_from, flat_map}
-use Rattle.std.specs.Fmt.{decimal}
-use Rattle.tc_rules.specs.Prelude.{Verdict, name_of, Entry, Op, Reply}
-use Rattle.tc_entry.specs.declared.op.Op.TheVariants as O
-use Rattle.tc_entry.specs.declared.reply.Reply.TheVariants as R
+-- The text report of a campaign, with its tally and how it ended.
+use Rattle.std.specs.Prelude.{ℕ, ◌==◌, List, [], ◌∷◌, ◌++◌, length, filter, codes, Bool, true, false, slice_get, unwrap_or}
+use Rattle.std.specs.{Fmt.decimal, List.enumerate_from, List.flat_map}
+use Rattle.tc_rules.specs.Prelude.{Verdict, level_of, refusal_text, name_of, Entry, Op, Reply}
+use Rattle.tc_rules.specs.declared.{refusal.CaseError.CaseError, run_log.RunLog.RunLog}
 use Rattle.tc_text.specs.Prelude.{op_text, reply_text}
-use Rattle.tc_rules.specs.declared.run_log.RunLog.{RunLog}
-use Rattle.tc_report.specs.declared.results.Results.{Results}
-use Rattle.tc_report.specs.declared.results.Finished.{Finished}
-use Rattle.tc_report.specs.Tally.{tally_line, tally_of_cases}
-use Rattle.tc_report.specs.Ending.{ending_line}
+use Rattle.tc_report.specs.declared.results.{CampaignEnd.CampaignEnd, Finished.Finished, Results.Results, Tally.Tally}
+
+-- how many of the verdicts are v
+abbrev pub count_of : Verdict → List Verdict → ℕ
+count_of v verdicts = length (filter (λ w. level_of w == level_of v) verdicts)
+
+-- the tally of that many test cases, by how many have each overall verdict
+abbrev pub tally_by : ℕ → (Verdict → ℕ) → Tally
+tally_by cases having = record {
+  cases = cases;
+  none = having Verdict.None;
+  pass = having Verdict.Pass;
+  inconc = having Verdict.Inconc;
+  fail = having Verdict.Fail;
+  error = having Verdict.Error;
+}
+
+-- these test cases by their overall verdicts
+abbrev pub tally_of_cases : List Finished → Tally
+tally_of_cases fs = tally_by (length fs) (λ v. length (filter (λ f. level_of f.report.verdict == level_of v) fs))
+
+-- the line of a tally
+abbrev pub tally_line : Tally → List ℕ
+tally_line t =
+    codes "cases " ++ (decimal t.cases ++ (codes " none " ++ (decimal t.none ++ (codes " pass " ++ (decimal t.pass ++
+    (codes " inconc " ++ (decimal t.inconc ++ (codes " fail " ++ (decimal t.fail ++ (codes " error " ++ (decimal t.error ++ (10 ∷ []))))))))))))
+
+-- the case that was refused, and why
+abbrev pub aborted_text : List ℕ → CaseError → List ℕ
+aborted_text name why = codes "aborted at " ++ (name ++ (codes ": " ++ refusal_text why))
+
+-- the last line of the text report
+abbrev pub ending_line : CampaignEnd → List ℕ
+ending_line CampaignEnd.Complete = codes "complete\n"
+ending_line (CampaignEnd.StoppedAfter name) = codes "stopped after " ++ (name ++ (10 ∷ []))
+ending_line (CampaignEnd.Aborted name why) = aborted_text name why ++ (10 ∷ [])
+
+-- whether a case was refused
+abbrev pub is_aborted : CampaignEnd → Bool
+is_aborted (CampaignEnd.Aborted name why) = true
+is_aborted ending = false
+
+-- the line on standard error that says so, if a case was refused
+abbrev pub abort_text : CampaignEnd → List ℕ
+abort_text (CampaignEnd.Aborted name why) = codes "ttrun: " ++ (aborted_text name why ++ (10 ∷ []))
+abort_text ending = []
 
 -- a Wake is shown as the Wait with the same target
 abbrev pub shown_op : Op → Op
-shown_op (O.Wake killed target) = O.Wait killed target
+shown_op (Op.Wake killed target) = Op.Wait killed target
 shown_op op = op
 
 -- a call, and its reply
@@ -23,7 +62,7 @@ call_text op reply = op_text (shown_op op) ++ (codes " -> " ++ reply_text reply)
 
 -- the line of a call: none if it was parked
 abbrev pub shown_call : Op → Reply → List ℕ
-shown_call op R.Parked = []
+shown_call op Reply.Parked = []
 shown_call op reply = codes "  " ++ (call_text op reply ++ (10 ∷ []))
 
 -- what is shown of an entry

@@ -1,22 +1,15 @@
 -- The exit status for test cases, by how they ended.
 use Rattle.std.specs.Prelude.{ℕ, if◌then◌else◌, List, map}
 use Rattle.tc_rules.specs.Prelude.{Verdict, worst}
-use Rattle.tc_verdict.specs.declared.verdict.Verdict.TheVariants as V
-use Rattle.tc_report.specs.declared.results.CampaignEnd.{CampaignEnd}
-use Rattle.tc_report.specs.declared.results.CaseEnd.{CaseEnd}
-use Rattle.tc_report.specs.declared.results.CaseEnd.TheVariants as C
-use Rattle.tc_report.specs.declared.results.Results.{Results}
-use Rattle.tc_report.specs.declared.summary.Summary.{Summary}
-use Rattle.tc_report.specs.Ending.{is_aborted}
-use Rattle.tc_report.specs.Summary.{case_summary}
+use Rattle.tc_report.specs.{Report.is_aborted, Summary.case_summary, declared.results.CampaignEnd.CampaignEnd, declared.results.CaseEnd.CaseEnd, declared.results.Results.Results, declared.summary.Summary.Summary}
 
 -- the status for a verdict
 abbrev pub verdict_status : Verdict → ℕ
-verdict_status V.None = 0
-verdict_status V.Pass = 0
-verdict_status V.Inconc = 1
-verdict_status V.Fail = 1
-verdict_status V.Error = 2
+verdict_status Verdict.None = 0
+verdict_status Verdict.Pass = 0
+verdict_status Verdict.Inconc = 1
+verdict_status Verdict.Fail = 1
+verdict_status Verdict.Error = 2
 
 -- the status for an ending, if this is the worst verdict
 abbrev pub ending_status : CampaignEnd → Verdict → ℕ
@@ -25,9 +18,9 @@ ending_status ending v = if is_aborted ending then 3 else verdict_status v
 -- the verdict that an end counts as: a test case that is not over, is missing, or has no report, counts as error, and one
 -- that was not run as none
 abbrev pub counted_as : CaseEnd → Verdict
-counted_as (C.Over v) = v
-counted_as C.NotRun = V.None
-counted_as ending = V.Error
+counted_as (CaseEnd.Over v) = v
+counted_as CaseEnd.NotRun = Verdict.None
+counted_as ending = Verdict.Error
 
 -- the worst of the verdicts that the test cases count as, none if there is no test case
 abbrev pub worst_of : List Summary → Verdict

@@ -1,21 +1,10 @@
 -- What matters of the summary of test cases, a page for a person: the counts, and of each test case that failed its name, how it
 -- ended, why, and its components by their local verdicts. No clause spells the rest.
 use Rattle.std.specs.Prelude.{ℕ, ◌≡◌, ◌==◌, nat_lt, if◌then◌else◌, true, Option, Some, List, [], ◌∷◌, ◌++◌, codes, filter, length, map, slice_get}
-use Rattle.std.specs.List.{AllZip, concat, enumerate_from, flat_map}
-use Rattle.std.specs.Option.{option_and_then}
-use Rattle.std.specs.Fmt.{decimal}
-use Rattle.std.specs.Str.{bytes_eq}
+use Rattle.std.specs.{Fmt.decimal, List.AllZip, List.concat, List.enumerate_from, List.flat_map, Option.option_and_then, Str.bytes_eq}
 use Rattle.tc_rules.specs.Prelude.{refusal_text, Verdict, level_of, name_of}
 use Rattle.tc_text.specs.Prelude.{Holds, Line, ends_word}
-use Rattle.tc_verdict.specs.declared.verdict.Verdict.TheVariants as V
-use Rattle.tc_report.specs.Cause.{cause_text, named_text}
-use Rattle.tc_report.specs.Csv.{end_word}
-use Rattle.tc_report.specs.Status.{counted_as, verdict_status}
-use Rattle.tc_report.specs.Tally.{tally_by, tally_line}
-use Rattle.tc_report.specs.declared.cause.Cause.{Cause}
-use Rattle.tc_report.specs.declared.results.CaseEnd.{CaseEnd}
-use Rattle.tc_report.specs.declared.results.CaseEnd.TheVariants as C
-use Rattle.tc_report.specs.declared.summary.Summary.{Summary}
+use Rattle.tc_report.specs.{Cause.cause_text, Cause.named_text, Csv.end_word, Report.tally_by, Report.tally_line, Status.counted_as, Status.verdict_status, declared.cause.Cause.Cause, declared.results.CaseEnd.CaseEnd, declared.summary.Summary.Summary}
 
 -- how many of the test cases ended with this word
 abbrev pub ended_so : List ℕ → List Summary → ℕ
@@ -43,12 +32,12 @@ after_verdict v (t ∷ ts) = name_of v ∷ t ∷ ts
 
 -- the components by their local verdicts, the worst first
 abbrev pub by_verdicts : List (Option (List ℕ)) → List Verdict → Line
-by_verdicts names locals = flat_map (λ v. after_verdict v (members names locals v)) (V.Error ∷ V.Fail ∷ V.Inconc ∷ V.Pass ∷ V.None ∷ [])
+by_verdicts names locals = flat_map (λ v. after_verdict v (members names locals v)) (Verdict.Error ∷ Verdict.Fail ∷ Verdict.Inconc ∷ Verdict.Pass ∷ Verdict.None ∷ [])
 
 -- why a test case ended so: what decided its verdict, or why it has no report
 abbrev pub why : CaseEnd → Option Cause → Line
-why (C.Over v) (Some c) = cause_text c ∷ []
-why (C.Aborted refused) cause = refusal_text refused ∷ []
+why (CaseEnd.Over v) (Some c) = cause_text c ∷ []
+why (CaseEnd.Aborted refused) cause = refusal_text refused ∷ []
 why ending cause = []
 
 -- a test case is shown: a line with its name and how it ended, and then why, and its components

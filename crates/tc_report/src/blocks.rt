@@ -1,12 +1,9 @@
 //! The histories and the evidence of a campaign.
 ghost use Rattle.std.specs.Prelude.{◌≡◌, ◌≤◌, ◌++◌, OnOk, IfErr, length, take};
-ghost use Rattle.std.specs.List.{flat_map};
-ghost use Rattle.std.specs.Io.KnownBytes.{Appends};
+ghost use Rattle.std.specs.{Io.KnownBytes.Appends, List.flat_map};
 ghost use Rattle.tc_blocks.specs.declared.header.Kind.TheVariants.{Evidence, History2};
 ghost use Rattle.tc_blocks.specs.Prelude.{with_lf, header_text, line_text, naming_text};
-ghost use Rattle.tc_report.specs.Blocks.{blocks_text, case_block, finished_header, name_lines};
-ghost use Rattle.tc_report.specs.Inside.{namings};
-ghost use Rattle.tc_report.specs.Output.{LeavesPrefix};
+ghost use Rattle.tc_report.specs.{Blocks.blocks_text, Blocks.case_block, Blocks.finished_header, Blocks.name_lines, Inside.namings, Output.LeavesPrefix};
 
 use crate::fault::OutFault;
 use crate::output::write_made;

@@ -2,8 +2,8 @@
 ghost use Rattle.std.specs.Prelude.{◌≡◌, ◌<◌, ◌++◌, ◌∷◌, [], Some, IfOk, OnOk, codes, filter, length, reverse, slice_get};
 ghost use Rattle.std.specs.Option.{option_and_then, option_map, option_map_or};
 ghost use Rattle.tc_rules.specs.Prelude.{is_by, part, Comp as AnyComp, component_name as spec_name};
-ghost use Rattle.tc_report.specs.Cause as spec;
 ghost use Rattle.tc_report.specs.Report.{call_text};
+ghost use Rattle.tc_report.specs.Cause as spec;
 
 use crate::report::append_op;
 use crate::results::CaseEnd;
@@ -32,7 +32,7 @@ fn name_on(history: &[Entry], comp: Option<Comp>) -> Option<Name>
     ensures { result ≡ option_and_then (λ (c : AnyComp). spec_name (reverse history.now) c.0) comp }
 {
     match comp {
-        Some(comp) => name_of(history, comp),
+        Some(comp) => name_of(history, comp).map(Name::copy),
         None => None,
     }
 }
@@ -48,7 +48,7 @@ fn add_if_by(log: &mut Vec<Entry>, run: Run, entry: &Entry) -> Result<(), NoMemo
 }
 
 // The entries of the run.
-#[tactic(auto, unfolding(tc_rules::specs::Parts::part))]
+#[tactic(auto, unfolding(tc_rules::specs::Merge::part))]
 fn log_of(alloc: Global, history: &[Entry], run: Run) -> Result<Vec<Entry>, NoMemory>
     ensures { IfOk result (λ v. v.items ≡ part history.now run.0) }
 {
@@ -60,7 +60,7 @@ fn log_of(alloc: Global, history: &[Entry], run: Run) -> Result<Vec<Entry>, NoMe
 }
 
 // How many of these entries are of the run.
-#[tactic(auto, unfolding(tc_rules::specs::Parts::part))]
+#[tactic(auto, unfolding(tc_rules::specs::Merge::part))]
 fn count_by(entries: &[Entry], run: Run) -> usize
     ensures { result ≡ length (part entries.now run.0) }
 {

@@ -1,7 +1,6 @@
 //! Counting verdicts.
 ghost use Rattle.std.specs.Prelude.{◌≡◌, ◌+◌, IfOk, IfSome};
-ghost use Rattle.tc_report.specs.Inside.{IsOneMore, cases_of as spec_cases, one_if, tally_with};
-ghost use Rattle.tc_report.specs.Tally.{count_of as spec_count, tally_of_cases};
+ghost use Rattle.tc_report.specs.{Inside.IsOneMore, Inside.cases_of as spec_cases, Inside.one_if, Inside.tally_with, Report.count_of as spec_count, Report.tally_of_cases};
 
 use crate::results::{Finished, Results, Tally};
 use tc_entry::{NoMemory, Verdict};
@@ -74,6 +73,7 @@ pub(crate) fn tally_cases(cases: &[Finished]) -> Tally
 }
 
 /// Counts the finished test cases by their overall verdicts. It takes no memory.
+#[tactic(auto, using(crate::proofs::Counting::all_counted))]
 pub fn tally(results: &Results) -> Tally
     ensures counts { result ≡ tally_of_cases results.now.finished }
     ensures all { result.none + result.pass + result.inconc + result.fail + result.error ≡ result.cases }

@@ -1,10 +1,8 @@
 //! How a campaign ended, as texts say it.
 ghost use Rattle.std.specs.Prelude.{◌≡◌, ◌++◌, OnOk, OnErr, IfOk};
-ghost use Rattle.std.specs.Io.{StartsWith};
-ghost use Rattle.std.specs.Io.KnownBytes.{Appends};
+ghost use Rattle.std.specs.Io.{KnownBytes.Appends, StartsWith};
 ghost use Rattle.tc_stream.specs.Prelude.{AppendsPrefix};
-ghost use Rattle.tc_report.specs.declared.results.CampaignEnd.TheVariants.{Aborted};
-ghost use Rattle.tc_report.specs.Ending.{abort_text, aborted_text, ending_line, is_aborted};
+ghost use Rattle.tc_report.specs.{Report.abort_text, Report.aborted_text, Report.ending_line, Report.is_aborted, declared.results.CampaignEnd.TheVariants.Aborted};
 
 use crate::output::write_both;
 use crate::results::{CampaignEnd, Results};

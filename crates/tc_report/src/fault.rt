@@ -1,6 +1,6 @@
 //! Why a text did not go out whole.
 ghost use Rattle.std.specs.Prelude.{◌≡◌, Some};
-ghost use Rattle.tc_report.specs.Output.{out_text};
+ghost use Rattle.tc_report.specs.{Output.out_text, declared.fault.OutFault.OutFault};
 
 use std::fmt;
 use tc_entry::NoMemory;
@@ -37,10 +37,7 @@ impl fmt::Display for OutFault {
 }
 
 impl From<NoMemory> for OutFault {
-    ghost use Rattle.std.specs.Prelude.{◌≡◌};
-    ghost use Rattle.tc_report.specs.declared.fault.OutFault.TheVariants as faults;
-
-    ghost from_gives = { λ _ r. r ≡ faults.NoMemory };
+    ghost from_gives = { λ _ r. r ≡ OutFault.NoMemory };
 
     fn from(_: NoMemory) -> OutFault {
         OutFault::NoMemory
@@ -48,10 +45,7 @@ impl From<NoMemory> for OutFault {
 }
 
 impl From<WriteFault> for OutFault {
-    ghost use Rattle.std.specs.Prelude.{◌≡◌};
-    ghost use Rattle.tc_report.specs.declared.fault.OutFault.TheVariants as faults;
-
-    ghost from_gives = { λ _ r. r ≡ faults.Write };
+    ghost from_gives = { λ _ r. r ≡ OutFault.Write };
 
     fn from(_: WriteFault) -> OutFault {
         OutFault::Write

@@ -1,14 +1,9 @@
 //! The JUnit report.
 ghost use Rattle.std.specs.Prelude.{◌≡◌, ◌==◌, ◌++◌, codes, filter, length, unwrap_or, IfOk, IfErr, OnOk, Some};
+ghost use Rattle.std.specs.{Io.KnownBytes.Appends, List.flat_map};
 ghost use Rattle.tc_rules.specs.Prelude.{level_of};
-ghost use Rattle.tc_report.specs.declared.summary.Summary.{Summary as AnySummary};
-ghost use Rattle.std.specs.Io.KnownBytes.{Appends};
-ghost use Rattle.std.specs.List.{flat_map};
-ghost use Rattle.tc_report.specs.declared.results.CaseEnd.TheVariants as ends;
-ghost use Rattle.tc_report.specs.Output.{LeavesPrefix};
+ghost use Rattle.tc_report.specs.{Output.LeavesPrefix, Status.counted_as as spec_counted, Status.verdict_status as spec_status, Summary.results_summaries};
 ghost use Rattle.tc_report.specs.Junit as spec;
-ghost use Rattle.tc_report.specs.Summary.{results_summaries};
-ghost use Rattle.tc_report.specs.Status.{counted_as as spec_counted, verdict_status as spec_status};
 
 use crate::cause::{Cause, append_cause};
 use crate::fault::OutFault;
@@ -55,7 +50,7 @@ fn level_of_end(ending: CaseEnd) -> u8
 
 // How many of the test cases count with a verdict in this place.
 fn with_level(cases: &[Summary], level: u8) -> usize
-    ensures { result ≡ length (filter (λ (s : AnySummary). level_of (spec_counted s.ending) == level) cases.now) }
+    ensures { result ≡ length (filter (λ (s : Summary). level_of (spec_counted s.ending) == level) cases.now) }
 {
     cases
         .iter()
@@ -164,7 +159,7 @@ fn append_verdict_end(
     verdict: Verdict,
     cause: &Option<Cause>,
 ) -> Result<(), NoMemory>
-    ensures { OnOk result (out.new.items ≡ out.old.items ++ spec.end_element (ends.Over verdict) cause.now) }
+    ensures { OnOk result (out.new.items ≡ out.old.items ++ spec.end_element (CaseEnd.Over verdict) cause.now) }
 {
     match verdict {
         Verdict::None => append_text(out, "<skipped/>\n"),

@@ -1,7 +1,7 @@
 //! The finished test cases of a campaign, kept.
 ghost use Rattle.std.specs.Prelude.{◌≡◌, ◌≤◌, [], IfOk};
 ghost use Rattle.std.specs.Vec.{vec_capacity};
-ghost use Rattle.tc_report.specs.Kept.{Keeps};
+ghost use Rattle.tc_report.specs.Observers.{Keeps};
 
 use crate::observer::Observer;
 use crate::results::{CampaignEnd, Finished, Results};

@@ -3,11 +3,7 @@ ghost use Rattle.std.specs.Prelude.{◌≡◌, [], None, OnOk, OnErr, IfOk, IfEr
 ghost use Rattle.std.specs.Io.KnownBytes.{Appends};
 ghost use Rattle.tc_verdict.specs.declared.verdict.Verdict.TheVariants.{None as NoVerdict};
 ghost use Rattle.tc_rules.specs.Prelude.{worse};
-ghost use Rattle.tc_report.specs.Live.{Writes, closing_text as spec_closing, opening_text as spec_opening, part_text as spec_part};
-ghost use Rattle.tc_report.specs.Inside.{IsOneMore};
-ghost use Rattle.tc_report.specs.Status.{ending_status as spec_status};
-ghost use Rattle.tc_report.specs.Output.{LeavesPrefix};
-ghost use Rattle.tc_report.specs.Tally.{tally_of_cases};
+ghost use Rattle.tc_report.specs.{Inside.IsOneMore, Live.Writes, Live.closing_text as spec_closing, Live.opening_text as spec_opening, Live.part_text as spec_part, Output.LeavesPrefix, Report.tally_of_cases, Status.ending_status as spec_status};
 
 use crate::blocks::append_block;
 use crate::counts::{tally_cases, with_case};

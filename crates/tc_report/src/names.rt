@@ -3,7 +3,7 @@ ghost use Rattle.std.specs.Prelude.{◌≡◌, ◌++◌, IfOk, OnOk};
 ghost use Rattle.std.specs.List.{flat_map};
 ghost use Rattle.tc_rules.specs.Prelude.{name_in as spec_name};
 ghost use Rattle.tc_report.specs.Inside.{made_name};
-ghost use Rattle.tc_report.specs.Names as spec;
+ghost use Rattle.tc_report.specs.Summary as spec;
 
 use crate::results::CaseEnd;
 use std::alloc::Global;

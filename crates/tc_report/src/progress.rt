@@ -1,8 +1,6 @@
 //! What is printed about test cases as they begin and finish.
 ghost use Rattle.std.specs.Prelude.{ℕ, List, Option, ◌≡◌, ◌++◌, ◌∷◌, [], true, IfOk, OnOk, OnErr};
-ghost use Rattle.tc_report.specs.declared.results.Finished.{Finished as AnyFinished};
-ghost use Rattle.tc_report.specs.Inside.{Adds, AddsWords};
-ghost use Rattle.tc_report.specs.Progress.{HasTold, IsToldBy, Prints, TellsProgress, failed as spec_failed, told};
+ghost use Rattle.tc_report.specs.{Inside.Adds, Inside.AddsWords, Progress.HasTold, Progress.IsToldBy, Progress.Prints, Progress.TellsProgress, Progress.failed as spec_failed, Progress.told};
 
 use crate::cause::{Cause, cause_of};
 use crate::fault::OutFault;
@@ -223,7 +221,7 @@ impl<'a, O: Observer, E: Write, C: Clock> Progress<'a, O, E, C> {
     /// Reports that the next test case begins, if there is one, and lines are still printed. It is called before the
     /// campaign; `take` calls it before each test case after the first.
     pub fn begin(&mut self)
-        ensures told { (start : Option (List ℕ)) (fs : List AnyFinished)
+        ensures told { (start : Option (List ℕ)) (fs : List Finished)
             → HasTold E.contents start fs self.old → HasTold E.contents start fs self.new }
         ensures others { self.new.observer ≡ self.old.observer }
         ensures same_writer { self.new.writer.ghost_name ≡ self.old.writer.ghost_name }
@@ -311,7 +309,7 @@ impl<'a, O: Observer, E: Write, C: Clock> Progress<'a, O, E, C> {
     /// Names the test cases again that have failed, if lines are still printed; returns why a line could not be
     /// printed, if it is so.
     pub fn end(&mut self) -> Result<(), OutFault>
-        ensures told { (start : Option (List ℕ)) (fs : List AnyFinished) → HasTold E.contents start fs self.old
+        ensures told { (start : Option (List ℕ)) (fs : List Finished) → HasTold E.contents start fs self.old
             → IsToldBy true start (E.contents self.new.writer.now) fs result }
         ensures others { self.new.observer ≡ self.old.observer }
         ensures same_writer { self.new.writer.ghost_name ≡ self.old.writer.ghost_name }

@@ -1,14 +1,9 @@
 //! The CSV report.
 ghost use Rattle.std.specs.Prelude.{◌≡◌, ◌++◌, ◌∷◌, [], OnOk, IfOk, IfErr, All, map};
-ghost use Rattle.std.specs.List.{flat_map};
-ghost use Rattle.std.specs.Fmt.{IsBoundedDecimal, decimal};
-ghost use Rattle.std.specs.Io.KnownBytes.{Appends};
+ghost use Rattle.std.specs.{Fmt.IsBoundedDecimal, Fmt.decimal, Io.KnownBytes.Appends, List.flat_map};
 ghost use Rattle.csv.specs.Records.{fields_of, partial_of};
 ghost use Rattle.tc_rules.specs.Prelude.{IsName};
-ghost use Rattle.tc_report.specs.Csv.{counts_of, csv_of, end_word as spec_word, columns_text, row_line};
-ghost use Rattle.tc_report.specs.Summary.{case_summary};
-ghost use Rattle.tc_report.specs.Output.{LeavesPrefix};
-ghost use Rattle.tc_report.specs.Inside.{IsBetweenRecords, IsStarted, written_by};
+ghost use Rattle.tc_report.specs.{Csv.columns_text, Csv.counts_of, Csv.csv_of, Csv.end_word as spec_word, Csv.row_line, Inside.IsBetweenRecords, Inside.IsStarted, Inside.written_by, Output.LeavesPrefix, Summary.case_summary};
 
 use crate::counts::count_of;
 use crate::fault::OutFault;

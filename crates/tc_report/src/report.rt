@@ -1,16 +1,9 @@
 //! The text report.
 ghost use Rattle.std.specs.Prelude.{◌≡◌, ◌++◌, ◌∷◌, OnOk, OnErr, IfErr, IfSome, [], codes, slice_get, unwrap_or};
-ghost use Rattle.std.specs.List.{flat_map};
-ghost use Rattle.std.specs.Io.{StartsWith};
-ghost use Rattle.std.specs.Io.KnownBytes.{Appends};
-ghost use Rattle.tc_report.specs.Output.{LeavesPrefix};
-ghost use Rattle.tc_report.specs.Report.{call_text, case_text, local_lines, report_text, run_line, run_text, shown_entry, shown_op, verdict_line};
-ghost use Rattle.tc_report.specs.Tally.{tally_line};
+ghost use Rattle.std.specs.{Fmt.decimal, Io.KnownBytes.Appends, Io.StartsWith, List.flat_map};
 ghost use Rattle.tc_text.specs.Prelude.{op_text};
 ghost use Rattle.tc_rules.specs.Prelude.{name_of as spec_name};
-ghost use Rattle.std.specs.Fmt.{decimal};
-ghost use Rattle.tc_entry.specs.declared.op.Op.TheVariants as ops;
-ghost use Rattle.tc_entry.specs.declared.reply.Reply.TheVariants as replies;
+ghost use Rattle.tc_report.specs.{Output.LeavesPrefix, Report.call_text, Report.case_text, Report.local_lines, Report.report_text, Report.run_line, Report.run_text, Report.shown_entry, Report.shown_op, Report.tally_line, Report.verdict_line};
 
 use crate::counts::tally;
 use crate::ending::append_ending;
@@ -42,7 +35,7 @@ pub(crate) fn append_op(out: &mut Vec<u8>, op: &Op) -> Result<(), NoMemory>
 
 // What is shown of a setting that was carried out.
 fn set_line(setting: UserVerdict) -> &'static str
-    ensures { result.now ≡ codes "  " ++ (call_text (ops.SetVerdict setting) replies.Ok ++ 10 ∷ []) }
+    ensures { result.now ≡ codes "  " ++ (call_text (Op.SetVerdict setting) Reply.Ok ++ 10 ∷ []) }
 {
     match setting {
         UserVerdict::None => "  setverdict none -> ok\n",
@@ -54,7 +47,7 @@ fn set_line(setting: UserVerdict) -> &'static str
 
 // What is shown of a getverdict and the verdict that it got.
 fn got_line(verdict: Verdict) -> &'static str
-    ensures { result.now ≡ codes "  " ++ (call_text ops.GetVerdict (replies.Local verdict) ++ 10 ∷ []) }
+    ensures { result.now ≡ codes "  " ++ (call_text Op.GetVerdict (Reply.Local verdict) ++ 10 ∷ []) }
 {
     match verdict {
         Verdict::None => "  getverdict -> none\n",

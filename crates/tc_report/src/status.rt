@@ -1,7 +1,6 @@
 //! The exit status.
 ghost use Rattle.std.specs.Prelude.{◌≡◌, map};
-ghost use Rattle.tc_report.specs.Status.{counted_as as spec_counted, ending_status as spec_ending, results_status, verdict_status as spec_status, worst_of as spec_worst};
-ghost use Rattle.tc_report.specs.Summary.{case_summary};
+ghost use Rattle.tc_report.specs.{Status.counted_as as spec_counted, Status.ending_status as spec_ending, Status.results_status, Status.verdict_status as spec_status, Status.worst_of as spec_worst, Summary.case_summary};
 
 use crate::results::{CampaignEnd, CaseEnd, Finished, Results};
 use crate::summary::Summary;

@@ -1,6 +1,6 @@
 //! The stopping rule of a campaign.
 ghost use Rattle.std.specs.Prelude.{◌≡◌, IsTrue, false};
-ghost use Rattle.tc_report.specs.Stopping.{IsMet};
+ghost use Rattle.tc_report.specs.Observers.{IsMet};
 
 use tc_entry::Verdict;
 use tc_verdict::worse_of;

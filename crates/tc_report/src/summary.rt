@@ -1,8 +1,7 @@
 //! What reports say of a test case.
 ghost use Rattle.std.specs.Prelude.{◌≡◌, ◌++◌, IfOk, OnOk, List, drop, map, reverse};
 ghost use Rattle.tc_rules.specs.Prelude.{Entry as AnyEntry, StandsFor};
-ghost use Rattle.tc_report.specs.declared.results.CaseEnd.TheVariants.{NotRun};
-ghost use Rattle.tc_report.specs.Summary.{aborted_summary, bare_summary as spec_bare, case_summary, case_end, results_summaries, summary_of, summary_with as spec_with};
+ghost use Rattle.tc_report.specs.{Summary.aborted_summary, Summary.bare_summary as spec_bare, Summary.case_end, Summary.case_summary, Summary.results_summaries, Summary.summary_of, Summary.summary_with as spec_with, declared.results.CaseEnd.TheVariants.NotRun};
 
 use crate::cause::{Cause, cause_of};
 use crate::names::names_of;

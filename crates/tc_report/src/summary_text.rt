@@ -1,11 +1,8 @@
 //! The summary of test cases, a page for a person.
 ghost use Rattle.std.specs.Prelude.{◌≡◌, ◌++◌, ◌∷◌, [], IfOk, OnOk, codes, length, map};
 ghost use Rattle.tc_rules.specs.Prelude.{refusal_text, name_of as spec_name};
-ghost use Rattle.tc_report.specs.Cause.{cause_text};
-ghost use Rattle.tc_report.specs.Csv.{end_word as end_text};
-ghost use Rattle.tc_report.specs.Inside.{AddsShown, AddsWords, member_text as spec_member, numbers_with};
+ghost use Rattle.tc_report.specs.{Cause.cause_text, Csv.end_word as end_text, Inside.AddsShown, Inside.AddsWords, Inside.member_text as spec_member, Inside.numbers_with, Report.tally_by};
 ghost use Rattle.tc_report.specs.SummaryText as spec;
-ghost use Rattle.tc_report.specs.Tally.{tally_by};
 
 use crate::cause::{Cause, append_named};
 use crate::records::end_word;

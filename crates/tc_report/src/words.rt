@@ -1,8 +1,7 @@
 //! Words of a line, each after a space, and the prose between them.
 ghost use Rattle.std.specs.Prelude.{◌≡◌, ◌∷◌, [], true, OnOk};
 ghost use Rattle.tc_text.specs.Prelude.{ends_word};
-ghost use Rattle.tc_report.specs.Cause.{cause_text};
-ghost use Rattle.tc_report.specs.Inside.{AddsWords};
+ghost use Rattle.tc_report.specs.{Cause.cause_text, Inside.AddsWords};
 
 use crate::cause::{Cause, append_cause};
 use tc_entry::NoMemory;

@@ -1,29 +1,15 @@
 -- A call that asks or waits, without an error, changes no component, makes none and starts no run.
 use Rattle.std.proofs.Common.{ℕ, ◌≡◌, ◌<◌, ◌&&◌, ◌||◌, not, true, false, Option, None, List, ◌∷◌, length, get_or, refl, sym}
 use Rattle.std.proofs.Math.Bool.{or-false}
-use Rattle.tc_verdict.specs.declared.run.Run.{Run}
-use Rattle.tc_entry.specs.declared.comp.Comp.{Comp}
-use Rattle.tc_entry.specs.declared.entry.Entry.{Entry}
-use Rattle.tc_entry.specs.declared.op.Op.{Op}
-use Rattle.tc_entry.specs.declared.op.Op.TheVariants as O
-use Rattle.tc_entry.specs.declared.reply.Reply.{Reply}
-use Rattle.tc_entry.specs.Prelude.{is_ended, is_fault}
-use Rattle.tc_rules.specs.declared.run_state.RunState.{RunState}
-use Rattle.tc_rules.specs.declared.step.Scope.TheVariants as T
-use Rattle.tc_rules.specs.Answers.{answer}
-use Rattle.tc_rules.specs.History.{comp_of, created, ends_case}
-use Rattle.tc_rules.specs.Standing.{Kept, StandsFor}
-use Rattle.tc_rules.specs.Inside.Kept.{IsKept}
-use Rattle.tc_rules.specs.Inside.Step.{asks, next_run, started_run, touched}
-use Rattle.tc_rules.proofs.Lemmas.Deciding.{and_no, if_same}
-use Rattle.tc_rules.proofs.Elsewhere.{none_changed}
-use Rattle.tc_rules.proofs.Lemmas.Keeping.{keeps_entry, stands_by}
-use Rattle.tc_rules.proofs.Settled.{settled_kept}
+use Rattle.tc_entry.specs.Prelude.{Run, is_ended, is_fault}
+use Rattle.tc_entry.specs.declared.{comp.Comp.Comp, entry.Entry.Entry, op.Op.Op, reply.Reply.Reply}
+use Rattle.tc_rules.specs.{Answers.answer, History.comp_of, History.created, History.ends_case, Inside.Kept.IsKept, Inside.Step.asks, Inside.Step.next_run, Inside.Step.touched, Merge.started_run, Standing.Kept, Standing.StandsFor, declared.run_state.RunState.RunState, declared.step.Scope.Scope}
+use Rattle.tc_rules.proofs.{Elsewhere.none_changed, Lemmas.Deciding.and_no, Lemmas.Deciding.if_same, Lemmas.Keeping.keeps_entry, Lemmas.Keeping.stands_by, Settled.settled_kept}
 
 -- what is known of an entry that asks or waits
 pub record Asks (own : Option Comp) (e : Entry) : Type 0 where
   pub goes_on : ends_case e ≡ false
-  pub touches : touched own e ≡ T.Nothing
+  pub touches : touched own e ≡ Scope.Nothing
   pub makes : created e.op e.reply ≡ None
   pub starts : started_run e.op ≡ None
 
@@ -31,16 +17,16 @@ ends : (reply : Reply) → is_fault reply ≡ false → (not (is_ended reply) &&
 ends reply plain = rw plain (and_no (not (is_ended reply)))
 
 by_op : (own : Option Comp) (caller : Run) (op : Op) (reply : Reply) → asks op ≡ true → is_fault reply ≡ false → Asks own (record { caller = caller; op = op; reply = reply })
-by_op own caller (O.Create alive name) reply h plain = absurd cc
-by_op own caller (O.Start comp run args) reply h plain = absurd cc
-by_op own caller (O.Stop group) reply h plain = absurd cc
-by_op own caller (O.Kill group) reply h plain = absurd cc
-by_op own caller O.StopCase reply h plain = absurd cc
-by_op own caller (O.SetVerdict v) reply h plain = absurd cc
-by_op own caller O.Finish reply h plain = absurd cc
+by_op own caller (Op.Create alive name) reply h plain = absurd cc
+by_op own caller (Op.Start comp run args) reply h plain = absurd cc
+by_op own caller (Op.Stop group) reply h plain = absurd cc
+by_op own caller (Op.Kill group) reply h plain = absurd cc
+by_op own caller Op.StopCase reply h plain = absurd cc
+by_op own caller (Op.SetVerdict v) reply h plain = absurd cc
+by_op own caller Op.Finish reply h plain = absurd cc
 by_op own caller _ reply h plain = record {
   goes_on = ends reply plain;
-  touches = rw (ends reply plain) (if_same (is_ended reply) T.Nothing);
+  touches = rw (ends reply plain) (if_same (is_ended reply) Scope.Nothing);
   makes = refl;
   starts = refl;
 }

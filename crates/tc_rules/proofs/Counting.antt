@@ -4,14 +4,9 @@ use Rattle.std.specs.List.{list_any, list_all}
 use Rattle.std.proofs.Math.ListN.{set, length-set}
 use Rattle.std.proofs.lemmas.Bool.Decides.{nat_tests}
 use Rattle.tc_entry.specs.declared.limits.TheConstants.{COMPONENTS}
-use Rattle.tc_verdict.specs.declared.verdict.Verdict.{Verdict}
-use Rattle.tc_verdict.specs.declared.verdict.Verdict.TheVariants as V
-use Rattle.tc_verdict.specs.Prelude.{worse, level_of}
+use Rattle.tc_entry.specs.Prelude.{Verdict, worse, level_of}
 use Rattle.tc_verdict.proofs.Lemmas.Order.{worse_later, worse_swap}
-use Rattle.tc_rules.specs.declared.component_state.ComponentState.{ComponentState}
-use Rattle.tc_rules.specs.Status.{is_running, is_killed, is_done}
-use Rattle.tc_rules.specs.Inside.States.{any_running, none_running, any_killed, all_killed, any_alive, all_alive, any_done, none_lapsed, worst_local}
-use Rattle.tc_rules.specs.Inside.Counts.{bit, count_of, is_lapsed, IsCounted, made_state, main_state}
+use Rattle.tc_rules.specs.{Inside.Counts.IsCounted, Inside.Counts.bit, Inside.Counts.count_of, Inside.Counts.is_lapsed, Inside.Counts.made_state, Inside.Counts.main_state, Inside.States.all_alive, Inside.States.all_killed, Inside.States.any_alive, Inside.States.any_done, Inside.States.any_killed, Inside.States.any_running, Inside.States.none_lapsed, Inside.States.none_running, Inside.States.worst_local, Status.is_done, Status.is_killed, Status.is_running, declared.component_state.ComponentState.ComponentState}
 
 -- counts instead of searches
 
@@ -237,7 +232,7 @@ module _ {states : List ComponentState} {running done killed lapsed : ℕ} {w : 
   pub worst_counted : IsCounted states running done killed lapsed w → worst_local states ≡ w
   worst_counted k = sym k.worst_is
 
-pub counted_main : IsCounted (main_state ∷ []) 0 0 0 0 V.None
+pub counted_main : IsCounted (main_state ∷ []) 0 0 0 0 Verdict.None
 unfolding worst_local
 counted_main = record { some = omega arith; few = omega arith; running_is = refl; done_is = refl; killed_is = refl; lapsed_is = refl; worst_is = refl }
 

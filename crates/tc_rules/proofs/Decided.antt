@@ -1,30 +1,12 @@
 -- What the deciding entry says of the overall verdict.
 use Rattle.std.proofs.Common.{ℕ, ◌≡◌, ◌+◌, ◌<◌, ◌≤◌, ◌↔◌, ◌==◌, ◌||◌, if◌then◌else◌, nat_lt, Bool, true, false, Option, Some, None, List, [], ◌∷◌, ◌++◌, IfSome, length, map, take, get_or, reverse, refl, ap, subst, sym, ◌∙◌, arith, length-append}
-use Rattle.std.specs.Option.{MatchOption}
-use Rattle.std.specs.List.{flat_map}
-use Rattle.std.proofs.lemmas.Bool.Decides.{nat_tests}
-use Rattle.std.proofs.lemmas.List.{length-reverse, length-take-le, map-append, reverse-append, take_all, take_more}
-use Rattle.tc_verdict.specs.declared.verdict.Verdict.{Verdict}
-use Rattle.tc_verdict.specs.declared.verdict.Verdict.TheVariants as V
-use Rattle.tc_verdict.specs.Prelude.{level_of, worse, worst}
+use Rattle.std.specs.{List.flat_map, Option.MatchOption}
+use Rattle.std.proofs.lemmas.{Bool.Decides.nat_tests, List.length-reverse, List.length-take-le, List.map-append, List.reverse-append, List.take_all, List.take_more}
+use Rattle.tc_entry.specs.Prelude.{Verdict, level_of, worse, worst, is_ended}
 use Rattle.tc_verdict.proofs.Lemmas.Order.{none_no_worse, worse_later, worse_left, worse_swap, worst-more}
-use Rattle.tc_entry.specs.declared.comp.Comp.{Comp}
-use Rattle.tc_entry.specs.declared.entry.Entry.{Entry}
-use Rattle.tc_entry.specs.declared.op.Op.{Op}
-use Rattle.tc_entry.specs.declared.op.Op.TheVariants as O
-use Rattle.tc_entry.specs.declared.reply.Reply.{Reply}
-use Rattle.tc_entry.specs.declared.reply.Reply.TheVariants as R
-use Rattle.tc_entry.specs.Prelude.{is_ended}
-use Rattle.tc_rules.specs.History.{add_new, comp_of, comps, created, exists, is_comp, is_in}
-use Rattle.tc_rules.specs.Local.{gives, local, overall, verdicts_of}
-use Rattle.tc_rules.specs.Legal.{IsLegal}
-use Rattle.tc_rules.specs.Deciding.{deciding, worst_given, DecidesIfLegal, IsDeciding}
-use Rattle.tc_rules.specs.Inside.Step.{next_local}
-use Rattle.tc_rules.proofs.Lemmas.Deciding.{equal_if}
-use Rattle.tc_rules.proofs.Lemmas.Differing.{later_legal}
-use Rattle.tc_rules.proofs.Lemmas.LawsOfHistories.{answered_is_running}
-use Rattle.tc_rules.proofs.Lemmas.Over.{on_existing, stays}
-use Rattle.tc_rules.proofs.Named.{map_same}
+use Rattle.tc_entry.specs.declared.{comp.Comp.Comp, entry.Entry.Entry, op.Op.Op, reply.Reply.Reply}
+use Rattle.tc_rules.specs.{Deciding.DecidesIfLegal, Deciding.IsDeciding, Deciding.deciding, Deciding.worst_given, History.add_new, History.comp_of, History.comps, History.created, History.exists, History.is_comp, History.is_in, Inside.Step.next_local, Legal.IsLegal, Local.gives, Local.local, Local.overall, Local.verdicts_of}
+use Rattle.tc_rules.proofs.{Lemmas.Deciding.equal_if, Lemmas.Differing.later_legal, Lemmas.LawsOfHistories.answered_is_running, Lemmas.Over.on_existing, Lemmas.Over.stays, Named.map_same}
 
 -- a verdict after more that are given
 
@@ -36,7 +18,7 @@ given_more : (e : Entry) (past : List Entry) → worst_given (e ∷ past) ≡ ne
 unfolding worst_given
 given_more e past = with_more (gives e.op e.reply) (flat_map (λ (x : Entry). gives x.op x.reply) past)
 
-pub none_given : worst_given [] ≡ V.None
+pub none_given : worst_given [] ≡ Verdict.None
 unfolding worst_given
 none_given = refl
 
@@ -90,7 +72,7 @@ older e past at same last (l ∷ later) earlier is =
     let before = last later earlier rest in
     (λ equal. before.0 (equal ∙ same), λ within. before.1 within ∙ sym same)
 
-last_worse : (past : List Entry) → MatchOption (deciding past) (worst_given past ≡ V.None) (IsLastWorse past)
+last_worse : (past : List Entry) → MatchOption (deciding past) (worst_given past ≡ Verdict.None) (IsLastWorse past)
 last_worse [] = none_given
 last_worse (e ∷ past) = by_test (nat_lt (level_of (worst_given past)) (level_of (worst_given (e ∷ past)))) refl (last_worse past)
   where
@@ -99,12 +81,12 @@ last_worse (e ∷ past) = by_test (nat_lt (level_of (worst_given past)) (level_o
         given_more e past
         ∙ same_if_no_worse (gives e.op e.reply) (worst_given past) (ap (λ w. nat_lt (level_of (worst_given past)) (level_of w)) (sym (given_more e past)) ∙ h)
 
-    by_place : (o : Option ℕ) → worst_given (e ∷ past) ≡ worst_given past → MatchOption o (worst_given past ≡ V.None) (IsLastWorse past) → MatchOption o (worst_given (e ∷ past) ≡ V.None) (IsLastWorse (e ∷ past))
+    by_place : (o : Option ℕ) → worst_given (e ∷ past) ≡ worst_given past → MatchOption o (worst_given past ≡ Verdict.None) (IsLastWorse past) → MatchOption o (worst_given (e ∷ past) ≡ Verdict.None) (IsLastWorse (e ∷ past))
     by_place None same none = same ∙ none
     by_place (Some at) same last = older e past at same last
 
-    by_test : (t : Bool) → nat_lt (level_of (worst_given past)) (level_of (worst_given (e ∷ past))) ≡ t → MatchOption (deciding past) (worst_given past ≡ V.None) (IsLastWorse past) →
-        MatchOption (if t then Some (length past) else deciding past) (worst_given (e ∷ past) ≡ V.None) (IsLastWorse (e ∷ past))
+    by_test : (t : Bool) → nat_lt (level_of (worst_given past)) (level_of (worst_given (e ∷ past))) ≡ t → MatchOption (deciding past) (worst_given past ≡ Verdict.None) (IsLastWorse past) →
+        MatchOption (if t then Some (length past) else deciding past) (worst_given (e ∷ past) ≡ Verdict.None) (IsLastWorse (e ∷ past))
     by_test true h before = newest e past h
     by_test false h before = by_place (deciding past) (still h) before
 
@@ -151,7 +133,7 @@ not_before past e c h = by_test (exists past c) refl
     by_test true k = let x = stays past e c k in absurd cc
     by_test false k = refl
 
-unmade : (n : ℕ) (past : List Entry) (c : ℕ) → IsLegal n past → exists past c ≡ false → local past c ≡ V.None
+unmade : (n : ℕ) (past : List Entry) (c : ℕ) → IsLegal n past → exists past c ≡ false → local past c ≡ Verdict.None
 unfolding local
 unmade n [] c legal h = refl
 unmade n (e ∷ past) c legal h =
@@ -190,19 +172,19 @@ unchanged n past e legal none = by_made (created e.op e.reply)
 -- an entry that gives a verdict makes no component, gives only one, and its reply is not Ended
 
 makes_none : (op : Op) (reply : Reply) (v : Verdict) (vs : List Verdict) → gives op reply ≡ v ∷ vs → created op reply ≡ None
-makes_none (O.Create alive name) (R.Made c) v vs h = absurd cc
-makes_none (O.Create alive name) _ v vs h = refl
+makes_none (Op.Create alive name) (Reply.Made c) v vs h = absurd cc
+makes_none (Op.Create alive name) _ v vs h = refl
 makes_none _ reply v vs h = refl
 
 not_ended : (op : Op) (reply : Reply) (v : Verdict) (vs : List Verdict) → gives op reply ≡ v ∷ vs → is_ended reply ≡ false
-not_ended op R.Ended v vs h = absurd cc
+not_ended op Reply.Ended v vs h = absurd cc
 not_ended op _ v vs h = refl
 
 alone : (op : Op) (reply : Reply) (v : Verdict) (vs : List Verdict) → gives op reply ≡ v ∷ vs → vs ≡ []
-alone op (R.Fault f) v vs h = cc
-alone (O.SetVerdict u) R.Ok v vs h = cc
-alone O.StopCase R.Ok v vs h = cc
-alone _ R.Ok v vs h = absurd cc
+alone op (Reply.Fault f) v vs h = cc
+alone (Op.SetVerdict u) Reply.Ok v vs h = cc
+alone Op.StopCase Reply.Ok v vs h = cc
+alone _ Reply.Ok v vs h = absurd cc
 alone op _ v vs h = absurd cc
 
 local_worse : (past : List Entry) (e : Entry) (d : Comp) (v : Verdict) (c : ℕ) → comp_of past e.caller.0 ≡ Some d → gives e.op e.reply ≡ v ∷ [] →
@@ -240,7 +222,7 @@ overall_more n past e legal = by_given (gives e.op e.reply) refl
         let one : vs ≡ [] = alone e.op e.reply v vs h in
         rw one (changed n past e v legal (h ∙ ap (λ ws. v ∷ ws) one))
 
-opening_overall : overall [] ≡ V.None
+opening_overall : overall [] ≡ Verdict.None
 unfolding overall local
 opening_overall = refl
 
@@ -260,7 +242,7 @@ decides_at n past at legal last later earlier is =
 decides_if_legal : (past : List Entry) → DecidesIfLegal past (deciding past)
 decides_if_legal past n legal = by_place (deciding past) (last_worse past)
   where
-    by_place : (o : Option ℕ) → MatchOption o (worst_given past ≡ V.None) (IsLastWorse past) → MatchOption o (overall past ≡ V.None) (IsDeciding past)
+    by_place : (o : Option ℕ) → MatchOption o (worst_given past ≡ Verdict.None) (IsLastWorse past) → MatchOption o (overall past ≡ Verdict.None) (IsDeciding past)
     by_place None none = overall_given n past legal ∙ none
     by_place (Some at) last = decides_at n past at legal last
 

@@ -1,26 +1,8 @@
 -- What the table keeps next to its history determines every reply: two histories that keep the same are answered alike.
 use Rattle.std.proofs.Common.{ℕ, ◌≡◌, ◌&&◌, ◌||◌, not, Bool, true, false, Option, Some, None, is_some, if◌then◌else◌, List, [], ◌∷◌, length, drop, refl, ap, ◌∙◌}
 use Rattle.std.specs.List.{list_any, list_all}
-use Rattle.tc_entry.specs.declared.comp.Comp.{Comp}
-use Rattle.tc_entry.specs.declared.op.Target.{Target}
-use Rattle.tc_entry.specs.declared.op.Target.TheVariants as T
-use Rattle.tc_entry.specs.declared.op.Op.{Op}
-use Rattle.tc_entry.specs.declared.op.Op.TheVariants as O
-use Rattle.tc_entry.specs.declared.phase.Phase.{Phase}
-use Rattle.tc_entry.specs.declared.phase.Phase.TheVariants as P
-use Rattle.tc_entry.specs.declared.reply.Reply.TheVariants as R
-use Rattle.tc_entry.specs.declared.entry.Entry.{Entry}
-use Rattle.tc_rules.specs.declared.awaited.Awaited.{Awaited}
-use Rattle.tc_rules.specs.declared.component_state.ComponentState.{ComponentState}
-use Rattle.tc_rules.specs.declared.run_state.RunState.{RunState}
-use Rattle.tc_rules.specs.History.{comps, comp_of, ptcs}
-use Rattle.tc_rules.specs.Phases.{phase, last_run, is_excused}
-use Rattle.tc_rules.specs.Status.{running, alive, done, killed, is_running, is_killed, is_done}
-use Rattle.tc_rules.specs.Local.{local}
-use Rattle.tc_rules.specs.Waiting.{waiting, holds, waits_in_vain, is_still, is_stuck}
-use Rattle.tc_rules.specs.Faults.{fault, names, special_fault, start_fault, components}
-use Rattle.tc_rules.specs.Answers.{answer, plain_answer, is_active, is_active_on, is_run_of, local_reply, wake_reply}
-use Rattle.tc_rules.specs.Inside.Kept.{state_of, run_of}
+use Rattle.tc_entry.specs.declared.{comp.Comp.Comp, entry.Entry.Entry, op.Op.Op, op.Target.Target, phase.Phase.Phase, reply.Reply.Reply}
+use Rattle.tc_rules.specs.{Answers.answer, Answers.is_active, Answers.is_active_on, Answers.is_run_of, Answers.local_reply, Answers.plain_answer, Answers.wake_reply, Faults.components, Faults.fault, Faults.names, Faults.special_fault, Faults.start_fault, History.comp_of, History.comps, History.ptcs, Inside.Kept.run_of, Inside.Kept.state_of, Local.local, Phases.is_excused, Phases.last_run, Phases.phase, Status.alive, Status.done, Status.is_done, Status.is_killed, Status.is_running, Status.killed, Status.running, Waiting.holds, Waiting.is_still, Waiting.is_stuck, Waiting.waiting, Waiting.waits_in_vain, declared.awaited.Awaited.Awaited, declared.component_state.ComponentState.ComponentState, declared.run_state.RunState.RunState}
 use Rattle.tc_rules.proofs.Lemmas.Keeping.{all_exist_same}
 
 -- two histories of which the same is known
@@ -67,21 +49,21 @@ module _ {p q : List Entry} where
 
   done_same : IsSame p q → (t : Target) → done p t ≡ done q t
   unfolding done
-  done_same s (T.One c) = ap is_done (phase_same s c.0)
-  done_same s T.Any = any_of s is_done
-  done_same s T.All = all_of s (λ ph. not (is_running ph))
+  done_same s (Target.One c) = ap is_done (phase_same s c.0)
+  done_same s Target.Any = any_of s is_done
+  done_same s Target.All = all_of s (λ ph. not (is_running ph))
 
   killed_same : IsSame p q → (t : Target) → killed p t ≡ killed q t
   unfolding killed
-  killed_same s (T.One c) = ap is_killed (phase_same s c.0)
-  killed_same s T.Any = any_of s is_killed
-  killed_same s T.All = all_of s is_killed
+  killed_same s (Target.One c) = ap is_killed (phase_same s c.0)
+  killed_same s Target.Any = any_of s is_killed
+  killed_same s Target.All = all_of s is_killed
 
   alive_same : IsSame p q → (t : Target) → alive p t ≡ alive q t
   unfolding alive
-  alive_same s (T.One c) = ap (λ ph. not (is_killed ph)) (phase_same s c.0)
-  alive_same s T.Any = any_of s (λ ph. not (is_killed ph))
-  alive_same s T.All = all_of s (λ ph. not (is_killed ph))
+  alive_same s (Target.One c) = ap (λ ph. not (is_killed ph)) (phase_same s c.0)
+  alive_same s Target.Any = any_of s (λ ph. not (is_killed ph))
+  alive_same s Target.All = all_of s (λ ph. not (is_killed ph))
 
   holds_same : IsSame p q → (a : Awaited) → holds p a ≡ holds q a
   unfolding holds
@@ -92,10 +74,10 @@ module _ {p q : List Entry} where
   in_vain_same s (Some a) = ap not (holds_same s a)
 
   still_same : IsSame p q → (ph : Phase) → is_still p ph ≡ is_still q ph
-  still_same s (P.Running run) = ap (waits_in_vain p) (waiting_same s run.0) ∙ in_vain_same s (waiting q run.0)
-  still_same s P.Inactive = refl
-  still_same s P.Stopped = refl
-  still_same s P.Killed = refl
+  still_same s (Phase.Running run) = ap (waits_in_vain p) (waiting_same s run.0) ∙ in_vain_same s (waiting q run.0)
+  still_same s Phase.Inactive = refl
+  still_same s Phase.Stopped = refl
+  still_same s Phase.Killed = refl
 
   stuck_same : IsSame p q → is_stuck p ≡ is_stuck q
   unfolding is_stuck
@@ -123,29 +105,29 @@ module _ {p q : List Entry} where
 
   running_same : IsSame p q → (t : Target) → running p t ≡ running q t
   unfolding running
-  running_same s (T.One c) = ap is_running (phase_same s c.0)
-  running_same s T.Any = any_of s is_running
-  running_same s T.All = group_running_same s
+  running_same s (Target.One c) = ap is_running (phase_same s c.0)
+  running_same s Target.Any = any_of s is_running
+  running_same s Target.All = group_running_same s
 
   components_same : IsSame p q → components p ≡ components q
   unfolding components
   components_same s = ap length s.comps_same
 
   special_same : IsSame p q → (n : ℕ) (op : Op) → special_fault n p op ≡ special_fault n q op
-  special_same s n (O.Create alive name) = rw (components_same s)
-  special_same s n (O.Start c run args) = start_same s n c.0 run.0
-  special_same s n (O.Stop g) = refl
-  special_same s n (O.Kill g) = refl
-  special_same s n (O.Running t) = refl
-  special_same s n (O.Alive t) = refl
-  special_same s n (O.Done t) = refl
-  special_same s n (O.Killed t) = refl
-  special_same s n (O.Wait k t) = refl
-  special_same s n (O.Wake k t) = refl
-  special_same s n O.StopCase = refl
-  special_same s n (O.SetVerdict v) = refl
-  special_same s n O.GetVerdict = refl
-  special_same s n O.Finish = refl
+  special_same s n (Op.Create alive name) = rw (components_same s)
+  special_same s n (Op.Start c run args) = start_same s n c.0 run.0
+  special_same s n (Op.Stop g) = refl
+  special_same s n (Op.Kill g) = refl
+  special_same s n (Op.Running t) = refl
+  special_same s n (Op.Alive t) = refl
+  special_same s n (Op.Done t) = refl
+  special_same s n (Op.Killed t) = refl
+  special_same s n (Op.Wait k t) = refl
+  special_same s n (Op.Wake k t) = refl
+  special_same s n Op.StopCase = refl
+  special_same s n (Op.SetVerdict v) = refl
+  special_same s n Op.GetVerdict = refl
+  special_same s n Op.Finish = refl
 
   fault_same : IsSame p q → (n b : ℕ) (op : Op) → fault n p b op ≡ fault n q b op
   unfolding fault
@@ -156,23 +138,23 @@ module _ {p q : List Entry} where
 
   local_reply_same : IsSame p q → (o : Option Comp) → local_reply p o ≡ local_reply q o
   local_reply_same s None = refl
-  local_reply_same s (Some c) = ap R.Local (local_same s c.0)
+  local_reply_same s (Some c) = ap Reply.Local (local_same s c.0)
 
   plain_same : IsSame p q → (b : ℕ) (op : Op) → plain_answer p b op ≡ plain_answer q b op
-  plain_same s b (O.Create alive name) = ap (λ k. R.Made (record { 0 = k })) (components_same s)
-  plain_same s b (O.Start c run args) = refl
-  plain_same s b (O.Stop g) = refl
-  plain_same s b (O.Kill g) = refl
-  plain_same s b (O.Running t) = ap R.Answer (running_same s t)
-  plain_same s b (O.Alive t) = ap R.Answer (alive_same s t)
-  plain_same s b (O.Done t) = ap R.Answer (done_same s t)
-  plain_same s b (O.Killed t) = ap R.Answer (killed_same s t)
-  plain_same s b (O.Wait k t) = ap (λ h. if h then R.Matched else R.Parked) (holds_same s (record { killed = k; target = t }))
-  plain_same s b (O.Wake k t) = wake_same s b (record { killed = k; target = t })
-  plain_same s b O.StopCase = refl
-  plain_same s b (O.SetVerdict v) = refl
-  plain_same s b O.GetVerdict = ap (local_reply p) (comp_same s b) ∙ local_reply_same s (comp_of q b)
-  plain_same s b O.Finish = refl
+  plain_same s b (Op.Create alive name) = ap (λ k. Reply.Made (record { 0 = k })) (components_same s)
+  plain_same s b (Op.Start c run args) = refl
+  plain_same s b (Op.Stop g) = refl
+  plain_same s b (Op.Kill g) = refl
+  plain_same s b (Op.Running t) = ap Reply.Answer (running_same s t)
+  plain_same s b (Op.Alive t) = ap Reply.Answer (alive_same s t)
+  plain_same s b (Op.Done t) = ap Reply.Answer (done_same s t)
+  plain_same s b (Op.Killed t) = ap Reply.Answer (killed_same s t)
+  plain_same s b (Op.Wait k t) = ap (λ h. if h then Reply.Matched else Reply.Parked) (holds_same s (record { killed = k; target = t }))
+  plain_same s b (Op.Wake k t) = wake_same s b (record { killed = k; target = t })
+  plain_same s b Op.StopCase = refl
+  plain_same s b (Op.SetVerdict v) = refl
+  plain_same s b Op.GetVerdict = ap (local_reply p) (comp_same s b) ∙ local_reply_same s (comp_of q b)
+  plain_same s b Op.Finish = refl
 
   -- the same call is answered alike
   pub answer_same : IsSame p q → (n b : ℕ) (op : Op) → answer n p b op ≡ answer n q b op

@@ -1,27 +1,11 @@
 -- An entry leaves the states that it does not touch as they are.
 use Rattle.std.proofs.Common.{ℕ, ◌≡◌, ◌≢◌, ◌<◌, ◌≤◌, ◌==◌, ◌&&◌, ◌||◌, not, if◌then◌else◌, Bool, true, false, Option, Some, None, List, [], ◌∷◌, length, get_or, refl, ap, sym, ◌∙◌, arith, get_or-set_other, get_or-set_same}
 use Rattle.std.proofs.Math.ListN.{set}
-use Rattle.std.proofs.lemmas.List.{get_or_default}
-use Rattle.std.proofs.lemmas.Bool.Decides.{nat_tests}
-use Rattle.tc_verdict.specs.declared.verdict.Verdict.{Verdict}
-use Rattle.tc_verdict.specs.declared.run.Run.{Run}
-use Rattle.tc_verdict.specs.Prelude.{level_of}
+use Rattle.std.proofs.lemmas.{Bool.Decides.nat_tests, List.get_or_default}
+use Rattle.tc_entry.specs.Prelude.{Verdict, Run, level_of, is_ended, is_fault, is_ok}
 use Rattle.tc_verdict.proofs.Lemmas.Order.{worse_left}
-use Rattle.tc_entry.specs.declared.comp.Comp.{Comp}
-use Rattle.tc_entry.specs.declared.entry.Entry.{Entry}
-use Rattle.tc_entry.specs.declared.op.Group.TheVariants as G
-use Rattle.tc_entry.specs.declared.op.Op.{Op}
-use Rattle.tc_entry.specs.declared.op.Op.TheVariants as O
-use Rattle.tc_entry.specs.declared.reply.Reply.{Reply}
-use Rattle.tc_entry.specs.declared.reply.Reply.TheVariants as R
-use Rattle.tc_rules.specs.declared.component_state.ComponentState.{ComponentState}
-use Rattle.tc_rules.specs.declared.step.Scope.TheVariants as T
-use Rattle.tc_entry.specs.Prelude.{is_ended, is_fault, is_ok}
-use Rattle.tc_rules.specs.History.{is_comp, is_finish, is_stop_case, is_stop_of, is_kill_of, kills, halts, ends_case, starts_on, first_some}
-use Rattle.tc_rules.specs.Phases.{start_in, halts_from_outside}
-use Rattle.tc_rules.specs.Status.{is_running}
-use Rattle.tc_rules.specs.Local.{gives, setting}
-use Rattle.tc_rules.specs.Inside.Step.{next_state, next_phase, next_excused, next_local, touched, touched_by, touched_own, touches, IsSettled}
+use Rattle.tc_entry.specs.declared.{comp.Comp.Comp, entry.Entry.Entry, op.Group.Group, op.Op.Op, reply.Reply.Reply}
+use Rattle.tc_rules.specs.{History.ends_case, History.first_some, History.halts, History.is_comp, History.is_finish, History.is_kill_of, History.is_stop_case, History.is_stop_of, History.kills, History.starts_on, Inside.Step.IsSettled, Inside.Step.next_excused, Inside.Step.next_local, Inside.Step.next_phase, Inside.Step.next_state, Inside.Step.touched, Inside.Step.touched_by, Inside.Step.touched_own, Local.gives, Local.setting, Phases.halts_from_outside, Phases.start_in, Status.is_running, declared.component_state.ComponentState.ComponentState, declared.step.Scope.Scope}
 use Rattle.tc_rules.proofs.Lemmas.Deciding.{if_same}
 
 -- what is known of an operation that does not touch component c
@@ -32,19 +16,24 @@ record Spares (own : Option Comp) (op : Op) (c : ℕ) : Type 0 where
   finish : (is_finish op && is_comp own c) ≡ false
   sets : (if is_comp own c then setting op else []) ≡ []
 
+abbrev touches : Scope → ℕ → Bool
+touches Scope.Nothing c = false
+touches (Scope.One d) c = d.0 == c
+touches Scope.All c = true
+
 own_touches : (own : Option Comp) (c : ℕ) → touches (touched_own own) c ≡ is_comp own c
 own_touches None c = refl
 own_touches (Some d) c = refl
 
 spares : (own : Option Comp) (op : Op) (c : ℕ) → touches (touched_by own op) c ≡ false → Spares own op c
-spares own (O.Start d run args) c h = record { stop = refl; kill = refl; start = rw h; finish = refl; sets = if_same (is_comp own c) [] }
-spares own (O.Stop (G.One d)) c h = record { stop = h; kill = refl; start = refl; finish = refl; sets = if_same (is_comp own c) [] }
-spares own (O.Stop G.All) c h = absurd cc
-spares own (O.Kill (G.One d)) c h = record { stop = refl; kill = h; start = refl; finish = refl; sets = if_same (is_comp own c) [] }
-spares own (O.Kill G.All) c h = absurd cc
-spares own (O.SetVerdict v) c h = let e = sym (own_touches own c) ∙ h in record { stop = refl; kill = refl; start = refl; finish = refl; sets = rw e }
-spares own O.StopCase c h = let e = sym (own_touches own c) ∙ h in record { stop = refl; kill = refl; start = refl; finish = refl; sets = rw e }
-spares own O.Finish c h = let e = sym (own_touches own c) ∙ h in record { stop = refl; kill = refl; start = refl; finish = e; sets = if_same (is_comp own c) [] }
+spares own (Op.Start d run args) c h = record { stop = refl; kill = refl; start = rw h; finish = refl; sets = if_same (is_comp own c) [] }
+spares own (Op.Stop (Group.One d)) c h = record { stop = h; kill = refl; start = refl; finish = refl; sets = if_same (is_comp own c) [] }
+spares own (Op.Stop Group.All) c h = absurd cc
+spares own (Op.Kill (Group.One d)) c h = record { stop = refl; kill = h; start = refl; finish = refl; sets = if_same (is_comp own c) [] }
+spares own (Op.Kill Group.All) c h = absurd cc
+spares own (Op.SetVerdict v) c h = let e = sym (own_touches own c) ∙ h in record { stop = refl; kill = refl; start = refl; finish = refl; sets = rw e }
+spares own Op.StopCase c h = let e = sym (own_touches own c) ∙ h in record { stop = refl; kill = refl; start = refl; finish = refl; sets = rw e }
+spares own Op.Finish c h = let e = sym (own_touches own c) ∙ h in record { stop = refl; kill = refl; start = refl; finish = e; sets = if_same (is_comp own c) [] }
 spares own _ c h = record { stop = refl; kill = refl; start = refl; finish = refl; sets = if_same (is_comp own c) [] }
 
 -- what is known of an entry that does not touch component c
@@ -57,8 +46,8 @@ record Leaves (own : Option Comp) (e : Entry) (c : ℕ) : Type 0 where
 
 gives_by : (t : Bool) (op : Op) (reply : Reply) → is_fault reply ≡ false → (if t then setting op else []) ≡ [] → (if t then gives op reply else []) ≡ []
 gives_by false op reply h k = refl
-gives_by true op R.Ok h k = k
-gives_by true op (R.Fault f) h k = absurd cc
+gives_by true op Reply.Ok h k = k
+gives_by true op (Reply.Fault f) h k = absurd cc
 gives_by true op _ h k = refl
 
 fault_ends : (ended fault case fin stop kill : Bool) → (not ended && (fault || case || fin || stop || kill)) ≡ false → ended ≡ false → fault ≡ false
@@ -78,11 +67,11 @@ leaves_op own e c ends ended s =
     }
 
 leaves_ended : (own : Option Comp) (caller : Run) (op : Op) (reply : Reply) (c : ℕ) → is_ended reply ≡ true → Leaves own (record { caller = caller; op = op; reply = reply }) c
-leaves_ended own caller op R.Ended c h = record { kill = refl; start = refl; halt = refl; outside = refl; given = if_same (is_comp own c) [] }
+leaves_ended own caller op Reply.Ended c h = record { kill = refl; start = refl; halt = refl; outside = refl; given = if_same (is_comp own c) [] }
 leaves_ended own caller op _ c h = absurd cc
 
 leaves_by : (ends ended : Bool) (own : Option Comp) (e : Entry) (c : ℕ) → ends_case e ≡ ends → is_ended e.reply ≡ ended →
-    touches (if ends then T.All else if ended then T.Nothing else touched_by own e.op) c ≡ false → Leaves own e c
+    touches (if ends then Scope.All else if ended then Scope.Nothing else touched_by own e.op) c ≡ false → Leaves own e c
 leaves_by true ended own e c a b h = absurd cc
 leaves_by false true own e c a b h = leaves_ended own e.caller e.op e.reply c b
 leaves_by false false own e c a b h = leaves_op own e c a b (spares own e.op c h)
@@ -112,11 +101,11 @@ no_better own e c s = local_le (if is_comp own c then gives e.op e.reply else []
 
 -- the states after the entry, place by place
 
-pub none_changed : (own : Option Comp) (e : Entry) (states : List ComponentState) → IsSettled states → touched own e ≡ T.Nothing →
+pub none_changed : (own : Option Comp) (e : Entry) (states : List ComponentState) → IsSettled states → touched own e ≡ Scope.Nothing →
     (c : ℕ) (d : ComponentState) → c < length states → get_or states c d ≡ next_state own e c (get_or states c d)
 none_changed own e states settled t c d h = sym (elsewhere own e c (get_or states c d) (ap (λ x. touches x c) t) (settled.not_excused c d h))
 
-pub one_changed : (own : Option Comp) (e : Entry) (states : List ComponentState) (i : Comp) (y z v : ComponentState) → IsSettled states → touched own e ≡ T.One i → i.0 < length states →
+pub one_changed : (own : Option Comp) (e : Entry) (states : List ComponentState) (i : Comp) (y z v : ComponentState) → IsSettled states → touched own e ≡ Scope.One i → i.0 < length states →
     z ≡ get_or states i.0 v → y ≡ next_state own e i.0 z →
     (c : ℕ) (d : ComponentState) → c < length states → get_or (set states i.0 y) c d ≡ next_state own e c (get_or states c d)
 one_changed own e states i y z v settled t within was made c d h =
@@ -130,7 +119,7 @@ one_changed own e states i y z v settled t within was made c d h =
         let ne : c ≢ i.0 = grind (arith, nat_tests) in
         rw get_or-set_other (sym (elsewhere own e c (get_or states c d) (ap (λ x. touches x c) t ∙ k) (settled.not_excused c d h)))
 
-pub out_of_range : (own : Option Comp) (e : Entry) (states : List ComponentState) (i : Comp) → IsSettled states → touched own e ≡ T.One i → length states ≤ i.0 →
+pub out_of_range : (own : Option Comp) (e : Entry) (states : List ComponentState) (i : Comp) → IsSettled states → touched own e ≡ Scope.One i → length states ≤ i.0 →
     (c : ℕ) (d : ComponentState) → c < length states → get_or states c d ≡ next_state own e c (get_or states c d)
 out_of_range own e states i settled t out c d h =
     let k : (i.0 == c) ≡ false = grind (arith, nat_tests) in

@@ -1,7 +1,6 @@
 -- The lemmas of this crate.
 pub mod Lemmas
 pub mod WorkedCases
-pub mod Lists
 pub mod Making
 pub mod Opening
 pub mod Settled

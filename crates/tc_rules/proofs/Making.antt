@@ -1,41 +1,15 @@
 -- What the table keeps is right after an entry that makes a component.
 use Rattle.std.proofs.Common.{ℕ, ◌≡◌, ◌+◌, ◌<◌, ◌==◌, ◌&&◌, ◌||◌, if◌then◌else◌, Bool, true, false, Option, Some, None, List, [], ◌∷◌, ◌++◌, length, get_or, refl, ap, subst, sym, ◌∙◌, arith, length-append, below_more, suc}
-use Rattle.std.proofs.lemmas.Bool.Decides.{nat_tests}
-use Rattle.std.proofs.lemmas.List.{get_or_append_left}
+use Rattle.std.proofs.lemmas.{Bool.Decides.nat_tests, List.get_or_append_left}
 use Rattle.std.proofs.Math.Seq.{get_or-append_seam}
-use Rattle.tc_entry.specs.declared.limits.TheConstants.{COMPONENTS}
-use Rattle.tc_entry.specs.declared.comp.Comp.{Comp}
 use Rattle.std.specs.List.{list_all}
-use Rattle.tc_verdict.specs.declared.run.Run.{Run}
-use Rattle.tc_rules.specs.declared.awaited.Awaited.{Awaited}
-use Rattle.tc_entry.specs.declared.op.Op.{Op}
-use Rattle.tc_entry.specs.declared.op.Op.TheVariants as O
-use Rattle.tc_entry.specs.declared.reply.Reply.{Reply}
-use Rattle.tc_entry.specs.declared.entry.Entry.{Entry}
-use Rattle.tc_entry.specs.declared.reply.Reply.TheVariants as R
-use Rattle.tc_rules.specs.declared.component_state.ComponentState.{ComponentState}
-use Rattle.tc_rules.specs.declared.run_state.RunState.{RunState}
-use Rattle.tc_rules.specs.History.{exists, comps, comp_of, created, add_new, is_comp, is_in, first_some, is_alive_create}
-use Rattle.tc_rules.specs.Phases.{was_killed, was_halted}
-use Rattle.tc_rules.specs.Status.{is_running}
-use Rattle.tc_rules.specs.Answers.{answer}
-use Rattle.tc_rules.specs.Faults.{all_exist, target_names, components}
-use Rattle.tc_rules.specs.Waiting.{waiting}
-use Rattle.tc_rules.specs.Standing.{Kept, StandsFor}
-use Rattle.tc_rules.specs.Inside.Kept.{IsKept, state_of, numbers_from}
-use Rattle.tc_rules.specs.Inside.Step.{next_state, next_run, next_local}
-use Rattle.tc_rules.proofs.Lemmas.Kept.{exists_if, exists_unless, components_kept}
-use Rattle.tc_rules.proofs.Lemmas.Keeping.{stands_by}
-use Rattle.tc_rules.proofs.Lemmas.Numbers.{numbers_from-more}
-use Rattle.tc_rules.proofs.Lemmas.Steps.{state_step, run_step}
-use Rattle.tc_rules.proofs.Settled.{running_not_excused}
-use Rattle.tc_rules.proofs.Lemmas.Fresh.{fresh_step}
-use Rattle.tc_rules.specs.Inside.Counts.{made_state}
-use Rattle.tc_rules.proofs.Lemmas.Sound.{next}
-use Rattle.tc_rules.proofs.Lemmas.Deciding.{other_comp}
+use Rattle.tc_entry.specs.declared.{comp.Comp.Comp, entry.Entry.Entry, limits.TheConstants.COMPONENTS, op.Op.Op, reply.Reply.Reply}
+use Rattle.tc_entry.specs.Prelude.{Run}
+use Rattle.tc_rules.specs.{Answers.answer, Faults.all_exist, Faults.components, Faults.target_names, History.add_new, History.comp_of, History.comps, History.created, History.exists, History.first_some, History.is_alive_create, History.is_comp, History.is_in, Inside.Counts.made_state, Inside.Kept.IsKept, Inside.Kept.numbers_from, Inside.Kept.state_of, Inside.Step.next_local, Inside.Step.next_run, Inside.Step.next_state, Phases.was_halted, Phases.was_killed, Standing.Kept, Standing.StandsFor, Status.is_running, Waiting.waiting, declared.awaited.Awaited.Awaited, declared.component_state.ComponentState.ComponentState, declared.run_state.RunState.RunState}
+use Rattle.tc_rules.proofs.{Lemmas.Deciding.other_comp, Lemmas.Fresh.fresh_step, Lemmas.Keeping.stands_by, Lemmas.Kept.components_kept, Lemmas.Kept.exists_if, Lemmas.Kept.exists_unless, Lemmas.Numbers.numbers_from-more, Lemmas.Sound.next, Lemmas.Steps.run_step, Lemmas.Steps.state_step, Settled.running_not_excused}
 
 abbrev create : Run → Bool → Option (List ℕ) → Comp → Entry
-create caller alive name d = record { caller = caller; op = O.Create alive name; reply = R.Made d }
+create caller alive name d = record { caller = caller; op = Op.Create alive name; reply = Reply.Made d }
 
 -- such an entry changes no state
 quiet : (caller : Run) (alive : Bool) (name : Option (List ℕ)) (d : Comp) (own : Option Comp) (c : ℕ) (s : ComponentState) → (is_running s.phase ≡ true → s.excused ≡ false) → next_state own (create caller alive name d) c s ≡ s
@@ -112,7 +86,7 @@ entry_ext : {op op' : Op} {r r' : Reply} (caller : Run) → op ≡ op' → r ≡
 entry_ext caller a b = cc
 
 module _ {n : ℕ} {past : List Entry} {states : List ComponentState} {runs : List RunState} {over : Bool} where
-  created_lit : (caller : Run) (alive : Bool) (name : Option (List ℕ)) (d : Comp) (runs' : List RunState) → IsKept n past states runs over → R.Made d ≡ answer n past caller.0 (O.Create alive name) → d.0 ≡ length states → length states < COMPONENTS →
+  created_lit : (caller : Run) (alive : Bool) (name : Option (List ℕ)) (d : Comp) (runs' : List RunState) → IsKept n past states runs over → Reply.Made d ≡ answer n past caller.0 (Op.Create alive name) → d.0 ≡ length states → length states < COMPONENTS →
       length runs' ≡ length runs → ((b : ℕ) (v : RunState) → b < n → get_or runs' b v ≡ next_run (create caller alive name d) b (get_or runs b v)) →
       IsKept n (create caller alive name d ∷ past) (states ++ made_state alive ∷ []) runs' over
   created_lit caller alive name d runs' kept legal number few as_many_runs changed_runs =
@@ -167,7 +141,7 @@ makes_entry v k past e d states' runs' same stands legal made grown as_many_runs
     let legal' : e.reply ≡ answer v.behaviours past e.caller.0 e.op = legal ∙ ap (λ (w : Kept). answer w.behaviours past e.caller.0 e.op) (sym same) in
     let f = next v.behaviours past e d legal' made in
     let l : e ≡ create e.caller (is_alive_create e.op) f.given_name d = entry_ext e.caller f.is_create f.is_made in
-    let made_legal : R.Made d ≡ answer v.behaviours past e.caller.0 (O.Create (is_alive_create e.op) f.given_name) = sym f.is_made ∙ legal' ∙ ap (answer v.behaviours past e.caller.0) f.is_create in
+    let made_legal : Reply.Made d ≡ answer v.behaviours past e.caller.0 (Op.Create (is_alive_create e.op) f.given_name) = sym f.is_made ∙ legal' ∙ ap (answer v.behaviours past e.caller.0) f.is_create in
     let size : components past ≡ length v.states = components_kept kept in
     let number : d.0 ≡ length v.states = f.number ∙ size in
     let few : length v.states < COMPONENTS = omega (arith, f.few) in

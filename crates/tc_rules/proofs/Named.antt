@@ -1,34 +1,23 @@
 -- The names of components say nothing to the table: a history without them is answered alike.
 use Rattle.std.proofs.Common.{ℕ, ◌≡◌, Bool, Option, None, List, [], ◌∷◌, map, refl, ap, sym, subst, ◌∙◌}
-use Rattle.tc_entry.specs.declared.op.Op.{Op}
-use Rattle.tc_entry.specs.declared.op.Op.TheVariants as O
-use Rattle.tc_entry.specs.declared.reply.Reply.{Reply}
-use Rattle.tc_entry.specs.declared.reply.Reply.TheVariants as R
-use Rattle.tc_entry.specs.declared.entry.Entry.{Entry}
-use Rattle.tc_rules.specs.History.{comps, comp_of, exists, created, is_alive_create, is_alive_type, started_on, halts, kills}
-use Rattle.tc_rules.specs.Phases.{phase, last_run, was_killed, was_halted, is_excused, start_in, halts_from_outside}
-use Rattle.tc_rules.specs.Local.{local, overall, gives, verdicts_of}
-use Rattle.tc_rules.specs.Waiting.{waiting, parks}
-use Rattle.tc_rules.specs.Faults.{fault, all_exist}
-use Rattle.tc_rules.specs.Answers.{answer}
-use Rattle.tc_rules.specs.Legal.{IsLegal}
-use Rattle.tc_rules.specs.Laws.{unnamed, unnamed_op, NamesSayNothing}
+use Rattle.tc_entry.specs.declared.{entry.Entry.Entry, op.Op.Op, reply.Reply.Reply}
+use Rattle.tc_rules.specs.{Answers.answer, Faults.all_exist, Faults.fault, History.comp_of, History.comps, History.created, History.exists, History.halts, History.is_alive_create, History.is_alive_type, History.kills, History.started_on, Laws.NamesSayNothing, Laws.unnamed, Laws.unnamed_op, Legal.IsLegal, Local.gives, Local.local, Local.overall, Local.verdicts_of, Phases.halts_from_outside, Phases.is_excused, Phases.last_run, Phases.phase, Phases.start_in, Phases.was_halted, Phases.was_killed, Waiting.parks, Waiting.waiting}
 use Rattle.tc_rules.proofs.Determined.{IsSame, answer_same}
 
 -- what says the same of a Create with any name says the same of the operation without its name
-ignores : {A : Type 0} (f : Op → A) → ((alive : Bool) (name : Option (List ℕ)) → f (O.Create alive None) ≡ f (O.Create alive name)) → (op : Op) → f (unnamed_op op) ≡ f op
-ignores f h (O.Create alive name) = h alive name
+ignores : {A : Type 0} (f : Op → A) → ((alive : Bool) (name : Option (List ℕ)) → f (Op.Create alive None) ≡ f (Op.Create alive name)) → (op : Op) → f (unnamed_op op) ≡ f op
+ignores f h (Op.Create alive name) = h alive name
 ignores f h _ = refl
 
 created_of : (r : Reply) (op : Op) → created (unnamed_op op) r ≡ created op r
-created_of (R.Made c) op = ignores (λ o. created o (R.Made c)) (λ alive name. refl) op
-created_of R.Ok op = ignores (λ o. created o R.Ok) (λ alive name. refl) op
-created_of (R.Answer b) op = ignores (λ o. created o (R.Answer b)) (λ alive name. refl) op
-created_of (R.Local v) op = ignores (λ o. created o (R.Local v)) (λ alive name. refl) op
-created_of R.Matched op = ignores (λ o. created o R.Matched) (λ alive name. refl) op
-created_of R.Parked op = ignores (λ o. created o R.Parked) (λ alive name. refl) op
-created_of R.Ended op = ignores (λ o. created o R.Ended) (λ alive name. refl) op
-created_of (R.Fault f) op = ignores (λ o. created o (R.Fault f)) (λ alive name. refl) op
+created_of (Reply.Made c) op = ignores (λ o. created o (Reply.Made c)) (λ alive name. refl) op
+created_of Reply.Ok op = ignores (λ o. created o Reply.Ok) (λ alive name. refl) op
+created_of (Reply.Answer b) op = ignores (λ o. created o (Reply.Answer b)) (λ alive name. refl) op
+created_of (Reply.Local v) op = ignores (λ o. created o (Reply.Local v)) (λ alive name. refl) op
+created_of Reply.Matched op = ignores (λ o. created o Reply.Matched) (λ alive name. refl) op
+created_of Reply.Parked op = ignores (λ o. created o Reply.Parked) (λ alive name. refl) op
+created_of Reply.Ended op = ignores (λ o. created o Reply.Ended) (λ alive name. refl) op
+created_of (Reply.Fault f) op = ignores (λ o. created o (Reply.Fault f)) (λ alive name. refl) op
 
 alive_of : (op : Op) → is_alive_create (unnamed_op op) ≡ is_alive_create op
 alive_of op = ignores is_alive_create (λ alive name. refl) op
@@ -86,7 +75,7 @@ unfolding phase
 phase_same past c = rw (killed_same past c, last_same past c, halted_same past c, alive_same past c)
 
 parks_of : (r : Reply) (op : Op) → parks (unnamed_op op) r ≡ parks op r
-parks_of R.Parked op = ignores (λ o. parks o R.Parked) (λ alive name. refl) op
+parks_of Reply.Parked op = ignores (λ o. parks o Reply.Parked) (λ alive name. refl) op
 parks_of _ op = refl
 
 waiting_same : (past : List Entry) (b : ℕ) → waiting (map unnamed past) b ≡ waiting past b
@@ -94,7 +83,7 @@ waiting_same [] b = refl
 waiting_same (e ∷ past) b = rw (parks_of e.reply e.op, waiting_same past b)
 
 gives_of : (r : Reply) (op : Op) → gives (unnamed_op op) r ≡ gives op r
-gives_of R.Ok op = ignores (λ o. gives o R.Ok) (λ alive name. refl) op
+gives_of Reply.Ok op = ignores (λ o. gives o Reply.Ok) (λ alive name. refl) op
 gives_of _ op = refl
 
 verdicts_same : (past : List Entry) (c : ℕ) → verdicts_of (map unnamed past) c ≡ verdicts_of past c

@@ -1,16 +1,9 @@
 -- What the table keeps at the opening of a case.
 use Rattle.std.proofs.Common.{ℕ, ◌≡◌, ◌<◌, ◌≤◌, ◌==◌, if◌then◌else◌, Bool, true, false, Some, None, List, [], ◌∷◌, length, get_or, refl, ap, sym, ◌∙◌, arith}
 use Rattle.std.proofs.lemmas.Bool.Decides.{nat_tests}
-use Rattle.tc_entry.specs.declared.limits.TheConstants.{BEHAVIOURS}
-use Rattle.tc_verdict.specs.declared.run.Run.{Run}
-use Rattle.tc_entry.specs.declared.comp.Comp.{Comp}
-use Rattle.tc_rules.specs.declared.component_state.ComponentState.{ComponentState}
-use Rattle.tc_rules.specs.declared.run_state.RunState.{RunState}
-use Rattle.tc_rules.specs.Phases.{phase, last_run}
-use Rattle.tc_rules.specs.Local.{local}
-use Rattle.tc_rules.specs.History.{comp_of}
-use Rattle.tc_rules.specs.Inside.Counts.{main_state}
-use Rattle.tc_rules.specs.Inside.Kept.{IsKept, state_of, run_of, blank}
+use Rattle.tc_entry.specs.declared.{comp.Comp.Comp, limits.TheConstants.BEHAVIOURS}
+use Rattle.tc_entry.specs.Prelude.{Run}
+use Rattle.tc_rules.specs.{History.comp_of, Inside.Counts.main_state, Inside.Kept.IsKept, Inside.Kept.blank, Inside.Kept.run_of, Inside.Kept.state_of, Local.local, Phases.last_run, Phases.phase, declared.component_state.ComponentState.ComponentState, declared.run_state.RunState.RunState}
 
 no_run : (b n : ℕ) → 1 ≤ n → n ≤ b → comp_of [] b ≡ None
 no_run b n h k = let e : (b == 0) ≡ false = grind (arith, nat_tests) in rw e

@@ -1,23 +1,17 @@
 -- An entry changes the state of its caller and of the run that it starts.
 use Rattle.std.proofs.Common.{ℕ, ◌≡◌, ◌≢◌, ◌<◌, ◌==◌, Bool, true, false, Option, Some, None, List, length, get_or, refl, ap, sym, ◌∙◌, arith}
 use Rattle.std.proofs.lemmas.Bool.Decides.{nat_tests}
-use Rattle.tc_verdict.specs.declared.run.Run.{Run}
-use Rattle.tc_entry.specs.declared.comp.Comp.{Comp}
-use Rattle.tc_entry.specs.declared.entry.Entry.{Entry}
-use Rattle.tc_entry.specs.declared.op.Op.{Op}
-use Rattle.tc_entry.specs.declared.op.Op.TheVariants as O
-use Rattle.tc_rules.specs.declared.run_state.RunState.{RunState}
-use Rattle.tc_entry.specs.Prelude.{is_ok}
-use Rattle.tc_rules.specs.History.{starts_run}
-use Rattle.tc_rules.specs.Inside.Step.{next_run, started_run}
+use Rattle.tc_entry.specs.Prelude.{Run, is_ok}
+use Rattle.tc_entry.specs.declared.{comp.Comp.Comp, entry.Entry.Entry, op.Op.Op}
+use Rattle.tc_rules.specs.{History.starts_run, Inside.Step.next_run, Merge.started_run, declared.run_state.RunState.RunState}
 use Rattle.tc_rules.proofs.Lemmas.Deciding.{if_same, first_alone}
 
 not_started : (op : Op) (b : ℕ) → started_run op ≡ None → starts_run op b ≡ None
-not_started (O.Start c run args) b h = absurd cc
+not_started (Op.Start c run args) b h = absurd cc
 not_started _ b h = refl
 
 other_started : (op : Op) (r : Run) (b : ℕ) → started_run op ≡ Some r → b ≢ r.0 → starts_run op b ≡ None
-other_started (O.Start c run args) r b h ne =
+other_started (Op.Start c run args) r b h ne =
     let e : run ≡ r = cc in
     let t : (run.0 == b) ≡ false = rw e (let ne' = ne in grind (arith, nat_tests)) in
     rw t

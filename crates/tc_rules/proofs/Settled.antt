@@ -1,20 +1,9 @@
 -- A component that is running is not excused.
 use Rattle.std.proofs.Common.{ℕ, ◌≡◌, ◌<◌, ◌&&◌, ◌||◌, not, if◌then◌else◌, Bool, true, false, Option, Some, None, is_some, List, [], ◌∷◌, length, refl, ap, sym, ◌∙◌, arith}
-use Rattle.tc_entry.specs.declared.limits.TheConstants.{COMPONENTS}
-use Rattle.tc_verdict.specs.declared.run.Run.{Run}
-use Rattle.tc_entry.specs.declared.comp.Comp.{Comp}
-use Rattle.tc_entry.specs.declared.entry.Entry.{Entry}
-use Rattle.tc_rules.specs.declared.component_state.ComponentState.{ComponentState}
-use Rattle.tc_rules.specs.declared.run_state.RunState.{RunState}
-use Rattle.tc_rules.specs.History.{comp_of, is_comp, is_stop_of, is_kill_of, halts, is_alive_type, created}
-use Rattle.tc_rules.specs.Phases.{phase, last_run, was_killed, was_halted, is_excused, start_in}
-use Rattle.tc_rules.specs.Status.{is_running}
-use Rattle.tc_rules.specs.Answers.{answer}
-use Rattle.tc_rules.specs.Inside.Kept.{IsKept, state_of}
-use Rattle.tc_rules.specs.Inside.Step.{IsSettled}
-use Rattle.tc_rules.proofs.Lemmas.Kept.{components_kept}
-use Rattle.tc_rules.proofs.Lemmas.Sound.{next}
-use Rattle.tc_rules.proofs.Lemmas.Steps.{phase_by}
+use Rattle.tc_entry.specs.declared.{comp.Comp.Comp, entry.Entry.Entry, limits.TheConstants.COMPONENTS}
+use Rattle.tc_entry.specs.Prelude.{Run}
+use Rattle.tc_rules.specs.{Answers.answer, History.comp_of, History.created, History.halts, History.is_alive_type, History.is_comp, History.is_kill_of, History.is_stop_of, Inside.Kept.IsKept, Inside.Kept.state_of, Inside.Step.IsSettled, Phases.is_excused, Phases.last_run, Phases.phase, Phases.start_in, Phases.was_halted, Phases.was_killed, Status.is_running, declared.component_state.ComponentState.ComponentState, declared.run_state.RunState.RunState}
+use Rattle.tc_rules.proofs.Lemmas.{Kept.components_kept, Sound.next, Steps.phase_by}
 
 not_excused_by : (start halt was out old : Bool) → (was ≡ false → old ≡ false) → (not start && (halt || was)) ≡ false → (not start && (if was then old else (halt && out))) ≡ false
 not_excused_by true halt was out old f h = refl

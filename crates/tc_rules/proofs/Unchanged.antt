@@ -1,29 +1,52 @@
--- A Stop of all if none is running, and a Kill of all if each is killed, leave the states as they are.
-use Rattle.std.proofs.Common.{ℕ, zero, suc, ◌≡◌, ◌≢◌, ◌+◌, ◌<◌, ◌≤◌, ◌==◌, ◌&&◌, ◌||◌, not, if◌then◌else◌, Bool, true, false, Option, None, List, [], ◌∷◌, length, drop, get_or, refl, ap, sym, ◌∙◌, arith}
+-- Lists that are changed place by place; a Stop of all if none is running, and a Kill of all if each is killed, leave
+-- the states as they are.
+use Rattle.std.proofs.Common.{ℕ, ◌≡◌, ◌≢◌, ◌+◌, ◌<◌, ◌≤◌, List, length, get_or, get_or-set_other, get_or-set_same, below_more, arith, ◌∙◌, ap, sym, zero, suc, ◌==◌, ◌&&◌, ◌||◌, not, if◌then◌else◌, Bool, true, false, Option, None, [], ◌∷◌, drop, refl}
+use Rattle.std.proofs.Math.ListN.{set, length-set}
+use Rattle.std.proofs.lemmas.{Bool.Decides.nat_tests, List.get_or_default}
 use Rattle.std.specs.List.{list_all}
-use Rattle.std.proofs.lemmas.Bool.Decides.{nat_tests}
-use Rattle.tc_verdict.specs.declared.verdict.Verdict.{Verdict}
-use Rattle.tc_verdict.specs.declared.run.Run.{Run}
-use Rattle.tc_entry.specs.declared.comp.Comp.{Comp}
-use Rattle.tc_entry.specs.declared.entry.Entry.{Entry}
-use Rattle.tc_entry.specs.declared.op.Group.TheVariants as G
-use Rattle.tc_entry.specs.declared.op.Op.{Op}
-use Rattle.tc_entry.specs.declared.op.Op.TheVariants as O
-use Rattle.tc_entry.specs.declared.phase.Phase.{Phase}
-use Rattle.tc_entry.specs.declared.phase.Phase.TheVariants as P
-use Rattle.tc_entry.specs.declared.reply.Reply.{Reply}
-use Rattle.tc_entry.specs.declared.reply.Reply.TheVariants as R
-use Rattle.tc_rules.specs.declared.component_state.ComponentState.{ComponentState}
-use Rattle.tc_entry.specs.Prelude.{is_ended, is_fault, is_ok}
-use Rattle.tc_rules.specs.History.{is_comp, is_stop_of, is_kill_of, ends_case, first_some, kills, halts}
-use Rattle.tc_rules.specs.Phases.{start_in}
-use Rattle.tc_rules.specs.Status.{is_running, is_killed}
-use Rattle.tc_rules.specs.Local.{gives, setting}
-use Rattle.tc_rules.specs.Inside.States.{none_running, all_killed}
-use Rattle.tc_rules.specs.Inside.Step.{next_state, next_phase, next_excused, next_local, halted, finds_none, finds, IsSettled}
-use Rattle.std.proofs.lemmas.List.{get_or_default}
-use Rattle.tc_rules.proofs.Lists.{mapped_past}
-use Rattle.tc_rules.proofs.Lemmas.Deciding.{if_same, and_no, and_left, and_right}
+use Rattle.tc_entry.specs.Prelude.{Verdict, Run, is_ended, is_fault, is_ok}
+use Rattle.tc_entry.specs.declared.{comp.Comp.Comp, entry.Entry.Entry, op.Group.Group, op.Op.Op, phase.Phase.Phase, reply.Reply.Reply}
+use Rattle.tc_rules.specs.{History.ends_case, History.first_some, History.halts, History.is_comp, History.is_kill_of, History.is_stop_of, History.kills, Inside.States.all_killed, Inside.States.none_running, Inside.Step.IsSettled, Inside.Step.finds, Inside.Step.finds_none, Inside.Step.halted, Inside.Step.next_excused, Inside.Step.next_local, Inside.Step.next_phase, Inside.Step.next_state, Local.gives, Local.setting, Phases.start_in, Status.is_killed, Status.is_running, declared.component_state.ComponentState.ComponentState}
+use Rattle.tc_rules.proofs.Lemmas.Deciding.{and_left, and_no, and_right, if_same}
+
+-- one more place has F of what was there
+mapped_more : {A : Type 0} (F : ℕ → A → A) (old xs : List A) (i : ℕ) (x y e : A) → length xs ≡ length old → i < length old →
+    ((k : ℕ) (d : A) → k < i → get_or xs k d ≡ F k (get_or old k d)) →
+    ((k : ℕ) (d : A) → i ≤ k → get_or xs k d ≡ get_or old k d) →
+    y ≡ get_or xs i e → x ≡ F i y →
+    (k : ℕ) (d : A) → k < i + 1 → get_or (set xs i x) k d ≡ F k (get_or old k d)
+mapped_more {A} F old xs i x y e as_many within below above read made k d h =
+    below_more (λ j. (v : A) → get_or (set xs i x) j v ≡ F j (get_or old j v)) i
+    (λ j less v. let ne : j ≢ i = omega arith in rw get_or-set_other (below j v less))
+    (λ v. let k : i < length xs = omega arith in
+    let r : y ≡ get_or old i v = read ∙ (above i e (omega arith) ∙ get_or_default old i e v within) in
+    rw get_or-set_same (made ∙ ap (F i) r))
+    k h d
+
+-- the same, with the places from the next on as they were
+pub mapped_step : {A : Type 0} (F : ℕ → A → A) (old xs new : List A) (i : ℕ) (x y e : A) → new ≡ set xs i x → length xs ≡ length old → i < length old →
+    ((k : ℕ) (d : A) → k < i → get_or xs k d ≡ F k (get_or old k d)) →
+    ((k : ℕ) (d : A) → i ≤ k → get_or xs k d ≡ get_or old k d) →
+    y ≡ get_or xs i e → x ≡ F i y →
+    (length new ≡ length old) × ((k : ℕ) (d : A) → k < i + 1 → get_or new k d ≡ F k (get_or old k d)) × ((k : ℕ) (d : A) → i + 1 ≤ k → get_or new k d ≡ get_or old k d)
+mapped_step F old xs new i x y e is as_many within below above read made =
+    rw is (
+      length-set xs i x ∙ as_many,
+      mapped_more F old xs i x y e as_many within below above read made,
+      (λ k d h. let ne : k ≢ i = omega arith in rw get_or-set_other (above k d (omega arith))),
+    )
+
+-- the same, if F leaves what was at this place
+pub mapped_past : {A : Type 0} (F : ℕ → A → A) (old xs : List A) (i : ℕ) → length xs ≡ length old →
+    ((k : ℕ) (d : A) → k < i → get_or xs k d ≡ F k (get_or old k d)) →
+    ((k : ℕ) (d : A) → i ≤ k → get_or xs k d ≡ get_or old k d) →
+    ((d : A) → F i (get_or old i d) ≡ get_or old i d) →
+    (length xs ≡ length old) × ((k : ℕ) (d : A) → k < i + 1 → get_or xs k d ≡ F k (get_or old k d)) × ((k : ℕ) (d : A) → i + 1 ≤ k → get_or xs k d ≡ get_or old k d)
+mapped_past {A} F old xs i as_many below above same = (
+  as_many,
+  (λ k d h. below_more (λ j. (v : A) → get_or xs j v ≡ F j (get_or old j v)) i (λ j less v. below j v less) (λ v. above i v (omega arith) ∙ sym (same v)) k h d),
+  (λ k d h. above k d (omega arith)),
+)
 
 not_true : (a : Bool) → not a ≡ true → a ≡ false
 not_true true h = absurd cc
@@ -52,27 +75,27 @@ killed_at states c d h k ne = all_behind (λ s. is_killed s.phase) states c d h 
 
 halted_if : (t : Bool) (alive_type : Bool) (p : Phase) → (t ≡ true → is_running p ≡ false) → (if t then halted alive_type p else p) ≡ p
 halted_if false alive_type p h = refl
-halted_if true alive_type (P.Running r) h = let e = h refl in absurd cc
-halted_if true alive_type P.Inactive h = refl
-halted_if true alive_type P.Stopped h = refl
-halted_if true alive_type P.Killed h = refl
+halted_if true alive_type (Phase.Running r) h = let e = h refl in absurd cc
+halted_if true alive_type Phase.Inactive h = refl
+halted_if true alive_type Phase.Stopped h = refl
+halted_if true alive_type Phase.Killed h = refl
 
-killed_if : (t : Bool) (p : Phase) → (t ≡ true → is_killed p ≡ true) → (if t then P.Killed else p) ≡ p
+killed_if : (t : Bool) (p : Phase) → (t ≡ true → is_killed p ≡ true) → (if t then Phase.Killed else p) ≡ p
 killed_if false p h = refl
-killed_if true (P.Running r) h = let e = h refl in absurd cc
-killed_if true P.Inactive h = let e = h refl in absurd cc
-killed_if true P.Stopped h = let e = h refl in absurd cc
-killed_if true P.Killed h = refl
+killed_if true (Phase.Running r) h = let e = h refl in absurd cc
+killed_if true Phase.Inactive h = let e = h refl in absurd cc
+killed_if true Phase.Stopped h = let e = h refl in absurd cc
+killed_if true Phase.Killed h = refl
 
 killed_is_still : (p : Phase) → is_killed p ≡ true → is_running p ≡ false
-killed_is_still P.Killed h = refl
-killed_is_still (P.Running r) h = absurd cc
-killed_is_still P.Inactive h = refl
-killed_is_still P.Stopped h = refl
+killed_is_still Phase.Killed h = refl
+killed_is_still (Phase.Running r) h = absurd cc
+killed_is_still Phase.Inactive h = refl
+killed_is_still Phase.Stopped h = refl
 
 gives_none : (op : Op) (reply : Reply) (case fin stop kill : Bool) → setting op ≡ [] → (not (is_ended reply) && (is_fault reply || case || fin || stop || kill)) ≡ false → gives op reply ≡ []
-gives_none op R.Ok case fin stop kill h k = h
-gives_none op (R.Fault f) case fin stop kill h k = absurd cc
+gives_none op Reply.Ok case fin stop kill h k = h
+gives_none op (Reply.Fault f) case fin stop kill h k = absurd cc
 gives_none op _ case fin stop kill h k = refl
 
 -- what is known of an entry that finds component c in no phase that it changes
@@ -107,32 +130,32 @@ unchanged_if own e c s q settled =
 
 quiet : (own : Option Comp) (caller : Run) (op : Op) (reply : Reply) (states : List ComponentState) (c : ℕ) (d : ComponentState) → ends_case (record { caller = caller; op = op; reply = reply }) ≡ false → finds_none op states ≡ true →
     c < length states → Quiet own (record { caller = caller; op = op; reply = reply }) c (get_or states c d).phase
-quiet own caller (O.Stop G.All) reply states c d ends none within = record {
-  kill = λ k. let e : kills (record { caller = caller; op = O.Stop G.All; reply = reply }) c ≡ false = rw ends (and_no (not (is_ended reply))) in absurd cc;
+quiet own caller (Op.Stop Group.All) reply states c d ends none within = record {
+  kill = λ k. let e : kills (record { caller = caller; op = Op.Stop Group.All; reply = reply }) c ≡ false = rw ends (and_no (not (is_ended reply))) in absurd cc;
   halt = λ h. by_test (c == 0) refl h;
   start = if_same (is_ok reply) None;
-  given = gives_none (O.Stop G.All) reply false false false false refl ends;
+  given = gives_none (Op.Stop Group.All) reply false false false false refl ends;
 }
   where
-    by_test : (t : Bool) → (c == 0) ≡ t → halts own (record { caller = caller; op = O.Stop G.All; reply = reply }) c ≡ true → is_running (get_or states c d).phase ≡ false
-    by_test true z h = let e : halts own (record { caller = caller; op = O.Stop G.All; reply = reply }) c ≡ false = rw (ends, z) (and_no (not (is_ended reply))) in absurd cc
+    by_test : (t : Bool) → (c == 0) ≡ t → halts own (record { caller = caller; op = Op.Stop Group.All; reply = reply }) c ≡ true → is_running (get_or states c d).phase ≡ false
+    by_test true z h = let e : halts own (record { caller = caller; op = Op.Stop Group.All; reply = reply }) c ≡ false = rw (ends, z) (and_no (not (is_ended reply))) in absurd cc
     by_test false z h = let ne : c ≢ 0 = grind (arith, nat_tests) in none_running_at states c d none within ne
-quiet own caller (O.Kill G.All) reply states c d ends none within = record {
+quiet own caller (Op.Kill Group.All) reply states c d ends none within = record {
   kill = λ k. by_kill (c == 0) refl k;
   halt = λ h. by_halt (c == 0) refl h;
   start = if_same (is_ok reply) None;
-  given = gives_none (O.Kill G.All) reply false false false false refl ends;
+  given = gives_none (Op.Kill Group.All) reply false false false false refl ends;
 }
   where
-    by_kill : (t : Bool) → (c == 0) ≡ t → kills (record { caller = caller; op = O.Kill G.All; reply = reply }) c ≡ true → is_killed (get_or states c d).phase ≡ true
-    by_kill true z h = let e : kills (record { caller = caller; op = O.Kill G.All; reply = reply }) c ≡ false = rw (ends, z) (and_no (not (is_ended reply))) in absurd cc
+    by_kill : (t : Bool) → (c == 0) ≡ t → kills (record { caller = caller; op = Op.Kill Group.All; reply = reply }) c ≡ true → is_killed (get_or states c d).phase ≡ true
+    by_kill true z h = let e : kills (record { caller = caller; op = Op.Kill Group.All; reply = reply }) c ≡ false = rw (ends, z) (and_no (not (is_ended reply))) in absurd cc
     by_kill false z h = let ne : c ≢ 0 = grind (arith, nat_tests) in killed_at states c d none within ne
 
-    by_halt : (t : Bool) → (c == 0) ≡ t → halts own (record { caller = caller; op = O.Kill G.All; reply = reply }) c ≡ true → is_running (get_or states c d).phase ≡ false
-    by_halt true z h = let e : halts own (record { caller = caller; op = O.Kill G.All; reply = reply }) c ≡ false = rw (ends, z) (and_no (not (is_ended reply))) in absurd cc
+    by_halt : (t : Bool) → (c == 0) ≡ t → halts own (record { caller = caller; op = Op.Kill Group.All; reply = reply }) c ≡ true → is_running (get_or states c d).phase ≡ false
+    by_halt true z h = let e : halts own (record { caller = caller; op = Op.Kill Group.All; reply = reply }) c ≡ false = rw (ends, z) (and_no (not (is_ended reply))) in absurd cc
     by_halt false z h = let ne : c ≢ 0 = grind (arith, nat_tests) in killed_is_still (get_or states c d).phase (killed_at states c d none within ne)
-quiet own caller (O.Stop (G.One i)) reply states c d ends none within = absurd cc
-quiet own caller (O.Kill (G.One i)) reply states c d ends none within = absurd cc
+quiet own caller (Op.Stop (Group.One i)) reply states c d ends none within = absurd cc
+quiet own caller (Op.Kill (Group.One i)) reply states c d ends none within = absurd cc
 quiet own caller _ reply states c d ends none within = absurd cc
 
 pub none_found : (own : Option Comp) (e : Entry) (states : List ComponentState) → IsSettled states → ends_case e ≡ false → finds_none e.op states ≡ true →
@@ -146,20 +169,20 @@ not_false false h = absurd cc
 
 not_found : (own : Option Comp) (caller : Run) (op : Op) (reply : Reply) (c : ℕ) (p : Phase) → ends_case (record { caller = caller; op = op; reply = reply }) ≡ false → finds op p ≡ false →
     Quiet own (record { caller = caller; op = op; reply = reply }) c p
-not_found own caller (O.Stop G.All) reply c p ends none = record {
-  kill = λ k. let e : kills (record { caller = caller; op = O.Stop G.All; reply = reply }) c ≡ false = rw ends (and_no (not (is_ended reply))) in absurd cc;
+not_found own caller (Op.Stop Group.All) reply c p ends none = record {
+  kill = λ k. let e : kills (record { caller = caller; op = Op.Stop Group.All; reply = reply }) c ≡ false = rw ends (and_no (not (is_ended reply))) in absurd cc;
   halt = λ h. none;
   start = if_same (is_ok reply) None;
-  given = gives_none (O.Stop G.All) reply false false false false refl ends;
+  given = gives_none (Op.Stop Group.All) reply false false false false refl ends;
 }
-not_found own caller (O.Kill G.All) reply c p ends none = record {
+not_found own caller (Op.Kill Group.All) reply c p ends none = record {
   kill = λ k. not_false (is_killed p) none;
   halt = λ h. killed_is_still p (not_false (is_killed p) none);
   start = if_same (is_ok reply) None;
-  given = gives_none (O.Kill G.All) reply false false false false refl ends;
+  given = gives_none (Op.Kill Group.All) reply false false false false refl ends;
 }
-not_found own caller (O.Stop (G.One i)) reply c p ends none = absurd cc
-not_found own caller (O.Kill (G.One i)) reply c p ends none = absurd cc
+not_found own caller (Op.Stop (Group.One i)) reply c p ends none = absurd cc
+not_found own caller (Op.Kill (Group.One i)) reply c p ends none = absurd cc
 not_found own caller _ reply c p ends none = absurd cc
 
 -- a component that is not found stays as it is

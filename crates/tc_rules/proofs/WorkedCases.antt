@@ -1,13 +1,6 @@
 -- The worked cases compute, each from the definitions.
 use Rattle.std.proofs.Common.{refl}
-use Rattle.tc_rules.specs.History.{exists}
-use Rattle.tc_rules.specs.Phases.{phase}
-use Rattle.tc_rules.specs.Status.{running, alive, done, killed}
-use Rattle.tc_rules.specs.Waiting.{holds, is_stuck}
-use Rattle.tc_rules.specs.Faults.{all_exist, start_fault, components, fault}
-use Rattle.tc_rules.specs.Answers.{is_active, answer}
-use Rattle.tc_rules.specs.Local.{local, overall}
-use Rattle.tc_rules.specs.Inside.WorkedCases.{WorkedCases}
+use Rattle.tc_rules.specs.{Answers.answer, Answers.is_active, Faults.all_exist, Faults.components, Faults.fault, Faults.start_fault, History.exists, Inside.WorkedCases.WorkedCases, Local.local, Local.overall, Phases.phase, Status.alive, Status.done, Status.killed, Status.running, Waiting.holds, Waiting.is_stuck}
 
 pub worked_cases : WorkedCases
 unfolding exists phase running alive done killed local overall holds is_stuck all_exist start_fault components fault is_active answer

@@ -1,15 +1,9 @@
 -- Which entry decided the verdict of a test case, and who made it.
 use Rattle.std.specs.Prelude.{ℕ, ◌≡◌, ◌<◌, ◌↔◌, nat_lt, if◌then◌else◌, Option, Some, None, MatchOption, List, [], ◌∷◌, ◌++◌, length}
 use Rattle.std.specs.List.{flat_map}
-use Rattle.tc_verdict.specs.declared.verdict.Verdict.{Verdict}
-use Rattle.tc_verdict.specs.declared.verdict.Verdict.TheVariants as V
-use Rattle.tc_verdict.specs.Prelude.{level_of, worst}
-use Rattle.tc_entry.specs.declared.entry.Entry.{Entry}
-use Rattle.tc_entry.specs.declared.op.Op.{Op}
-use Rattle.tc_entry.specs.declared.op.Op.TheVariants as O
-use Rattle.tc_rules.specs.History.{created, first_some, is_comp}
-use Rattle.tc_rules.specs.Local.{gives, overall}
-use Rattle.tc_rules.specs.Legal.{IsLegal}
+use Rattle.tc_entry.specs.Prelude.{Verdict, level_of, worst}
+use Rattle.tc_entry.specs.declared.{entry.Entry.Entry, op.Op.Op}
+use Rattle.tc_rules.specs.{History.created, History.first_some, History.is_comp, Legal.IsLegal, Local.gives, Local.overall}
 
 -- the entry at this place, counted from 0, decides: the overall verdict is the reported one from this entry on, and not before
 abbrev pub IsDeciding : List Entry → ℕ → Type 0
@@ -28,14 +22,18 @@ deciding (e ∷ past) =
 
 -- in a legal history that entry decides; there is none exactly if the overall verdict is none
 abbrev pub DecidesIfLegal : List Entry → Option ℕ → Type 0
-DecidesIfLegal past at = (n : ℕ) → IsLegal n past → MatchOption at (overall past ≡ V.None) (IsDeciding past)
+DecidesIfLegal past at = (n : ℕ) → IsLegal n past → MatchOption at (overall past ≡ Verdict.None) (IsDeciding past)
 
 -- the name that an operation gives
 abbrev pub name_in : Op → Option (List ℕ)
-name_in (O.Create alive name) = name
+name_in (Op.Create alive name) = name
 name_in _ = None
+
+-- the name that this entry gives to component c
+abbrev pub name_given : Entry → ℕ → Option (List ℕ)
+name_given e c = if is_comp (created e.op e.reply) c then name_in e.op else None
 
 -- the name of component c, if its creation gave it one
 abbrev pub component_name : List Entry → ℕ → Option (List ℕ)
 component_name [] c = None
-component_name (e ∷ past) c = first_some (component_name past c) (if is_comp (created e.op e.reply) c then name_in e.op else None)
+component_name (e ∷ past) c = first_some (component_name past c) (name_given e c)

@@ -2,14 +2,8 @@
 -- Here and in the files next to it, `past` lists the entries so far, the newest first, and components and runs are
 -- numbers.
 use Rattle.std.specs.Prelude.{ℕ, ◌==◌, ◌&&◌, ◌||◌, not, if◌then◌else◌, Bool, true, false, Option, Some, None, List, [], ◌∷◌, ◌++◌, drop}
-use Rattle.tc_verdict.specs.declared.run.Run.{Run}
-use Rattle.tc_entry.specs.declared.comp.Comp.{Comp}
-use Rattle.tc_entry.specs.declared.entry.Entry.{Entry}
-use Rattle.tc_entry.specs.declared.op.Op.{Op}
-use Rattle.tc_entry.specs.declared.op.Op.TheVariants as O
-use Rattle.tc_entry.specs.declared.reply.Reply.{Reply}
-use Rattle.tc_entry.specs.declared.reply.Reply.TheVariants as R
-use Rattle.tc_entry.specs.Prelude.{is_of, is_ended, is_fault, is_ok}
+use Rattle.tc_entry.specs.Prelude.{Run, is_of, is_ended, is_fault, is_ok}
+use Rattle.tc_entry.specs.declared.{comp.Comp.Comp, entry.Entry.Entry, op.Op.Op, reply.Reply.Reply}
 
 -- a number is in a list
 abbrev pub is_in : ℕ → List ℕ → Bool
@@ -28,22 +22,22 @@ is_comp None c = false
 
 -- the component that a Create made
 abbrev pub created : Op → Reply → Option Comp
-created (O.Create alive name) (R.Made c) = Some c
+created (Op.Create alive name) (Reply.Made c) = Some c
 created _ _ = None
 
 -- the operation is a Create
 abbrev pub is_create : Op → Bool
-is_create (O.Create alive name) = true
+is_create (Op.Create alive name) = true
 is_create _ = false
 
 -- the operation is a Create of an alive-type component
 abbrev pub is_alive_create : Op → Bool
-is_alive_create (O.Create alive name) = alive
+is_alive_create (Op.Create alive name) = alive
 is_alive_create _ = false
 
 -- the component on which this operation starts run b
 abbrev pub starts_run : Op → ℕ → Option Comp
-starts_run (O.Start c run args) b = if run.0 == b then Some c else None
+starts_run (Op.Start c run args) b = if run.0 == b then Some c else None
 starts_run _ b = None
 
 -- the component on which the entry starts run b: a Start that was carried out
@@ -52,27 +46,27 @@ started_on e b = if is_ok e.reply then starts_run e.op b else None
 
 -- the run that this operation starts on component c
 abbrev pub starts_on : Op → ℕ → Option Run
-starts_on (O.Start d run args) c = if d.0 == c then Some run else None
+starts_on (Op.Start d run args) c = if d.0 == c then Some run else None
 starts_on _ c = None
 
 -- the operation is the end of a behaviour
 abbrev pub is_finish : Op → Bool
-is_finish O.Finish = true
+is_finish Op.Finish = true
 is_finish _ = false
 
 -- the operation stops the test case
 abbrev pub is_stop_case : Op → Bool
-is_stop_case O.StopCase = true
+is_stop_case Op.StopCase = true
 is_stop_case _ = false
 
 -- the operation is a Stop of component c
 abbrev pub is_stop_of : Op → ℕ → Bool
-is_stop_of (O.Stop group) c = is_of group c
+is_stop_of (Op.Stop group) c = is_of group c
 is_stop_of _ c = false
 
 -- the operation is a Kill of component c
 abbrev pub is_kill_of : Op → ℕ → Bool
-is_kill_of (O.Kill group) c = is_of group c
+is_kill_of (Op.Kill group) c = is_of group c
 is_kill_of _ c = false
 
 -- the components with one more

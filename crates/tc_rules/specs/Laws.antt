@@ -1,18 +1,8 @@
 -- What holds of every legal history, and the definitions leave unsaid.
 use Rattle.std.specs.Prelude.{ℕ, ◌≡◌, if◌then◌else◌, ◌↔◌, true, false, Some, None, List, [], ◌∷◌, ◌++◌, map}
-use Rattle.tc_verdict.specs.declared.verdict.Verdict.{Verdict}
-use Rattle.tc_verdict.specs.Prelude.{worst}
-use Rattle.tc_entry.specs.declared.comp.Comp.{Comp}
-use Rattle.tc_entry.specs.declared.entry.Entry.{Entry}
-use Rattle.tc_entry.specs.declared.op.Op.{Op}
-use Rattle.tc_entry.specs.declared.op.Op.TheVariants as O
-use Rattle.tc_entry.specs.declared.phase.Phase.TheVariants as P
-use Rattle.tc_entry.specs.Prelude.{is_ended}
-use Rattle.tc_rules.specs.History.{comp_of, is_comp, is_over}
-use Rattle.tc_rules.specs.Phases.{phase, was_killed, was_halted}
-use Rattle.tc_rules.specs.Local.{gives, local, overall}
-use Rattle.tc_rules.specs.Legal.{IsLegal, IsAllOver}
-use Rattle.tc_rules.specs.Standing.{Kept, StandsFor}
+use Rattle.tc_entry.specs.Prelude.{Verdict, worst, is_ended}
+use Rattle.tc_entry.specs.declared.{comp.Comp.Comp, entry.Entry.Entry, op.Op.Op, phase.Phase.Phase}
+use Rattle.tc_rules.specs.{History.comp_of, History.is_comp, History.is_over, Legal.IsAllOver, Legal.IsLegal, Local.gives, Local.local, Local.overall, Phases.phase, Phases.was_halted, Phases.was_killed, Standing.Kept, Standing.StandsFor}
 pub use Rattle.tc_rules.specs.Inside.Laws.{halting_op, is_quiet, keeps_phases, lets_go_on, may_halt}
 
 -- after an entry that ends the case no component is alive, and every call is replied Ended
@@ -26,7 +16,7 @@ KilledWasHalted =
 
 -- the caller's component, and that it was running this very run
 abbrev pub RunsNow : List Entry → Entry → Comp → Type 0
-RunsNow past e c = (comp_of past e.caller.0 ≡ Some c) × (phase past c.0 ≡ P.Running (record { 0 = e.caller.0 }))
+RunsNow past e c = (comp_of past e.caller.0 ≡ Some c) × (phase past c.0 ≡ Phase.Running (record { 0 = e.caller.0 }))
 
 -- a caller that is not replied Ended is the running run of its component
 abbrev pub AnsweredIsRunning : Type 0
@@ -55,7 +45,7 @@ StandsForLegal = (k : Kept) (past : List Entry) → StandsFor k past → IsLegal
 
 -- the operation, without the name that a Create may give
 abbrev pub unnamed_op : Op → Op
-unnamed_op (O.Create alive name) = O.Create alive None
+unnamed_op (Op.Create alive name) = Op.Create alive None
 unnamed_op op = op
 
 -- the entry, without the name that it may give

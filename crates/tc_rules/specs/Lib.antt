@@ -8,15 +8,11 @@ pub mod Faults
 pub mod Answers
 pub mod Legal
 pub mod Laws
-pub mod Check
 pub mod Deciding
 pub mod Case
 pub mod Standing
 pub mod Inside
-pub mod Parts
 pub mod Merge
 pub mod Report
-pub mod Refusals
 pub mod Prelude
-pub use Rattle.tc_verdict.specs.Prelude as OfVerdict
 pub use Rattle.tc_entry.specs.Prelude as OfEntry

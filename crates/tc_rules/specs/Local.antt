@@ -1,26 +1,20 @@
 -- The local verdicts of the components, and the verdict of the case.
 use Rattle.std.specs.Prelude.{ℕ, Option, Some, None, if◌then◌else◌, List, [], ◌∷◌, ◌++◌, map}
-use Rattle.tc_verdict.specs.declared.verdict.Verdict.{Verdict}
-use Rattle.tc_verdict.specs.declared.verdict.Verdict.TheVariants as V
-use Rattle.tc_verdict.specs.Prelude.{worst, given}
-use Rattle.tc_entry.specs.declared.entry.Entry.{Entry}
-use Rattle.tc_entry.specs.declared.op.Op.{Op}
-use Rattle.tc_entry.specs.declared.op.Op.TheVariants as O
-use Rattle.tc_entry.specs.declared.reply.Reply.{Reply}
-use Rattle.tc_entry.specs.declared.reply.Reply.TheVariants as R
+use Rattle.tc_entry.specs.Prelude.{Verdict, worst, given}
+use Rattle.tc_entry.specs.declared.{entry.Entry.Entry, op.Op.Op, reply.Reply.Reply}
 use Rattle.tc_rules.specs.History.{comps, comp_of, exists, is_comp}
 
 -- the verdict that an operation sets
 abbrev pub setting : Op → List Verdict
-setting (O.SetVerdict v) = given v ∷ []
-setting O.StopCase = V.Error ∷ []
+setting (Op.SetVerdict v) = given v ∷ []
+setting Op.StopCase = Verdict.Error ∷ []
 setting _ = []
 
 -- the verdicts that an entry gives to its caller's component: what it sets, and error for a dynamic error or a stop of the
 -- test case
 abbrev pub gives : Op → Reply → List Verdict
-gives op R.Ok = setting op
-gives op (R.Fault f) = V.Error ∷ []
+gives op Reply.Ok = setting op
+gives op (Reply.Fault f) = Verdict.Error ∷ []
 gives op _ = []
 
 -- the verdicts given to component c, the newest first

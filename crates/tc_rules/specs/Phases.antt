@@ -1,11 +1,7 @@
 -- What a component is doing.
 use Rattle.std.specs.Prelude.{ℕ, ◌==◌, ◌&&◌, ◌||◌, not, if◌then◌else◌, Bool, false, Option, Some, None, is_some, List, [], ◌∷◌}
-use Rattle.tc_verdict.specs.declared.run.Run.{Run}
-use Rattle.tc_entry.specs.declared.comp.Comp.{Comp}
-use Rattle.tc_entry.specs.declared.entry.Entry.{Entry}
-use Rattle.tc_entry.specs.declared.phase.Phase.{Phase}
-use Rattle.tc_entry.specs.declared.phase.Phase.TheVariants as P
-use Rattle.tc_entry.specs.Prelude.{is_ok}
+use Rattle.tc_entry.specs.Prelude.{Run, is_ok}
+use Rattle.tc_entry.specs.declared.{comp.Comp.Comp, entry.Entry.Entry, phase.Phase.Phase}
 use Rattle.tc_rules.specs.History.{exists, is_alive_type, comp_of, starts_on, first_some, is_comp, is_stop_of, is_kill_of, halts, kills}
 
 -- an entry after its creation killed component c
@@ -42,14 +38,14 @@ is_excused (e ∷ past) c =
 
 -- what a component is doing that no entry killed, by the run of its last start, if it was started
 abbrev pub phase_if_not_killed : Option Run → Bool → Bool → Phase
-phase_if_not_killed None halted alive_type = P.Inactive
+phase_if_not_killed None halted alive_type = Phase.Inactive
 phase_if_not_killed (Some run) halted alive_type =
-    if not halted then P.Running run else if alive_type then P.Stopped else P.Killed
+    if not halted then Phase.Running run else if alive_type then Phase.Stopped else Phase.Killed
 
 -- what component c is doing
 unfoldable pub phase : List Entry → ℕ → Phase
 phase past c =
-    if was_killed past c then P.Killed else phase_if_not_killed (last_run past c) (was_halted past c) (is_alive_type past c)
+    if was_killed past c then Phase.Killed else phase_if_not_killed (last_run past c) (was_halted past c) (is_alive_type past c)
 
 -- the same, if the component exists
 unfoldable pub phase_if_any : List Entry → ℕ → Option Phase

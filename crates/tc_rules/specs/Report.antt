@@ -1,14 +1,9 @@
--- What a closed case reports: one history of one thread.
-use Rattle.std.specs.Prelude.{ℕ, ◌≡◌, ◌++◌, [], true, None, List, length, reverse, map, filter}
+-- What a closed case reports: one history of one thread; and why a case was not closed, or has no report.
+use Rattle.std.specs.Prelude.{ℕ, ◌≡◌, ◌++◌, [], true, None, List, length, reverse, map, filter, codes}
 use Rattle.std.specs.List.{range_with_len}
-use Rattle.tc_verdict.specs.Prelude.{worst}
+use Rattle.tc_entry.specs.Prelude.{worst, memory_text}
 use Rattle.tc_entry.specs.declared.entry.Entry.{Entry}
-use Rattle.tc_rules.specs.History.{comps, comp_of, is_over}
-use Rattle.tc_rules.specs.Local.{local, overall}
-use Rattle.tc_rules.specs.Legal.{IsLegal, IsAllOver}
-use Rattle.tc_rules.specs.Merge.{is_other, merge, logged}
-use Rattle.tc_rules.specs.declared.closed.Closed.{Closed}
-use Rattle.tc_rules.specs.Parts.{part, logs_below}
+use Rattle.tc_rules.specs.{History.comp_of, History.comps, History.is_over, Legal.IsAllOver, Legal.IsLegal, Local.local, Local.overall, Merge.is_other, Merge.logged, Merge.logs_below, Merge.merge, Merge.part, declared.closed.CloseFault.CloseFault, declared.closed.Closed.Closed, declared.refusal.CaseError.CaseError}
 
 -- the entries of a closed case, the newest first
 abbrev pub past_of_closed : Closed → List Entry
@@ -40,3 +35,21 @@ pub record IsOneHistory (c : Closed) : Type 0 where
   -- the overall verdict, which is the worst of them
   pub verdict : c.verdict ≡ overall (past_of_closed c)
   pub worst_of_locals : c.verdict ≡ worst c.locals
+
+-- why a case was not closed
+abbrev pub close_text : CloseFault → List ℕ
+close_text CloseFault.Torn = codes "torn"
+close_text CloseFault.NoMemory = memory_text
+
+-- why a case has no report, in words
+abbrev pub refusal_text : CaseError → List ℕ
+refusal_text CaseError.NoBehaviours = codes "no behaviours"
+refusal_text CaseError.TooManyBehaviours = codes "too many behaviours"
+refusal_text CaseError.NoMemory = memory_text
+refusal_text CaseError.NoThread = codes "no thread"
+refusal_text CaseError.Torn = close_text CloseFault.Torn
+
+-- the refusal by which a case that was not closed is answered
+abbrev pub of_close : CloseFault → CaseError
+of_close CloseFault.Torn = CaseError.Torn
+of_close CloseFault.NoMemory = CaseError.NoMemory

@@ -1,14 +1,9 @@
 -- What contracts see of a case's state, and the histories that it represents: a new state represents no entries, a call
 -- adds its entry, and each answer is about the entries. So nothing has to be known of what is kept.
 use Rattle.std.specs.Prelude.{ℕ, ◌≡◌, Bool, List, ◌∷◌}
-use Rattle.tc_verdict.specs.declared.run.Run.{Run}
-use Rattle.tc_entry.specs.declared.entry.Entry.{Entry}
-use Rattle.tc_entry.specs.declared.op.Op.{Op}
-use Rattle.tc_entry.specs.declared.reply.Reply.{Reply}
-use Rattle.tc_rules.specs.declared.component_state.ComponentState.{ComponentState}
-use Rattle.tc_rules.specs.declared.run_state.RunState.{RunState}
-use Rattle.tc_rules.specs.Answers.{answer}
-use Rattle.tc_rules.specs.Inside.Kept.{IsKept}
+use Rattle.tc_entry.specs.Prelude.{Run}
+use Rattle.tc_entry.specs.declared.{entry.Entry.Entry, op.Op.Op, reply.Reply.Reply}
+use Rattle.tc_rules.specs.{Answers.answer, Inside.Kept.IsKept, declared.component_state.ComponentState.ComponentState, declared.run_state.RunState.RunState}
 
 -- what is kept of a test case next to its history
 pub record Kept : Type 0 where

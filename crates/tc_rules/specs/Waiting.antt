@@ -2,27 +2,18 @@
 -- All of it is this project's own: there are no timers, so a case that waits for what cannot come is stuck.
 use Rattle.std.specs.Prelude.{ℕ, ◌==◌, not, if◌then◌else◌, Bool, true, false, Option, Some, None, List, [], ◌∷◌}
 use Rattle.std.specs.List.{list_all}
-use Rattle.tc_rules.specs.declared.awaited.Awaited.{Awaited}
-use Rattle.tc_entry.specs.declared.entry.Entry.{Entry}
-use Rattle.tc_entry.specs.declared.op.Op.{Op}
-use Rattle.tc_entry.specs.declared.op.Op.TheVariants as O
-use Rattle.tc_entry.specs.declared.phase.Phase.{Phase}
-use Rattle.tc_entry.specs.declared.phase.Phase.TheVariants as P
-use Rattle.tc_entry.specs.declared.reply.Reply.{Reply}
-use Rattle.tc_entry.specs.declared.reply.Reply.TheVariants as R
-use Rattle.tc_rules.specs.History.{comps}
-use Rattle.tc_rules.specs.Phases.{phase}
-use Rattle.tc_rules.specs.Status.{done, killed}
+use Rattle.tc_entry.specs.declared.{entry.Entry.Entry, op.Op.Op, phase.Phase.Phase, reply.Reply.Reply}
+use Rattle.tc_rules.specs.{History.comps, Phases.phase, Status.done, Status.killed, declared.awaited.Awaited.Awaited}
 
 -- what a Wait or a Wake is for
 abbrev pub awaited : Op → Option Awaited
-awaited (O.Wait k t) = Some (record { killed = k; target = t })
-awaited (O.Wake k t) = Some (record { killed = k; target = t })
+awaited (Op.Wait k t) = Some (record { killed = k; target = t })
+awaited (Op.Wake k t) = Some (record { killed = k; target = t })
 awaited _ = None
 
 -- what the caller waits for after this call: a Wait or Wake replied Parked
 abbrev pub parks : Op → Reply → Option Awaited
-parks op R.Parked = awaited op
+parks op Reply.Parked = awaited op
 parks op _ = None
 
 -- what run b waits for: its last entry is a Wait or Wake replied Parked
@@ -41,7 +32,7 @@ waits_in_vain past (Some a) = not (holds past a)
 
 -- a component in this phase does not keep the case from being stuck
 abbrev pub is_still : List Entry → Phase → Bool
-is_still past (P.Running run) = waits_in_vain past (waiting past run.0)
+is_still past (Phase.Running run) = waits_in_vain past (waiting past run.0)
 is_still past _ = true
 
 -- every run that is running waits, and the target of none of them holds

@@ -1,9 +1,7 @@
 //! Whether a list of entries is one that the table makes.
 ghost use Rattle.std.specs.Prelude.{◌≡◌, ◌≤◌, IfOk, IfErr, reverse};
 ghost use Rattle.tc_entry.specs.declared.limits.TheConstants.{BEHAVIOURS};
-ghost use Rattle.tc_rules.specs.Legal.{IsLegal};
-ghost use Rattle.tc_rules.specs.Standing.{StandsFor};
-ghost use Rattle.tc_rules.specs.Check.{IsFaultOf};
+ghost use Rattle.tc_rules.specs.{Legal.IsFaultOf, Legal.IsLegal, Standing.StandsFor};
 ghost use Rattle.tc_rules.specs.Local as verdicts;
 
 use crate::state::CaseState;

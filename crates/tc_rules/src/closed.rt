@@ -1,6 +1,6 @@
 //! The report of a closed case.
 ghost use Rattle.std.specs.Prelude.{◌≡◌, Some};
-ghost use Rattle.tc_rules.specs.Refusals.{close_text};
+ghost use Rattle.tc_rules.specs.Report.{close_text};
 
 use crate::run_log::RunLog;
 use std::fmt;

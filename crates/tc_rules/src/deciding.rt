@@ -1,6 +1,6 @@
 //! Which entry decided the verdict of a test case, and who made it.
-ghost use Rattle.std.specs.Prelude.{◌≡◌, ◌<◌, if◌then◌else◌, nat_lt, None, Some, IfSome, reverse, length};
-ghost use Rattle.tc_verdict.specs.Prelude.{level_of};
+ghost use Rattle.std.specs.Prelude.{◌≡◌, ◌<◌, if◌then◌else◌, nat_lt, None, Some, IfSome, option_copied, reverse, length};
+ghost use Rattle.tc_entry.specs.Prelude.{level_of};
 ghost use Rattle.tc_rules.specs.Deciding as spec;
 ghost use Rattle.tc_rules.specs.History as histories;
 
@@ -55,21 +55,21 @@ pub fn component_of(history: &[Entry], run: Run) -> Option<Comp>
 }
 
 /// The name that the entry gives to the component.
-fn name_given(entry: &Entry, comp: Comp) -> Option<Name>
-    ensures { result ≡ (if histories.is_comp (histories.created entry.now.op entry.now.reply) comp.0 then spec.name_in entry.now.op else None) }
+fn name_given(entry: &Entry, comp: Comp) -> Option<&Name>
+    ensures { option_copied result ≡ spec.name_given entry.now comp.0 }
 {
     if !is_comp(created(&entry.op, entry.reply), comp.0) {
         return None;
     }
     match &entry.op {
-        Op::Create { name, .. } => name.as_ref().map(Name::copy),
+        Op::Create { name, .. } => name.as_ref(),
         _ => None,
     }
 }
 
 /// The name of a component, if its creation gave it one.
-pub fn name_of(history: &[Entry], comp: Comp) -> Option<Name>
-    ensures { result ≡ spec.component_name (reverse history.now) comp.0 }
+pub fn name_of(history: &[Entry], comp: Comp) -> Option<&Name>
+    ensures { option_copied result ≡ spec.component_name (reverse history.now) comp.0 }
 {
     let mut name = None;
     for entry in history {

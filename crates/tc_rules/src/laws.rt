@@ -1,6 +1,6 @@
 //! Laws of legal histories, and the worked cases: each function does nothing, and its contract is the law.
-ghost use Rattle.tc_rules.specs.Laws as laws;
 ghost use Rattle.tc_rules.specs.Inside.WorkedCases.{WorkedCases};
+ghost use Rattle.tc_rules.specs.Laws as laws;
 
 /// After an entry that ends the case no component is alive, and every further call is replied Ended.
 #[tactic(auto, using(crate::proofs::Lemmas::LawsOfHistories::over_for_all))]

@@ -1,10 +1,8 @@
 //! The local verdicts of all components.
 ghost use Rattle.std.specs.Prelude.{◌≡◌, ◌<◌, IfOk, List, map};
-ghost use Rattle.tc_entry.specs.declared.entry.Entry.{Entry as AnyEntry};
-ghost use Rattle.tc_rules.specs.Faults.{components};
-ghost use Rattle.tc_rules.specs.History.{comps};
+ghost use Rattle.tc_entry.specs.declared.entry.Entry.{Entry};
+ghost use Rattle.tc_rules.specs.{Faults.components, History.comps, Standing.StandsFor};
 ghost use Rattle.tc_rules.specs.Local as verdicts;
-ghost use Rattle.tc_rules.specs.Standing.{StandsFor};
 
 use crate::state::CaseState;
 use std::alloc::Global;
@@ -13,7 +11,7 @@ use tc_verdict::{NoMemory, Verdict};
 
 /// The local verdict of a component; none if there is no such component.
 fn local_of(state: &CaseState, comp: u32) -> Verdict
-    ensures { (past : List AnyEntry) → StandsFor state.now past → comp < components past → result ≡ verdicts.local past comp }
+    ensures { (past : List Entry) → StandsFor state.now past → comp < components past → result ≡ verdicts.local past comp }
 {
     match state.local(Comp(comp)) {
         Some(local) => local,
@@ -23,7 +21,7 @@ fn local_of(state: &CaseState, comp: u32) -> Verdict
 
 /// The local verdict of each component of a case of which this state is kept.
 pub fn locals_of(alloc: Global, state: &CaseState) -> Result<Vec<Verdict>, NoMemory>
-    ensures { (past : List AnyEntry) → StandsFor state.now past → IfOk result (λ v. v.items ≡ map (verdicts.local past) (comps past)) }
+    ensures { (past : List Entry) → StandsFor state.now past → IfOk result (λ v. v.items ≡ map (verdicts.local past) (comps past)) }
 {
     let mut locals = Vec::new(alloc);
     for comp in 0..state.components() {

@@ -1,7 +1,6 @@
 //! Why a case has no report.
 ghost use Rattle.std.specs.Prelude.{◌≡◌, Some};
-ghost use Rattle.tc_rules.specs.declared.refusal.CaseError.TheVariants as refusals;
-ghost use Rattle.tc_rules.specs.Refusals.{of_close, refusal_text};
+ghost use Rattle.tc_rules.specs.{Report.of_close, Report.refusal_text, declared.refusal.CaseError.CaseError};
 
 use crate::closed::CloseFault;
 use std::alloc::AllocError;
@@ -48,7 +47,7 @@ impl fmt::Display for CaseError {
 }
 
 impl From<NoMemory> for CaseError {
-    ghost from_gives = { λ _ e. e ≡ refusals.NoMemory };
+    ghost from_gives = { λ _ e. e ≡ CaseError.NoMemory };
 
     fn from(_: NoMemory) -> CaseError {
         CaseError::NoMemory
@@ -56,7 +55,7 @@ impl From<NoMemory> for CaseError {
 }
 
 impl From<AllocError> for CaseError {
-    ghost from_gives = { λ _ e. e ≡ refusals.NoMemory };
+    ghost from_gives = { λ _ e. e ≡ CaseError.NoMemory };
 
     fn from(_: AllocError) -> CaseError {
         CaseError::NoMemory

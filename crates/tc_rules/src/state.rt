@@ -1,9 +1,7 @@
 //! What is kept of a test case next to its history.
 ghost use Rattle.std.specs.Prelude.{◌≡◌, ◌≢◌, ◌<◌, ◌≤◌, [], false, List, IfOk, IfSome, IfNone, OnErr};
-ghost use Rattle.std.specs.Bool.{OnTrue};
-ghost use Rattle.std.specs.Result.{IsOk};
+ghost use Rattle.std.specs.{Bool.OnTrue, Result.IsOk};
 ghost use Rattle.tc_entry.specs.declared.limits.TheConstants.{BEHAVIOURS};
-ghost use Rattle.tc_entry.specs.declared.entry.Entry.{Entry};
 ghost use Rattle.tc_rules.specs.Standing.{StandsFor, IsReplyOf, TakesIn};
 ghost use Rattle.tc_rules.specs.History as history;
 ghost use Rattle.tc_rules.specs.Phases as phases;
@@ -14,6 +12,7 @@ ghost use Rattle.tc_rules.specs.Legal as legal;
 mod adding;
 mod answers;
 mod faults;
+mod parked;
 mod status;
 mod waiting;
 

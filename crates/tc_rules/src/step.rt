@@ -2,8 +2,8 @@
 ghost use Rattle.std.specs.Prelude.{◌≡◌, ◌≢◌, ℕ, None, false, length, slice_index_or};
 ghost use Rattle.tc_rules.specs.History as history;
 ghost use Rattle.tc_rules.specs.Local as verdicts;
+ghost use Rattle.tc_rules.specs.Merge as merge;
 ghost use Rattle.tc_rules.specs.Inside.Step as step;
-ghost use Rattle.tc_rules.specs.declared.step.Scope.TheVariants as changed;
 
 use crate::component_state::{ComponentState, is_killed, is_running};
 use crate::component_states::ComponentStates;
@@ -179,7 +179,7 @@ fn take_in_all(states: &mut ComponentStates, own: Option<Comp>, entry: &Entry)
 #[inline(always)]
 fn take_in_one(states: &mut ComponentStates, own: Option<Comp>, entry: &Entry, comp: Comp)
     requires settled { step.IsSettled states.old }
-    requires touched { step.touched own entry.now ≡ changed.One comp }
+    requires touched { step.touched own entry.now ≡ Scope.One comp }
     ensures as_many { length states.new ≡ length states.old }
     ensures each { step.AreNext own entry.now states.old states.new }
 {
@@ -314,7 +314,7 @@ fn take_in_run(runs: &mut Vec<RunState>, entry: &Entry, run: Run)
 /// The same of all runs, for an entry that starts none: it changes its caller.
 #[inline(always)]
 pub(crate) fn take_in_caller(runs: &mut Vec<RunState>, entry: &Entry)
-    requires starts_none { step.started_run entry.now.op ≡ None }
+    requires starts_none { merge.started_run entry.now.op ≡ None }
     ensures as_many { length runs.new.items ≡ length runs.old.items }
     ensures each { (b : ℕ) → step.IsNextRun entry.now b runs.old.items runs.new.items }
 {

@@ -1,7 +1,6 @@
 //! The component table.
 ghost use Rattle.std.specs.Prelude.{◌≡◌, ◌<◌, ◌≤◌, ◌+◌, ◌++◌, ◌∷◌, [], false, IfOk, OnErr, OnOk};
-ghost use Rattle.std.specs.Bool.{OnTrue};
-ghost use Rattle.std.specs.Result.{IsOk};
+ghost use Rattle.std.specs.{Bool.OnTrue, Result.IsOk};
 ghost use Rattle.tc_entry.specs.declared.limits.TheConstants.{BEHAVIOURS};
 ghost use Rattle.tc_rules.specs.Case.{past_of};
 ghost use Rattle.tc_rules.specs.History as history;
@@ -10,6 +9,8 @@ ghost use Rattle.tc_rules.specs.Local as verdicts;
 ghost use Rattle.tc_rules.specs.Faults as faults;
 ghost use Rattle.tc_rules.specs.Answers as answers;
 ghost use Rattle.tc_rules.specs.Legal as legal;
+
+mod parked;
 
 use crate::state::CaseState;
 use std::alloc::Global;

@@ -1,78 +1,70 @@
 -- What the answer to a step's call says of the pass after it.
 use Rattle.std.proofs.Common.{ℕ, ◌≡◌, ◌∙◌, inl, inr, ◌++◌, Bool, true, false, not, is_ok, Option, MatchOption, List, [], ◌∷◌, length, Result, Ok, Err, refl, sym, ap}
-use Rattle.std.proofs.lemmas.List.Folds.{list_any-append}
-use Rattle.std.proofs.lemmas.Bool.{or_left, or_right}
+use Rattle.std.proofs.lemmas.{Bool.or_left, Bool.or_right, List.Folds.list_any-append}
 use Rattle.std.specs.List.{list_any}
 use Rattle.tc_rules.specs.Prelude.{Run, NoMemory, Comp, Op, Fault, Reply, ends_pass, is_parked}
-use Rattle.tc_entry.specs.declared.op.Op.TheVariants as O
-use Rattle.tc_entry.specs.declared.reply.Reply.TheVariants as R
-use Rattle.tc_step.specs.declared.place.Place.{Place}
-use Rattle.tc_step.specs.declared.place.TargetPlace.{TargetPlace}
-use Rattle.tc_step.specs.declared.step.Step.{Step}
-use Rattle.tc_step.specs.declared.step.Step.TheVariants as S
+use Rattle.tc_step.specs.declared.{place.Place.Place, place.TargetPlace.TargetPlace, step.Step.Step}
 use Rattle.tc_step.specs.Prelude.{operation, target, count_after}
 use Rattle.tc_book.specs.Prelude.{IsCall, IsWait, PassState, Waits, has_ended, entry_of, with_own_entry, reply_of}
 use Rattle.tc_book.specs.declared.halt.Halt.{Halt}
-use Rattle.tc_book.specs.declared.halt.Halt.TheVariants as H
-use Rattle.tc_script.specs.Calls.{Calls, bound_behind}
-use Rattle.tc_script.specs.Inside.{is_refused, Carried, IsStepped, creates, waits}
+use Rattle.tc_script.specs.{Calls.Calls, Calls.bound_behind, Inside.Carried, Inside.IsStepped, Inside.creates, Inside.is_refused, Inside.waits}
 
 pub carried : {A : Type 0} (said : A → Reply) (P Q : Reply → Type 0) (same same-new : Type 0) (answer : Result A Halt) (result : Result (Unit {0}) NoMemory)
     → MatchOption (reply_of said answer) same P → is_ok result ≡ not (is_refused answer) → ((r : Reply) → P r → Q r) → (same → same-new) → Carried Q same-new result
 carried said P Q same same-new (Ok a) (Ok u) by is more less = (said a, more (said a) by)
-carried said P Q same same-new (Err H.Ended) (Ok u) by is more less = (R.Ended, more R.Ended by)
-carried said P Q same same-new (Err (H.Fault f)) (Ok u) by is more less = (R.Fault f, more (R.Fault f) by)
-carried said P Q same same-new (Err H.NoMemory) (Ok u) by is more less = absurd (cc)
+carried said P Q same same-new (Err Halt.Ended) (Ok u) by is more less = (Reply.Ended, more Reply.Ended by)
+carried said P Q same same-new (Err (Halt.Fault f)) (Ok u) by is more less = (Reply.Fault f, more (Reply.Fault f) by)
+carried said P Q same same-new (Err Halt.NoMemory) (Ok u) by is more less = absurd (cc)
 carried said P Q same same-new (Ok a) (Err e) by is more less = absurd (cc)
-carried said P Q same same-new (Err H.Ended) (Err e) by is more less = absurd (cc)
-carried said P Q same same-new (Err (H.Fault f)) (Err e) by is more less = absurd (cc)
-carried said P Q same same-new (Err H.NoMemory) (Err e) by is more less = less by
+carried said P Q same same-new (Err Halt.Ended) (Err e) by is more less = absurd (cc)
+carried said P Q same same-new (Err (Halt.Fault f)) (Err e) by is more less = absurd (cc)
+carried said P Q same same-new (Err Halt.NoMemory) (Err e) by is more less = less by
 
 -- a step's call changes no argument
 args_same : (s : Step) (bound : List Comp) (p q : PassState) (r : Reply) → Calls bound s p q r → q.args ≡ p.args
-args_same (S.Create alive name) bound p q r is = ap (λ x. x.args) is
-args_same (S.Start on run args) bound p q r is = ap (λ x. x.args) is
-args_same (S.Stop g) bound p q r is = ap (λ x. x.args) is
-args_same (S.Kill g) bound p q r is = ap (λ x. x.args) is
-args_same (S.Ask status t) bound p q r is = ap (λ x. x.args) is
-args_same (S.Wait killed t) bound p q r (inl is, awake) = ap (λ x. x.args) is
-args_same (S.Wait killed t) bound p q r (inr is, awake) = ap (λ x. x.args) is
-args_same (S.SetVerdict v) bound p q r is = ap (λ x. x.args) is
-args_same S.StopCase bound p q r is = ap (λ x. x.args) is
-args_same S.GetVerdict bound p q r is = ap (λ x. x.args) is
+args_same (Step.Create alive name) bound p q r is = ap (λ x. x.args) is
+args_same (Step.Start on run args) bound p q r is = ap (λ x. x.args) is
+args_same (Step.Stop g) bound p q r is = ap (λ x. x.args) is
+args_same (Step.Kill g) bound p q r is = ap (λ x. x.args) is
+args_same (Step.Ask status t) bound p q r is = ap (λ x. x.args) is
+args_same (Step.Wait killed t) bound p q r (inl is, awake) = ap (λ x. x.args) is
+args_same (Step.Wait killed t) bound p q r (inr is, awake) = ap (λ x. x.args) is
+args_same (Step.SetVerdict v) bound p q r is = ap (λ x. x.args) is
+args_same Step.StopCase bound p q r is = ap (λ x. x.args) is
+args_same Step.GetVerdict bound p q r is = ap (λ x. x.args) is
 
 binds_none : (s : Step) (r : Reply) (bound : List Comp) → creates s ≡ false → bound_behind s r bound ≡ bound
-binds_none (S.Create alive name) r bound is = absurd (cc)
-binds_none (S.Start on run args) r bound is = refl
-binds_none (S.Stop g) r bound is = refl
-binds_none (S.Kill g) r bound is = refl
-binds_none (S.Ask status t) r bound is = refl
-binds_none (S.Wait killed t) r bound is = refl
-binds_none (S.SetVerdict v) r bound is = refl
-binds_none S.StopCase r bound is = refl
-binds_none S.GetVerdict r bound is = refl
+binds_none (Step.Create alive name) r bound is = absurd (cc)
+binds_none (Step.Start on run args) r bound is = refl
+binds_none (Step.Stop g) r bound is = refl
+binds_none (Step.Kill g) r bound is = refl
+binds_none (Step.Ask status t) r bound is = refl
+binds_none (Step.Wait killed t) r bound is = refl
+binds_none (Step.SetVerdict v) r bound is = refl
+binds_none Step.StopCase r bound is = refl
+binds_none Step.GetVerdict r bound is = refl
 
 counts_none : (s : Step) (n : ℕ) → creates s ≡ false → count_after n s ≡ n
-counts_none (S.Create alive name) n is = absurd (cc)
-counts_none (S.Start on run args) n is = refl
-counts_none (S.Stop g) n is = refl
-counts_none (S.Kill g) n is = refl
-counts_none (S.Ask status t) n is = refl
-counts_none (S.Wait killed t) n is = refl
-counts_none (S.SetVerdict v) n is = refl
-counts_none S.StopCase n is = refl
-counts_none S.GetVerdict n is = refl
+counts_none (Step.Create alive name) n is = absurd (cc)
+counts_none (Step.Start on run args) n is = refl
+counts_none (Step.Stop g) n is = refl
+counts_none (Step.Kill g) n is = refl
+counts_none (Step.Ask status t) n is = refl
+counts_none (Step.Wait killed t) n is = refl
+counts_none (Step.SetVerdict v) n is = refl
+counts_none Step.StopCase n is = refl
+counts_none Step.GetVerdict n is = refl
 
 calls_plain : (s : Step) (bound : List Comp) (p q : PassState) (r : Reply) → waits s ≡ false → q ≡ with_own_entry p (operation p.me bound s) r → Calls bound s p q r
-calls_plain (S.Create alive name) bound p q r other is = is
-calls_plain (S.Start on run args) bound p q r other is = is
-calls_plain (S.Stop g) bound p q r other is = is
-calls_plain (S.Kill g) bound p q r other is = is
-calls_plain (S.Ask status t) bound p q r other is = is
-calls_plain (S.Wait killed t) bound p q r other is = absurd (cc)
-calls_plain (S.SetVerdict v) bound p q r other is = is
-calls_plain S.StopCase bound p q r other is = is
-calls_plain S.GetVerdict bound p q r other is = is
+calls_plain (Step.Create alive name) bound p q r other is = is
+calls_plain (Step.Start on run args) bound p q r other is = is
+calls_plain (Step.Stop g) bound p q r other is = is
+calls_plain (Step.Kill g) bound p q r other is = is
+calls_plain (Step.Ask status t) bound p q r other is = is
+calls_plain (Step.Wait killed t) bound p q r other is = absurd (cc)
+calls_plain (Step.SetVerdict v) bound p q r other is = is
+calls_plain Step.StopCase bound p q r other is = is
+calls_plain Step.GetVerdict bound p q r other is = is
 
 -- a step that creates nothing
 pub stepped : (s : Step) (made : List Comp) (p q : PassState) (r : Reply) → creates s ≡ false → Calls (p.args ++ made) s p q r → IsStepped s (p.args ++ made) p (q.args ++ made) q r
@@ -95,55 +87,55 @@ plain_step said s op made p q answer result call is same on quiet no-wait =
 
 -- what a wait is answered by is not that it was parked
 awake : (P : Reply → Type 0) (same : Type 0) (answer : Result (Unit {0}) Halt)
-    → MatchOption (reply_of (λ _. R.Matched) answer) same P → MatchOption (reply_of (λ _. R.Matched) answer) same (λ r. P r × (is_parked r ≡ false))
+    → MatchOption (reply_of (λ _. Reply.Matched) answer) same P → MatchOption (reply_of (λ _. Reply.Matched) answer) same (λ r. P r × (is_parked r ≡ false))
 awake P same (Ok a) by = (by, refl)
-awake P same (Err H.Ended) by = (by, refl)
-awake P same (Err (H.Fault f)) by = (by, refl)
-awake P same (Err H.NoMemory) by = by
+awake P same (Err Halt.Ended) by = (by, refl)
+awake P same (Err (Halt.Fault f)) by = (by, refl)
+awake P same (Err Halt.NoMemory) by = by
 
 -- a wait
 pub wait_step : (killed : Bool) (t : TargetPlace (Place ℕ)) (made : List Comp) (p q : PassState) (answer : Result (Unit {0}) Halt) (result : Result (Unit {0}) NoMemory)
     → IsWait killed (target p.me (p.args ++ made) t) p q answer → is_ok result ≡ not (is_refused answer) → has_ended p ≡ false
-    → Carried (IsStepped (S.Wait killed t) (p.args ++ made) p (q.args ++ made) q) ((q ≡ p) × (made ≡ made)) result
+    → Carried (IsStepped (Step.Wait killed t) (p.args ++ made) p (q.args ++ made) q) ((q ≡ p) × (made ≡ made)) result
 wait_step killed t made p q answer result wait is on =
     let asked : Reply → Type 0 = Waits killed (target p.me (p.args ++ made) t) p q in
-    carried (λ _. R.Matched) (λ r. asked r × (is_parked r ≡ false)) (IsStepped (S.Wait killed t) (p.args ++ made) p (q.args ++ made) q) (q ≡ p) ((q ≡ p) × (made ≡ made)) answer result
+    carried (λ _. Reply.Matched) (λ r. asked r × (is_parked r ≡ false)) (IsStepped (Step.Wait killed t) (p.args ++ made) p (q.args ++ made) q) (q ≡ p) ((q ≡ p) × (made ≡ made)) answer result
     (awake asked (q ≡ p) answer (wait.replied on)) is
-    (λ r called. stepped (S.Wait killed t) made p q r refl called) (λ e. (e, refl))
+    (λ r called. stepped (Step.Wait killed t) made p q r refl called) (λ e. (e, refl))
 
 -- two starts of the same run, component and arguments
-pub start_same : (run : Run) {c d : Comp} {xs ys : List Comp} → c ≡ d → xs ≡ ys → O.Start c run xs ≡ O.Start d run ys
-start_same run {c} {d} {xs} {ys} one two = ap (λ x. O.Start x run xs) one ∙ ap (O.Start d run) two
+pub start_same : (run : Run) {c d : Comp} {xs ys : List Comp} → c ≡ d → xs ≡ ys → Op.Start c run xs ≡ Op.Start d run ys
+start_same run {c} {d} {xs} {ys} one two = ap (λ x. Op.Start x run xs) one ∙ ap (Op.Start d run) two
 
 ended_by_last : (p : PassState) (op : Op) (r : Reply) → ends_pass p.me (entry_of p.run op r) ≡ true → has_ended (with_own_entry p op r) ≡ true
 ended_by_last p op r ends =
     list_any-append (ends_pass p.me) p.log (entry_of p.run op r ∷ []) ∙ or_right (list_any (ends_pass p.me) p.log) (list_any (ends_pass p.me) (entry_of p.run op r ∷ [])) (or_left (ends_pass p.me (entry_of p.run op r)) false ends)
 
-ended_ends : (own : Comp) (run : Run) (op : Op) → ends_pass own (entry_of run op R.Ended) ≡ true
+ended_ends : (own : Comp) (run : Run) (op : Op) → ends_pass own (entry_of run op Reply.Ended) ≡ true
 unfolding ends_pass
 ended_ends own run op = refl
 
-fault_ends : (own : Comp) (run : Run) (op : Op) (f : Fault) → ends_pass own (entry_of run op (R.Fault f)) ≡ true
+fault_ends : (own : Comp) (run : Run) (op : Op) (f : Fault) → ends_pass own (entry_of run op (Reply.Fault f)) ≡ true
 unfolding ends_pass
 fault_ends own run op f = refl
 
 -- a create that was replied Ended, or by a dynamic error
-halted_at : (alive : Bool) (name : Option (List ℕ)) (made : List Comp) (p q : PassState) (r : Reply) → bound_behind (S.Create alive name) r (p.args ++ made) ≡ p.args ++ made
-    → ends_pass p.me (entry_of p.run (O.Create alive name) r) ≡ true → q ≡ with_own_entry p (O.Create alive name) r → IsStepped (S.Create alive name) (p.args ++ made) p (q.args ++ made) q r
+halted_at : (alive : Bool) (name : Option (List ℕ)) (made : List Comp) (p q : PassState) (r : Reply) → bound_behind (Step.Create alive name) r (p.args ++ made) ≡ p.args ++ made
+    → ends_pass p.me (entry_of p.run (Op.Create alive name) r) ≡ true → q ≡ with_own_entry p (Op.Create alive name) r → IsStepped (Step.Create alive name) (p.args ++ made) p (q.args ++ made) q r
 halted_at alive name made p q r same ends is = record {
   called = is;
   binds = ap (λ x. x.args ++ made) is ∙ sym same;
-  counts = λ on. let over : has_ended q ≡ true = ap has_ended is ∙ ended_by_last p (O.Create alive name) r ends in absurd (cc);
+  counts = λ on. let over : has_ended q ≡ true = ap has_ended is ∙ ended_by_last p (Op.Create alive name) r ends in absurd (cc);
 }
 
 pub create_halted : (alive : Bool) (name : Option (List ℕ)) (made made-new : List Comp) (p q : PassState) (h : Halt) (result : Result (Unit {0}) NoMemory) → is_ok result ≡ not (is_refused {A = Comp} (Err h))
-    → has_ended p ≡ false → IsCall R.Made (O.Create alive name) p q (Err h) → made-new ≡ made
-    → Carried (IsStepped (S.Create alive name) (p.args ++ made) p (q.args ++ made-new) q) ((q ≡ p) × (made-new ≡ made)) result
-create_halted alive name made made-new p q H.NoMemory (Err e) is on call same = (call.replied on, same)
-create_halted alive name made made-new p q H.NoMemory (Ok u) is on call same = absurd (cc)
-create_halted alive name made made-new p q H.Ended (Ok u) is on call same =
-    rw same (R.Ended, halted_at alive name made p q R.Ended refl (ended_ends p.me p.run (O.Create alive name)) (call.replied on))
-create_halted alive name made made-new p q H.Ended (Err e) is on call same = absurd (cc)
-create_halted alive name made made-new p q (H.Fault f) (Ok u) is on call same =
-    rw same (R.Fault f, halted_at alive name made p q (R.Fault f) refl (fault_ends p.me p.run (O.Create alive name) f) (call.replied on))
-create_halted alive name made made-new p q (H.Fault f) (Err e) is on call same = absurd (cc)
+    → has_ended p ≡ false → IsCall Reply.Made (Op.Create alive name) p q (Err h) → made-new ≡ made
+    → Carried (IsStepped (Step.Create alive name) (p.args ++ made) p (q.args ++ made-new) q) ((q ≡ p) × (made-new ≡ made)) result
+create_halted alive name made made-new p q Halt.NoMemory (Err e) is on call same = (call.replied on, same)
+create_halted alive name made made-new p q Halt.NoMemory (Ok u) is on call same = absurd (cc)
+create_halted alive name made made-new p q Halt.Ended (Ok u) is on call same =
+    rw same (Reply.Ended, halted_at alive name made p q Reply.Ended refl (ended_ends p.me p.run (Op.Create alive name)) (call.replied on))
+create_halted alive name made made-new p q Halt.Ended (Err e) is on call same = absurd (cc)
+create_halted alive name made made-new p q (Halt.Fault f) (Ok u) is on call same =
+    rw same (Reply.Fault f, halted_at alive name made p q (Reply.Fault f) refl (fault_ends p.me p.run (Op.Create alive name) f) (call.replied on))
+create_halted alive name made made-new p q (Halt.Fault f) (Err e) is on call same = absurd (cc)

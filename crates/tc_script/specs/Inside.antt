@@ -2,13 +2,10 @@
 use Rattle.std.specs.Prelude.{◌≡◌, ◌++◌, Bool, true, false, List, Result, Ok, Err, length}
 use Rattle.tc_rules.specs.Prelude.{NoMemory, Comp, Entry, Reply}
 use Rattle.tc_step.specs.declared.step.Step.{Step}
-use Rattle.tc_step.specs.declared.step.Step.TheVariants as S
 use Rattle.tc_step.specs.Prelude.{count_after, AreBound}
 use Rattle.tc_book.specs.Prelude.{PassState, has_ended}
 use Rattle.tc_book.specs.declared.halt.Halt.{Halt}
-use Rattle.tc_book.specs.declared.halt.Halt.TheVariants as H
 use Rattle.tc_exec.specs.declared.job.Ending.{Ending}
-use Rattle.tc_exec.specs.declared.job.Ending.TheVariants as E
 use Rattle.tc_script.specs.Calls.{Calls, bound_behind, HasCalled}
 
 -- the run, its component and its arguments are the same, and the log has grown
@@ -17,7 +14,7 @@ HasGrown before after = (more : List Entry) × (after ≡ record before { log = 
 
 -- a call was carried out unless memory ran out
 abbrev pub is_refused : {A : Type 0} → Result A Halt → Bool
-is_refused (Err H.NoMemory) = true
+is_refused (Err Halt.NoMemory) = true
 is_refused _ = false
 
 -- a call was carried out, and this holds of its reply; or memory ran out, and this holds
@@ -26,11 +23,11 @@ Carried P same (Ok u) = (reply : Reply) × P reply
 Carried P same (Err e) = same
 
 abbrev pub creates : Step → Bool
-creates (S.Create alive name) = true
+creates (Step.Create alive name) = true
 creates _ = false
 
 abbrev pub waits : Step → Bool
-waits (S.Wait killed t) = true
+waits (Step.Wait killed t) = true
 waits _ = false
 
 -- what a step did to the pass, and to what is bound
@@ -52,5 +49,5 @@ pub record IsSoFar (steps : List Step) (start : PassState) (left : List Step) (c
 
 -- how a behaviour comes back, by what its calls gave
 abbrev pub ending_of : Result (Unit {0}) NoMemory → Ending
-ending_of (Ok u) = E.Returned
-ending_of (Err e) = E.Starved
+ending_of (Ok u) = Ending.Returned
+ending_of (Err e) = Ending.Starved

@@ -1,9 +1,8 @@
 //! The run of a script.
 ghost use Rattle.std.specs.Prelude.{◌≡◌, ◌≢◌, length};
 ghost use Rattle.tc_step.specs.Prelude.{ScriptView};
-ghost use Rattle.tc_exec.specs.declared.job.Ending.TheVariants as endings;
-ghost use Rattle.tc_script.specs.Calls.{HasRun};
-ghost use Rattle.tc_script.specs.Inside.{ending_of};
+ghost use Rattle.tc_exec.specs.declared.job.Ending.{Ending};
+ghost use Rattle.tc_script.specs.{Calls.HasRun, Inside.ending_of};
 
 use crate::call::call;
 use std::alloc::Global;
@@ -25,7 +24,7 @@ pub trait Behaviour {
     /// If the pass has another number of arguments than the script has parameters, it makes no call and comes back
     /// Returned.
     fn run<R: Wait>(self, rt: &R, alloc: Global, pass: Pass) -> Back
-        ensures other_count { length pass.args ≢ (script self).parameters → (result.pass ≡ pass) × (result.ending ≡ endings.Returned) }
+        ensures other_count { length pass.args ≢ (script self).parameters → (result.pass ≡ pass) × (result.ending ≡ Ending.Returned) }
         ensures calls { length pass.args ≡ (script self).parameters → HasRun (script self).steps pass result.pass result.ending };
 }
 

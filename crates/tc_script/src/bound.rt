@@ -1,8 +1,8 @@
 //! The components that the places of steps name.
 ghost use Rattle.std.specs.Prelude.{◌≡◌, ◌++◌, All, map, length};
 ghost use Rattle.tc_rules.specs.Prelude.{Comp};
-ghost use Rattle.tc_step.specs.Operation as calls;
 ghost use Rattle.tc_step.specs.Prelude.{IsBound, of_group, of_target};
+ghost use Rattle.tc_step.specs.Operation as calls;
 
 use tc_book::Pass;
 use tc_entry::{Args, Comp, Group, Target};

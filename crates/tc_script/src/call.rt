@@ -1,9 +1,7 @@
 //! The call of one step.
 ghost use Rattle.std.specs.Prelude.{◌≡◌, ◌++◌, All, false, length, is_ok, not};
-ghost use Rattle.tc_entry.specs.declared.op.Op.TheVariants as ops;
-ghost use Rattle.tc_entry.specs.declared.reply.Reply.TheVariants as replies;
+ghost use Rattle.tc_rules.specs.Prelude.{Op, Reply};
 ghost use Rattle.tc_book.specs.Prelude.{has_ended, IsCall, IsWait};
-ghost use Rattle.tc_step.specs.declared.step.Step.TheVariants as steps;
 ghost use Rattle.tc_step.specs.Prelude.{question, IsBound, places};
 ghost use Rattle.tc_script.specs.Inside.{is_refused, IsCarriedOut};
 
@@ -26,7 +24,7 @@ fn carried_out<T: Drop>(answer: Result<T, Halt>) -> Result<(), NoMemory>
 
 /// Creates a component, and gives it a name if there is one.
 fn make<R: Wait>(rt: &R, pass: &mut Pass, alive: bool, name: &Option<Name>) -> Result<Comp, Halt>
-    ensures { IsCall replies.Made (ops.Create alive name.now) pass.old pass.new result }
+    ensures { IsCall Reply.Made (Op.Create alive name.now) pass.old pass.new result }
 {
     match name {
         Some(name) => pass.create_named(rt, alive, name.copy()),
@@ -35,6 +33,7 @@ fn make<R: Wait>(rt: &R, pass: &mut Pass, alive: bool, name: &Option<Name>) -> R
 }
 
 /// Creates a component, which is bound then. The room for it is made first.
+#[tactic(auto, using(crate::proofs::Carrying::create_halted))]
 fn create<R: Wait>(
     rt: &R,
     pass: &mut Pass,
@@ -43,7 +42,7 @@ fn create<R: Wait>(
     name: &Option<Name>,
 ) -> Result<(), NoMemory>
     requires { has_ended pass.old ≡ false }
-    ensures { IsCarriedOut (steps.Create alive name.now) pass.old made.old.items pass.new made.new.items result }
+    ensures { IsCarriedOut (Step.Create alive name.now) pass.old made.old.items pass.new made.new.items result }
 {
     if made.reserve(1).is_err() {
         return Err(NoMemory);
@@ -59,7 +58,7 @@ fn create<R: Wait>(
 
 /// Asks a status of components.
 fn ask<R: Wait>(rt: &R, pass: &mut Pass, status: Status, target: Target) -> Result<bool, Halt>
-    ensures { IsCall replies.Answer (question status target) pass.old pass.new result }
+    ensures { IsCall Reply.Answer (question status target) pass.old pass.new result }
 {
     match status {
         Status::Running => pass.running(rt, target),

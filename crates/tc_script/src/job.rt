@@ -1,6 +1,6 @@
 //! A script as what a run calls.
 ghost use Rattle.std.specs.Prelude.{◌≡◌};
-ghost use Rattle.tc_script.specs.Acts.{Acts};
+ghost use Rattle.tc_script.specs.Calls.{Acts};
 
 use crate::behaviour::Behaviour;
 use std::alloc::Global;

@@ -5,6 +5,7 @@ mod behaviour;
 mod bound;
 mod call;
 mod job;
+pub mod laws;
 
 pub use behaviour::Behaviour;
 pub use job::ScriptJob;

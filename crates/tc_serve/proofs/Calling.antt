@@ -3,22 +3,12 @@ use Rattle.std.proofs.Common.{ℕ, ◌≡◌, ◌∙◌, ◌<◌, ◌==◌, ◌|
 use Rattle.std.specs.Result.{result_err}
 use Rattle.std.proofs.lemmas.Bool.Decides.{nat_tests}
 use Rattle.tc_rules.specs.Prelude.{Run, Entry, Op, Reply, answer, IsReplyOf, Kept, StandsFor, TakesIn, keeps_phases, IsLegal, awaited, parks, waiting, is_parked, is_wake}
-use Rattle.tc_entry.specs.declared.op.Op.TheVariants as Ops
-use Rattle.tc_entry.specs.declared.reply.Reply.TheVariants as R
 use Rattle.tc_rules.specs.declared.awaited.Awaited.{Awaited}
 use Rattle.tc_rules.proofs.Lemmas.Standing.{legal_for}
-use Rattle.tc_blocks.specs.declared.line.Line.{Line}
-use Rattle.tc_blocks.specs.declared.line.Line.TheVariants as L
+use Rattle.tc_blocks.specs.declared.{line.Line.Line, met.MetRuns.MetRuns}
 use Rattle.tc_blocks.specs.Prelude.{with_lf, entry_in, is_met, line_text, starts, AreMet}
-use Rattle.tc_blocks.specs.declared.met.MetRuns.{MetRuns}
-use Rattle.tc_serve.specs.declared.open_case.OpenCase.{OpenCase}
-use Rattle.tc_serve.specs.declared.refusal.Refusal.{Refusal}
-use Rattle.tc_serve.specs.declared.refusal.Refusal.TheVariants as W
-use Rattle.tc_serve.specs.Protocol.{Played, called, made, moved, played_past, sleep_of, woken}
-use Rattle.tc_serve.specs.Inside.{AreAsleep, Becomes, BecomesAwake, Holds, IsAdded, IsCalled, IsKept, IsOpen, IsText, Moves, Rests, after_call, entry, started, wakes_nobody, with_line}
-use Rattle.tc_serve.proofs.Going.{appended, grows, line_more}
-use Rattle.tc_serve.proofs.Settled.{moved_settled, nobody_woken, noted_settled}
-use Rattle.tc_serve.proofs.Sleeping.{asleep_more, asleep_on}
+use Rattle.tc_serve.specs.{Inside.AreAsleep, Inside.Becomes, Inside.BecomesAwake, Inside.Holds, Inside.IsAdded, Inside.IsCalled, Inside.IsKept, Inside.IsOpen, Inside.IsText, Inside.Moves, Inside.Rests, Inside.after_call, Inside.entry, Inside.started, Inside.wakes_nobody, Inside.with_line, Protocol.Played, Protocol.called, Protocol.made, Protocol.moved, Protocol.played_past, Protocol.sleep_of, Protocol.woken, declared.open_case.OpenCase.OpenCase, declared.refusal.Refusal.Refusal}
+use Rattle.tc_serve.proofs.{Growing.appended, Growing.grows, Growing.line_more, Settled.moved_settled, Settled.nobody_woken, Settled.noted_settled, Sleeping.asleep_more, Sleeping.asleep_on}
 
 -- ---- a line that is no entry
 
@@ -66,7 +56,7 @@ or_no false = refl
 
 -- what the caller waits for after its call
 pub parks_by : (op : Op) (r : Reply) → (if is_parked r then awaited op else None) ≡ parks op r
-parks_by op R.Parked = refl
+parks_by op Reply.Parked = refl
 parks_by op _ = refl
 
 -- the line is whole with what follows its move
@@ -75,14 +65,14 @@ line_whole text move outcome out written begun is =
     is ∙ (ap (λ (l : List ℕ). l ++ (outcome ++ 10 ∷ [])) begun ∙ (append_assoc text move (outcome ++ 10 ∷ []) ∙ ap (λ (l : List ℕ). text ++ l) (sym (append_assoc move outcome (10 ∷ [])))))
 
 -- the line of a call is about the runs of two refused lines
-pub met_none : (met : MetRuns) (caller : Run) (op : Op) (reply : Reply) (ls : List Line) → None ≡ started op → AreMet met (L.Refused caller [] ∷ ls) → AreMet met (L.Entry (entry caller op reply) ∷ ls)
+pub met_none : (met : MetRuns) (caller : Run) (op : Op) (reply : Reply) (ls : List Line) → None ≡ started op → AreMet met (Line.Refused caller [] ∷ ls) → AreMet met (Line.Entry (entry caller op reply) ∷ ls)
 met_none met caller op reply ls none are b d less = are b d less ∙ by_op op none
   where
     by_op : (o : Op) → None ≡ started o → ((caller.0 == b) || is_met b ls) ≡ (((caller.0 == b) || starts b o) || is_met b ls)
-    by_op (Ops.Start c run args) e = absurd cc
+    by_op (Op.Start c run args) e = absurd cc
     by_op _ e = ap (λ (t : Bool). t || is_met b ls) (sym (or_no (caller.0 == b)))
 
-pub met_some : (met : MetRuns) (caller run : Run) (op : Op) (reply : Reply) (ls : List Line) → Some run ≡ started op → AreMet met (L.Refused run [] ∷ L.Refused caller [] ∷ ls) → AreMet met (L.Entry (entry caller op reply) ∷ ls)
+pub met_some : (met : MetRuns) (caller run : Run) (op : Op) (reply : Reply) (ls : List Line) → Some run ≡ started op → AreMet met (Line.Refused run [] ∷ Line.Refused caller [] ∷ ls) → AreMet met (Line.Entry (entry caller op reply) ∷ ls)
 met_some met caller run op reply ls some are b d less = are b d less ∙ by_op op some
   where
     turned : (x y z : Bool) → (x || (y || z)) ≡ ((y || x) || z)
@@ -92,22 +82,22 @@ met_some met caller run op reply ls some are b d less = are b d less ∙ by_op o
     turned false false z = refl
 
     by_op : (o : Op) → Some run ≡ started o → ((run.0 == b) || ((caller.0 == b) || is_met b ls)) ≡ (((caller.0 == b) || starts b o) || is_met b ls)
-    by_op (Ops.Start c r args) e = let same : run ≡ r = cc in ap (λ (k : Run). (k.0 == b) || ((caller.0 == b) || is_met b ls)) same ∙ turned (r.0 == b) (caller.0 == b) (is_met b ls)
+    by_op (Op.Start c r args) e = let same : run ≡ r = cc in ap (λ (k : Run). (k.0 == b) || ((caller.0 == b) || is_met b ls)) same ∙ turned (r.0 == b) (caller.0 == b) (is_met b ls)
     by_op _ e = absurd cc
 
 pub call_made : (v w : OpenCase) (caller : Run) (op : Op) (reply : Reply) (out written : List ℕ) → IsReplyOf v.state caller op reply → TakesIn v.state (entry caller op reply) w.state → w.state.behaviours ≡ v.state.behaviours → w.sleepers ≡ v.sleepers →
-    ((ls : List Line) → AreMet v.met ls → AreMet w.met (L.Entry (entry caller op reply) ∷ ls)) → written ≡ out ++ with_lf (line_text (L.Entry (entry caller op reply))) → IsCalled caller op reply v w out written
+    ((ls : List Line) → AreMet v.met ls → AreMet w.met (Line.Entry (entry caller op reply) ∷ ls)) → written ≡ out ++ with_lf (line_text (Line.Entry (entry caller op reply))) → IsCalled caller op reply v w out written
 call_made v w caller op reply out written replied takes behaviours sleepers met appends = record {
   same = sleepers;
   replied = answered;
-  kept = λ p kept. subst (λ (e : Entry). IsKept w.state w.met (record p { lines = L.Entry e ∷ p.lines })) (entry_is p kept) (record {
+  kept = λ p kept. subst (λ (e : Entry). IsKept w.state w.met (record p { lines = Line.Entry e ∷ p.lines })) (entry_is p kept) (record {
     behaviours = behaviours ∙ kept.behaviours;
     few = kept.few;
     stands = takes (played_past p) kept.stands;
     met_are = met p.lines kept.met_are;
   });
-  text = λ p closed before kept text. subst (λ (e : Entry). IsText (record p { lines = L.Entry e ∷ p.lines }) closed before written) (entry_is p kept)
-      (appended before out written _ _ _ text appends (grows closed p (L.Entry (entry caller op reply) ∷ p.lines) _ (line_more (L.Entry (entry caller op reply)) p.lines)));
+  text = λ p closed before kept text. subst (λ (e : Entry). IsText (record p { lines = Line.Entry e ∷ p.lines }) closed before written) (entry_is p kept)
+      (appended before out written _ _ _ text appends (grows closed p (Line.Entry (entry caller op reply) ∷ p.lines) _ (line_more (Line.Entry (entry caller op reply)) p.lines)));
 }
   where
     answered : (p : Played) → IsKept v.state v.met p → reply ≡ answer p.behaviours (played_past p) caller.0 op
@@ -133,17 +123,17 @@ made_not why p caller op P Q barred holds = by_tests (is_wake op) (is_some (slee
     by_why : (e : Refusal) → ◌≡◌ {A = Option Refusal} (Some why) (Some e) → Q e
     by_why e is = let same : why ≡ e = cc in subst Q same holds
 
-    by_tests : (a b : Bool) → ◌≡◌ {A = Option Refusal} (Some why) (result_err (if a then Err W.Wake else if b then Err W.Waiting else Ok (moved p caller op))) →
-        MatchResult (if a then Err W.Wake else if b then Err W.Waiting else Ok (moved p caller op)) P Q
-    by_tests true b is = by_why W.Wake is
-    by_tests false true is = by_why W.Waiting is
+    by_tests : (a b : Bool) → ◌≡◌ {A = Option Refusal} (Some why) (result_err (if a then Err Refusal.Wake else if b then Err Refusal.Waiting else Ok (moved p caller op))) →
+        MatchResult (if a then Err Refusal.Wake else if b then Err Refusal.Waiting else Ok (moved p caller op)) P Q
+    by_tests true b is = by_why Refusal.Wake is
+    by_tests false true is = by_why Refusal.Waiting is
     by_tests false false is = absurd cc
 
 module _ (p : Played) (caller : Run) (op : Op) (free : ◌≡◌ {A = Option Refusal} None (result_err (made caller op p))) where
   pub may_be_awake : sleep_of p caller.0 ≡ None
   may_be_awake = by_sleep (is_wake op) (sleep_of p caller.0) free
     where
-      by_sleep : (a : Bool) (o : Option Awaited) → ◌≡◌ {A = Option Refusal} None (result_err {T = Played} (if a then Err W.Wake else if is_some o then Err W.Waiting else Ok (moved p caller op))) → o ≡ None
+      by_sleep : (a : Bool) (o : Option Awaited) → ◌≡◌ {A = Option Refusal} None (result_err {T = Played} (if a then Err Refusal.Wake else if is_some o then Err Refusal.Waiting else Ok (moved p caller op))) → o ≡ None
       by_sleep true o is = absurd cc
       by_sleep false (Some x) is = absurd cc
       by_sleep false None is = refl
@@ -151,8 +141,8 @@ module _ (p : Played) (caller : Run) (op : Op) (free : ◌≡◌ {A = Option Ref
   pub made_so : (P : Played → Type 0) (Q : Refusal → Type 0) → P (moved p caller op) → MatchResult (made caller op p) P Q
   made_so P Q holds = by_tests (is_wake op) (is_some (sleep_of p caller.0)) free
     where
-      by_tests : (a b : Bool) → ◌≡◌ {A = Option Refusal} None (result_err (if a then Err W.Wake else if b then Err W.Waiting else Ok (moved p caller op))) →
-          MatchResult (if a then Err W.Wake else if b then Err W.Waiting else Ok (moved p caller op)) P Q
+      by_tests : (a b : Bool) → ◌≡◌ {A = Option Refusal} None (result_err (if a then Err Refusal.Wake else if b then Err Refusal.Waiting else Ok (moved p caller op))) →
+          MatchResult (if a then Err Refusal.Wake else if b then Err Refusal.Waiting else Ok (moved p caller op)) P Q
       by_tests true b is = absurd cc
       by_tests false true is = absurd cc
       by_tests false false is = holds

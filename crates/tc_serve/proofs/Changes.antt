@@ -1,22 +1,11 @@
 -- How a line changes the server's state, and what holds of all that is served.
 use Rattle.std.proofs.Common.{ℕ, ◌≡◌, ◌∙◌, ◌⊎◌, ◌<◌, ◌^◌, ◌&&◌, not, nat_lt, inl, inr, if◌then◌else◌, Bool, true, false, is_some, Option, Some, None, MatchOption, Result, Ok, Err, List, [], ◌∷◌, refl, ap, sym, subst}
-use Rattle.std.specs.List.{AllByRecursion}
-use Rattle.std.specs.Option.{option_map_or}
-use Rattle.std.specs.Result.{result_map_both, result_unwrap_or}
+use Rattle.std.specs.{List.AllByRecursion, Option.option_map_or, Result.result_map_both, Result.result_unwrap_or}
 use Rattle.tc_rules.specs.Prelude.{Run, Op, IsBehaviours, IsName, is_wake}
 use Rattle.tc_text.specs.Prelude.{IsOp}
 use Rattle.tc_blocks.specs.declared.line.Line.{Line}
-use Rattle.tc_blocks.specs.declared.line.Line.TheVariants as L
 use Rattle.tc_blocks.specs.Prelude.{is_met, IsSentence}
-use Rattle.tc_serve.specs.declared.order.Order.{Order}
-use Rattle.tc_serve.specs.declared.order.Order.TheVariants as O
-use Rattle.tc_serve.specs.declared.refusal.Refusal.{Refusal}
-use Rattle.tc_serve.specs.declared.refusal.Refusal.TheVariants as W
-use Rattle.tc_serve.specs.Order.{IsOrder}
-use Rattle.tc_serve.specs.Refusal.{why_text}
-use Rattle.tc_serve.specs.Protocol.{AreServed, Came, Comes, Played, Sent, ServiceState, with_added_line, made, moved, with_name, sleep_of, after_order, was_done, was_lost, was_refused, with_current, with_open}
-use Rattle.tc_serve.specs.Inside.{with_line}
-use Rattle.tc_serve.specs.Laws.{AllServed, asked_by}
+use Rattle.tc_serve.specs.{Inside.with_line, Laws.AllServed, Laws.asked_by, Protocol.AreServed, Protocol.Came, Protocol.Comes, Protocol.IsOrder, Protocol.Played, Protocol.Sent, Protocol.ServiceState, Protocol.after_order, Protocol.made, Protocol.moved, Protocol.sleep_of, Protocol.was_done, Protocol.was_lost, Protocol.was_refused, Protocol.why_text, Protocol.with_added_line, Protocol.with_current, Protocol.with_name, Protocol.with_open, declared.order.Order.Order, declared.refusal.Refusal.Refusal}
 
 abbrev pub new : List ℕ → ℕ → Played
 new name n = record { name = name; behaviours = n; lines = [] }
@@ -30,17 +19,17 @@ may_ask p caller op = not (is_wake op) && not (is_some (sleep_of p caller.0))
 
 -- the line, which is no entry, may be added
 abbrev pub may_add : Played → Line → Bool
-may_add p (L.Named run name) = nat_lt run.0 p.behaviours && not (is_met run.0 p.lines)
-may_add p (L.Entry e) = false
-may_add p (L.Remark run sentence) = nat_lt run.0 p.behaviours
-may_add p (L.Refused run sentence) = nat_lt run.0 p.behaviours
+may_add p (Line.Named run name) = nat_lt run.0 p.behaviours && not (is_met run.0 p.lines)
+may_add p (Line.Entry e) = false
+may_add p (Line.Remark run sentence) = nat_lt run.0 p.behaviours
+may_add p (Line.Refused run sentence) = nat_lt run.0 p.behaviours
 
 -- what is in a line that is no entry
 abbrev pub IsNote : Line → Type 0
-IsNote (L.Named run name) = IsName name
-IsNote (L.Entry e) = ⊥
-IsNote (L.Remark run sentence) = IsSentence sentence
-IsNote (L.Refused run sentence) = (why : Refusal) × (sentence ≡ why_text why)
+IsNote (Line.Named run name) = IsName name
+IsNote (Line.Entry e) = ⊥
+IsNote (Line.Remark run sentence) = IsSentence sentence
+IsNote (Line.Refused run sentence) = (why : Refusal) × (sentence ≡ why_text why)
 
 -- a test case is opened
 pub record Opens (asks : List Order) (s t : ServiceState) : Type 0 where
@@ -49,7 +38,7 @@ pub record Opens (asks : List Order) (s t : ServiceState) : Type 0 where
   pub name_is : IsName name
   pub few : IsBehaviours behaviours
   pub none : s.current ≡ None
-  pub asked : asks ≡ O.Case name behaviours ∷ []
+  pub asked : asks ≡ Order.Case name behaviours ∷ []
   pub is : with_current s (new name behaviours) ≡ t
 
 -- a line that is no entry is added
@@ -71,14 +60,14 @@ pub record Moves (asks : List Order) (s t : ServiceState) : Type 0 where
   pub may : may_ask case caller op ≡ true
   pub low : caller.0 < 2 ^ 16
   pub fits : IsOp op
-  pub asked : asks ≡ O.Move caller op ∷ []
+  pub asked : asks ≡ Order.Move caller op ∷ []
   pub is : with_current s (moved case caller op) ≡ t
 
 -- the test case is closed
 pub record Closes (asks : List Order) (s t : ServiceState) : Type 0 where
   pub case : Played
   pub some : s.current ≡ Some case
-  pub asked : asks ≡ O.End ∷ []
+  pub asked : asks ≡ Order.End ∷ []
   pub is : without s case ≡ t
 
 abbrev pub Changed : List Order → ServiceState → ServiceState → Type 0
@@ -92,23 +81,23 @@ same_ok x t e = cc
 added_is : (run : Run) (l : Line) (p q : Played) → with_added_line run l p ≡ Ok q → (nat_lt run.0 p.behaviours ≡ true) × (with_line p l ≡ q)
 added_is run l p q e = by_test (nat_lt run.0 p.behaviours) e
   where
-    by_test : (b : Bool) → ◌≡◌ {A = Result Played Refusal} (if b then Ok (with_line p l) else Err W.NoRun) (Ok q) → (b ≡ true) × (with_line p l ≡ q)
+    by_test : (b : Bool) → ◌≡◌ {A = Result Played Refusal} (if b then Ok (with_line p l) else Err Refusal.NoRun) (Ok q) → (b ≡ true) × (with_line p l ≡ q)
     by_test true e = (refl, let same : with_line p l ≡ q = cc in same)
     by_test false e = absurd cc
 
-named_is : (run : Run) (name : List ℕ) (p q : Played) → with_name run name p ≡ Ok q → (may_add p (L.Named run name) ≡ true) × (with_line p (L.Named run name) ≡ q)
+named_is : (run : Run) (name : List ℕ) (p q : Played) → with_name run name p ≡ Ok q → (may_add p (Line.Named run name) ≡ true) × (with_line p (Line.Named run name) ≡ q)
 named_is run name p q e = by_tests (nat_lt run.0 p.behaviours) (is_met run.0 p.lines) e
   where
-    by_tests : (a b : Bool) → ◌≡◌ {A = Result Played Refusal} (if a && b then Err W.LateName else if a then Ok (with_line p (L.Named run name)) else Err W.NoRun) (Ok q) →
-        ((a && not b) ≡ true) × (with_line p (L.Named run name) ≡ q)
+    by_tests : (a b : Bool) → ◌≡◌ {A = Result Played Refusal} (if a && b then Err Refusal.LateName else if a then Ok (with_line p (Line.Named run name)) else Err Refusal.NoRun) (Ok q) →
+        ((a && not b) ≡ true) × (with_line p (Line.Named run name) ≡ q)
     by_tests true true e = absurd cc
-    by_tests true false e = (refl, let same : with_line p (L.Named run name) ≡ q = cc in same)
+    by_tests true false e = (refl, let same : with_line p (Line.Named run name) ≡ q = cc in same)
     by_tests false b e = absurd cc
 
 made_is : (caller : Run) (op : Op) (p q : Played) → made caller op p ≡ Ok q → (may_ask p caller op ≡ true) × (moved p caller op ≡ q)
 made_is caller op p q e = by_tests (is_wake op) (is_some (sleep_of p caller.0)) e
   where
-    by_tests : (a b : Bool) → ◌≡◌ {A = Result Played Refusal} (if a then Err W.Wake else if b then Err W.Waiting else Ok (moved p caller op)) (Ok q) → ((not a && not b) ≡ true) × (moved p caller op ≡ q)
+    by_tests : (a b : Bool) → ◌≡◌ {A = Result Played Refusal} (if a then Err Refusal.Wake else if b then Err Refusal.Waiting else Ok (moved p caller op)) (Ok q) → ((not a && not b) ≡ true) × (moved p caller op ≡ q)
     by_tests true b e = absurd cc
     by_tests false true e = absurd cc
     by_tests false false e = (refl, let same : moved p caller op ≡ q = cc in same)
@@ -121,7 +110,7 @@ record Became (s t : ServiceState) (change : Played → Result Played Refusal) :
   changed : change case ≡ Ok after
   is : with_current s after ≡ t
 
-became : (s t : ServiceState) (change : Played → Result Played Refusal) (c : Option Played) → s.current ≡ c → result_map_both (with_current s) (λ why. why) (option_map_or change c (Err W.NoCase)) ≡ Ok t → Became s t change
+became : (s t : ServiceState) (change : Played → Result Played Refusal) (c : Option Played) → s.current ≡ c → result_map_both (with_current s) (λ why. why) (option_map_or change c (Err Refusal.NoCase)) ≡ Ok t → Became s t change
 became s t change None is e = absurd cc
 became s t change (Some p) is e = by_change (change p) refl e
   where
@@ -137,28 +126,28 @@ noted asks s t l change adds note asked e =
     let two = adds so.case so.after so.changed in
     inr (inl (record { case = so.case; line = l; some = so.some; may = two.0; note = note; asked = asked; is = ap (with_current s) two.1 ∙ so.is }))
 
-opened : (asks : List Order) (s t : ServiceState) (name : List ℕ) (n : ℕ) (c : Option Played) → IsName name → IsBehaviours n → asks ≡ O.Case name n ∷ [] → s.current ≡ c →
-    ◌≡◌ {A = Result ServiceState Refusal} (if is_some c then Err W.CaseOpen else Ok (with_current s (new name n))) (Ok t) → Changed asks s t
+opened : (asks : List Order) (s t : ServiceState) (name : List ℕ) (n : ℕ) (c : Option Played) → IsName name → IsBehaviours n → asks ≡ Order.Case name n ∷ [] → s.current ≡ c →
+    ◌≡◌ {A = Result ServiceState Refusal} (if is_some c then Err Refusal.CaseOpen else Ok (with_current s (new name n))) (Ok t) → Changed asks s t
 opened asks s t name n None name_is few asked is e = inl (record { name = name; behaviours = n; name_is = name_is; few = few; none = is; asked = asked; is = same_ok (with_current s (new name n)) t e })
 opened asks s t name n (Some p) name_is few asked is e = absurd cc
 
 -- the test case that is open is closed, if one is
 abbrev pub closing : ServiceState → Option Played → Result ServiceState Refusal
-closing s c = option_map_or (λ p. Ok (without s p)) c (Err W.NoCase)
+closing s c = option_map_or (λ p. Ok (without s p)) c (Err Refusal.NoCase)
 
-closed : (asks : List Order) (s t : ServiceState) (c : Option Played) → asks ≡ O.End ∷ [] → s.current ≡ c → closing s c ≡ Ok t → Changed asks s t
+closed : (asks : List Order) (s t : ServiceState) (c : Option Played) → asks ≡ Order.End ∷ [] → s.current ≡ c → closing s c ≡ Ok t → Changed asks s t
 closed asks s t None asked is e = absurd cc
 closed asks s t (Some p) asked is e = inr (inr (inr (inl (record { case = p; some = is; asked = asked; is = same_ok (without s p) t e }))))
 
 done : (s t : ServiceState) (o : Order) → IsOrder o → after_order s o ≡ Ok t → Changed (o ∷ []) s t
-done s t (O.Case name n) fits e = opened _ s t name n s.current fits.0 fits.1 refl refl e
-done s t (O.Named run name) fits e = noted _ s t (L.Named run name) (with_name run name) (named_is run name) fits.1 refl e
-done s t (O.Move caller op) fits e =
+done s t (Order.Case name n) fits e = opened _ s t name n s.current fits.0 fits.1 refl refl e
+done s t (Order.Named run name) fits e = noted _ s t (Line.Named run name) (with_name run name) (named_is run name) fits.1 refl e
+done s t (Order.Move caller op) fits e =
     let so = became s t (made caller op) s.current refl e in
     let two = made_is caller op so.case so.after so.changed in
     inr (inr (inl (record { case = so.case; caller = caller; op = op; some = so.some; may = two.0; low = fits.0; fits = fits.1; asked = refl; is = ap (with_current s) two.1 ∙ so.is })))
-done s t (O.Remark run sentence) fits e = noted _ s t (L.Remark run sentence) (with_added_line run (L.Remark run sentence)) (added_is run (L.Remark run sentence)) fits.1 refl e
-done s t O.End fits e = closed _ s t s.current refl refl e
+done s t (Order.Remark run sentence) fits e = noted _ s t (Line.Remark run sentence) (with_added_line run (Line.Remark run sentence)) (added_is run (Line.Remark run sentence)) fits.1 refl e
+done s t Order.End fits e = closed _ s t s.current refl refl e
 
 -- what a line asked for that was done
 abbrev pub done_by : Came → List Order
@@ -167,7 +156,7 @@ done_by _ = []
 
 pub changes : (c : Came) (ended : Bool) (line : List ℕ) (s t : ServiceState) → Comes c ended line s t → Changed (done_by c) s t
 changes (was_done o) ended line s t came = done s t o came.0.1 came.1
-changes (was_refused run why) ended line s t came = noted [] s t (L.Refused run (why_text why)) (with_added_line run (L.Refused run (why_text why))) (added_is run (L.Refused run (why_text why))) (why, refl) refl came.2
+changes (was_refused run why) ended line s t came = noted [] s t (Line.Refused run (why_text why)) (with_added_line run (Line.Refused run (why_text why))) (added_is run (Line.Refused run (why_text why))) (why, refl) refl came.2
 changes (was_lost why) ended line s t came = inr (inr (inr (inr (refl, sym came.3))))
 
 -- ---- what holds of each test case

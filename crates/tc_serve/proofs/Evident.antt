@@ -1,70 +1,55 @@
 -- What is written is evidence.
 use Rattle.std.proofs.Common.{ℕ, ◌≡◌, ◌≢◌, ◌∙◌, ◌==◌, ◌||◌, ◌&&◌, ◌+◌, ◌<◌, ◌≤◌, ◌^◌, inr, not, nat_lt, if◌then◌else◌, zero, suc, Bool, true, false, IsTrue, Option, Some, None, List, [], ◌∷◌, ◌++◌, length, reverse, refl, ap, sym, subst, append_assoc, arith}
-use Rattle.std.specs.Result.{result_unwrap_or}
-use Rattle.std.specs.List.{All, AllByRecursion, flat_map, list_all}
-use Rattle.std.proofs.lemmas.Bool.Decides.{nat_tests}
-use Rattle.std.proofs.lemmas.List.{append-nil, reverse-append, reverse-reverse}
-use Rattle.tc_rules.specs.Prelude.{Run, IsBehaviours, IsName, Comp, Entry, Op, Reply, answer, local_reply, plain_answer, comp_of, created, overall, awaited, holds, parks, waiting, is_parked}
-use Rattle.tc_entry.specs.declared.op.Op.TheVariants as Ops
-use Rattle.tc_entry.specs.declared.reply.Reply.TheVariants as R
-use Rattle.tc_entry.specs.declared.reply.Fault.TheVariants as F
+use Rattle.std.specs.{List.All, List.AllByRecursion, List.flat_map, List.list_all, Result.result_unwrap_or}
+use Rattle.std.proofs.lemmas.{Bool.Decides.nat_tests, List.append-nil, List.reverse-append, List.reverse-reverse}
+use Rattle.tc_rules.specs.Prelude.{Run, IsBehaviours, IsName, Comp, Entry, Op, Reply, answer, local_reply, plain_answer, comp_of, created, overall, awaited, holds, parks, waiting, is_parked, Fault}
 use Rattle.tc_text.specs.Prelude.{is_plain, IsOp, IsReply, IsTarget}
 use Rattle.tc_rules.specs.declared.awaited.Awaited.{Awaited}
 use Rattle.tc_rules.proofs.Lemmas.Sound.{next, plain_if}
 use Rattle.tc_blocks.specs.Prelude.{end_text, AreEntries, IsEntry, with_lf, header_text, entries_of, is_about, is_met, IsSentence, AreBlocks, AreLines, IsHeader, IsLine, block_lines, text_of_block}
-use Rattle.tc_blocks.specs.declared.header.Kind.TheVariants as K
-use Rattle.tc_blocks.specs.declared.line.Line.{Line}
-use Rattle.tc_blocks.specs.declared.line.Line.TheVariants as L
-use Rattle.tc_blocks.proofs.Lemmas.Meeting.{met_last}
-use Rattle.tc_blocks.proofs.Lemmas.WrittenEvidence.{written_evidence}
-use Rattle.tc_serve.specs.declared.refusal.Refusal.{Refusal}
-use Rattle.tc_serve.specs.declared.refusal.Refusal.TheVariants as W
-use Rattle.tc_serve.specs.Protocol.{Played, ServiceState, called, finished_state, moved, played_past, wake_op, woken, woken_from}
-use Rattle.tc_serve.specs.Text.{block, case_header, stand_text}
-use Rattle.tc_serve.specs.Inside.{after_call, with_line}
-use Rattle.tc_serve.specs.Laws.{ServedIsEvidence, block_of, blocks_of}
-use Rattle.tc_serve.specs.Refusal.{why_text}
-use Rattle.tc_serve.proofs.Changes.{IsNote, all_served, closing, may_add}
-use Rattle.tc_serve.proofs.Going.{lines_text}
+use Rattle.tc_blocks.specs.declared.{header.Kind.Kind, line.Line.Line}
+use Rattle.tc_blocks.proofs.Lemmas.{Meeting.met_last, WrittenEvidence.written_evidence}
+use Rattle.tc_serve.specs.{Inside.after_call, Inside.with_line, Laws.ServedIsEvidence, Laws.block_of, Laws.blocks_of, Protocol.Played, Protocol.ServiceState, Protocol.called, Protocol.finished_state, Protocol.moved, Protocol.played_past, Protocol.wake_op, Protocol.why_text, Protocol.woken, Protocol.woken_from, Text.block, Text.case_header, Text.stand_text, declared.refusal.Refusal.Refusal}
+use Rattle.tc_serve.proofs.{Changes.IsNote, Changes.all_served, Changes.closing, Changes.may_add, Growing.lines_text}
 
 -- ---- the numbers of entries are those of their types
 
-made_by_create : (past : List Entry) (b : ℕ) (op : Op) (c : Comp) → R.Made c ≡ plain_answer past b op → created op (R.Made c) ≡ Some c
-made_by_create past b (Ops.Create alive name) c e = refl
-made_by_create past b (Ops.Wait k t) c e = by_test (holds past (record { killed = k; target = t })) e
+made_by_create : (past : List Entry) (b : ℕ) (op : Op) (c : Comp) → Reply.Made c ≡ plain_answer past b op → created op (Reply.Made c) ≡ Some c
+made_by_create past b (Op.Create alive name) c e = refl
+made_by_create past b (Op.Wait k t) c e = by_test (holds past (record { killed = k; target = t })) e
   where
-    by_test : (h : Bool) → R.Made c ≡ (if h then R.Matched else R.Parked) → created (Ops.Wait k t) (R.Made c) ≡ Some c
+    by_test : (h : Bool) → Reply.Made c ≡ (if h then Reply.Matched else Reply.Parked) → created (Op.Wait k t) (Reply.Made c) ≡ Some c
     by_test true e = absurd cc
     by_test false e = absurd cc
-made_by_create past b (Ops.Wake k t) c e = by_test (holds past (record { killed = k; target = t })) _ e
+made_by_create past b (Op.Wake k t) c e = by_test (holds past (record { killed = k; target = t })) _ e
   where
-    by_stuck : (s : Bool) → R.Made c ≡ (if s then R.Fault F.Stuck else R.Parked) → created (Ops.Wake k t) (R.Made c) ≡ Some c
+    by_stuck : (s : Bool) → Reply.Made c ≡ (if s then Reply.Fault Fault.Stuck else Reply.Parked) → created (Op.Wake k t) (Reply.Made c) ≡ Some c
     by_stuck true e = absurd cc
     by_stuck false e = absurd cc
 
-    by_test : (h s : Bool) → R.Made c ≡ (if h then R.Matched else if s then R.Fault F.Stuck else R.Parked) → created (Ops.Wake k t) (R.Made c) ≡ Some c
+    by_test : (h s : Bool) → Reply.Made c ≡ (if h then Reply.Matched else if s then Reply.Fault Fault.Stuck else Reply.Parked) → created (Op.Wake k t) (Reply.Made c) ≡ Some c
     by_test true s e = absurd cc
     by_test false s e = by_stuck s e
-made_by_create past b Ops.GetVerdict c e = by_comp (comp_of past b) e
+made_by_create past b Op.GetVerdict c e = by_comp (comp_of past b) e
   where
-    by_comp : (o : Option Comp) → R.Made c ≡ local_reply past o → created Ops.GetVerdict (R.Made c) ≡ Some c
+    by_comp : (o : Option Comp) → Reply.Made c ≡ local_reply past o → created Op.GetVerdict (Reply.Made c) ≡ Some c
     by_comp None e = absurd cc
     by_comp (Some d) e = absurd cc
-made_by_create past b (Ops.Start d run args) c e = absurd cc
-made_by_create past b (Ops.Stop g) c e = absurd cc
-made_by_create past b (Ops.Kill g) c e = absurd cc
-made_by_create past b Ops.StopCase c e = absurd cc
-made_by_create past b (Ops.Running t) c e = absurd cc
-made_by_create past b (Ops.Alive t) c e = absurd cc
-made_by_create past b (Ops.Done t) c e = absurd cc
-made_by_create past b (Ops.Killed t) c e = absurd cc
-made_by_create past b (Ops.SetVerdict v) c e = absurd cc
-made_by_create past b Ops.Finish c e = absurd cc
+made_by_create past b (Op.Start d run args) c e = absurd cc
+made_by_create past b (Op.Stop g) c e = absurd cc
+made_by_create past b (Op.Kill g) c e = absurd cc
+made_by_create past b Op.StopCase c e = absurd cc
+made_by_create past b (Op.Running t) c e = absurd cc
+made_by_create past b (Op.Alive t) c e = absurd cc
+made_by_create past b (Op.Done t) c e = absurd cc
+made_by_create past b (Op.Killed t) c e = absurd cc
+made_by_create past b (Op.SetVerdict v) c e = absurd cc
+made_by_create past b Op.Finish c e = absurd cc
 
 reply_fits : (n : ℕ) (past : List Entry) (run : Run) (op : Op) (reply : Reply) → reply ≡ answer n past run.0 op → IsReply reply
-reply_fits n past run op (R.Made c) legal =
-    let plain = plain_if n past run.0 op (R.Made c) refl refl legal in
-    let is = next n past (record { caller = run; op = op; reply = R.Made c }) c legal (made_by_create past run.0 op c plain.is) in
+reply_fits n past run op (Reply.Made c) legal =
+    let plain = plain_if n past run.0 op (Reply.Made c) refl refl legal in
+    let is = next n past (record { caller = run; op = op; reply = Reply.Made c }) c legal (made_by_create past run.0 op c plain.is) in
     omega (arith, is.number, is.few)
 reply_fits n past run op _ legal = tt
 
@@ -77,12 +62,12 @@ entry_fits n lines run op low fits = record {
 }
 
 awaited_fits : (op : Op) (a : Awaited) → IsOp op → awaited op ≡ Some a → IsTarget a.target
-awaited_fits (Ops.Wait k t) a fits is = let e : record { killed = k; target = t } ≡ a = cc in rw (← e) fits
-awaited_fits (Ops.Wake k t) a fits is = let e : record { killed = k; target = t } ≡ a = cc in rw (← e) fits
+awaited_fits (Op.Wait k t) a fits is = let e : record { killed = k; target = t } ≡ a = cc in rw (← e) fits
+awaited_fits (Op.Wake k t) a fits is = let e : record { killed = k; target = t } ≡ a = cc in rw (← e) fits
 awaited_fits _ a fits is = absurd cc
 
 parked_fits : (op : Op) (reply : Reply) (a : Awaited) → IsOp op → parks op reply ≡ Some a → IsTarget a.target
-parked_fits op R.Parked a fits is = awaited_fits op a fits is
+parked_fits op Reply.Parked a fits is = awaited_fits op a fits is
 parked_fits op _ a fits is = absurd cc
 
 waiting_fits : (past : List Entry) (b : ℕ) (a : Awaited) → AreEntries 2 past → waiting past b ≡ Some a → IsTarget a.target
@@ -98,24 +83,24 @@ waiting_fits (e ∷ past) b a fits is = by_test (e.caller.0 == b) is (λ w. wait
 -- these lines may be in evidence, the newest first in the list
 record Fit (n : ℕ) (lines : List Line) : Type 0 where
   entries : AreEntries 2 (entries_of lines)
-  are : AreLines K.Evidence n [] (reverse lines)
+  are : AreLines Kind.Evidence n [] (reverse lines)
 
-right_more : (n : ℕ) (before ls : List Line) (l : Line) → AreLines K.Evidence n before ls → IsLine K.Evidence n (before ++ ls) l → AreLines K.Evidence n before (ls ++ l ∷ [])
-right_more n before [] l are one = (subst (λ (b : List Line). IsLine K.Evidence n b l) (append-nil before) one, tt)
+right_more : (n : ℕ) (before ls : List Line) (l : Line) → AreLines Kind.Evidence n before ls → IsLine Kind.Evidence n (before ++ ls) l → AreLines Kind.Evidence n before (ls ++ l ∷ [])
+right_more n before [] l are one = (subst (λ (b : List Line). IsLine Kind.Evidence n b l) (append-nil before) one, tt)
 right_more n before (x ∷ xs) l are one =
-    (are.0, right_more n (before ++ x ∷ []) xs l are.1 (subst (λ (b : List Line). IsLine K.Evidence n b l) (sym (append_assoc before (x ∷ []) xs)) one))
+    (are.0, right_more n (before ++ x ∷ []) xs l are.1 (subst (λ (b : List Line). IsLine Kind.Evidence n b l) (sym (append_assoc before (x ∷ []) xs)) one))
 
-fit_more : (n : ℕ) (lines : List Line) (l : Line) → Fit n lines → AreEntries 2 (entries_of (l ∷ lines)) → IsLine K.Evidence n (reverse lines) l → Fit n (l ∷ lines)
-fit_more n lines l fit entries one = record { entries = entries; are = subst (AreLines K.Evidence n []) (sym (reverse-append (l ∷ []) lines)) (right_more n [] (reverse lines) l fit.are one) }
+fit_more : (n : ℕ) (lines : List Line) (l : Line) → Fit n lines → AreEntries 2 (entries_of (l ∷ lines)) → IsLine Kind.Evidence n (reverse lines) l → Fit n (l ∷ lines)
+fit_more n lines l fit entries one = record { entries = entries; are = subst (AreLines Kind.Evidence n []) (sym (reverse-append (l ∷ []) lines)) (right_more n [] (reverse lines) l fit.are one) }
 
-entry_more : (n : ℕ) (lines : List Line) (e : Entry) → Fit n lines → IsEntry 2 e → Fit n (L.Entry e ∷ lines)
-entry_more n lines e fit is = fit_more n lines (L.Entry e) fit (is, fit.entries) is
+entry_more : (n : ℕ) (lines : List Line) (e : Entry) → Fit n lines → IsEntry 2 e → Fit n (Line.Entry e ∷ lines)
+entry_more n lines e fit is = fit_more n lines (Line.Entry e) fit (is, fit.entries) is
 
 one_fits : (n : ℕ) (lines : List Line) (b : ℕ) (o : Option Awaited) → b < 2 ^ 16 → waiting (entries_of lines) b ≡ o → Fit n lines → Fit n (woken_from n lines b o)
 one_fits n lines b None low is fit = fit
 one_fits n lines b (Some a) low is fit = by_test (is_parked (called n lines (record { 0 = b }) (wake_op a)).reply)
   where
-    by_test : (t : Bool) → Fit n (if t then lines else L.Entry (called n lines (record { 0 = b }) (wake_op a)) ∷ lines)
+    by_test : (t : Bool) → Fit n (if t then lines else Line.Entry (called n lines (record { 0 = b }) (wake_op a)) ∷ lines)
     by_test true = fit
     by_test false = entry_more n lines _ fit (entry_fits n lines (record { 0 = b }) (wake_op a) low (waiting_fits (entries_of lines) b a fit.entries is))
 
@@ -137,7 +122,7 @@ record IsEvident (p : Played) : Type 0 where
   name : IsName p.name
   behaviours : IsBehaviours p.behaviours
   entries : AreEntries 2 (played_past p)
-  lines : AreLines K.Evidence p.behaviours [] (reverse p.lines)
+  lines : AreLines Kind.Evidence p.behaviours [] (reverse p.lines)
 
 fit_of : (p : Played) → IsEvident p → Fit p.behaviours p.lines
 fit_of p is = record { entries = is.entries; are = is.lines }
@@ -168,30 +153,31 @@ all_plain (b ∷ bs) all zero d within = first_of (is_plain b) (list_all is_plai
 all_plain (b ∷ bs) all (suc k) d within = all_plain bs (second_of (is_plain b) (list_all is_plain bs) all) k d (omega (arith, within))
 
 refusal_plain : (why : Refusal) → IsSentence (why_text why)
-refusal_plain W.Unended = record { some = omega arith; short = omega arith; plain = all_plain (why_text W.Unended) refl }
-refusal_plain W.TooLong = record { some = omega arith; short = omega arith; plain = all_plain (why_text W.TooLong) refl }
-refusal_plain W.BadRemark = record { some = omega arith; short = omega arith; plain = all_plain (why_text W.BadRemark) refl }
-refusal_plain W.BadLine = record { some = omega arith; short = omega arith; plain = all_plain (why_text W.BadLine) refl }
-refusal_plain W.CaseOpen = record { some = omega arith; short = omega arith; plain = all_plain (why_text W.CaseOpen) refl }
-refusal_plain W.NoCase = record { some = omega arith; short = omega arith; plain = all_plain (why_text W.NoCase) refl }
-refusal_plain W.NoRun = record { some = omega arith; short = omega arith; plain = all_plain (why_text W.NoRun) refl }
-refusal_plain W.LateName = record { some = omega arith; short = omega arith; plain = all_plain (why_text W.LateName) refl }
-refusal_plain W.Wake = record { some = omega arith; short = omega arith; plain = all_plain (why_text W.Wake) refl }
-refusal_plain W.Waiting = record { some = omega arith; short = omega arith; plain = all_plain (why_text W.Waiting) refl }
+refusal_plain Refusal.Unended = record { some = omega arith; short = omega arith; plain = all_plain (why_text Refusal.Unended) refl }
+refusal_plain Refusal.TooLong = record { some = omega arith; short = omega arith; plain = all_plain (why_text Refusal.TooLong) refl }
+refusal_plain Refusal.BadRemark = record { some = omega arith; short = omega arith; plain = all_plain (why_text Refusal.BadRemark) refl }
+refusal_plain Refusal.Behaviours = record { some = omega arith; short = omega arith; plain = all_plain (why_text Refusal.Behaviours) refl }
+refusal_plain Refusal.BadLine = record { some = omega arith; short = omega arith; plain = all_plain (why_text Refusal.BadLine) refl }
+refusal_plain Refusal.CaseOpen = record { some = omega arith; short = omega arith; plain = all_plain (why_text Refusal.CaseOpen) refl }
+refusal_plain Refusal.NoCase = record { some = omega arith; short = omega arith; plain = all_plain (why_text Refusal.NoCase) refl }
+refusal_plain Refusal.NoRun = record { some = omega arith; short = omega arith; plain = all_plain (why_text Refusal.NoRun) refl }
+refusal_plain Refusal.LateName = record { some = omega arith; short = omega arith; plain = all_plain (why_text Refusal.LateName) refl }
+refusal_plain Refusal.Wake = record { some = omega arith; short = omega arith; plain = all_plain (why_text Refusal.Wake) refl }
+refusal_plain Refusal.Waiting = record { some = omega arith; short = omega arith; plain = all_plain (why_text Refusal.Waiting) refl }
 
 note_fits : (p : Played) (l : Line) → may_add p l ≡ true → IsNote l → IsEvident p → IsEvident (with_line p l)
-note_fits p (L.Named run name) may fits is =
+note_fits p (Line.Named run name) may fits is =
     let two = both (nat_lt run.0 p.behaviours) (is_met run.0 p.lines) may in
-    evident p (L.Named run name ∷ p.lines) is
-    (fit_more p.behaviours p.lines (L.Named run name) (fit_of p is) is.entries
+    evident p (Line.Named run name ∷ p.lines) is
+    (fit_more p.behaviours p.lines (Line.Named run name) (fit_of p is) is.entries
     (record { evidence = refl; few = below run.0 p.behaviours two.0; name_is = fits; first = sym (met_reverse run.0 p.lines) ∙ two.1 }))
-note_fits p (L.Entry e) may fits is = absurd fits
-note_fits p (L.Remark run sentence) may fits is =
-    evident p (L.Remark run sentence ∷ p.lines) is
-    (fit_more p.behaviours p.lines (L.Remark run sentence) (fit_of p is) is.entries (record { evidence = refl; few = below run.0 p.behaviours may; sentence_is = fits }))
-note_fits p (L.Refused run sentence) may fits is =
-    evident p (L.Refused run sentence ∷ p.lines) is
-    (fit_more p.behaviours p.lines (L.Refused run sentence) (fit_of p is) is.entries
+note_fits p (Line.Entry e) may fits is = absurd fits
+note_fits p (Line.Remark run sentence) may fits is =
+    evident p (Line.Remark run sentence ∷ p.lines) is
+    (fit_more p.behaviours p.lines (Line.Remark run sentence) (fit_of p is) is.entries (record { evidence = refl; few = below run.0 p.behaviours may; sentence_is = fits }))
+note_fits p (Line.Refused run sentence) may fits is =
+    evident p (Line.Refused run sentence ∷ p.lines) is
+    (fit_more p.behaviours p.lines (Line.Refused run sentence) (fit_of p is) is.entries
     (record { evidence = refl; few = below run.0 p.behaviours may; sentence_is = subst IsSentence (sym fits.1) (refusal_plain fits.0) }))
 
 move_fits : (p : Played) (caller : Run) (op : Op) → caller.0 < 2 ^ 16 → IsOp op → IsEvident p → IsEvident (moved p caller op)

@@ -1,24 +1,9 @@
 -- Bytes that are fed, and the lines that they are.
 use Rattle.std.proofs.Common.{ℕ, ◌≡◌, ◌≢◌, ◌∙◌, ◌==◌, ◌&&◌, ◌||◌, ◌+◌, ◌-◌, ◌<◌, ◌≤◌, inl, inr, if◌then◌else◌, Bool, true, false, is_some, Option, Some, None, Result, Ok, Err, MatchResult, List, [], ◌∷◌, ◌++◌, codes, zero, suc, length, take, get_or, refl, ap, sym, subst, append_assoc, arith}
-use Rattle.std.specs.Result.{result_unwrap_or}
-use Rattle.std.specs.List.{list_all}
-use Rattle.std.specs.Io.KnownBytes.{IsAtEnd}
+use Rattle.std.specs.{Fmt.decimal, Io.KnownBytes.IsAtEnd, List.list_all, Result.result_unwrap_or}
 use Rattle.std.proofs.lemmas.List.{append-nil, length-append, take_more}
-use Rattle.std.specs.Fmt.{decimal}
-use Rattle.tc_serve.specs.declared.fault.ServeFault.{ServeFault}
-use Rattle.tc_serve.specs.declared.fault.ServeFault.TheVariants as F
-use Rattle.tc_serve.specs.declared.order.Order.TheVariants as O
-use Rattle.tc_serve.specs.declared.refusal.Refusal.{Refusal}
-use Rattle.tc_serve.specs.declared.server.Server.{Server}
-use Rattle.tc_serve.specs.declared.service.Served.{Served}
-use Rattle.tc_serve.specs.declared.serving.Serving.{Serving}
-use Rattle.tc_serve.specs.declared.order.TheConstants.{LINE_BYTES}
-use Rattle.tc_serve.specs.Protocol.{AllEnded, IsOrderOf, Came, Comes, IsNobodys, IsOf, NoLf, Refuses, Sent, ServiceState, finished_state, seen, after_order, was_done, was_lost, was_refused}
-use Rattle.tc_serve.specs.Refusal.{why_text}
-use Rattle.tc_serve.specs.Text.{bytes_of, end_told, lost_text, refused_line_text, lines_messages, worst_case}
-use Rattle.tc_serve.specs.Serve.{HasEnded, IsWhy, served, stopped}
-use Rattle.tc_serve.specs.Inside.{Closes, Counts, Fails, Feeds, IsAtLine, IsBadLine, IsEnd, IsFed, Serves, StandsAs, StopsIn, TakesPiece, TellsRun, Tries, TriesLine, is_refused}
-use Rattle.tc_serve.proofs.Going.{appended}
+use Rattle.tc_serve.specs.{Inside.Closes, Inside.Counts, Inside.Fails, Inside.Feeds, Inside.IsAtLine, Inside.IsBadLine, Inside.IsEnd, Inside.IsFed, Inside.Serves, Inside.StandsAs, Inside.StopsIn, Inside.TakesPiece, Inside.TellsRun, Inside.Tries, Inside.TriesLine, Inside.is_refused, Protocol.AllEnded, Protocol.Came, Protocol.Comes, Protocol.IsNobodys, Protocol.IsOf, Protocol.IsOrderOf, Protocol.NoLf, Protocol.Refuses, Protocol.Sent, Protocol.ServiceState, Protocol.after_order, Protocol.finished_state, Protocol.seen, Protocol.was_done, Protocol.was_lost, Protocol.was_refused, Protocol.why_text, Serve.HasEnded, Serve.IsWhy, Serve.served, Serve.stopped, Text.bytes_of, Text.end_told, Text.lines_messages, Text.lost_text, Text.refused_line_text, Text.worst_case, declared.fault.ServeFault.ServeFault, declared.order.Order.Order, declared.order.TheConstants.LINE_BYTES, declared.refusal.Refusal.Refusal, declared.server.Server.Server, declared.service.Served.Served, declared.serving.Serving.Serving}
+use Rattle.tc_serve.proofs.Growing.{appended}
 
 -- ---- lines
 
@@ -125,7 +110,7 @@ module _ (ended : Bool) (v : Serving) (server server' : Server) (looked out mid 
             (subst (λ (x : Server). StandsAs x s before written) (sym is) so.1) (many ∙ next) refuses (reports ∙ ap (λ (n : ℕ). told ++ refused_line_text n why) (next ∙ ap (λ (n : ℕ). n + 1) at_.counts.many)),
       )
 
-  pub bad_line : (number : ℕ) (told : List ℕ) → ((s : ServiceState) (before out : List ℕ) → StandsAs server s before out → false ≡ is_some s.current) → number ≡ v.lines + 1 → Fails ended v out told (F.Line number why)
+  pub bad_line : (number : ℕ) (told : List ℕ) → ((s : ServiceState) (before out : List ℕ) → StandsAs server s before out → false ≡ is_some s.current) → number ≡ v.lines + 1 → Fails ended v out told (ServeFault.Line number why)
   bad_line number told closed next line lines s before before' at_ =
       let none = tries s before at_.counts.stands in
       (next ∙ ap (λ (n : ℕ). n + 1) at_.counts.many, sym (closed s before mid none.1), subst (λ (l : List ℕ). Refuses why ended l s) (same ∙ at_.kept) none.0)
@@ -202,11 +187,11 @@ long_lines (l ∷ before) all = by_end l.ended refl (long_lines before (second l
         (omega (arith, so, length-append (bytes_of before) (l.bytes ++ 10 ∷ []), length-append l.bytes (10 ∷ [])))
 
 pub why_line : (f : ServeFault) (line behind : List ℕ) (lines : List Sent) (s : ServiceState) (input : Option (List ℕ)) → AllEnded lines → NoLf line → IsBadLine f true line lines s → IsWhy f lines s (line ++ 10 ∷ behind) input
-why_line (F.Line n why) line behind lines s input all plain bad = (bad.0, bad.1, (line, behind, plain, inl (refl, bad.2)))
-why_line F.TooLong line behind lines s input all plain bad = omega (arith, bad, long_lines lines all, length-append (bytes_of lines) (line ++ 10 ∷ behind))
-why_line F.Read line behind lines s input all plain bad = absurd bad
-why_line F.Write line behind lines s input all plain bad = absurd bad
-why_line F.NoMemory line behind lines s input all plain bad = tt
+why_line (ServeFault.Line n why) line behind lines s input all plain bad = (bad.0, bad.1, (line, behind, plain, inl (refl, bad.2)))
+why_line ServeFault.TooLong line behind lines s input all plain bad = omega (arith, bad, long_lines lines all, length-append (bytes_of lines) (line ++ 10 ∷ behind))
+why_line ServeFault.Read line behind lines s input all plain bad = absurd bad
+why_line ServeFault.Write line behind lines s input all plain bad = absurd bad
+why_line ServeFault.NoMemory line behind lines s input all plain bad = tt
 
 -- nothing more was appended, and the rest was not served
 pub stops_here : (read rest bytes : List ℕ) (v : Serving) (before out written before' told told' : List ℕ) (input : Option (List ℕ)) (f : ServeFault) → (fed : IsFed bytes v before out before' told) → read ≡ bytes_of fed.lines ++ rest →
@@ -221,9 +206,9 @@ stops_line bytes behind v before out written before' told told' input f fed fail
     (ap (λ (l : List ℕ). l ++ 10 ∷ behind) fed.parts ∙ append_assoc (bytes_of fed.lines) fed.last (10 ∷ behind))
     (why_line f fed.last behind fed.lines fed.stand input fed.all fed.last_is (fails fed.last fed.lines fed.stand before before' (at_line bytes before out before' told v fed))) same same_told
 
-pub stops_bytes : (bytes : List ℕ) (v : Serving) (out told : List ℕ) → StopsIn bytes v out out told told F.NoMemory
+pub stops_bytes : (bytes : List ℕ) (v : Serving) (out told : List ℕ) → StopsIn bytes v out out told told ServeFault.NoMemory
 stops_bytes bytes v out told read before before' input fed =
-    stops_here (read ++ bytes) (fed.last ++ bytes) read v before out out before' told told input F.NoMemory fed (ap (λ (l : List ℕ). l ++ bytes) fed.parts ∙ append_assoc (bytes_of fed.lines) fed.last bytes) tt refl refl
+    stops_here (read ++ bytes) (fed.last ++ bytes) read v before out out before' told told input ServeFault.NoMemory fed (ap (λ (l : List ℕ). l ++ bytes) fed.parts ∙ append_assoc (bytes_of fed.lines) fed.last bytes) tt refl refl
 
 -- ---- pieces
 
@@ -279,10 +264,10 @@ taken_bad bytes rest v w out mid written told said told' f so stops read before 
 -- ---- the end
 
 -- what comes of a server whose input has ended
-pub closes : (v w : Serving) (server : Server) (why : Option Refusal) (some_open : Bool) (out written told told' : List ℕ) → Tries (λ s. after_order s O.End) why v.server server out written → w.server ≡ server →
+pub closes : (v w : Serving) (server : Server) (why : Option Refusal) (some_open : Bool) (out written told told' : List ℕ) → Tries (λ s. after_order s Order.End) why v.server server out written → w.server ≡ server →
     ((s : ServiceState) (before out : List ℕ) → StandsAs v.server s before out → some_open ≡ is_some s.current) → told' ≡ told ++ end_told some_open → Closes v w out written told told'
 closes v w server why some_open out written told told' tries is opens reports lines s before before' counts = (
-  subst (λ (x : Server). StandsAs x (finished_state s) before written) (sym is) (by_taken (after_order s O.End) (tries s before counts.stands)),
+  subst (λ (x : Server). StandsAs x (finished_state s) before written) (sym is) (by_taken (after_order s Order.End) (tries s before counts.stands)),
   appended before' told told' (lines_messages lines) _ _ counts.tells (reports ∙ ap (λ (t : Bool). told ++ end_told t) (opens s before out counts.stands)) refl,
 )
   where
@@ -314,11 +299,11 @@ some_seen : (line looked : List ℕ) → looked ≡ seen line → looked ≢ [] 
 some_seen line looked same some = λ none. some (same ∙ (ap seen none ∙ take_none LINE_BYTES))
 
 why_last : (f : ServeFault) (line : List ℕ) (lines : List Sent) (s : ServiceState) (input : Option (List ℕ)) → IsAtEnd input → AllEnded lines → NoLf line → line ≢ [] → IsBadLine f false line lines s → IsWhy f lines s line input
-why_last (F.Line n why) line lines s input end all plain some bad = (bad.0, bad.1, (line, [], plain, inr (refl, some, end, bad.2)))
-why_last F.TooLong line lines s input end all plain some bad = omega (arith, bad, long_lines lines all, length-append (bytes_of lines) line)
-why_last F.Read line lines s input end all plain some bad = absurd bad
-why_last F.Write line lines s input end all plain some bad = absurd bad
-why_last F.NoMemory line lines s input end all plain some bad = tt
+why_last (ServeFault.Line n why) line lines s input end all plain some bad = (bad.0, bad.1, (line, [], plain, inr (refl, some, end, bad.2)))
+why_last ServeFault.TooLong line lines s input end all plain some bad = omega (arith, bad, long_lines lines all, length-append (bytes_of lines) line)
+why_last ServeFault.Read line lines s input end all plain some bad = absurd bad
+why_last ServeFault.Write line lines s input end all plain some bad = absurd bad
+why_last ServeFault.NoMemory line lines s input end all plain some bad = tt
 
 pub stops_last : (bytes before before' : List ℕ) (v : Serving) (out written told told' : List ℕ) (input : Option (List ℕ)) (f : ServeFault) → IsAtEnd input → IsFed bytes v before out before' told → v.line.items ≢ [] → Fails false v out told f → written ≡ out → told' ≡ told →
     HasEnded bytes input (before ++ written) (before' ++ told') (Err f)
@@ -335,7 +320,7 @@ finishes bytes before before' v w out written told told' input r end at_end clos
 
 -- memory runs out as it is closed
 pub stops_close : (bytes before before' : List ℕ) (v : Serving) (out written told told' : List ℕ) (input : Option (List ℕ)) → IsAtEnd input → IsEnd bytes v before out before' told → written ≡ out → told' ≡ told →
-    HasEnded bytes input (before ++ written) (before' ++ told') (Err F.NoMemory)
+    HasEnded bytes input (before ++ written) (before' ++ told') (Err ServeFault.NoMemory)
 stops_close bytes before before' v out written told told' input end at_end same same_told =
-    stopped at_end.lines at_end.stand [] F.NoMemory at_end.counts.served (at_end.parts ∙ sym (append-nil (bytes_of at_end.lines))) (inr (refl, end)) tt
+    stopped at_end.lines at_end.stand [] ServeFault.NoMemory at_end.counts.served (at_end.parts ∙ sym (append-nil (bytes_of at_end.lines))) (inr (refl, end)) tt
     (ap (λ (l : List ℕ). before ++ l) same ∙ at_end.counts.stands.text) (ap (λ (l : List ℕ). before' ++ l) same_told ∙ at_end.counts.tells)

@@ -1,17 +1,67 @@
--- A line adds to the text, and changes none of it.
-use Rattle.std.proofs.Common.{ℕ, ◌≡◌, ◌∙◌, inl, inr, if◌then◌else◌, zero, suc, Bool, true, false, Option, Some, None, List, [], ◌∷◌, ◌++◌, refl, ap, sym, subst, append_assoc}
-use Rattle.std.proofs.lemmas.List.{append-nil}
-use Rattle.tc_rules.specs.declared.awaited.Awaited.{Awaited}
+-- How the text grows: a line adds to it, and changes none of it.
+use Rattle.std.proofs.Common.{◌≡◌, ◌∙◌, ◌+◌, None, Some, [], ◌∷◌, ◌++◌, ℕ, List, reverse, ap, sym, append_assoc, add-one, length, take, drop, take_at, refl, inl, inr, if◌then◌else◌, zero, suc, Bool, true, false, Option, subst}
+use Rattle.std.specs.{Io.StartsWith, List.flat_map}
+use Rattle.std.proofs.lemmas.List.{Concat.flat_map-append, append-nil, reverse-append, take-append-drop}
+use Rattle.tc_blocks.specs.Prelude.{end_text, with_lf, header_text, line_text, entries_of}
 use Rattle.tc_rules.specs.Prelude.{overall, waiting, is_parked}
-use Rattle.tc_blocks.specs.Prelude.{end_text, with_lf, header_text, entries_of, line_text}
 use Rattle.tc_blocks.specs.declared.line.Line.{Line}
-use Rattle.tc_blocks.specs.declared.line.Line.TheVariants as L
-use Rattle.tc_serve.specs.declared.order.Order.{Order}
-use Rattle.tc_serve.specs.Protocol.{Played, ServiceState, called, played_past, wake_op, with_current, woken, woken_from}
-use Rattle.tc_serve.specs.Text.{case_header, stand_text}
-use Rattle.tc_serve.specs.Laws.{TextGrows}
+use Rattle.tc_rules.specs.declared.awaited.Awaited.{Awaited}
+use Rattle.tc_serve.specs.{Inside.woken_once, Laws.TextGrows, Protocol.Played, Protocol.ServiceState, Protocol.called, Protocol.played_past, Protocol.wake_op, Protocol.with_current, Protocol.woken, Protocol.woken_from, Text.block, Text.case_header, Text.opened_text, Text.stand_text, declared.order.Order.Order}
 use Rattle.tc_serve.proofs.Changes.{Changed, changes, new}
-use Rattle.tc_serve.proofs.Going.{begins, ends, grows, line_more, lines_text}
+
+-- one more run is woken, if it can continue
+pub woken_next : (n : ℕ) (lines : List Line) (k : ℕ) → woken n lines (k + 1) ≡ woken_once n (woken n lines k) k
+woken_next n lines k = ap (λ i. woken n lines i) (add-one k)
+
+-- what is appended to a text that grows
+pub appended : (before out written text more grown : List ℕ) → before ++ out ≡ text → written ≡ out ++ more → grown ≡ text ++ more → before ++ written ≡ grown
+appended before out written text more grown is appends grows =
+    ap (λ (l : List ℕ). before ++ l) appends ∙ (sym (append_assoc before out more) ∙ (ap (λ (l : List ℕ). l ++ more) is ∙ sym grows))
+
+-- what begins with a text and more begins with the text
+pub begun_before : (out move begun written : List ℕ) → begun ≡ out ++ move → StartsWith written begun → StartsWith written out
+begun_before out move begun written is begins =
+    let behind = drop (length begun) written in
+    let parts : written ≡ out ++ (move ++ behind) = sym (take-append-drop (length begun) written) ∙ (ap (λ (l : List ℕ). l ++ behind) (begins ∙ is) ∙ append_assoc out move behind) in
+    ap (take (length out)) parts ∙ take_at out (move ++ behind) (length out) refl
+
+abbrev pub lines_text : List Line → List ℕ
+lines_text lines = flat_map (λ l. with_lf (line_text l)) (reverse lines)
+
+-- the text of one more line
+pub line_more : (l : Line) (lines : List Line) → lines_text (l ∷ lines) ≡ lines_text lines ++ with_lf (line_text l)
+line_more l lines =
+    ap (flat_map (λ x. with_lf (line_text x))) (reverse-append (l ∷ []) lines)
+    ∙ (flat_map-append (λ x. with_lf (line_text x)) (reverse lines) (l ∷ []) ∙ ap (λ (x : List ℕ). lines_text lines ++ x) (append-nil (with_lf (line_text l))))
+
+abbrev pub closed_text : List Played → List ℕ
+closed_text ps = flat_map block (reverse ps)
+
+abbrev pub open_stand : List Played → Played → ServiceState
+open_stand closed p = record { closed = closed; current = Some p }
+
+-- what the lines of the open test case grow by the whole text does
+pub grows : (closed : List Played) (p : Played) (ls : List Line) (text : List ℕ) → lines_text ls ≡ lines_text p.lines ++ text → stand_text (open_stand closed (record p { lines = ls })) ≡ stand_text (open_stand closed p) ++ text
+grows closed p ls text more =
+    let head = with_lf (header_text (case_header p)) in
+    ap (λ (l : List ℕ). closed_text closed ++ (head ++ l)) more
+    ∙ (ap (λ (l : List ℕ). closed_text closed ++ l) (sym (append_assoc head (lines_text p.lines) text)) ∙ sym (append_assoc (closed_text closed) (opened_text p) text))
+
+pub one_block : (ps : List Played) (p : Played) → closed_text (p ∷ ps) ≡ closed_text ps ++ block p
+one_block ps p =
+    ap (flat_map block) (reverse-append (p ∷ []) ps)
+    ∙ (flat_map-append block (reverse ps) (p ∷ []) ∙ ap (λ (l : List ℕ). closed_text ps ++ l) (append-nil (block p)))
+
+-- the open test case is closed
+pub ends : (closed : List Played) (p : Played) → stand_text (record { closed = p ∷ closed; current = None }) ≡ stand_text (open_stand closed p) ++ with_lf (end_text (overall (played_past p)))
+ends closed p = append-nil (closed_text (p ∷ closed)) ∙ (one_block closed p ∙ sym (append_assoc (closed_text closed) (opened_text p) (with_lf (end_text (overall (played_past p))))))
+
+-- a test case is opened
+pub begins : (closed : List Played) (p : Played) → lines_text p.lines ≡ [] → stand_text (open_stand closed p) ≡ stand_text (record { closed = closed; current = None }) ++ with_lf (header_text (case_header p))
+begins closed p none =
+    let head = with_lf (header_text (case_header p)) in
+    ap (λ (l : List ℕ). closed_text closed ++ (head ++ l)) none
+    ∙ (ap (λ (l : List ℕ). closed_text closed ++ l) (append-nil head) ∙ ap (λ (l : List ℕ). l ++ head) (sym (append-nil (closed_text closed))))
 
 -- one text begins with the other
 abbrev Grows : List ℕ → List ℕ → Type 0
@@ -30,9 +80,9 @@ one_wake : (n : ℕ) (lines : List Line) (b : ℕ) (o : Option Awaited) → Grow
 one_wake n lines b None = grows_not (lines_text lines)
 one_wake n lines b (Some a) = by_test (is_parked (called n lines (record { 0 = b }) (wake_op a)).reply)
   where
-    by_test : (t : Bool) → Grows (lines_text lines) (lines_text (if t then lines else L.Entry (called n lines (record { 0 = b }) (wake_op a)) ∷ lines))
+    by_test : (t : Bool) → Grows (lines_text lines) (lines_text (if t then lines else Line.Entry (called n lines (record { 0 = b }) (wake_op a)) ∷ lines))
     by_test true = grows_not (lines_text lines)
-    by_test false = one_line (L.Entry (called n lines (record { 0 = b }) (wake_op a))) lines
+    by_test false = one_line (Line.Entry (called n lines (record { 0 = b }) (wake_op a))) lines
 
 wakes : (n : ℕ) (lines : List Line) (k : ℕ) → Grows (lines_text lines) (lines_text (woken n lines k))
 wakes n lines zero = grows_not (lines_text lines)
@@ -55,7 +105,7 @@ grown asks s t (inr (inl adds)) =
     subst (λ (x : ServiceState). Grows (stand_text s) (stand_text x)) adds.is (with_lines s adds.case (adds.line ∷ adds.case.lines) adds.some (one_line adds.line adds.case.lines))
 grown asks s t (inr (inr (inl moves))) =
     let p = moves.case in
-    let call = L.Entry (called p.behaviours p.lines moves.caller moves.op) in
+    let call = Line.Entry (called p.behaviours p.lines moves.caller moves.op) in
     subst (λ (x : ServiceState). Grows (stand_text s) (stand_text x)) moves.is
     (with_lines s p (woken p.behaviours (call ∷ p.lines) p.behaviours) moves.some (grows_on _ _ _ (one_line call p.lines) (wakes p.behaviours (call ∷ p.lines) p.behaviours)))
 grown asks s t (inr (inr (inr (inl closes)))) =

@@ -4,13 +4,10 @@ pub mod Calling
 pub mod Changes
 pub mod Evident
 pub mod Feeding
-pub mod Going
 pub mod Growing
-pub mod Lengths
 pub mod Orders
 pub mod Settled
 pub mod Sleeping
-pub mod Sound
 pub mod Trying
 pub mod Turns
 pub mod Waking

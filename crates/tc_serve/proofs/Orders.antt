@@ -1,17 +1,13 @@
--- A line spells one order at most.
-use Rattle.std.proofs.Common.{◌≡◌, ◌∙◌, ◌<◌, ◌^◌, ◌∷◌, ◌++◌, ℕ, false, List, codes, Option, Some, None, Result, Ok, Err, ap, sym, append_assoc, subst, arith}
+-- A line spells one order at most, and none is as long as what is looked at of one.
+use Rattle.std.proofs.Common.{◌≡◌, ◌∙◌, ◌<◌, ◌^◌, ◌∷◌, ◌++◌, ℕ, false, List, codes, Option, Some, None, Result, Ok, Err, ap, sym, append_assoc, subst, arith, ◌*◌, ◌≤◌, inr, true, [], length, refl}
 use Rattle.std.specs.Fmt.{decimal}
-use Rattle.tc_rules.specs.Prelude.{Run, Entry, Op}
-use Rattle.tc_entry.specs.declared.reply.Reply.TheVariants as R
+use Rattle.std.proofs.lemmas.{Fmt.length-decimal-le, List.length-append, List.length-take-le}
+use Rattle.tc_rules.specs.Prelude.{Run, Entry, Op, UserVerdict, given, name_of, Comp, Group, Target, Reply}
 use Rattle.tc_text.proofs.Lemmas.Digits.{no_letter}
-use Rattle.tc_text.specs.Prelude.{move_text, op_text, IsOp}
+use Rattle.tc_text.specs.Prelude.{move_text, op_text, IsOp, AreComps, IsGroup, IsTarget, args_text, group_text, target_text}
 use Rattle.tc_blocks.specs.Prelude.{said_text, IsSentence}
 use Rattle.tc_blocks.proofs.Lemmas.Notes.{entry_not_said, said_not_naming}
-use Rattle.tc_serve.specs.declared.refusal.Refusal.{Refusal}
-use Rattle.tc_serve.specs.declared.refusal.Refusal.TheVariants as W
-use Rattle.tc_serve.specs.Order.{IsOrder, order_text}
-use Rattle.tc_serve.specs.declared.order.Order.{Order}
-use Rattle.tc_serve.specs.declared.order.Order.TheVariants as O
+use Rattle.tc_serve.specs.{Laws.LongLinesAreRefused, Protocol.IsOrder, Protocol.order_text, declared.order.Order.Order, declared.order.TheConstants.LINE_BYTES, declared.refusal.Refusal.Refusal}
 
 -- no move begins with a letter
 move_no_letter : (run b : ℕ) (op : Op) (after : List ℕ) → run < 2 ^ 16 → 57 < b → move_text run op ≡ b ∷ after → ⊥
@@ -29,58 +25,126 @@ said_not_move k run op sentence low fits is same =
     (ap (λ l. l ++ codes " -> ok") (sym same) ∙ append_assoc (decimal k) (codes " # " ++ sentence) (codes " -> ok"))
   where
     e : Entry
-    e = record { caller = record { 0 = run }; op = op; reply = R.Ok }
+    e = record { caller = record { 0 = run }; op = op; reply = Reply.Ok }
 
 -- the line makes no remark
 abbrev IsNoRemark : Order → Type 0
-IsNoRemark (O.Remark run sentence) = ⊥
+IsNoRemark (Order.Remark run sentence) = ⊥
 IsNoRemark _ = Unit {0}
 
 not_remark : (text : List ℕ) (k : ℕ) (bytes : List ℕ) → k < 2 ^ 16 → text ≡ said_text false k bytes → (o : Order) → IsOrder o → IsNoRemark o → text ≡ order_text o → ⊥
-not_remark text k bytes low spelled (O.Case name n) fits other e =
+not_remark text k bytes low spelled (Order.Case name n) fits other e =
     no_letter k 99 (codes " # " ++ bytes) (codes "ase " ++ (name ++ (codes " " ++ decimal n))) (wide k low) (omega arith) (sym spelled ∙ e)
-not_remark text k bytes low spelled (O.Named r name) fits other e = said_not_naming false k bytes r.0 name (wide k low) (sym spelled ∙ e)
-not_remark text k bytes low spelled (O.Move r p) fits other e = said_not_move k r.0 p bytes low fits.0 fits.1 (sym spelled ∙ e)
-not_remark text k bytes low spelled (O.Remark r sentence) fits other e = other
-not_remark text k bytes low spelled O.End fits other e = no_letter k 101 (codes " # " ++ bytes) (codes "nd") (wide k low) (omega arith) (sym spelled ∙ e)
+not_remark text k bytes low spelled (Order.Named r name) fits other e = said_not_naming false k bytes r.0 name (wide k low) (sym spelled ∙ e)
+not_remark text k bytes low spelled (Order.Move r p) fits other e = said_not_move k r.0 p bytes low fits.0 fits.1 (sym spelled ∙ e)
+not_remark text k bytes low spelled (Order.Remark r sentence) fits other e = other
+not_remark text k bytes low spelled Order.End fits other e = no_letter k 101 (codes " # " ++ bytes) (codes "nd") (wide k low) (omega arith) (sym spelled ∙ e)
 
 -- if the line is a remark, it is this one
 abbrev pub IsThatRemark : List ℕ → Run → List ℕ → Type 0
 IsThatRemark text run bytes = (k : ℕ) (sentence : List ℕ) → k < 2 ^ 16 → text ≡ said_text false k sentence → (run.0 ≡ k) × (bytes ≡ sentence)
 
 abbrev make : ℕ → List ℕ → Order
-make k sentence = O.Remark (record { 0 = k }) sentence
+make k sentence = Order.Remark (record { 0 = k }) sentence
 
 pub remark_only : (text : List ℕ) (run : Run) (bytes sentence : List ℕ) → run.0 < 2 ^ 16 → text ≡ said_text false run.0 bytes → IsThatRemark text run bytes → sentence ≡ bytes →
-    (o : Order) → IsOrder o → text ≡ order_text o → ◌≡◌ {A = Result Order Refusal} (Ok (O.Remark run sentence)) (Ok o)
-remark_only text run bytes sentence low spelled only same (O.Remark r that) fits e =
+    (o : Order) → IsOrder o → text ≡ order_text o → ◌≡◌ {A = Result Order Refusal} (Ok (Order.Remark run sentence)) (Ok o)
+remark_only text run bytes sentence low spelled only same (Order.Remark r that) fits e =
     let two = only r.0 that fits.0 e in ap (λ k. Ok (make k sentence)) two.0 ∙ ap (λ s. Ok (make r.0 s)) (same ∙ two.1)
-remark_only text run bytes sentence low spelled only same (O.Case name n) fits e = absurd (not_remark text run.0 bytes low spelled (O.Case name n) fits tt e)
-remark_only text run bytes sentence low spelled only same (O.Named r name) fits e = absurd (not_remark text run.0 bytes low spelled (O.Named r name) fits tt e)
-remark_only text run bytes sentence low spelled only same (O.Move r p) fits e = absurd (not_remark text run.0 bytes low spelled (O.Move r p) fits tt e)
-remark_only text run bytes sentence low spelled only same O.End fits e = absurd (not_remark text run.0 bytes low spelled O.End fits tt e)
+remark_only text run bytes sentence low spelled only same (Order.Case name n) fits e = absurd (not_remark text run.0 bytes low spelled (Order.Case name n) fits tt e)
+remark_only text run bytes sentence low spelled only same (Order.Named r name) fits e = absurd (not_remark text run.0 bytes low spelled (Order.Named r name) fits tt e)
+remark_only text run bytes sentence low spelled only same (Order.Move r p) fits e = absurd (not_remark text run.0 bytes low spelled (Order.Move r p) fits tt e)
+remark_only text run bytes sentence low spelled only same Order.End fits e = absurd (not_remark text run.0 bytes low spelled Order.End fits tt e)
 
 pub remark_none : (text : List ℕ) (run : Run) (bytes : List ℕ) → run.0 < 2 ^ 16 → text ≡ said_text false run.0 bytes → IsThatRemark text run bytes → (IsSentence bytes → ⊥) → (o : Order) → IsOrder o → text ≡ order_text o → ⊥
-remark_none text run bytes low spelled only none (O.Remark r that) fits e = let two = only r.0 that fits.0 e in none (subst IsSentence (sym two.1) fits.1)
-remark_none text run bytes low spelled only none (O.Case name n) fits e = not_remark text run.0 bytes low spelled (O.Case name n) fits tt e
-remark_none text run bytes low spelled only none (O.Named r name) fits e = not_remark text run.0 bytes low spelled (O.Named r name) fits tt e
-remark_none text run bytes low spelled only none (O.Move r p) fits e = not_remark text run.0 bytes low spelled (O.Move r p) fits tt e
-remark_none text run bytes low spelled only none O.End fits e = not_remark text run.0 bytes low spelled O.End fits tt e
+remark_none text run bytes low spelled only none (Order.Remark r that) fits e = let two = only r.0 that fits.0 e in none (subst IsSentence (sym two.1) fits.1)
+remark_none text run bytes low spelled only none (Order.Case name n) fits e = not_remark text run.0 bytes low spelled (Order.Case name n) fits tt e
+remark_none text run bytes low spelled only none (Order.Named r name) fits e = not_remark text run.0 bytes low spelled (Order.Named r name) fits tt e
+remark_none text run bytes low spelled only none (Order.Move r p) fits e = not_remark text run.0 bytes low spelled (Order.Move r p) fits tt e
+remark_none text run bytes low spelled only none Order.End fits e = not_remark text run.0 bytes low spelled Order.End fits tt e
 
 -- ---- moves
 
 -- what is asked, if this is the move that was read
 abbrev asked : Option (Run × Op) → Result Order Refusal
-asked None = Err W.BadLine
-asked (Some m) = Ok (O.Move m.0 m.1)
+asked None = Err Refusal.BadLine
+asked (Some m) = Ok (Order.Move m.0 m.1)
 
 pub only_move : (text : List ℕ) (run : Run) (op : Op) → (run.0 < 2 ^ 16) × IsOp op → text ≡ move_text run.0 op →
     ((r : ℕ) (p : Op) → r < 2 ^ 16 → IsOp p → text ≡ move_text r p → ◌≡◌ {A = Option (Run × Op)} (Some (run, op)) (Some (record { 0 = r }, p))) →
-    (o : Order) → IsOrder o → text ≡ order_text o → ◌≡◌ {A = Result Order Refusal} (Ok (O.Move run op)) (Ok o)
-only_move text run op low spelled only (O.Case name n) fits e =
+    (o : Order) → IsOrder o → text ≡ order_text o → ◌≡◌ {A = Result Order Refusal} (Ok (Order.Move run op)) (Ok o)
+only_move text run op low spelled only (Order.Case name n) fits e =
     absurd (move_no_letter run.0 99 op (codes "ase " ++ (name ++ (codes " " ++ decimal n))) low.0 (omega arith) (sym spelled ∙ e))
-only_move text run op low spelled only (O.Named r name) fits e =
+only_move text run op low spelled only (Order.Named r name) fits e =
     absurd (move_no_letter run.0 98 op (codes "ehaviour " ++ (decimal r.0 ++ (codes " " ++ name))) low.0 (omega arith) (sym spelled ∙ e))
-only_move text run op low spelled only (O.Move r p) fits e = ap asked (only r.0 p fits.0 fits.1 e)
-only_move text run op low spelled only (O.Remark r sentence) fits e = absurd (said_not_move r.0 run.0 op sentence fits.0 low.0 low.1 (sym e ∙ spelled))
-only_move text run op low spelled only O.End fits e = absurd (move_no_letter run.0 101 op (codes "nd") low.0 (omega arith) (sym spelled ∙ e))
+only_move text run op low spelled only (Order.Move r p) fits e = ap asked (only r.0 p fits.0 fits.1 e)
+only_move text run op low spelled only (Order.Remark r sentence) fits e = absurd (said_not_move r.0 run.0 op sentence fits.0 low.0 low.1 (sym e ∙ spelled))
+only_move text run op low spelled only Order.End fits e = absurd (move_no_letter run.0 101 op (codes "nd") low.0 (omega arith) (sym spelled ∙ e))
+
+number_short : (n : ℕ) → n < 2 ^ 16 → length (decimal n) ≤ 5
+number_short n small = length-decimal-le 5 n (omega arith) (omega (arith, small)) (omega (arith, small))
+
+comp_short : (n : ℕ) → n < 2 ^ 32 → length (decimal n) ≤ 10
+comp_short n small = length-decimal-le 10 n (omega arith) (omega (arith, small)) (omega (arith, small))
+
+args_short : (cs : List Comp) → AreComps cs → length (args_text cs) ≤ 11 * length cs
+args_short [] fits = omega arith
+args_short (c ∷ cs) fits = omega (arith, comp_short c.0 fits.0, args_short cs fits.1, length-append (decimal c.0) (args_text cs))
+
+group_short : (g : Group) → IsGroup g → length (group_text g) ≤ 10
+group_short (Group.One c) fits = comp_short c.0 fits
+group_short Group.All fits = omega arith
+
+target_short : (t : Target) → IsTarget t → length (target_text t) ≤ 10
+target_short (Target.One c) fits = comp_short c.0 fits
+target_short Target.Any fits = omega arith
+target_short Target.All fits = omega arith
+
+given_short : (v : UserVerdict) → length (name_of (given v)) ≤ 10
+given_short UserVerdict.None = omega arith
+given_short UserVerdict.Pass = omega arith
+given_short UserVerdict.Inconc = omega arith
+given_short UserVerdict.Fail = omega arith
+
+op_short : (op : Op) → IsOp op → length (op_text op) ≤ 100
+op_short (Op.Create false None) fits = omega arith
+op_short (Op.Create true None) fits = omega arith
+op_short (Op.Create false (Some name)) fits = let short = fits.is_short in omega (arith, short)
+op_short (Op.Create true (Some name)) fits = let short = fits.is_short in omega (arith, short)
+op_short (Op.Start c run args) fits =
+    let few = fits.2 in
+    omega (arith, comp_short c.0 fits.0, number_short run.0 fits.1, few, args_short args fits.3, length-append (decimal c.0) (codes " " ++ (decimal run.0 ++ args_text args)), length-append (decimal run.0) (args_text args))
+op_short (Op.Stop g) fits = omega (arith, group_short g fits)
+op_short (Op.Kill g) fits = omega (arith, group_short g fits)
+op_short Op.StopCase fits = omega arith
+op_short (Op.Running t) fits = omega (arith, target_short t fits)
+op_short (Op.Alive t) fits = omega (arith, target_short t fits)
+op_short (Op.Done t) fits = omega (arith, target_short t fits)
+op_short (Op.Killed t) fits = omega (arith, target_short t fits)
+op_short (Op.Wait false t) fits = omega (arith, target_short t fits)
+op_short (Op.Wait true t) fits = omega (arith, target_short t fits)
+op_short (Op.Wake false t) fits = omega (arith, target_short t fits)
+op_short (Op.Wake true t) fits = omega (arith, target_short t fits)
+op_short (Op.SetVerdict v) fits = omega (arith, given_short v)
+op_short Op.GetVerdict fits = omega arith
+op_short Op.Finish fits = omega arith
+
+pub order_short : (o : Order) → IsOrder o → length (order_text o) < LINE_BYTES
+order_short (Order.Case name n) fits =
+    let short = fits.0.is_short in
+    let few = fits.1.1 in
+    omega (arith, short, number_short n (omega (arith, few)), length-append name (codes " " ++ decimal n))
+order_short (Order.Named run name) fits =
+    let short = fits.1.is_short in
+    omega (arith, short, number_short run.0 fits.0, length-append (decimal run.0) (codes " " ++ name))
+order_short (Order.Move caller op) fits = omega (arith, number_short caller.0 fits.0, op_short op fits.1, length-append (decimal caller.0) (codes " " ++ op_text op))
+order_short (Order.Remark run sentence) fits =
+    let short = fits.1.short in
+    omega (arith, short, number_short run.0 fits.0, length-append (decimal run.0) (codes " # " ++ sentence))
+order_short Order.End fits = omega arith
+
+pub long_lines_are_refused : LongLinesAreRefused
+long_lines_are_refused line s long = inr (
+  λ o asks. absurd (omega (arith, order_short o asks.1, ap length asks.2, length-take-le LINE_BYTES line long)),
+  (refl, omega (arith, length-take-le LINE_BYTES line long)),
+)

@@ -3,32 +3,20 @@ use Rattle.std.proofs.Common.{ℕ, ◌≡◌, ◌≢◌, ◌<◌, ◌≤◌, ◌
 use Rattle.std.specs.List.{AllByRecursion, list_any, list_all}
 use Rattle.std.proofs.lemmas.Bool.Decides.{nat_tests}
 use Rattle.tc_rules.specs.Prelude.{Run, Comp, Entry, Op, Target, Phase, Fault, Reply, add_new, comp_of, comps, created, exists, is_alive_type, phase, phase_if_not_killed, last_run, was_halted, was_killed, done, is_done, is_killed, is_running, killed, holds, is_still, is_stuck, parks, waiting, waits_in_vain, all_exist, asks_many, fault, target_names, answer, answer_unless, is_active, is_active_on, is_run_of, local_reply, plain_answer, is_quiet, keeps_phases, IsLegal}
-use Rattle.tc_entry.specs.declared.op.Op.TheVariants as Ops
-use Rattle.tc_entry.specs.declared.op.Target.TheVariants as T
-use Rattle.tc_entry.specs.declared.phase.Phase.TheVariants as P
-use Rattle.tc_entry.specs.declared.reply.Fault.TheVariants as F
-use Rattle.tc_entry.specs.declared.reply.Reply.TheVariants as R
 use Rattle.tc_rules.specs.declared.awaited.Awaited.{Awaited}
-use Rattle.tc_rules.proofs.Lemmas.Deciding.{and_left, and_no, and_right, equal_if, first_alone, self_equal}
-use Rattle.tc_rules.proofs.Lemmas.Going.{last_on_it}
-use Rattle.tc_rules.proofs.Lemmas.Over.{on_existing, stays}
-use Rattle.tc_rules.proofs.Lemmas.Quiet.{quiet_wakes_nobody}
-use Rattle.tc_rules.proofs.Lemmas.Sound.{plain_if}
+use Rattle.tc_rules.proofs.Lemmas.{Deciding.and_left, Deciding.and_no, Deciding.and_right, Deciding.equal_if, Deciding.first_alone, Deciding.self_equal, Going.last_on_it, Over.on_existing, Over.stays, Quiet.quiet_wakes_nobody, Sound.plain_if}
 use Rattle.tc_blocks.specs.declared.line.Line.{Line}
 use Rattle.tc_blocks.specs.Prelude.{entries_of, entry_in}
-use Rattle.tc_serve.specs.Protocol.{Played, called, moved, played_past, wake_op, woken, woken_from}
-use Rattle.tc_serve.specs.Inside.{after_call, wakes_nobody, with_line}
-use Rattle.tc_serve.specs.Laws.{AllServed, IsSettled, IsSound}
-use Rattle.tc_serve.proofs.Changes.{all_served}
-use Rattle.tc_serve.proofs.Sound.{all_legal, move_sound, no_entry, note_sound}
+use Rattle.tc_serve.specs.{Inside.after_call, Inside.wakes_nobody, Inside.with_line, Laws.AllServed, Laws.IsSettled, Laws.IsSound, Protocol.Played, Protocol.called, Protocol.moved, Protocol.played_past, Protocol.wake_op, Protocol.woken, Protocol.woken_from}
+use Rattle.tc_serve.proofs.{Asked.all_legal, Asked.move_sound, Asked.no_entry, Asked.note_sound, Changes.all_served}
 
 -- ---- a call that is replied Ended changes nothing for the others
 
 abbrev ended_call : Run → Op → Entry
-ended_call r op = record { caller = r; op = op; reply = R.Ended }
+ended_call r op = record { caller = r; op = op; reply = Reply.Ended }
 
-none_made : (op : Op) → created op R.Ended ≡ None
-none_made (Ops.Create alive name) = refl
+none_made : (op : Op) → created op Reply.Ended ≡ None
+none_made (Op.Create alive name) = refl
 none_made _ = refl
 
 none_of : (n : ℕ) (past : List Entry) (c : ℕ) → 0 < n → IsLegal n past → exists past c ≡ false → last_run past c ≡ None
@@ -45,8 +33,8 @@ unfolding phase
 same_phase n past r op c some legal = by_test (exists past c) refl
   where
     by_test : (t : Bool) → exists past c ≡ t →
-        (if was_killed (ended_call r op ∷ past) c then P.Killed else phase_if_not_killed (last_run past c) (was_halted past c) (is_alive_type (ended_call r op ∷ past) c))
-        ≡ (if was_killed past c then P.Killed else phase_if_not_killed (last_run past c) (was_halted past c) (is_alive_type past c))
+        (if was_killed (ended_call r op ∷ past) c then Phase.Killed else phase_if_not_killed (last_run past c) (was_halted past c) (is_alive_type (ended_call r op ∷ past) c))
+        ≡ (if was_killed past c then Phase.Killed else phase_if_not_killed (last_run past c) (was_halted past c) (is_alive_type past c))
     by_test true x =
         let k : was_killed (ended_call r op ∷ past) c ≡ was_killed past c = rw (and_no (exists past c)) refl in
         let t : is_alive_type (ended_call r op ∷ past) c ≡ is_alive_type past c = rw x refl in
@@ -72,18 +60,18 @@ module _ (n : ℕ) (past : List Entry) (r : Run) (op : Op) (some : 0 < n) (legal
 
   same_done : (t : Target) → done (ended_call r op ∷ past) t ≡ done past t
   unfolding done
-  same_done (T.One c) = ap is_done (same c.0)
-  same_done T.Any = ap (λ (cs : List ℕ). list_any (λ c. is_done (phase (ended_call r op ∷ past) c)) (drop 1 cs)) same_comps
+  same_done (Target.One c) = ap is_done (same c.0)
+  same_done Target.Any = ap (λ (cs : List ℕ). list_any (λ c. is_done (phase (ended_call r op ∷ past) c)) (drop 1 cs)) same_comps
       ∙ any_ext (λ c. is_done (phase past c)) (λ c. is_done (phase (ended_call r op ∷ past) c)) (drop 1 (comps past)) (λ c. ap is_done (same c))
-  same_done T.All = ap (λ (cs : List ℕ). list_all (λ c. not (is_running (phase (ended_call r op ∷ past) c))) (drop 1 cs)) same_comps
+  same_done Target.All = ap (λ (cs : List ℕ). list_all (λ c. not (is_running (phase (ended_call r op ∷ past) c))) (drop 1 cs)) same_comps
       ∙ all_ext (λ c. not (is_running (phase past c))) (λ c. not (is_running (phase (ended_call r op ∷ past) c))) (drop 1 (comps past)) (λ c. ap (λ (p : Phase). not (is_running p)) (same c))
 
   same_killed : (t : Target) → killed (ended_call r op ∷ past) t ≡ killed past t
   unfolding killed
-  same_killed (T.One c) = ap is_killed (same c.0)
-  same_killed T.Any = ap (λ (cs : List ℕ). list_any (λ c. is_killed (phase (ended_call r op ∷ past) c)) (drop 1 cs)) same_comps
+  same_killed (Target.One c) = ap is_killed (same c.0)
+  same_killed Target.Any = ap (λ (cs : List ℕ). list_any (λ c. is_killed (phase (ended_call r op ∷ past) c)) (drop 1 cs)) same_comps
       ∙ any_ext (λ c. is_killed (phase past c)) (λ c. is_killed (phase (ended_call r op ∷ past) c)) (drop 1 (comps past)) (λ c. ap is_killed (same c))
-  same_killed T.All = ap (λ (cs : List ℕ). list_all (λ c. is_killed (phase (ended_call r op ∷ past) c)) (drop 1 cs)) same_comps
+  same_killed Target.All = ap (λ (cs : List ℕ). list_all (λ c. is_killed (phase (ended_call r op ∷ past) c)) (drop 1 cs)) same_comps
       ∙ all_ext (λ c. is_killed (phase past c)) (λ c. is_killed (phase (ended_call r op ∷ past) c)) (drop 1 (comps past)) (λ c. ap is_killed (same c))
 
   same_holds : (b : Awaited) → holds (ended_call r op ∷ past) b ≡ holds past b
@@ -98,29 +86,29 @@ module _ (n : ℕ) (past : List Entry) (r : Run) (op : Op) (some : 0 < n) (legal
   same_vain None = refl
   same_vain (Some b) = ap not (same_holds b)
 
-  running_last : (c : ℕ) (run : Run) → phase past c ≡ P.Running run → last_run past c ≡ Some run
+  running_last : (c : ℕ) (run : Run) → phase past c ≡ Phase.Running run → last_run past c ≡ Some run
   unfolding phase
   running_last c run is = by_killed (was_killed past c) is
     where
-      by_last : (o : Option Run) (h t : Bool) → phase_if_not_killed o h t ≡ P.Running run → o ≡ Some run
+      by_last : (o : Option Run) (h t : Bool) → phase_if_not_killed o h t ≡ Phase.Running run → o ≡ Some run
       by_last None h t e = absurd cc
       by_last (Some x) true true e = absurd cc
       by_last (Some x) true false e = absurd cc
       by_last (Some x) false t e = let s : x ≡ run = cc in ap (λ (y : Run). Some y) s
 
-      by_killed : (k : Bool) → (if k then P.Killed else phase_if_not_killed (last_run past c) (was_halted past c) (is_alive_type past c)) ≡ P.Running run → last_run past c ≡ Some run
+      by_killed : (k : Bool) → (if k then Phase.Killed else phase_if_not_killed (last_run past c) (was_halted past c) (is_alive_type past c)) ≡ Phase.Running run → last_run past c ≡ Some run
       by_killed true e = absurd cc
       by_killed false e = by_last (last_run past c) (was_halted past c) (is_alive_type past c) e
 
   -- the run that a component runs is active
-  running_active : (c : ℕ) (run : Run) → phase past c ≡ P.Running run → is_active past run.0 ≡ true
+  running_active : (c : ℕ) (run : Run) → phase past c ≡ Phase.Running run → is_active past run.0 ≡ true
   unfolding is_active
   running_active c run is = rw ((last_on_it n past c run some legal (running_last c run is)).0, is) (self_equal run.0)
 
   same_still : (c : ℕ) → is_active past r.0 ≡ false → is_still (ended_call r op ∷ past) (phase (ended_call r op ∷ past) c) ≡ is_still past (phase past c)
   same_still c idle = ap (is_still (ended_call r op ∷ past)) (same c) ∙ by_phase (phase past c) refl
     where
-      by_same : (run : Run) (t : Bool) → phase past c ≡ P.Running run → (r.0 == run.0) ≡ t → waits_in_vain (ended_call r op ∷ past) (if t then None else waiting past run.0) ≡ waits_in_vain past (waiting past run.0)
+      by_same : (run : Run) (t : Bool) → phase past c ≡ Phase.Running run → (r.0 == run.0) ≡ t → waits_in_vain (ended_call r op ∷ past) (if t then None else waiting past run.0) ≡ waits_in_vain past (waiting past run.0)
       by_same run false is test = same_vain (waiting past run.0)
       by_same run true is test =
           let active : is_active past run.0 ≡ true = running_active c run is in
@@ -128,10 +116,10 @@ module _ (n : ℕ) (past : List Entry) (r : Run) (op : Op) (some : 0 < n) (legal
           absurd (let e : false ≡ true = sym idle ∙ (ap (is_active past) this ∙ active) in cc)
 
       by_phase : (p : Phase) → phase past c ≡ p → is_still (ended_call r op ∷ past) p ≡ is_still past p
-      by_phase (P.Running run) is = by_same run (r.0 == run.0) is refl
-      by_phase P.Inactive is = refl
-      by_phase P.Stopped is = refl
-      by_phase P.Killed is = refl
+      by_phase (Phase.Running run) is = by_same run (r.0 == run.0) is refl
+      by_phase Phase.Inactive is = refl
+      by_phase Phase.Stopped is = refl
+      by_phase Phase.Killed is = refl
 
   same_stuck : is_active past r.0 ≡ false → is_stuck (ended_call r op ∷ past) ≡ is_stuck past
   unfolding is_stuck
@@ -157,7 +145,7 @@ module _ (n : ℕ) (past : List Entry) (r : Run) (op : Op) (some : 0 < n) (legal
 
 -- ---- who waits for something may ask for it
 
-fault_cases : (x y : Bool) → (if not x then Some F.NoComponent else if y then Some F.NotMain else None) ≡ None → (x ≡ true) × (y ≡ false)
+fault_cases : (x y : Bool) → (if not x then Some Fault.NoComponent else if y then Some Fault.NotMain else None) ≡ None → (x ≡ true) × (y ≡ false)
 fault_cases true true h = absurd cc
 fault_cases true false h = (refl, refl)
 fault_cases false y h = absurd cc
@@ -176,14 +164,14 @@ no_new_fault n past e b a h =
     let x : all_exist (e ∷ past) (target_names a.target) ≡ true = still_exist past e (target_names a.target) f.0 in
     rw (x, f.1) refl
 
-same_wake : (n : ℕ) (past : List Entry) (b : ℕ) (op : Op) (a : Awaited) → parks op R.Parked ≡ Some a → fault n past b op ≡ None → fault n past b (wake_op a) ≡ None
+same_wake : (n : ℕ) (past : List Entry) (b : ℕ) (op : Op) (a : Awaited) → parks op Reply.Parked ≡ Some a → fault n past b op ≡ None → fault n past b (wake_op a) ≡ None
 unfolding fault
-same_wake n past b (Ops.Wait k t) a is none = let e : record { killed = k; target = t } ≡ a = cc in rw (← e) none
-same_wake n past b (Ops.Wake k t) a is none = let e : record { killed = k; target = t } ≡ a = cc in rw (← e) none
+same_wake n past b (Op.Wait k t) a is none = let e : record { killed = k; target = t } ≡ a = cc in rw (← e) none
+same_wake n past b (Op.Wake k t) a is none = let e : record { killed = k; target = t } ≡ a = cc in rw (← e) none
 same_wake n past b _ a is none = absurd cc
 
 parked_op : (n : ℕ) (past : List Entry) (b : ℕ) (op : Op) (reply : Reply) (a : Awaited) → reply ≡ answer n past b op → parks op reply ≡ Some a → fault n past b (wake_op a) ≡ None
-parked_op n past b op R.Parked a legal is = same_wake n past b op a is (plain_if n past b op R.Parked refl refl legal).no_fault
+parked_op n past b op Reply.Parked a legal is = same_wake n past b op a is (plain_if n past b op Reply.Parked refl refl legal).no_fault
 parked_op n past b op _ a legal is = absurd cc
 
 waits_rightly : (n : ℕ) (past : List Entry) (b : ℕ) (a : Awaited) → IsLegal n past → waiting past b ≡ Some a → fault n past b (wake_op a) ≡ None
@@ -200,8 +188,8 @@ waits_rightly n (e ∷ past) b a legal is = by_test (e.caller.0 == b) refl is (�
 -- how a wake of run b is answered
 abbrev Kind : ℕ → List Entry → ℕ → Awaited → Type 0
 Kind n past b a =
-    ((answer n past b (wake_op a) ≡ R.Ended) × (is_active past b ≡ false))
-    ⊎ ((answer n past b (wake_op a) ≡ R.Matched) ⊎ (((b ≡ 0) × (answer n past b (wake_op a) ≡ R.Fault F.Stuck)) ⊎ (answer n past b (wake_op a) ≡ R.Parked)))
+    ((answer n past b (wake_op a) ≡ Reply.Ended) × (is_active past b ≡ false))
+    ⊎ ((answer n past b (wake_op a) ≡ Reply.Matched) ⊎ (((b ≡ 0) × (answer n past b (wake_op a) ≡ Reply.Fault Fault.Stuck)) ⊎ (answer n past b (wake_op a) ≡ Reply.Parked)))
 
 kind : (n : ℕ) (past : List Entry) (b : ℕ) (a : Awaited) → fault n past b (wake_op a) ≡ None → Kind n past b a
 unfolding answer
@@ -222,7 +210,7 @@ kind n past b a none = by_active (is_active past b) refl
 
 -- the first k runs sleep only if their wakes would be parked
 abbrev AreSettled : ℕ → List Entry → ℕ → Type 0
-AreSettled n past k = (b : ℕ) (a : Awaited) → b < k → waiting past b ≡ Some a → answer n past b (wake_op a) ≡ R.Parked
+AreSettled n past k = (b : ℕ) (a : Awaited) → b < k → waiting past b ≡ Some a → answer n past b (wake_op a) ≡ Reply.Parked
 
 other_waits : (b k : ℕ) (o w : Option Awaited) → b < k → (if k == b then o else w) ≡ w
 other_waits b k o w less = by_test (k == b) refl
@@ -245,10 +233,10 @@ own_waits : (k : ℕ) (o w : Option Awaited) → (if k == k then o else w) ≡ o
 own_waits k o w = rw (self_equal k) refl
 
 -- one more run, which sleeps on or does not sleep
-settled_more : (n : ℕ) (past : List Entry) (k : ℕ) → AreSettled n past k → ((a : Awaited) → waiting past k ≡ Some a → answer n past k (wake_op a) ≡ R.Parked) → AreSettled n past (suc k)
+settled_more : (n : ℕ) (past : List Entry) (k : ℕ) → AreSettled n past k → ((a : Awaited) → waiting past k ≡ Some a → answer n past k (wake_op a) ≡ Reply.Parked) → AreSettled n past (suc k)
 settled_more n past k before this b a less waits = by_place (at_or_below b k less)
   where
-    by_place : (b < k) ⊎ (b ≡ k) → answer n past b (wake_op a) ≡ R.Parked
+    by_place : (b < k) ⊎ (b ≡ k) → answer n past b (wake_op a) ≡ Reply.Parked
     by_place (inl below) = before b a below waits
     by_place (inr same) = rw same (this a (ap (waiting past) (sym same) ∙ waits))
 
@@ -257,31 +245,31 @@ never_some a P e = absurd cc
 
 -- one more run, which was woken by this reply
 settled_woken : (n : ℕ) (past : List Entry) (k : ℕ) (a : Awaited) (reply : Reply) → parks (wake_op a) reply ≡ None →
-    ((b : ℕ) (w : Awaited) → b < k → answer n past b (wake_op w) ≡ R.Parked → answer n (record { caller = record { 0 = k }; op = wake_op a; reply = reply } ∷ past) b (wake_op w) ≡ R.Parked) →
+    ((b : ℕ) (w : Awaited) → b < k → answer n past b (wake_op w) ≡ Reply.Parked → answer n (record { caller = record { 0 = k }; op = wake_op a; reply = reply } ∷ past) b (wake_op w) ≡ Reply.Parked) →
     AreSettled n past k → AreSettled n (record { caller = record { 0 = k }; op = wake_op a; reply = reply } ∷ past) (suc k)
 settled_woken n past k a reply awake keeps before =
     let e : Entry = record { caller = record { 0 = k }; op = wake_op a; reply = reply } in
     settled_more n (e ∷ past) k
     (λ b w less waits. keeps b w less (before b w less (sym (other_waits b k (parks (wake_op a) reply) (waiting past b) less) ∙ waits)))
-    (λ w waits. never_some w (answer n (e ∷ past) k (wake_op w) ≡ R.Parked) (sym (own_waits k (parks (wake_op a) reply) (waiting past k) ∙ awake) ∙ waits))
+    (λ w waits. never_some w (answer n (e ∷ past) k (wake_op w) ≡ Reply.Parked) (sym (own_waits k (parks (wake_op a) reply) (waiting past k) ∙ awake) ∙ waits))
 
 some_is : (w v : Awaited) → ◌≡◌ {A = Option Awaited} (Some w) (Some v) → w ≡ v
 some_is w v e = cc
 
 pass_one : (n : ℕ) (lines : List Line) (k : ℕ) (o : Option Awaited) → 0 < n → IsLegal n (entries_of lines) → waiting (entries_of lines) k ≡ o → AreSettled n (entries_of lines) k → AreSettled n (entries_of (woken_from n lines k o)) (suc k)
 pass_one n lines k None some legal is before =
-    settled_more n (entries_of lines) k before (λ a waits. never_some a (answer n (entries_of lines) k (wake_op a) ≡ R.Parked) (sym is ∙ waits))
+    settled_more n (entries_of lines) k before (λ a waits. never_some a (answer n (entries_of lines) k (wake_op a) ≡ Reply.Parked) (sym is ∙ waits))
 pass_one n lines k (Some a) some legal is before = by_kind (kind n (entries_of lines) k a (waits_rightly n (entries_of lines) k a legal is))
   where
     by_kind : Kind n (entries_of lines) k a → AreSettled n (entries_of (woken_from n lines k (Some a))) (suc k)
     by_kind (inl ended) =
-        rw ended.0 (settled_woken n (entries_of lines) k a R.Ended refl (λ b w less parked. same_answer n (entries_of lines) (record { 0 = k }) (wake_op a) some legal b w ended.1 ∙ parked) before)
+        rw ended.0 (settled_woken n (entries_of lines) k a Reply.Ended refl (λ b w less parked. same_answer n (entries_of lines) (record { 0 = k }) (wake_op a) some legal b w ended.1 ∙ parked) before)
     by_kind (inr (inl matched)) =
-        let e : Entry = record { caller = record { 0 = k }; op = wake_op a; reply = R.Matched } in
+        let e : Entry = record { caller = record { 0 = k }; op = wake_op a; reply = Reply.Matched } in
         let law = quiet_wakes_nobody n (entries_of lines) e (sym matched, legal) refl in
-        rw matched (settled_woken n (entries_of lines) k a R.Matched refl (λ b w less parked. law.parked b w.killed w.target parked) before)
+        rw matched (settled_woken n (entries_of lines) k a Reply.Matched refl (λ b w less parked. law.parked b w.killed w.target parked) before)
     by_kind (inr (inr (inl stuck))) =
-        rw stuck.1 (settled_woken n (entries_of lines) k a (R.Fault F.Stuck) refl (λ b w less parked. absurd (let first = stuck.0 in omega (arith, less, first))) before)
+        rw stuck.1 (settled_woken n (entries_of lines) k a (Reply.Fault Fault.Stuck) refl (λ b w less parked. absurd (let first = stuck.0 in omega (arith, less, first))) before)
     by_kind (inr (inr (inr parked))) =
         rw parked (settled_more n (entries_of lines) k before (λ w waits. let same : w ≡ a = some_is w a (sym waits ∙ is) in rw same parked))
 
@@ -293,47 +281,47 @@ pass_all n lines (suc k) some legal =
 -- ---- a call after which nobody is woken
 
 -- an entry whose caller does not sleep, and by which no other is woken
-settled_on : (n : ℕ) (past : List Entry) (e : Entry) → parks e.op e.reply ≡ None → ((b : ℕ) (w : Awaited) → answer n past b (wake_op w) ≡ R.Parked → answer n (e ∷ past) b (wake_op w) ≡ R.Parked) → AreSettled n past n → AreSettled n (e ∷ past) n
+settled_on : (n : ℕ) (past : List Entry) (e : Entry) → parks e.op e.reply ≡ None → ((b : ℕ) (w : Awaited) → answer n past b (wake_op w) ≡ Reply.Parked → answer n (e ∷ past) b (wake_op w) ≡ Reply.Parked) → AreSettled n past n → AreSettled n (e ∷ past) n
 settled_on n past e awake keeps before b a less waits = by_test (e.caller.0 == b) waits
   where
-    by_test : (t : Bool) → (if t then parks e.op e.reply else waiting past b) ≡ Some a → answer n (e ∷ past) b (wake_op a) ≡ R.Parked
+    by_test : (t : Bool) → (if t then parks e.op e.reply else waiting past b) ≡ Some a → answer n (e ∷ past) b (wake_op a) ≡ Reply.Parked
     by_test true is = never_some a _ (sym awake ∙ is)
     by_test false is = keeps b a (before b a less is)
 
-plain_not_ended : (past : List Entry) (b : ℕ) (op : Op) → is_active_on past b (comp_of past b) ≡ true → plain_answer past b op ≡ R.Ended → ⊥
-plain_not_ended past b (Ops.Wait k t) active e = by_test (holds past (record { killed = k; target = t })) e
+plain_not_ended : (past : List Entry) (b : ℕ) (op : Op) → is_active_on past b (comp_of past b) ≡ true → plain_answer past b op ≡ Reply.Ended → ⊥
+plain_not_ended past b (Op.Wait k t) active e = by_test (holds past (record { killed = k; target = t })) e
   where
-    by_test : (h : Bool) → (if h then R.Matched else R.Parked) ≡ R.Ended → ⊥
+    by_test : (h : Bool) → (if h then Reply.Matched else Reply.Parked) ≡ Reply.Ended → ⊥
     by_test true e = cc
     by_test false e = cc
-plain_not_ended past b (Ops.Wake k t) active e = by_tests (holds past (record { killed = k; target = t })) ((b == 0) && is_stuck past) e
+plain_not_ended past b (Op.Wake k t) active e = by_tests (holds past (record { killed = k; target = t })) ((b == 0) && is_stuck past) e
   where
-    by_tests : (h z : Bool) → (if h then R.Matched else if z then R.Fault F.Stuck else R.Parked) ≡ R.Ended → ⊥
+    by_tests : (h z : Bool) → (if h then Reply.Matched else if z then Reply.Fault Fault.Stuck else Reply.Parked) ≡ Reply.Ended → ⊥
     by_tests true z e = cc
     by_tests false true e = cc
     by_tests false false e = cc
-plain_not_ended past b Ops.GetVerdict active e = by_comp (comp_of past b) active e
+plain_not_ended past b Op.GetVerdict active e = by_comp (comp_of past b) active e
   where
-    by_comp : (o : Option Comp) → is_active_on past b o ≡ true → local_reply past o ≡ R.Ended → ⊥
+    by_comp : (o : Option Comp) → is_active_on past b o ≡ true → local_reply past o ≡ Reply.Ended → ⊥
     by_comp (Some c) active e = cc
     by_comp None active e = cc
 plain_not_ended past b _ active e = cc
 
 -- a run whose call is replied Ended is not active
-ended_idle : (n : ℕ) (past : List Entry) (b : ℕ) (op : Op) → answer n past b op ≡ R.Ended → is_active past b ≡ false
+ended_idle : (n : ℕ) (past : List Entry) (b : ℕ) (op : Op) → answer n past b op ≡ Reply.Ended → is_active past b ≡ false
 unfolding answer is_active
 ended_idle n past b op e = by_active (is_active_on past b (comp_of past b)) refl e
   where
-    by_fault : (o : Option Fault) → is_active_on past b (comp_of past b) ≡ true → answer_unless o (plain_answer past b op) ≡ R.Ended → ⊥
+    by_fault : (o : Option Fault) → is_active_on past b (comp_of past b) ≡ true → answer_unless o (plain_answer past b op) ≡ Reply.Ended → ⊥
     by_fault (Some f) active e = cc
     by_fault None active e = plain_not_ended past b op active e
 
-    by_active : (t : Bool) → is_active_on past b (comp_of past b) ≡ t → (if t then answer_unless (fault n past b op) (plain_answer past b op) else R.Ended) ≡ R.Ended → t ≡ false
+    by_active : (t : Bool) → is_active_on past b (comp_of past b) ≡ t → (if t then answer_unless (fault n past b op) (plain_answer past b op) else Reply.Ended) ≡ Reply.Ended → t ≡ false
     by_active false active e = refl
     by_active true active e = absurd (by_fault (fault n past b op) active e)
 
 module _ (n : ℕ) (past : List Entry) (caller : Run) (op : Op) (some : 0 < n) (legal : IsLegal n past) (settled : AreSettled n past n) where
-  by_ended : answer n past caller.0 op ≡ R.Ended → AreSettled n (ended_call caller op ∷ past) n
+  by_ended : answer n past caller.0 op ≡ Reply.Ended → AreSettled n (ended_call caller op ∷ past) n
   by_ended is = settled_on n past (ended_call caller op) refl (λ b w parked. same_answer n past caller op some legal b w (ended_idle n past caller.0 op is) ∙ parked) settled
 
   by_quiet : (reply : Reply) → reply ≡ answer n past caller.0 op → parks op reply ≡ None → is_quiet op reply ≡ true → AreSettled n (record { caller = caller; op = op; reply = reply } ∷ past) n
@@ -346,14 +334,14 @@ module _ (n : ℕ) (past : List Entry) (caller : Run) (op : Op) (some : 0 < n) (
   keeps_on k is = rw is refl
 
   by_reply : (reply : Reply) → reply ≡ answer n past caller.0 op → wakes_nobody (keeps_phases op) reply ≡ true → AreSettled n (record { caller = caller; op = op; reply = reply } ∷ past) n
-  by_reply R.Ended is nobody = by_ended (sym is)
-  by_reply R.Parked is nobody = absurd cc
-  by_reply (R.Fault f) is nobody = absurd cc
-  by_reply (R.Made c) is nobody = by_quiet (R.Made c) is refl (keeps_on _ nobody)
-  by_reply R.Ok is nobody = by_quiet R.Ok is refl (keeps_on _ nobody)
-  by_reply (R.Answer t) is nobody = by_quiet (R.Answer t) is refl (keeps_on _ nobody)
-  by_reply (R.Local v) is nobody = by_quiet (R.Local v) is refl (keeps_on _ nobody)
-  by_reply R.Matched is nobody = by_quiet R.Matched is refl (keeps_on _ nobody)
+  by_reply Reply.Ended is nobody = by_ended (sym is)
+  by_reply Reply.Parked is nobody = absurd cc
+  by_reply (Reply.Fault f) is nobody = absurd cc
+  by_reply (Reply.Made c) is nobody = by_quiet (Reply.Made c) is refl (keeps_on _ nobody)
+  by_reply Reply.Ok is nobody = by_quiet Reply.Ok is refl (keeps_on _ nobody)
+  by_reply (Reply.Answer t) is nobody = by_quiet (Reply.Answer t) is refl (keeps_on _ nobody)
+  by_reply (Reply.Local v) is nobody = by_quiet (Reply.Local v) is refl (keeps_on _ nobody)
+  by_reply Reply.Matched is nobody = by_quiet Reply.Matched is refl (keeps_on _ nobody)
 
   -- nobody sleeps who can continue after a call that wakes nobody, if nobody did before it
   still_settled : wakes_nobody (keeps_phases op) (answer n past caller.0 op) ≡ true → AreSettled n (record { caller = caller; op = op; reply = answer n past caller.0 op } ∷ past) n
@@ -367,7 +355,7 @@ none_woken n lines (suc k) few settled =
   where
     sleeps_on : (o : Option Awaited) → waiting (entries_of lines) k ≡ o → woken_from n lines k o ≡ lines
     sleeps_on None is = refl
-    sleeps_on (Some a) is = let parked : answer n (entries_of lines) k (wake_op a) ≡ R.Parked = settled k a (omega (arith, few)) is in rw parked refl
+    sleeps_on (Some a) is = let parked : answer n (entries_of lines) k (wake_op a) ≡ Reply.Parked = settled k a (omega (arith, few)) is in rw parked refl
 
 -- after such a call nobody is woken
 pub nobody_woken : (p : Played) (caller : Run) (op : Op) → 0 < p.behaviours → IsLegal p.behaviours (played_past p) → IsSettled p → wakes_nobody (keeps_phases op) (called p.behaviours p.lines caller op).reply ≡ true → record p { lines = after_call p caller op } ≡ moved p caller op
@@ -378,7 +366,7 @@ nobody_woken p caller op some legal settled nobody =
 -- ---- all that is served
 
 pub new_settled : (name : List ℕ) (n : ℕ) → IsSettled (record { name = name; behaviours = n; lines = [] })
-new_settled name n b a less waits = never_some a (answer n [] b (wake_op a) ≡ R.Parked) waits
+new_settled name n b a less waits = never_some a (answer n [] b (wake_op a) ≡ Reply.Parked) waits
 
 pub moved_settled : (p : Played) (caller : Run) (op : Op) → IsLegal p.behaviours (played_past p) → IsSettled (moved p caller op)
 moved_settled p caller op legal b a less waits = pass_all p.behaviours (after_call p caller op) p.behaviours (omega (arith, less)) (refl, legal) b a less waits
@@ -386,7 +374,7 @@ moved_settled p caller op legal b a less waits = pass_all p.behaviours (after_ca
 pub noted_settled : (p : Played) (l : Line) → entry_in l ≡ [] → IsSettled p → IsSettled (with_line p l)
 noted_settled p l none so =
     let same : played_past p ≡ played_past (with_line p l) = sym (ap (λ (es : List Entry). es ++ played_past p) none) in
-    subst (λ (es : List Entry). (b : ℕ) (a : Awaited) → b < p.behaviours → waiting es b ≡ Some a → answer p.behaviours es b (wake_op a) ≡ R.Parked) same so
+    subst (λ (es : List Entry). (b : ℕ) (a : Awaited) → b < p.behaviours → waiting es b ≡ Some a → answer p.behaviours es b (wake_op a) ≡ Reply.Parked) same so
 
 both : AllServed (λ p. IsSound p × IsSettled p)
 both = all_served (λ p. IsSound p × IsSettled p) (λ name n name_is few. (record { legal = tt; wakes = tt }, new_settled name n))

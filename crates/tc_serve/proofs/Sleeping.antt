@@ -1,13 +1,9 @@
 -- The runs that sleep, in the order of their numbers.
 use Rattle.std.proofs.Common.{ℕ, ◌≡◌, ◌≢◌, ◌∙◌, ◌+◌, ◌==◌, ◌<◌, ◌≤◌, zero, suc, nat_lt, if◌then◌else◌, Bool, true, false, Some, None, List, [], ◌∷◌, ◌++◌, length, get_or, take, drop, drop-cons, drop_at, take_all, take_at, take-take, length-take-le, refl, ap, sym, subst, arith}
 use Rattle.std.specs.Prelude.{remove}
-use Rattle.std.proofs.lemmas.Bool.Decides.{nat_tests}
-use Rattle.std.proofs.lemmas.List.{append-nil, take-append-drop, take_more}
+use Rattle.std.proofs.lemmas.{Bool.Decides.nat_tests, List.append-nil, List.take-append-drop, List.take_more}
 use Rattle.tc_rules.specs.Prelude.{Entry, Op, Reply, parks, waiting, is_parked}
-use Rattle.tc_entry.specs.declared.reply.Reply.TheVariants as R
-use Rattle.tc_serve.specs.declared.sleepers.Sleeper.{Sleeper}
-use Rattle.tc_serve.specs.Protocol.{Played, played_past, sleep_of}
-use Rattle.tc_serve.specs.Inside.{AllBelow, AreAsleep, AreInOrder, IsAdded, IsPassed, sleep_in}
+use Rattle.tc_serve.specs.{Inside.AllBelow, Inside.AreAsleep, Inside.AreInOrder, Inside.IsAdded, Inside.IsPassed, Inside.sleep_in, Protocol.Played, Protocol.played_past, Protocol.sleep_of, declared.sleepers.Sleeper.Sleeper}
 
 -- ---- lists in order
 
@@ -308,5 +304,5 @@ sleep_is p ss b so = by_test (nat_lt b p.behaviours) refl
     by_test false test = beyond p.behaviours ss so.few (grind (arith, nat_tests))
 
 pub goes_if : (op : Op) (r : Reply) → is_parked r ≡ false → parks op r ≡ None
-goes_if op R.Parked goes = absurd cc
+goes_if op Reply.Parked goes = absurd cc
 goes_if op _ goes = refl

@@ -1,23 +1,11 @@
 -- What is asked of a server.
 use Rattle.std.proofs.Common.{ℕ, ◌≡◌, ◌∙◌, ◌<◌, ◌^◌, nat_lt, if◌then◌else◌, Bool, true, false, is_some, not, inl, inr, Option, Some, None, Result, Ok, Err, is_err, MatchResult, List, [], ◌∷◌, ◌++◌, refl, ap, sym, subst}
-use Rattle.std.specs.Option.{option_map_or}
-use Rattle.std.specs.Result.{result_map_both}
+use Rattle.std.specs.{Option.option_map_or, Result.result_map_both}
 use Rattle.tc_rules.specs.Prelude.{Run, Verdict, worse, overall}
 use Rattle.tc_blocks.specs.Prelude.{end_text, with_lf, header_text}
-use Rattle.tc_blocks.specs.declared.line.Line.TheVariants as L
-use Rattle.tc_serve.specs.declared.open_case.OpenCase.{OpenCase}
-use Rattle.tc_serve.specs.declared.order.Order.{Order}
-use Rattle.tc_serve.specs.declared.order.Order.TheVariants as O
-use Rattle.tc_serve.specs.declared.refusal.Refusal.{Refusal}
-use Rattle.tc_serve.specs.declared.refusal.Refusal.TheVariants as W
-use Rattle.tc_serve.specs.declared.server.Server.{Server}
-use Rattle.tc_serve.specs.Order.{IsOrder, order_text}
-use Rattle.tc_serve.specs.Protocol.{IsOrderOf, IsNobodys, IsOf, IsWhyNothing, Played, Refuses, ServiceState, with_added_line, played_past, refused, after_order, with_current, with_open}
-use Rattle.tc_serve.specs.Refusal.{why_text}
-use Rattle.tc_serve.specs.Text.{counted, case_header, stand_text}
-use Rattle.tc_serve.specs.Inside.{Changes, IsCurrent, IsOpen, Rests, StandsAs, TellsRun, Tries, TriesLine, with_line}
-use Rattle.tc_serve.proofs.Going.{appended, begins, ends}
-use Rattle.tc_serve.proofs.Settled.{new_settled}
+use Rattle.tc_blocks.specs.declared.line.Line.{Line}
+use Rattle.tc_serve.specs.{Inside.Changes, Inside.IsCurrent, Inside.IsOpen, Inside.Rests, Inside.StandsAs, Inside.TellsRun, Inside.Tries, Inside.TriesLine, Inside.with_line, Protocol.IsNobodys, Protocol.IsOf, Protocol.IsOrder, Protocol.IsOrderOf, Protocol.IsWhyNothing, Protocol.Played, Protocol.Refuses, Protocol.ServiceState, Protocol.after_order, Protocol.order_text, Protocol.played_past, Protocol.refused, Protocol.why_text, Protocol.with_added_line, Protocol.with_current, Protocol.with_open, Text.case_header, Text.counted, Text.stand_text, declared.open_case.OpenCase.OpenCase, declared.order.Order.Order, declared.refusal.Refusal.Refusal, declared.server.Server.Server}
+use Rattle.tc_serve.proofs.{Growing.appended, Growing.begins, Growing.ends, Settled.new_settled}
 
 abbrev pub server : Option OpenCase → Verdict → Server
 server c w = record { current = c; worst = w }
@@ -39,7 +27,7 @@ text_is s c is = ap (λ (x : Option Played). stand_text (record { closed = s.clo
 
 -- the test case that is open became another, or none is open
 abbrev changed : ServiceState → (Played → Result Played Refusal) → Option Played → Result ServiceState Refusal
-changed s ask c = result_map_both (with_current s) (λ why. why) (option_map_or ask c (Err W.NoCase))
+changed s ask c = result_map_both (with_current s) (λ why. why) (option_map_or ask c (Err Refusal.NoCase))
 
 module _ (v : Server) (held after : OpenCase) (ask : Played → Result Played Refusal) (why : Option Refusal) (out written : List ℕ) (is : v.current ≡ Some held) (change : Changes ask why held after out written) where
   -- a change of the test case that is open
@@ -70,15 +58,15 @@ new name n = record { name = name; behaviours = n; lines = [] }
 
 -- it is opened, if none is open
 abbrev beginning : ServiceState → Played → Bool → Result ServiceState Refusal
-beginning s p some = if some then Err W.CaseOpen else Ok (with_current s p)
+beginning s p some = if some then Err Refusal.CaseOpen else Ok (with_current s p)
 
-pub not_begun : (v : Server) (name : List ℕ) (n : ℕ) (out : List ℕ) → is_some v.current ≡ true → Tries (λ s. after_order s (O.Case name n)) (Some W.CaseOpen) v v out out
+pub not_begun : (v : Server) (name : List ℕ) (n : ℕ) (out : List ℕ) → is_some v.current ≡ true → Tries (λ s. after_order s (Order.Case name n)) (Some Refusal.CaseOpen) v v out out
 not_begun v name n out some s before stands =
     let some_open : is_some s.current ≡ true = sym (both_open v.current s.current stands.current) ∙ some in
-    subst (λ (t : Bool). MatchResult (beginning s (new name n) t) (λ t. (◌≡◌ {A = Option Refusal} (Some W.CaseOpen) None) × StandsAs v t before out) (λ e. (◌≡◌ {A = Option Refusal} (Some W.CaseOpen) (Some e)) × StandsAs v s before out)) (sym some_open) (refl, stands)
+    subst (λ (t : Bool). MatchResult (beginning s (new name n) t) (λ t. (◌≡◌ {A = Option Refusal} (Some Refusal.CaseOpen) None) × StandsAs v t before out) (λ e. (◌≡◌ {A = Option Refusal} (Some Refusal.CaseOpen) (Some e)) × StandsAs v s before out)) (sym some_open) (refl, stands)
 
 pub begun : (v : Server) (held : OpenCase) (name : List ℕ) (n : ℕ) (out written : List ℕ) → is_some v.current ≡ false → IsOpen held (new name n) → written ≡ out ++ with_lf (header_text (case_header (new name n))) →
-    Tries (λ s. after_order s (O.Case name n)) None v (server (Some held) v.worst) out written
+    Tries (λ s. after_order s (Order.Case name n)) None v (server (Some held) v.worst) out written
 begun v held name n out written none kept appends s before stands =
     let free : is_some s.current ≡ false = sym (both_open v.current s.current stands.current) ∙ none in
     subst (λ (t : Bool). MatchResult (beginning s (new name n) t) (λ t. (◌≡◌ {A = Option Refusal} None None) × StandsAs (server (Some held) v.worst) t before written) (λ e. (◌≡◌ {A = Option Refusal} None (Some e)) × StandsAs (server (Some held) v.worst) s before written)) (sym free) (
@@ -101,10 +89,10 @@ ended_with s p = record { closed = p ∷ s.closed; current = None }
 
 -- it is closed, if one is open
 abbrev ending : ServiceState → Option Played → Result ServiceState Refusal
-ending s c = option_map_or (λ p. Ok (ended_with s p)) c (Err W.NoCase)
+ending s c = option_map_or (λ p. Ok (ended_with s p)) c (Err Refusal.NoCase)
 
 pub closing : (v : Server) (held : OpenCase) (left : Option OpenCase) (own all : Verdict) (out written : List ℕ) → v.current ≡ Some held → left ≡ None → ((p : Played) → IsOpen held p → own ≡ overall (played_past p)) →
-    ((p : Played) → IsOpen held p → all ≡ worse v.worst (counted p)) → written ≡ out ++ with_lf (end_text own) → Tries (λ s. after_order s O.End) None v (server left all) out written
+    ((p : Played) → IsOpen held p → all ≡ worse v.worst (counted p)) → written ≡ out ++ with_lf (end_text own) → Tries (λ s. after_order s Order.End) None v (server left all) out written
 closing v held left own all out written is none owns alls appends s before stands = by_current s.current refl (open_is v (Some held) s s.current before out is stands refl)
   where
     Yes : ServiceState → Type 0
@@ -168,11 +156,11 @@ same_told : (s : ServiceState) (r : Run) (e why : Refusal) → is_err (refused s
 same_told s r e why = by_current s.current
   where
     by_has : (p : Played) (t : Bool) →
-        is_err (result_map_both (with_current s) (λ (x : Refusal). x) (if t then Ok (with_line p (L.Refused r (why_text e))) else Err W.NoRun)) ≡ is_err (result_map_both (with_current s) (λ (x : Refusal). x) (if t then Ok (with_line p (L.Refused r (why_text why))) else Err W.NoRun))
+        is_err (result_map_both (with_current s) (λ (x : Refusal). x) (if t then Ok (with_line p (Line.Refused r (why_text e))) else Err Refusal.NoRun)) ≡ is_err (result_map_both (with_current s) (λ (x : Refusal). x) (if t then Ok (with_line p (Line.Refused r (why_text why))) else Err Refusal.NoRun))
     by_has p true = refl
     by_has p false = refl
 
-    by_current : (c : Option Played) → is_err (changed s (with_added_line r (L.Refused r (why_text e))) c) ≡ is_err (changed s (with_added_line r (L.Refused r (why_text why))) c)
+    by_current : (c : Option Played) → is_err (changed s (with_added_line r (Line.Refused r (why_text e))) c) ≡ is_err (changed s (with_added_line r (Line.Refused r (why_text why))) c)
     by_current None = refl
     by_current (Some p) = by_has p (nat_lt r.0 p.behaviours)
 

@@ -1,16 +1,9 @@
 -- What is read and written, and what goes to standard error, turn by turn.
 use Rattle.std.proofs.Common.{ℕ, ◌≡◌, ◌∙◌, ◌+◌, ◌-◌, ◌<◌, ◌≤◌, ◌^◌, ◌↔◌, ◌⊎◌, inl, inr, Bool, true, false, Option, Some, None, Result, Ok, Err, IfErr, List, [], ◌∷◌, ◌++◌, length, take, zero-add, suc-add, refl, ap, sym, subst, append_assoc, arith}
 use Rattle.std.specs.Io.KnownBytes.{Appends, Consumes, Keeps}
-use Rattle.std.proofs.lemmas.Grind.{common_steps}
-use Rattle.std.proofs.lemmas.List.{append-nil, length-append}
+use Rattle.std.proofs.lemmas.{Grind.common_steps, List.append-nil, List.length-append}
 use Rattle.tc_stream.specs.Prelude.{AppendsPrefix}
-use Rattle.tc_serve.specs.declared.fault.ServeFault.{ServeFault}
-use Rattle.tc_serve.specs.declared.fault.ServeFault.TheVariants as F
-use Rattle.tc_serve.specs.declared.service.Ending.{Ending}
-use Rattle.tc_serve.specs.declared.service.Served.{Served}
-use Rattle.tc_serve.specs.declared.serving.Serving.{Serving}
-use Rattle.tc_serve.specs.Serve.{Devices, HasEnded, IsServiceEnd, IsTaken, IsWhy, devices}
-use Rattle.tc_serve.specs.Inside.{Hears, IsAt, IsFed, IsOwn, IsTurn}
+use Rattle.tc_serve.specs.{Inside.Hears, Inside.IsAt, Inside.IsFed, Inside.IsOwn, Inside.IsTurn, Serve.Devices, Serve.HasEnded, Serve.IsServiceEnd, Serve.IsTaken, Serve.IsWhy, Serve.devices, declared.fault.ServeFault.ServeFault, declared.service.Ending.Ending, declared.service.Served.Served, declared.serving.Serving.Serving}
 use Rattle.tc_serve.proofs.Feeding.{stops_here}
 
 -- ---- bytes
@@ -92,11 +85,11 @@ stopped_at from to told turns v f at_ why = record {
   reported = subst (λ (l : List ℕ). IsTaken told from.errors to.errors l) (sym (append-nil at_.before')) at_.told_is;
 }
 
-pub uncounted : (from to : Devices) (told : Bool) (turns : ℕ) (v : Serving) → 2 ^ 64 - 1 ≤ turns → IsAt from to told turns v → IsServiceEnd from to (ending (Err F.TooLong) told)
+pub uncounted : (from to : Devices) (told : Bool) (turns : ℕ) (v : Serving) → 2 ^ 64 - 1 ≤ turns → IsAt from to told turns v → IsServiceEnd from to (ending (Err ServeFault.TooLong) told)
 uncounted from to told turns v most at_ =
-    stopped_at from to told turns v F.TooLong at_ (subst (λ (l : List ℕ). 2 ^ 64 - 1 ≤ length l) at_.fed.parts (omega (arith, most, at_.many)))
+    stopped_at from to told turns v ServeFault.TooLong at_ (subst (λ (l : List ℕ). 2 ^ 64 - 1 ≤ length l) at_.fed.parts (omega (arith, most, at_.many)))
 
-pub unread : (from : Devices) (left rest output errors : Option (List ℕ)) (told : Bool) (turns : ℕ) (v : Serving) → IsAt from (devices left output errors) told turns v → Keeps left rest → IsServiceEnd from (devices rest output errors) (ending (Err F.Read) told)
+pub unread : (from : Devices) (left rest output errors : Option (List ℕ)) (told : Bool) (turns : ℕ) (v : Serving) → IsAt from (devices left output errors) told turns v → Keeps left rest → IsServiceEnd from (devices rest output errors) (ending (Err ServeFault.Read) told)
 unread from left rest output errors told turns v at_ kept =
     let still : IsAt from (devices rest output errors) told turns v = record {
       bytes = at_.bytes;
@@ -108,7 +101,7 @@ unread from left rest output errors told turns v at_ kept =
       written = at_.written;
       told_is = at_.told_is;
     } in
-    stopped_at from (devices rest output errors) told turns v F.Read still at_.fed.last_is
+    stopped_at from (devices rest output errors) told turns v ServeFault.Read still at_.fed.last_is
 
 module _ (from : Devices) (left rest output output' errors errors' : Option (List ℕ)) (heard told : Bool) (turns : ℕ) (v w : Serving) (chunk out said : List ℕ) (at_ : IsAt from (devices left output errors) heard turns v) (read : Consumes left rest chunk) (hears : Hears heard told errors errors' said) where
   all_read : Consumes from.input rest (at_.bytes ++ chunk)
@@ -122,12 +115,12 @@ module _ (from : Devices) (left rest output output' errors errors' : Option (Lis
 
   -- this was due, and that came of it
   ends : (due o : Result Served ServeFault) → HasEnded (at_.bytes ++ chunk) rest (at_.before ++ out) (at_.before' ++ said) due →
-      ((o ≡ due) × Appends from.output output' (at_.before ++ out)) ⊎ ((o ≡ Err F.Write) × AppendsPrefix from.output output' (at_.before ++ out)) → IsServiceEnd from (devices rest output' errors') (ending o told)
+      ((o ≡ due) × Appends from.output output' (at_.before ++ out)) ⊎ ((o ≡ Err ServeFault.Write) × AppendsPrefix from.output output' (at_.before ++ out)) → IsServiceEnd from (devices rest output' errors') (ending o told)
   ends due o so written =
       record { bytes = at_.bytes ++ chunk; text = at_.before ++ out; reports = at_.before' ++ said; due = due; read = all_read; ended = so; written = written; reported = reports }
 
-  fails : (due : Result Served ServeFault) → HasEnded (at_.bytes ++ chunk) rest (at_.before ++ out) (at_.before' ++ said) due → AppendsPrefix output output' out → IsServiceEnd from (devices rest output' errors') (ending (Err F.Write) told)
-  fails due so wrote = ends due (Err F.Write) so (inr (refl, prefix_behind from.output output output' at_.before out at_.written wrote))
+  fails : (due : Result Served ServeFault) → HasEnded (at_.bytes ++ chunk) rest (at_.before ++ out) (at_.before' ++ said) due → AppendsPrefix output output' out → IsServiceEnd from (devices rest output' errors') (ending (Err ServeFault.Write) told)
+  fails due so wrote = ends due (Err ServeFault.Write) so (inr (refl, prefix_behind from.output output output' at_.before out at_.written wrote))
 
   -- what the texts of the turn say
   abbrev IsDue : Result (Option Served) ServeFault → Type 0
@@ -150,8 +143,8 @@ module _ (from : Devices) (left rest output output' errors errors' : Option (Lis
   written (Err f) so wrote = ends (Err f) (Err f) so (inl (refl, written_whole wrote))
 
   -- the output failed
-  pub unwritten : (result : Result (Option Served) ServeFault) → IsDue result → AppendsPrefix output output' out → IsServiceEnd from (devices rest output' errors') (ending (Err F.Write) told)
-  unwritten (Ok None) so wrote = let fed = so.1 in fails (Err F.Write) (stops_here (at_.bytes ++ chunk) fed.last _ w at_.before out out at_.before' said said rest F.Write fed fed.parts tt refl refl) wrote
+  pub unwritten : (result : Result (Option Served) ServeFault) → IsDue result → AppendsPrefix output output' out → IsServiceEnd from (devices rest output' errors') (ending (Err ServeFault.Write) told)
+  unwritten (Ok None) so wrote = let fed = so.1 in fails (Err ServeFault.Write) (stops_here (at_.bytes ++ chunk) fed.last _ w at_.before out out at_.before' said said rest ServeFault.Write fed fed.parts tt refl refl) wrote
   unwritten (Ok (Some r)) so wrote = fails (Ok r) so wrote
   unwritten (Err f) so wrote = fails (Err f) so wrote
 

@@ -4,15 +4,10 @@ use Rattle.std.specs.Prelude.{remove}
 use Rattle.std.proofs.lemmas.List.{append-nil, length-drop, take-append-drop}
 use Rattle.tc_rules.specs.Prelude.{Reply, answer, IsReplyOf, Kept, waiting, is_parked}
 use Rattle.tc_rules.specs.declared.awaited.Awaited.{Awaited}
-use Rattle.tc_blocks.specs.declared.line.Line.{Line}
-use Rattle.tc_blocks.specs.declared.met.MetRuns.{MetRuns}
+use Rattle.tc_blocks.specs.declared.{line.Line.Line, met.MetRuns.MetRuns}
 use Rattle.tc_blocks.specs.Prelude.{entries_of}
-use Rattle.tc_serve.specs.declared.open_case.OpenCase.{OpenCase}
-use Rattle.tc_serve.specs.declared.sleepers.Sleeper.{Sleeper}
-use Rattle.tc_serve.specs.Protocol.{Played, called, played_past, wake_op, woken, woken_from}
-use Rattle.tc_serve.specs.Inside.{AllBelow, AreAsleep, AreInOrder, Becomes, Holds, IsCalled, IsKept, IsOpen, IsPassed, after_call, sleep_in, woken_once}
-use Rattle.tc_serve.proofs.Going.{woken_next}
-use Rattle.tc_serve.proofs.Sleeping.{asleep_less, below_more, below_next, drop_next, goes_if, nobody_between, of_case, waits_so}
+use Rattle.tc_serve.specs.{Inside.AllBelow, Inside.AreAsleep, Inside.AreInOrder, Inside.Becomes, Inside.Holds, Inside.IsCalled, Inside.IsKept, Inside.IsOpen, Inside.IsPassed, Inside.after_call, Inside.sleep_in, Inside.woken_once, Protocol.Played, Protocol.called, Protocol.played_past, Protocol.wake_op, Protocol.woken, Protocol.woken_from, declared.open_case.OpenCase.OpenCase, declared.sleepers.Sleeper.Sleeper}
+use Rattle.tc_serve.proofs.{Growing.woken_next, Sleeping.asleep_less, Sleeping.below_more, Sleeping.below_next, Sleeping.drop_next, Sleeping.goes_if, Sleeping.nobody_between, Sleeping.of_case, Sleeping.waits_so}
 
 -- ---- one run
 

@@ -1,40 +1,27 @@
 -- What the functions inside say.
 use Rattle.std.specs.Prelude.{ℕ, ◌≡◌, ◌+◌, ◌-◌, ◌<◌, ◌≤◌, ◌^◌, ◌==◌, suc, if◌then◌else◌, Bool, true, false, is_some, is_none, Option, Some, None, Result, Ok, Err, List, [], ◌∷◌, ◌++◌, length, take, drop, insert, MatchResult}
-use Rattle.std.specs.List.{list_any}
-use Rattle.std.specs.Io.KnownBytes.{Appends, Consumes}
+use Rattle.std.specs.{Io.KnownBytes.Appends, Io.KnownBytes.Consumes, List.list_any}
 use Rattle.tc_rules.specs.Prelude.{Run, IsBehaviours, Kept, StandsFor, waiting, Entry, Op, Reply}
 use Rattle.tc_rules.specs.declared.awaited.Awaited.{Awaited}
-use Rattle.tc_entry.specs.declared.op.Op.TheVariants as Ops
-use Rattle.tc_entry.specs.declared.reply.Reply.TheVariants as R
-use Rattle.tc_blocks.specs.declared.met.MetRuns.{MetRuns}
-use Rattle.tc_blocks.specs.declared.line.Line.{Line}
-use Rattle.tc_blocks.specs.declared.line.Line.TheVariants as L
+use Rattle.tc_blocks.specs.declared.{line.Line.Line, met.MetRuns.MetRuns}
 use Rattle.tc_blocks.specs.Prelude.{entries_of, AreMet}
-use Rattle.tc_serve.specs.declared.fault.ServeFault.{ServeFault}
-use Rattle.tc_serve.specs.declared.fault.ServeFault.TheVariants as F
-use Rattle.tc_serve.specs.declared.open_case.OpenCase.{OpenCase}
-use Rattle.tc_serve.specs.declared.order.Order.{Order}
-use Rattle.tc_serve.specs.declared.order.Order.TheVariants as O
-use Rattle.tc_serve.specs.declared.refusal.Refusal.{Refusal}
-use Rattle.tc_serve.specs.declared.server.Server.{Server}
-use Rattle.tc_serve.specs.declared.service.Served.{Served}
-use Rattle.tc_serve.specs.declared.serving.Serving.{Serving}
-use Rattle.tc_serve.specs.declared.sleepers.Sleeper.{Sleeper}
-use Rattle.tc_serve.specs.Laws.{IsSettled}
-use Rattle.tc_serve.specs.Order.{order_text}
-use Rattle.tc_serve.specs.Protocol.{AllEnded, AreServed, IsOrderOf, Came, IsNobodys, IsOf, NoLf, Played, Refuses, Sent, ServiceState, called, done_of, finished_state, moved, played_past, refused, seen, sleep_of, after_order, woken_from}
-use Rattle.tc_serve.specs.Serve.{Devices, HasEnded, IsTaken}
-use Rattle.tc_serve.specs.Text.{bytes_of, end_told, stand_text, lines_messages, worst_case}
+use Rattle.tc_serve.specs.{Laws.IsSettled, Protocol.AllEnded, Protocol.AreServed, Protocol.Came, Protocol.IsNobodys, Protocol.IsOf, Protocol.IsOrderOf, Protocol.NoLf, Protocol.OpensNone, Protocol.Played, Protocol.Refuses, Protocol.Sent, Protocol.ServiceState, Protocol.after_order, Protocol.called, Protocol.done_of, Protocol.finished_state, Protocol.moved, Protocol.order_text, Protocol.played_past, Protocol.refused, Protocol.seen, Protocol.sleep_of, Protocol.woken_from, Serve.Devices, Serve.HasEnded, Serve.IsTaken, Text.bytes_of, Text.end_told, Text.lines_messages, Text.stand_text, Text.worst_case, declared.fault.ServeFault.ServeFault, declared.open_case.OpenCase.OpenCase, declared.order.Order.Order, declared.refusal.Refusal.Refusal, declared.server.Server.Server, declared.service.Served.Served, declared.serving.Serving.Serving, declared.sleepers.Sleeper.Sleeper}
 
 -- the line is neither a move nor a remark
 abbrev pub IsOther : Order → Type 0
-IsOther (O.Move caller op) = ⊥
-IsOther (O.Remark run sentence) = ⊥
+IsOther (Order.Move caller op) = ⊥
+IsOther (Order.Remark run sentence) = ⊥
 IsOther _ = Unit {0}
 
 -- the line that opens a test case: its name, and how many behaviours it has
 abbrev pub case_text : List ℕ → ℕ → List ℕ
-case_text name n = order_text (O.Case name n)
+case_text name n = order_text (Order.Case name n)
+
+-- this is why a line that is neither a move nor a remark asks for nothing
+abbrev pub IsWhyOther : Refusal → List ℕ → Type 0
+IsWhyOther Refusal.Behaviours line = OpensNone line
+IsWhyOther Refusal.BadLine line = OpensNone line → ⊥
+IsWhyOther _ line = ⊥
 
 -- ---- the runs that sleep
 
@@ -104,12 +91,12 @@ entry caller op reply = record { caller = caller; op = op; reply = reply }
 
 -- the run that the operation starts
 abbrev pub started : Op → Option Run
-started (Ops.Start c run args) = Some run
+started (Op.Start c run args) = Some run
 started _ = None
 
 -- the lines after a call, before any run is woken
 abbrev pub after_call : Played → Run → Op → List Line
-after_call p caller op = L.Entry (called p.behaviours p.lines caller op) ∷ p.lines
+after_call p caller op = Line.Entry (called p.behaviours p.lines caller op) ∷ p.lines
 
 -- a call is made, and has this reply; who sleeps is kept as before
 pub record IsCalled (caller : Run) (op : Op) (reply : Reply) (o o' : OpenCase) (out written : List ℕ) : Type 0 where
@@ -132,9 +119,9 @@ BecomesAwake b change o o' out written = (p : Played) (closed : List Played) (be
 
 -- after an entry with this reply, whose operation keeps the phases or may not, no run can continue that could not before
 abbrev pub wakes_nobody : Bool → Reply → Bool
-wakes_nobody keeps R.Ended = true
-wakes_nobody keeps R.Parked = false
-wakes_nobody keeps (R.Fault f) = false
+wakes_nobody keeps Reply.Ended = true
+wakes_nobody keeps Reply.Parked = false
+wakes_nobody keeps (Reply.Fault f) = false
 wakes_nobody keeps _ = keeps
 
 -- a run that does not sleep makes a call while nobody sleeps who can continue, and then all are woken who can
@@ -223,17 +210,17 @@ pub record IsFed (bytes : List ℕ) (v : Serving) (before out before' told : Lis
 
 -- the fault is none of a device
 abbrev pub IsOwn : ServeFault → Type 0
-IsOwn F.Read = ⊥
-IsOwn F.Write = ⊥
+IsOwn ServeFault.Read = ⊥
+IsOwn ServeFault.Write = ⊥
 IsOwn _ = Unit {0}
 
 -- why a line ends the service
 abbrev pub IsBadLine : ServeFault → Bool → List ℕ → List Sent → ServiceState → Type 0
-IsBadLine (F.Line n why) ended line lines s = (n ≡ length lines + 1) × (is_some s.current ≡ false) × Refuses why ended (seen line) s
-IsBadLine F.TooLong ended line lines s = 2 ^ 64 - 1 ≤ length lines
-IsBadLine F.Read ended line lines s = ⊥
-IsBadLine F.Write ended line lines s = ⊥
-IsBadLine F.NoMemory ended line lines s = Unit {0}
+IsBadLine (ServeFault.Line n why) ended line lines s = (n ≡ length lines + 1) × (is_some s.current ≡ false) × Refuses why ended (seen line) s
+IsBadLine ServeFault.TooLong ended line lines s = 2 ^ 64 - 1 ≤ length lines
+IsBadLine ServeFault.Read ended line lines s = ⊥
+IsBadLine ServeFault.Write ended line lines s = ⊥
+IsBadLine ServeFault.NoMemory ended line lines s = Unit {0}
 
 -- the service is at this line, which has ended or is the last
 pub record IsAtLine (line : List ℕ) (lines : List Sent) (stand : ServiceState) (v : Serving) (before out before' told : List ℕ) : Type 0 where

@@ -1,20 +1,11 @@
 -- What holds of all that is served.
 use Rattle.std.specs.Prelude.{ℕ, ◌≡◌, ◌≢◌, ◌+◌, ◌<◌, ◌≤◌, length, reverse, if◌then◌else◌, Bool, true, false, Some, List, [], ◌∷◌, ◌++◌}
-use Rattle.std.specs.Option.{option_map_or}
-use Rattle.std.specs.List.{AllByRecursion, filter_map, flat_map}
-use Rattle.tc_rules.specs.Prelude.{Entry, answer, IsLegal, waiting, overall, is_parked, is_wake}
-use Rattle.tc_entry.specs.declared.reply.Reply.TheVariants as R
+use Rattle.std.specs.{List.AllByRecursion, List.filter_map, List.flat_map, Option.option_map_or}
+use Rattle.tc_rules.specs.Prelude.{answer, IsLegal, waiting, overall, is_parked, is_wake, Reply}
 use Rattle.tc_rules.specs.declared.awaited.Awaited.{Awaited}
-use Rattle.tc_blocks.specs.declared.block.Block.{Block}
-use Rattle.tc_blocks.specs.declared.line.Line.{Line}
-use Rattle.tc_blocks.specs.declared.line.Line.TheVariants as L
+use Rattle.tc_blocks.specs.declared.{block.Block.Block, line.Line.Line}
 use Rattle.tc_blocks.specs.Prelude.{AreEvidence, block_lines}
-use Rattle.tc_serve.specs.declared.order.Order.{Order}
-use Rattle.tc_serve.specs.declared.order.Order.TheVariants as O
-use Rattle.tc_serve.specs.declared.order.TheConstants.{LINE_BYTES}
-use Rattle.tc_serve.specs.declared.refusal.Refusal.TheVariants as W
-use Rattle.tc_serve.specs.Protocol.{AreServed, Came, Comes, Played, Refuses, Sent, ServiceState, done_of, finished_state, played_past, seen, wake_op}
-use Rattle.tc_serve.specs.Text.{case_header, stand_text}
+use Rattle.tc_serve.specs.{Protocol.AreServed, Protocol.Came, Protocol.Comes, Protocol.Played, Protocol.Refuses, Protocol.Sent, Protocol.ServiceState, Protocol.done_of, Protocol.finished_state, Protocol.played_past, Protocol.seen, Protocol.wake_op, Text.case_header, Text.stand_text, declared.order.Order.Order, declared.order.TheConstants.LINE_BYTES, declared.refusal.Refusal.Refusal}
 
 -- of all that is served this holds of each test case, also of one that is open
 abbrev pub AllServed : (Played → Type 0) → Type 0
@@ -27,22 +18,22 @@ pub record IsSound (p : Played) : Type 0 where
 
 -- no run that can continue sleeps: the wake of each run that sleeps would be parked
 abbrev pub IsSettled : Played → Type 0
-IsSettled p = (b : ℕ) (a : Awaited) → b < p.behaviours → waiting (played_past p) b ≡ Some a → answer p.behaviours (played_past p) b (wake_op a) ≡ R.Parked
+IsSettled p = (b : ℕ) (a : Awaited) → b < p.behaviours → waiting (played_past p) b ≡ Some a → answer p.behaviours (played_past p) b (wake_op a) ≡ Reply.Parked
 
 -- what asked for a line of evidence: a wake and a refusal come of themselves
 abbrev pub asked_by : Line → List Order
-asked_by (L.Named run name) = O.Named run name ∷ []
-asked_by (L.Entry e) = if is_wake e.op then [] else O.Move e.caller e.op ∷ []
-asked_by (L.Remark run sentence) = O.Remark run sentence ∷ []
-asked_by (L.Refused run sentence) = []
+asked_by (Line.Named run name) = Order.Named run name ∷ []
+asked_by (Line.Entry e) = if is_wake e.op then [] else Order.Move e.caller e.op ∷ []
+asked_by (Line.Remark run sentence) = Order.Remark run sentence ∷ []
+asked_by (Line.Refused run sentence) = []
 
 -- what asked for a test case as far as it goes, the newest first
 abbrev pub asked_in : Played → List Order
-asked_in p = flat_map asked_by p.lines ++ O.Case p.name p.behaviours ∷ []
+asked_in p = flat_map asked_by p.lines ++ Order.Case p.name p.behaviours ∷ []
 
 -- and for all
 abbrev pub asked_of : ServiceState → List Order
-asked_of s = option_map_or asked_in s.current [] ++ flat_map (λ p. O.End ∷ asked_in p) s.closed
+asked_of s = option_map_or asked_in s.current [] ++ flat_map (λ p. Order.End ∷ asked_in p) s.closed
 
 -- the evidence has what was asked for and done, each once and in its order
 abbrev pub EvidenceIsAsked : Type 0
@@ -64,7 +55,7 @@ ServedIsEvidence = (lines : List Sent) (s : ServiceState) → AreServed lines s 
 
 -- a line is refused that is as long as what is looked at of one, or longer
 abbrev pub LongLinesAreRefused : Type 0
-LongLinesAreRefused = (line : List ℕ) (s : ServiceState) → LINE_BYTES ≤ length line → Refuses W.TooLong true (seen line) s
+LongLinesAreRefused = (line : List ℕ) (s : ServiceState) → LINE_BYTES ≤ length line → Refuses Refusal.TooLong true (seen line) s
 
 -- a line adds to the text, and changes none of it
 abbrev pub TextGrows : Type 0

@@ -1,6 +1,4 @@
 -- The definitions that the contracts of this crate cite.
-pub mod Order
-pub mod Refusal
 pub mod Protocol
 pub mod Text
 pub mod Serve

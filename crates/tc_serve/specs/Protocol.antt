@@ -1,25 +1,44 @@
 -- The protocol: what a line asks for, when it may, what it adds to the evidence, who is woken by it, what a refused line
--- does, and how the service ends. How a line is spelled is in Order, and what is written in Text.
-use Rattle.std.specs.Prelude.{ℕ, ◌≡◌, ◌==◌, ◌<◌, ◌^◌, ◌≤◌, ◌⊎◌, ◌&&◌, nat_lt, if◌then◌else◌, zero, suc, Bool, true, false, Option, Some, None, is_some, Result, Ok, Err, is_err, List, [], ◌∷◌, ◌++◌, length, take}
-use Rattle.std.specs.Option.{option_map_or}
-use Rattle.std.specs.Result.{result_map_both, result_unwrap_or}
-use Rattle.std.specs.List.{AllByRecursion, list_all}
-use Rattle.std.specs.Fmt.{decimal}
-use Rattle.tc_rules.specs.Prelude.{Run, Entry, Op, Reply, answer, waiting, is_parked, is_wake}
-use Rattle.tc_entry.specs.declared.op.Op.TheVariants as Ops
-use Rattle.tc_entry.specs.declared.reply.Reply.TheVariants as R
-use Rattle.tc_text.specs.Prelude.{EndsNumber}
+-- does, and how the service ends. An order has one spelling, and a refusal its words, which are this project's own. What
+-- is written is in Text.
+use Rattle.std.specs.Prelude.{ℕ, List, codes, ◌<◌, ◌^◌, false, ◌++◌, ◌≡◌, ◌==◌, ◌≤◌, ◌⊎◌, ◌&&◌, nat_lt, if◌then◌else◌, zero, suc, Bool, true, Option, Some, None, is_some, Result, Ok, Err, is_err, [], ◌∷◌, length, take}
+use Rattle.std.specs.{Fmt.decimal, List.AllByRecursion, List.list_all, Option.option_map_or, Result.result_map_both, Result.result_unwrap_or}
+use Rattle.tc_rules.specs.Prelude.{IsBehaviours, IsName, Run, Entry, Op, answer, waiting, is_parked, is_wake}
+use Rattle.tc_text.specs.Prelude.{move_text, IsOp, EndsNumber}
+use Rattle.tc_blocks.specs.Prelude.{naming_text, said_text, IsSentence, entries_of, is_met}
 use Rattle.tc_rules.specs.declared.awaited.Awaited.{Awaited}
 use Rattle.tc_blocks.specs.declared.line.Line.{Line}
-use Rattle.tc_blocks.specs.declared.line.Line.TheVariants as L
-use Rattle.tc_blocks.specs.Prelude.{entries_of, is_met, said_text}
-use Rattle.tc_serve.specs.declared.order.Order.{Order}
-use Rattle.tc_serve.specs.declared.order.Order.TheVariants as O
-use Rattle.tc_serve.specs.declared.order.TheConstants.{LINE_BYTES}
-use Rattle.tc_serve.specs.declared.refusal.Refusal.{Refusal}
-use Rattle.tc_serve.specs.declared.refusal.Refusal.TheVariants as W
-use Rattle.tc_serve.specs.Order.{IsOrder, order_text}
-use Rattle.tc_serve.specs.Refusal.{why_text}
+use Rattle.tc_serve.specs.declared.{order.Order.Order, order.TheConstants.LINE_BYTES, refusal.Refusal.Refusal}
+
+-- why the line is refused
+abbrev pub why_text : Refusal → List ℕ
+why_text Refusal.Unended = codes "no line feed"
+why_text Refusal.TooLong = codes "line too long"
+why_text Refusal.BadRemark = codes "bad remark"
+why_text Refusal.Behaviours = codes "a test case has 1 to 256 behaviours"
+why_text Refusal.BadLine = codes "bad line"
+why_text Refusal.CaseOpen = codes "a test case is open"
+why_text Refusal.NoCase = codes "no test case is open"
+why_text Refusal.NoRun = codes "no such run"
+why_text Refusal.LateName = codes "late name"
+why_text Refusal.Wake = codes "a wake comes of itself"
+why_text Refusal.Waiting = codes "the run waits"
+
+-- a line, without its LF; the one that opens a test case has its name, and how many behaviours it has
+abbrev pub order_text : Order → List ℕ
+order_text (Order.Case name n) = codes "case " ++ (name ++ (codes " " ++ decimal n))
+order_text (Order.Named run name) = naming_text run.0 name
+order_text (Order.Move caller op) = move_text caller.0 op
+order_text (Order.Remark run sentence) = said_text false run.0 sentence
+order_text Order.End = codes "end"
+
+-- names, sentences and operations are such, and the numbers are those of their types
+abbrev pub IsOrder : Order → Type 0
+IsOrder (Order.Case name n) = IsName name × IsBehaviours n
+IsOrder (Order.Named run name) = (run.0 < 2 ^ 16) × IsName name
+IsOrder (Order.Move caller op) = (caller.0 < 2 ^ 16) × IsOp op
+IsOrder (Order.Remark run sentence) = (run.0 < 2 ^ 16) × IsSentence sentence
+IsOrder Order.End = Unit {0}
 
 -- a test case: its name, how many behaviours it has, and the lines of its evidence, the newest first
 pub record Played : Type 0 where
@@ -44,7 +63,7 @@ called n lines caller op = record { caller = caller; op = op; reply = answer n (
 
 -- the call asks again for what a wait was for
 abbrev pub wake_op : Awaited → Op
-wake_op a = Ops.Wake a.killed a.target
+wake_op a = Op.Wake a.killed a.target
 
 -- run b, of which this is the wait if it sleeps, is woken if it can continue: the entry of its wake is added, unless that is
 -- replied parked
@@ -52,7 +71,7 @@ abbrev pub woken_from : ℕ → List Line → ℕ → Option Awaited → List Li
 woken_from n lines b None = lines
 woken_from n lines b (Some a) =
     let e = called n lines (record { 0 = b }) (wake_op a) in
-    if is_parked e.reply then lines else L.Entry e ∷ lines
+    if is_parked e.reply then lines else Line.Entry e ∷ lines
 
 -- so are the first k runs, in the order of their numbers, each judged after those before it
 abbrev pub woken : ℕ → List Line → ℕ → List Line
@@ -67,19 +86,19 @@ sleep_of p b = if nat_lt b p.behaviours then waiting (played_past p) b else None
 
 -- the test case after the call: its entry is added, and the wakes of all runs that can continue
 abbrev pub moved : Played → Run → Op → Played
-moved p caller op = record p { lines = woken p.behaviours (L.Entry (called p.behaviours p.lines caller op) ∷ p.lines) p.behaviours }
+moved p caller op = record p { lines = woken p.behaviours (Line.Entry (called p.behaviours p.lines caller op) ∷ p.lines) p.behaviours }
 
 -- the call is made, unless it is a wake or its run sleeps
 abbrev pub made : Run → Op → Played → Result Played Refusal
-made caller op p = if is_wake op then Err W.Wake else if is_some (sleep_of p caller.0) then Err W.Waiting else Ok (moved p caller op)
+made caller op p = if is_wake op then Err Refusal.Wake else if is_some (sleep_of p caller.0) then Err Refusal.Waiting else Ok (moved p caller op)
 
 -- the line of this run is added, if the run is one of the test case
 abbrev pub with_added_line : Run → Line → Played → Result Played Refusal
-with_added_line run l p = if nat_lt run.0 p.behaviours then Ok (record p { lines = l ∷ p.lines }) else Err W.NoRun
+with_added_line run l p = if nat_lt run.0 p.behaviours then Ok (record p { lines = l ∷ p.lines }) else Err Refusal.NoRun
 
 -- so is the name of its behaviour, if no line is about the run
 abbrev pub with_name : Run → List ℕ → Played → Result Played Refusal
-with_name run name p = if nat_lt run.0 p.behaviours && is_met run.0 p.lines then Err W.LateName else with_added_line run (L.Named run name) p
+with_name run name p = if nat_lt run.0 p.behaviours && is_met run.0 p.lines then Err Refusal.LateName else with_added_line run (Line.Named run name) p
 
 -- ---- what a line does
 
@@ -89,19 +108,19 @@ with_current s p = record { closed = s.closed; current = Some p }
 
 -- the test case that is open becomes another, if one is open and this may be
 abbrev pub with_open : ServiceState → (Played → Result Played Refusal) → Result ServiceState Refusal
-with_open s change = result_map_both (with_current s) (λ why. why) (option_map_or change s.current (Err W.NoCase))
+with_open s change = result_map_both (with_current s) (λ why. why) (option_map_or change s.current (Err Refusal.NoCase))
 
 -- what is asked is done, or refused
 abbrev pub after_order : ServiceState → Order → Result ServiceState Refusal
-after_order s (O.Case name n) = if is_some s.current then Err W.CaseOpen else Ok (with_current s (record { name = name; behaviours = n; lines = [] }))
-after_order s (O.Named run name) = with_open s (with_name run name)
-after_order s (O.Move caller op) = with_open s (made caller op)
-after_order s (O.Remark run sentence) = with_open s (with_added_line run (L.Remark run sentence))
-after_order s O.End = option_map_or (λ p. Ok (record { closed = p ∷ s.closed; current = None })) s.current (Err W.NoCase)
+after_order s (Order.Case name n) = if is_some s.current then Err Refusal.CaseOpen else Ok (with_current s (record { name = name; behaviours = n; lines = [] }))
+after_order s (Order.Named run name) = with_open s (with_name run name)
+after_order s (Order.Move caller op) = with_open s (made caller op)
+after_order s (Order.Remark run sentence) = with_open s (with_added_line run (Line.Remark run sentence))
+after_order s Order.End = option_map_or (λ p. Ok (record { closed = p ∷ s.closed; current = None })) s.current (Err Refusal.NoCase)
 
 -- a refused line changes nothing else: the run that sent it gets that, if it is one of a test case that is open
 abbrev pub refused : ServiceState → Run → Refusal → Result ServiceState Refusal
-refused s run why = with_open s (with_added_line run (L.Refused run (why_text why)))
+refused s run why = with_open s (with_added_line run (Line.Refused run (why_text why)))
 
 -- the line is of this run: it begins with its number
 abbrev pub IsOf : List ℕ → ℕ → Type 0
@@ -115,12 +134,17 @@ IsOrderOf ended line o = (ended ≡ true) × IsOrder o × (line ≡ order_text o
 abbrev pub BeginsRemark : List ℕ → Type 0
 BeginsRemark line = (run : ℕ) × (text : List ℕ) × (run < 2 ^ 16) × (line ≡ said_text false run text)
 
+-- the line would open a test case, of a number of behaviours that none has
+abbrev pub OpensNone : List ℕ → Type 0
+OpensNone line = (name : List ℕ) × (n : ℕ) × IsName name × (n < 2 ^ 32) × (IsBehaviours n → ⊥) × (line ≡ order_text (Order.Case name n))
+
 -- this is why a line asks for nothing, if it asks for nothing
 abbrev pub IsWhyNothing : Refusal → Bool → List ℕ → Type 0
-IsWhyNothing W.Unended ended line = ended ≡ false
-IsWhyNothing W.TooLong ended line = (ended ≡ true) × (LINE_BYTES ≤ length line)
-IsWhyNothing W.BadRemark ended line = (ended ≡ true) × (length line < LINE_BYTES) × BeginsRemark line
-IsWhyNothing W.BadLine ended line = (ended ≡ true) × (length line < LINE_BYTES) × (BeginsRemark line → ⊥)
+IsWhyNothing Refusal.Unended ended line = ended ≡ false
+IsWhyNothing Refusal.TooLong ended line = (ended ≡ true) × (LINE_BYTES ≤ length line)
+IsWhyNothing Refusal.BadRemark ended line = (ended ≡ true) × (length line < LINE_BYTES) × BeginsRemark line
+IsWhyNothing Refusal.Behaviours ended line = (ended ≡ true) × (length line < LINE_BYTES) × OpensNone line
+IsWhyNothing Refusal.BadLine ended line = (ended ≡ true) × (length line < LINE_BYTES) × (BeginsRemark line → ⊥) × (OpensNone line → ⊥)
 IsWhyNothing _ ended line = ⊥
 
 -- the line is refused for this: it asks for what may not be asked here, or for nothing
@@ -175,4 +199,4 @@ AreServed (l ∷ before) t = (s : ServiceState) × AreServed before s × AllEnde
 
 -- the state after the end of the input: the test case that is open is closed, if one is
 abbrev pub finished_state : ServiceState → ServiceState
-finished_state s = result_unwrap_or (after_order s O.End) s
+finished_state s = result_unwrap_or (after_order s Order.End) s

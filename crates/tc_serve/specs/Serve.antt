@@ -1,15 +1,8 @@
 -- The service: what is written, by what is read.
 use Rattle.std.specs.Prelude.{ℕ, ◌≡◌, ◌≢◌, ◌+◌, ◌-◌, ◌≤◌, ◌^◌, ◌⊎◌, Bool, true, false, is_some, is_none, Option, Result, Ok, Err, List, [], ◌∷◌, ◌++◌, length}
-use Rattle.std.specs.List.{list_any}
-use Rattle.std.specs.Io.KnownBytes.{Appends, Consumes, IsAtEnd}
+use Rattle.std.specs.{Io.KnownBytes.Appends, Io.KnownBytes.Consumes, Io.KnownBytes.IsAtEnd, List.list_any}
 use Rattle.tc_stream.specs.Prelude.{AppendsPrefix}
-use Rattle.tc_serve.specs.declared.fault.ServeFault.{ServeFault}
-use Rattle.tc_serve.specs.declared.fault.ServeFault.TheVariants as F
-use Rattle.tc_serve.specs.declared.refusal.Refusal.{Refusal}
-use Rattle.tc_serve.specs.declared.service.Ending.{Ending}
-use Rattle.tc_serve.specs.declared.service.Served.{Served}
-use Rattle.tc_serve.specs.Protocol.{AllEnded, AreServed, NoLf, Refuses, Sent, ServiceState, done_of, finished_state, seen}
-use Rattle.tc_serve.specs.Text.{bytes_of, end_told, stand_text, lines_messages, worst_case}
+use Rattle.tc_serve.specs.{Protocol.AllEnded, Protocol.AreServed, Protocol.NoLf, Protocol.Refuses, Protocol.Sent, Protocol.ServiceState, Protocol.done_of, Protocol.finished_state, Protocol.seen, Text.bytes_of, Text.end_told, Text.lines_messages, Text.stand_text, Text.worst_case, declared.fault.ServeFault.ServeFault, declared.refusal.Refusal.Refusal, declared.service.Ending.Ending, declared.service.Served.Served}
 
 -- what is left of the input, and what the output and standard error took, if they are known
 pub record Devices : Type 0 where
@@ -29,9 +22,9 @@ IsBadNext why s rest input = (line more : List ℕ) × NoLf line
 -- why no further line was served: the next is refused outside a test case, or 2^64 - 1 bytes came, or a read failed,
 -- before which each line that had ended was served
 abbrev pub IsWhy : ServeFault → List Sent → ServiceState → List ℕ → Option (List ℕ) → Type 0
-IsWhy (F.Line n why) lines s rest input = (n ≡ length lines + 1) × (is_some s.current ≡ false) × IsBadNext why s rest input
-IsWhy F.TooLong lines s rest input = 2 ^ 64 - 1 ≤ length (bytes_of lines ++ rest)
-IsWhy F.Read lines s rest input = NoLf rest
+IsWhy (ServeFault.Line n why) lines s rest input = (n ≡ length lines + 1) × (is_some s.current ≡ false) × IsBadNext why s rest input
+IsWhy ServeFault.TooLong lines s rest input = 2 ^ 64 - 1 ≤ length (bytes_of lines ++ rest)
+IsWhy ServeFault.Read lines s rest input = NoLf rest
 IsWhy _ lines s rest input = Unit {0}
 
 -- how a service ends that read these bytes, and the text and the reports that it owes then
@@ -59,5 +52,5 @@ pub record IsServiceEnd (from to : Devices) (e : Ending) : Type 0 where
   pub due : Result Served ServeFault
   pub read : Consumes from.input to.input bytes
   pub ended : HasEnded bytes to.input text reports due
-  pub written : ((e.outcome ≡ due) × Appends from.output to.output text) ⊎ ((e.outcome ≡ Err F.Write) × AppendsPrefix from.output to.output text)
+  pub written : ((e.outcome ≡ due) × Appends from.output to.output text) ⊎ ((e.outcome ≡ Err ServeFault.Write) × AppendsPrefix from.output to.output text)
   pub reported : IsTaken e.told from.errors to.errors reports

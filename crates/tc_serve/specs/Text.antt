@@ -1,20 +1,14 @@
 -- What is written and reported of the lines that came, and what their verdicts come to.
 use Rattle.std.specs.Prelude.{ℕ, ◌+◌, if◌then◌else◌, Bool, List, [], ◌∷◌, ◌++◌, codes, length, map, reverse}
-use Rattle.std.specs.Option.{option_map_or}
-use Rattle.std.specs.List.{flat_map}
-use Rattle.std.specs.Fmt.{decimal}
+use Rattle.std.specs.{Fmt.decimal, List.flat_map, Option.option_map_or}
 use Rattle.tc_rules.specs.Prelude.{Verdict, worst, is_over, overall}
-use Rattle.tc_verdict.specs.declared.verdict.Verdict.TheVariants as V
 use Rattle.tc_blocks.specs.Prelude.{end_text, line_text, with_lf, header_text}
-use Rattle.tc_blocks.specs.declared.header.Header.{Header}
-use Rattle.tc_blocks.specs.declared.header.Kind.TheVariants as K
-use Rattle.tc_serve.specs.Protocol.{Came, Played, Sent, ServiceState, played_past, was_lost}
-use Rattle.tc_serve.specs.declared.refusal.Refusal.{Refusal}
-use Rattle.tc_serve.specs.Refusal.{why_text}
+use Rattle.tc_blocks.specs.declared.header.{Header.Header, Kind.Kind}
+use Rattle.tc_serve.specs.{Protocol.Came, Protocol.Played, Protocol.Sent, Protocol.ServiceState, Protocol.played_past, Protocol.was_lost, Protocol.why_text, declared.refusal.Refusal.Refusal}
 
 -- what the first line of its evidence says
 abbrev pub case_header : Played → Header
-case_header p = record { kind = K.Evidence; name = p.name; behaviours = p.behaviours }
+case_header p = record { kind = Kind.Evidence; name = p.name; behaviours = p.behaviours }
 
 -- the text of a test case that is open
 abbrev pub opened_text : Played → List ℕ
@@ -30,7 +24,7 @@ stand_text s = flat_map block (reverse s.closed) ++ option_map_or opened_text s.
 
 -- the verdict that a test case counts as: error if it is not over
 abbrev pub counted : Played → Verdict
-counted p = if is_over (played_past p) then overall (played_past p) else V.Error
+counted p = if is_over (played_past p) then overall (played_past p) else Verdict.Error
 
 -- the worst of the test cases that were closed
 abbrev pub worst_case : ServiceState → Verdict

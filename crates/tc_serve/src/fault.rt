@@ -1,4 +1,7 @@
 //! Why no further line is served.
+ghost use Rattle.std.specs.Prelude.{◌≡◌};
+ghost use Rattle.tc_serve.specs.declared.fault.ServeFault.{ServeFault};
+
 use crate::refusal::Refusal;
 use tc_entry::NoMemory;
 
@@ -18,10 +21,7 @@ pub enum ServeFault {
 }
 
 impl From<NoMemory> for ServeFault {
-    ghost use Rattle.std.specs.Prelude.{◌≡◌};
-    ghost use Rattle.tc_serve.specs.declared.fault.ServeFault.TheVariants as faults;
-
-    ghost from_gives = { λ _ f. f ≡ faults.NoMemory };
+    ghost from_gives = { λ _ f. f ≡ ServeFault.NoMemory };
 
     fn from(_: NoMemory) -> ServeFault {
         ServeFault::NoMemory

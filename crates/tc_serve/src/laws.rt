@@ -2,7 +2,7 @@
 ghost use Rattle.tc_serve.specs.Laws as laws;
 
 /// Each history is legal, and no wake in it is replied parked.
-#[tactic(auto, using(crate::proofs::Sound::served_is_sound))]
+#[tactic(auto, using(crate::proofs::Asked::served_is_sound))]
 pub fn served_is_sound()
     ensures { laws.AllServed laws.IsSound }
 {}

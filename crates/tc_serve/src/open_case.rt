@@ -1,19 +1,12 @@
 //! A test case that is open.
 ghost use Rattle.std.specs.Prelude.{◌≡◌, ◌<◌, ◌++◌, ◌∷◌, [], nat_lt, true, ℕ, List, length, drop, IfOk, OnOk, None, ◌&&◌, if◌then◌else◌};
-ghost use Rattle.std.specs.Result.{result_err};
-ghost use Rattle.std.specs.Io.{StartsWith};
+ghost use Rattle.std.specs.{Io.StartsWith, Result.result_err};
 ghost use Rattle.tc_rules.specs.Prelude.{IsBehaviours, Op as AnyOp, Reply as AnyReply, is_parked, is_wake as spec_wake};
 ghost use Rattle.tc_text.specs.Prelude.{move_text};
 ghost use Rattle.tc_blocks.specs.Prelude.{outcome_text, with_lf, entry_in, is_met, line_text, AreMet};
 ghost use Rattle.tc_rules.specs.Local as verdicts;
 ghost use Rattle.tc_rules.specs.Waiting as waits;
-ghost use Rattle.tc_blocks.specs.declared.line.Line.{Line as AnyLine};
-ghost use Rattle.tc_blocks.specs.declared.line.Line.TheVariants as lines;
-ghost use Rattle.tc_serve.specs.declared.sleepers.Sleeper.{Sleeper as AnySleeper};
-ghost use Rattle.tc_serve.specs.Inside.{Becomes, BecomesAwake, Changes, IsCalled, IsOpen, IsPassed, Moves, after_call, entry, started as spec_started, wakes_nobody as spec_wakes_nobody, woken_once};
-ghost use Rattle.tc_serve.specs.Protocol.{Played as AnyPlayed, with_added_line, called, made, with_name, played_past, sleep_of as spec_sleep, woken};
-ghost use Rattle.tc_serve.specs.Refusal.{why_text};
-ghost use Rattle.tc_serve.specs.Text.{counted as spec_counted};
+ghost use Rattle.tc_serve.specs.{Inside.Becomes, Inside.BecomesAwake, Inside.Changes, Inside.IsCalled, Inside.IsOpen, Inside.IsPassed, Inside.Moves, Inside.after_call, Inside.entry, Inside.started as spec_started, Inside.wakes_nobody as spec_wakes_nobody, Inside.woken_once, Protocol.Played as AnyPlayed, Protocol.called, Protocol.made, Protocol.played_past, Protocol.sleep_of as spec_sleep, Protocol.why_text, Protocol.with_added_line, Protocol.with_name, Protocol.woken, Text.counted as spec_counted};
 
 use crate::refusal::Refusal;
 use crate::sleepers::{Sleeper, add, awaited_by};
@@ -59,8 +52,8 @@ fn started(op: &Op) -> Option<Run>
 
 // Adds the runs that the line of a call is about: its caller, as for a line that is refused, and the run that it starts.
 fn meet(met: &mut MetRuns, caller: Run, started: Option<Run>)
-    ensures { (op : AnyOp) (reply : AnyReply) (ls : List AnyLine) → started ≡ spec_started op
-        → AreMet met.old ls → AreMet met.new (lines.Entry (entry caller op reply) ∷ ls) }
+    ensures { (op : AnyOp) (reply : AnyReply) (ls : List Line) → started ≡ spec_started op
+        → AreMet met.old ls → AreMet met.new (Line.Entry (entry caller op reply) ∷ ls) }
 {
     met.add_refused(caller);
     let Some(run) = started else {
@@ -167,7 +160,7 @@ impl OpenCase {
 
     // Appends the line, and adds it to what is kept of the lines; if memory runs out, a part of it is appended.
     fn append(&mut self, line: &Line, out: &mut Vec<u8>) -> Result<(), NoMemory>
-        ensures met { (ls : List AnyLine) → AreMet self.old.met ls → AreMet self.new.met (line.now ∷ ls) }
+        ensures met { (ls : List Line) → AreMet self.old.met ls → AreMet self.new.met (line.now ∷ ls) }
         ensures state { self.new.state ≡ self.old.state }
         ensures sleepers { self.new.sleepers ≡ self.old.sleepers }
         ensures ok { OnOk result (out.new.items ≡ out.old.items ++ with_lf (line_text line.now)) }
@@ -219,7 +212,7 @@ impl OpenCase {
         why: Refusal,
         out: &mut Vec<u8>,
     ) -> Result<Option<Refusal>, NoMemory>
-        ensures ok { IfOk result (λ other. Changes (with_added_line run (lines.Refused run (why_text why))) other
+        ensures ok { IfOk result (λ other. Changes (with_added_line run (Line.Refused run (why_text why))) other
             self.old self.new out.old.items out.new.items) }
         ensures any { StartsWith out.new.items out.old.items }
     {
@@ -278,7 +271,7 @@ impl OpenCase {
     // Wakes the run at this place of those that sleep, if it can continue; the place of the next one.
     fn wake(&mut self, place: usize, out: &mut Vec<u8>) -> Result<usize, NoMemory>
         requires { place < length self.old.sleepers.items }
-        ensures ok { OnOk result ((s : AnySleeper) (behind : List AnySleeper) → drop place self.old.sleepers.items ≡ s ∷ behind
+        ensures ok { OnOk result ((s : Sleeper) (behind : List Sleeper) → drop place self.old.sleepers.items ≡ s ∷ behind
             → Becomes (λ p. record p { lines = woken_once p.behaviours p.lines s.run }) self.old self.new out.old.items out.new.items) }
         ensures next { IfOk result (IsPassed self.old.sleepers.items place self.new.sleepers.items) }
         ensures any { StartsWith out.new.items out.old.items }

@@ -1,12 +1,9 @@
 //! What a line asks for.
 ghost use Rattle.std.specs.Prelude.{◌≡◌, ◌<◌, ◌^◌, ℕ, List, length, false, true, Ok, Some, None, IfSome, IfOk, IfErr, MatchOption};
-ghost use Rattle.tc_rules.specs.Prelude.{IsBehaviours, IsName};
+ghost use Rattle.tc_rules.specs.Prelude.{IsName};
 ghost use Rattle.tc_blocks.specs.Prelude.{naming_text, said_text};
 ghost use Rattle.tc_text.specs.Prelude.{IsOp, move_text, op_of};
-ghost use Rattle.tc_serve.specs.Order.{order_text, IsOrder};
-ghost use Rattle.tc_serve.specs.Inside.{IsOther, case_text};
-ghost use Rattle.tc_serve.specs.Protocol.{IsWhyNothing};
-ghost use Rattle.tc_serve.specs.declared.order.Order.{Order as AnyOrder};
+ghost use Rattle.tc_serve.specs.{Inside.IsOther, Inside.IsWhyOther, Inside.case_text, Protocol.IsOrder, Protocol.IsWhyNothing, Protocol.order_text};
 
 use crate::refusal::Refusal;
 use std::alloc::Global;
@@ -34,17 +31,16 @@ pub(crate) enum Order {
     End,
 }
 
-// The test case that the line opens.
-fn read_case(text: &[u8]) -> Option<(Name, u16)>
+// The test case that the line opens, and its number of behaviours, whatever it is.
+fn read_case(text: &[u8]) -> Option<(Name, u32)>
     ensures spelled { IfSome result (λ r. text.now ≡ case_text r.0 r.1) }
-    ensures fits { IfSome result (λ r. IsName r.0 × IsBehaviours r.1) }
-    ensures only { (name : List ℕ) (n : ℕ) → IsName name → IsBehaviours n → text.now ≡ case_text name n → result ≡ Some (name, n) }
+    ensures fits { IfSome result (λ r. IsName r.0 × (r.1 < 2 ^ 32)) }
+    ensures only { (name : List ℕ) (n : ℕ) → IsName name → n < 2 ^ 32 → text.now ≡ case_text name n → result ≡ Some (name, n) }
 {
     let rest = after(text, b"case ")?;
     let (name, rest) = take_name(rest)?;
     let rest = after(rest, b" ")?;
-    let number = read_number(rest)?;
-    Some((name, as_behaviours(number)?))
+    Some((name, read_number(rest)?))
 }
 
 // The name of a run's behaviour that the line spells.
@@ -83,23 +79,25 @@ pub(crate) fn read_short_move(text: &[u8]) -> Option<(Run, ShortOp)>
     Some(one)
 }
 
-// What the line asks for, if it is neither a move nor a remark.
-fn read_other(text: &[u8]) -> Option<Order>
-    ensures spelled { IfSome result (λ o. text.now ≡ order_text o) }
-    ensures fits { IfSome result IsOrder }
-    ensures only { (o : AnyOrder) → IsOrder o → IsOther o → text.now ≡ order_text o → result ≡ Some o }
+// What the line asks for, if it is neither a move nor a remark, or why it asks for nothing.
+fn read_other(text: &[u8]) -> Result<Order, Refusal>
+    ensures spelled { IfOk result (λ o. text.now ≡ order_text o) }
+    ensures fits { IfOk result IsOrder }
+    ensures only { (o : Order) → IsOrder o → IsOther o → text.now ≡ order_text o → result ≡ Ok o }
+    ensures why { IfErr result (λ why. IsWhyOther why text.now) }
 {
     if let Some((run, name)) = read_naming(text) {
-        return Some(Order::Named { run, name });
+        return Ok(Order::Named { run, name });
     }
-    if let Some((name, behaviours)) = read_case(text) {
-        return Some(Order::Case { name, behaviours });
+    if let Some((name, number)) = read_case(text) {
+        return match as_behaviours(number) {
+            Some(behaviours) => Ok(Order::Case { name, behaviours }),
+            None => Err(Refusal::Behaviours),
+        };
     }
-    let rest = after(text, b"end")?;
-    if rest.is_empty() {
-        Some(Order::End)
-    } else {
-        None
+    match after(text, b"end") {
+        Some([]) => Ok(Order::End),
+        _ => Err(Refusal::BadLine),
     }
 }
 
@@ -108,14 +106,14 @@ fn read_short(alloc: Global, text: &[u8]) -> Result<Result<Order, Refusal>, NoMe
     requires { length text.now < LINE_BYTES }
     ensures spelled { IfOk result (λ found. IfOk found (λ o. text.now ≡ order_text o)) }
     ensures fits { IfOk result (λ found. IfOk found IsOrder) }
-    ensures only { (o : AnyOrder) → IsOrder o → text.now ≡ order_text o → IfOk result (λ found. found ≡ Ok o) }
+    ensures only { (o : Order) → IsOrder o → text.now ≡ order_text o → IfOk result (λ found. found ≡ Ok o) }
     ensures why { IfOk result (λ found. IfErr found (λ why. IsWhyNothing why true text.now)) }
 {
     if let Some((caller, op)) = read_move(text) {
         return Ok(Ok(Order::Move { caller, op }));
     }
     let Some((run, bytes)) = read_remark(text) else {
-        return Ok(read_other(text).ok_or(Refusal::BadLine));
+        return Ok(read_other(text));
     };
     match Sentence::of_bytes(alloc, bytes)? {
         Some(sentence) => Ok(Ok(Order::Remark { run, sentence })),
@@ -127,7 +125,7 @@ fn read_short(alloc: Global, text: &[u8]) -> Result<Result<Order, Refusal>, NoMe
 pub(crate) fn read_order(alloc: Global, text: &[u8]) -> Result<Result<Order, Refusal>, NoMemory>
     ensures spelled { IfOk result (λ found. IfOk found (λ o. text.now ≡ order_text o)) }
     ensures fits { IfOk result (λ found. IfOk found IsOrder) }
-    ensures only { (o : AnyOrder) → IsOrder o → text.now ≡ order_text o → IfOk result (λ found. found ≡ Ok o) }
+    ensures only { (o : Order) → IsOrder o → text.now ≡ order_text o → IfOk result (λ found. found ≡ Ok o) }
     ensures why { IfOk result (λ found. IfErr found (λ why. IsWhyNothing why true text.now)) }
 {
     if text.len() < LINE_BYTES {

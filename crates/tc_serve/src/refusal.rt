@@ -1,6 +1,6 @@
 //! Why a line is refused.
 ghost use Rattle.std.specs.Prelude.{◌≡◌};
-ghost use Rattle.tc_serve.specs.Refusal.{why_text};
+ghost use Rattle.tc_serve.specs.Protocol.{why_text};
 
 /// Why a line is refused. It is refused for the first of these that holds, in this order.
 #[derive(Clone, Copy, PartialEq, Eq, Debug)]
@@ -11,6 +11,8 @@ pub enum Refusal {
     TooLong,
     /// It is a remark, and what it says is no text of evidence.
     BadRemark,
+    /// It opens a test case with a number of behaviours that no test case has.
+    Behaviours,
     /// It has none of the forms of a line.
     BadLine,
     /// It opens a test case, and one is open.
@@ -36,6 +38,7 @@ impl Refusal {
             Refusal::Unended => "no line feed",
             Refusal::TooLong => "line too long",
             Refusal::BadRemark => "bad remark",
+            Refusal::Behaviours => "a test case has 1 to 256 behaviours",
             Refusal::BadLine => "bad line",
             Refusal::CaseOpen => "a test case is open",
             Refusal::NoCase => "no test case is open",

@@ -2,13 +2,8 @@
 ghost use Rattle.std.specs.Prelude.{◌≡◌, ◌<◌, ◌^◌, [], ℕ, List, is_some, true, Some, IfOk, MatchOption};
 ghost use Rattle.std.specs.Io.{StartsWith};
 ghost use Rattle.tc_rules.specs.Prelude.{IsBehaviours};
-ghost use Rattle.tc_blocks.specs.declared.line.Line.TheVariants as lines;
-ghost use Rattle.tc_serve.specs.declared.order.Order.TheVariants as orders;
-ghost use Rattle.tc_serve.specs.Inside.{StandsAs, TellsRun, Tries, TriesLine, start as spec_start};
-ghost use Rattle.tc_serve.specs.Order.{IsOrder, order_text};
 ghost use Rattle.tc_text.specs.Prelude.{move_text};
-ghost use Rattle.tc_serve.specs.Protocol.{IsOf, ServiceState as AnyStand, with_added_line, made, with_name, after_order, with_open};
-ghost use Rattle.tc_serve.specs.Text.{worst_case};
+ghost use Rattle.tc_serve.specs.{Inside.StandsAs, Inside.TellsRun, Inside.Tries, Inside.TriesLine, Inside.start as spec_start, Protocol.IsOf, Protocol.IsOrder, Protocol.ServiceState as AnyStand, Protocol.after_order, Protocol.made, Protocol.order_text, Protocol.with_added_line, Protocol.with_name, Protocol.with_open, Text.worst_case};
 
 use crate::open_case::OpenCase;
 use crate::order::{Order, read_order, read_short_move};
@@ -72,7 +67,7 @@ impl Server {
         out: &mut Vec<u8>,
     ) -> Result<Option<Refusal>, NoMemory>
         requires { IsBehaviours behaviours }
-        ensures ok { IfOk result (λ why. Tries (λ s. after_order s (orders.Case name behaviours)) why self.old self.new out.old.items out.new.items) }
+        ensures ok { IfOk result (λ why. Tries (λ s. after_order s (Order.Case name behaviours)) why self.old self.new out.old.items out.new.items) }
         ensures any { StartsWith out.new.items out.old.items }
     {
         if self.current.is_some() {
@@ -124,7 +119,7 @@ impl Server {
         sentence: Sentence,
         out: &mut Vec<u8>,
     ) -> Result<Option<Refusal>, NoMemory>
-        ensures ok { IfOk result (λ why. Tries (λ s. with_open s (with_added_line run (lines.Remark run sentence))) why
+        ensures ok { IfOk result (λ why. Tries (λ s. with_open s (with_added_line run (Line.Remark run sentence))) why
             self.old self.new out.old.items out.new.items) }
         ensures any { StartsWith out.new.items out.old.items }
     {
@@ -136,7 +131,7 @@ impl Server {
 
     /// Closes the test case that is open; why that is refused, if it is.
     pub fn close(&mut self, out: &mut Vec<u8>) -> Result<Option<Refusal>, NoMemory>
-        ensures ok { IfOk result (λ why. Tries (λ s. after_order s orders.End) why self.old self.new out.old.items out.new.items) }
+        ensures ok { IfOk result (λ why. Tries (λ s. after_order s Order.End) why self.old self.new out.old.items out.new.items) }
         ensures any { StartsWith out.new.items out.old.items }
     {
         let Some(held) = self.current.take() else {

@@ -1,10 +1,8 @@
 //! The service itself.
 ghost use Rattle.std.specs.Prelude.{◌≡◌, ◌+◌, ◌≤◌, ◌<◌, ◌^◌, ◌↔◌, not, true, false, [], ℕ, Bool, List, Option, is_err, length, OnOk, OnErr, IsErrOf};
-ghost use Rattle.std.specs.Borrow.{GName};
-ghost use Rattle.std.specs.Io.KnownBytes.{Appends};
+ghost use Rattle.std.specs.{Borrow.GName, Io.KnownBytes.Appends};
 ghost use Rattle.tc_stream.specs.Prelude.{AppendsPrefix};
-ghost use Rattle.tc_serve.specs.Inside.{Hears, IsAt, IsFed, IsTurn};
-ghost use Rattle.tc_serve.specs.Serve.{Devices as AnyDevices, IsServiceEnd, devices};
+ghost use Rattle.tc_serve.specs.{Inside.Hears, Inside.IsAt, Inside.IsFed, Inside.IsTurn, Serve.Devices as AnyDevices, Serve.IsServiceEnd, Serve.devices};
 
 use crate::fault::ServeFault;
 use crate::serving::Serving;

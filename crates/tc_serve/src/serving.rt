@@ -1,11 +1,7 @@
 //! Lines that come in pieces.
 ghost use Rattle.std.specs.Prelude.{◌≡◌, ◌≢◌, ◌<◌, ◌-◌, ◌++◌, ◌∷◌, [], ℕ, List, Option, Err, IfOk, IfErr, OnOk, OnErr, length, take};
-ghost use Rattle.std.specs.Io.{StartsWith};
-ghost use Rattle.std.specs.Io.KnownBytes.{IsAtEnd};
-ghost use Rattle.tc_serve.specs.Inside.{Closes, Fails, Feeds, IsEnd, IsFed, IsOwn, IsTurn, Serves, StopsIn, TakesPiece};
-ghost use Rattle.tc_serve.specs.Protocol.{NoLf};
-ghost use Rattle.tc_serve.specs.Serve.{HasEnded};
-ghost use Rattle.tc_serve.specs.Text.{end_told, refused_line_text};
+ghost use Rattle.std.specs.Io.{KnownBytes.IsAtEnd, StartsWith};
+ghost use Rattle.tc_serve.specs.{Inside.Closes, Inside.Fails, Inside.Feeds, Inside.IsEnd, Inside.IsFed, Inside.IsOwn, Inside.IsTurn, Inside.Serves, Inside.StopsIn, Inside.TakesPiece, Protocol.NoLf, Serve.HasEnded, Text.end_told, Text.refused_line_text};
 
 use crate::fault::ServeFault;
 use crate::order::LINE_BYTES;

@@ -1,8 +1,7 @@
 -- When the places of steps are bound.
 use Rattle.std.proofs.Common.{ℕ, List, ◌∷◌, All}
 use Rattle.std.proofs.lemmas.List.Elements.{All-cons, All-head, All-tail}
-use Rattle.tc_step.specs.declared.place.Place.{Place}
-use Rattle.tc_step.specs.Steps.{IsBound}
+use Rattle.tc_step.specs.{Steps.IsBound, declared.place.Place.Place}
 
 -- all of a list are bound if its first is and the others are
 pub cons_rules : (count : ℕ) (p : Place ℕ) (ps : List (Place ℕ))

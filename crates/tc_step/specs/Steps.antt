@@ -1,14 +1,28 @@
--- What a script is: steps whose places are bound before them.
-use Rattle.std.specs.Prelude.{ℕ, ◌+◌, ◌<◌, ◌≤◌, List, [], ◌∷◌, length, All}
+-- The components that a group and a target name, and what a script is: steps whose places are bound before them.
+use Rattle.std.specs.Prelude.{◌≡◌, ℕ, ◌+◌, ◌<◌, ◌≤◌, List, [], ◌∷◌, length, All}
 use Rattle.tc_entry.specs.declared.limits.TheConstants.{ARGUMENTS}
-use Rattle.tc_step.specs.declared.place.Place.{Place}
-use Rattle.tc_step.specs.declared.place.Place.TheVariants as P
-use Rattle.tc_step.specs.declared.place.GroupPlace.{GroupPlace}
-use Rattle.tc_step.specs.declared.place.GroupPlace.TheVariants as G
-use Rattle.tc_step.specs.declared.place.TargetPlace.{TargetPlace}
-use Rattle.tc_step.specs.declared.place.TargetPlace.TheVariants as T
-use Rattle.tc_step.specs.declared.step.Step.{Step}
-use Rattle.tc_step.specs.declared.step.Step.TheVariants as S
+use Rattle.tc_step.specs.declared.{place.GroupPlace.GroupPlace, place.Place.Place, place.TargetPlace.TargetPlace, step.Step.Step}
+
+-- what a call may give is the function's value
+abbrev pub Computes : {X Y : Type 0} → (X → Y → Type 0) → (X → Y) → Type 0
+Computes {X} {Y} gives f = (x : X) (y : Y) → gives x y → y ≡ f x
+
+-- the place with the value at a bound one
+abbrev pub place_map : {B C : Type 0} → (B → C) → Place B → Place C
+place_map f Place.Main = Place.Main
+place_map f Place.Own = Place.Own
+place_map f (Place.Bound b) = Place.Bound (f b)
+
+-- the group with the value at its one place
+abbrev pub group_map : {X Y : Type 0} → (X → Y) → GroupPlace X → GroupPlace Y
+group_map f (GroupPlace.One x) = GroupPlace.One (f x)
+group_map f GroupPlace.All = GroupPlace.All
+
+-- the target with the value at its one place
+abbrev pub target_map : {X Y : Type 0} → (X → Y) → TargetPlace X → TargetPlace Y
+target_map f (TargetPlace.One x) = TargetPlace.One (f x)
+target_map f TargetPlace.Any = TargetPlace.Any
+target_map f TargetPlace.All = TargetPlace.All
 
 -- a script: the number of its parameters, and its steps in their order
 pub record ScriptView : Type 0 where
@@ -17,31 +31,31 @@ pub record ScriptView : Type 0 where
 
 -- the places that a group names
 abbrev pub of_group : {P : Type 0} → GroupPlace P → List P
-of_group (G.One p) = p ∷ []
-of_group G.All = []
+of_group (GroupPlace.One p) = p ∷ []
+of_group GroupPlace.All = []
 
 -- the places that a target names
 abbrev pub of_target : {P : Type 0} → TargetPlace P → List P
-of_target (T.One p) = p ∷ []
+of_target (TargetPlace.One p) = p ∷ []
 of_target _ = []
 
 -- the places that a step names
 abbrev pub places : Step → List (Place ℕ)
-places (S.Start on run args) = on ∷ args
-places (S.Stop g) = of_group g
-places (S.Kill g) = of_group g
-places (S.Ask status t) = of_target t
-places (S.Wait killed t) = of_target t
+places (Step.Start on run args) = on ∷ args
+places (Step.Stop g) = of_group g
+places (Step.Kill g) = of_group g
+places (Step.Ask status t) = of_target t
+places (Step.Wait killed t) = of_target t
 places _ = []
 
 -- the place is one of a behaviour that has that many components bound
 abbrev pub IsBound : ℕ → Place ℕ → Type 0
-IsBound count (P.Bound k) = k < count
+IsBound count (Place.Bound k) = k < count
 IsBound count _ = Unit {0}
 
 -- how many components are bound after a step
 abbrev pub count_after : ℕ → Step → ℕ
-count_after count (S.Create alive name) = count + 1
+count_after count (Step.Create alive name) = count + 1
 count_after count _ = count
 
 -- each place of each step is bound before the step, that many components being bound before the first step

@@ -1,8 +1,7 @@
 //! The components that a script names: as a line does, by name, and as a step does, by number.
 ghost use Rattle.std.specs.Prelude.{◌≡◌, IsTrue, ◌↔◌};
 ghost use Rattle.std.specs.Fn.{FnOnceReturnsAt};
-ghost use Rattle.tc_step.specs.Places.{Computes, place_map, group_map, target_map};
-ghost use Rattle.tc_step.specs.Steps.{IsBound};
+ghost use Rattle.tc_step.specs.Steps.{Computes, group_map, place_map, target_map, IsBound};
 
 /// A component, as a script names it. A line has names for the bound ones, a step numbers.
 #[derive(Clone, Copy, PartialEq, Eq, Default, Debug, Drop)]

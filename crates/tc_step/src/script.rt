@@ -1,8 +1,7 @@
 //! A scripted behaviour: its parameters and its steps.
 ghost use Rattle.std.specs.Prelude.{◌≡◌, ◌≤◌, ◌↔◌, IsTrue, length};
 ghost use Rattle.tc_entry.specs.declared.limits.TheConstants.{ARGUMENTS};
-ghost use Rattle.tc_step.specs.Steps.{AreBound, IsScript};
-ghost use Rattle.tc_step.specs.declared.limits.TheConstants.{STEPS};
+ghost use Rattle.tc_step.specs.{Steps.AreBound, Steps.IsScript, declared.limits.TheConstants.STEPS};
 
 use crate::limits::STEPS;
 use crate::step::Step;

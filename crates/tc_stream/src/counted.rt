@@ -1,8 +1,6 @@
 //! Readers and writers whose calls are counted.
 ghost use Rattle.std.specs.Prelude.{◌≡◌, ◌+◌, ◌<◌, ◌^◌, ◌↔◌, Bool, List, Option, ℕ, true, false, is_err, IfOk};
-ghost use Rattle.std.specs.Io.{ReadsAtMost, WritesAtMost};
-ghost use Rattle.std.specs.Io.KnownBytes.{ReadConsumes, WriteAppends};
-ghost use Rattle.std.specs.Borrow.{GName};
+ghost use Rattle.std.specs.{Borrow.GName, Io.KnownBytes.ReadConsumes, Io.KnownBytes.WriteAppends, Io.ReadsAtMost, Io.WritesAtMost};
 
 use std::io;
 use std::io::{Read, Write};

@@ -1,9 +1,7 @@
 //! Readers and writers for tests: each moves one byte at a time, and fails at one call.
 ghost use Rattle.std.specs.Prelude.{◌≡◌, ◌<◌, ◌≤◌, ◌+◌, ◌↔◌, [], Some, Ok, IfOk, IfErr, IsErr, IsErrAnd, IsOk, MatchResult, length, min};
-ghost use Rattle.std.specs.Io.{ReadsAtMost, WritesAtMost};
-ghost use Rattle.std.specs.IoError.{error_kind};
-ghost use Rattle.std.specs.Io.KnownBytes.{Keeps, ReadConsumes, WriteAppends};
-ghost use Rattle.tc_stream.specs.Devices.{FailsNext};
+ghost use Rattle.std.specs.{Io.KnownBytes.Keeps, Io.KnownBytes.ReadConsumes, Io.KnownBytes.WriteAppends, Io.ReadsAtMost, Io.WritesAtMost, IoError.error_kind};
+ghost use Rattle.tc_stream.specs.Streams.{FailsNext};
 
 use std::alloc::Global;
 use std::io;

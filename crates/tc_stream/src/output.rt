@@ -1,8 +1,7 @@
 //! A whole output.
 ghost use Rattle.std.specs.Prelude.{◌≡◌, true, false, ◌<◌, ◌≤◌, ◌+◌, ◌^◌, ◌↔◌, length, take, Some, IfOk, IsErr, OnOk, OnErr};
 ghost use Rattle.std.specs.Io.KnownBytes.{Appends, Keeps};
-ghost use Rattle.tc_stream.specs.Fault.{write_text};
-ghost use Rattle.tc_stream.specs.Output.{AppendsPrefix};
+ghost use Rattle.tc_stream.specs.Streams.{write_text, AppendsPrefix};
 
 use crate::counted::{CountedWrite, CountedWriter};
 use std::fmt;

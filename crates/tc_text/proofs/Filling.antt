@@ -1,8 +1,7 @@
 -- The digits of a number, written from the last to the first.
 use Rattle.std.proofs.Common.{◌≡◌, ◌∙◌, ◌<◌, ◌≤◌, ◌+◌, ◌*◌, ◌/◌, ◌%◌, ◌^◌, ℕ, zero, suc, List, [], ◌∷◌, ◌++◌, length, drop, set, sym, ap, arith, append_assoc, add-one}
 use Rattle.std.specs.Fmt.{decimal}
-use Rattle.std.proofs.lemmas.Fmt.{decimal_digit, decimal_step}
-use Rattle.std.proofs.lemmas.List.{drop-set, length-set}
+use Rattle.std.proofs.lemmas.{Fmt.decimal_digit, Fmt.decimal_step, List.drop-set, List.length-set}
 use Rattle.std.proofs.Math.Nat.{pow-succ'}
 
 -- the digits from the place on are those of the number after those of what is left

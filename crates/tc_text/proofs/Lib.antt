@@ -1,6 +1,5 @@
 -- The lemmas of this crate.
 pub mod Lemmas
 pub mod Operands
-pub mod Verbs
 pub mod Filling
 pub mod SoFar

@@ -1,31 +1,57 @@
--- What operations are about, read from the text after their first words.
-use Rattle.std.proofs.Common.{◌≡◌, ◌≢◌, ◌∙◌, ◌<◌, ◌≤◌, ◌+◌, ◌^◌, ℕ, List, [], ◌∷◌, ◌++◌, length, codes, sym, ap, arith, append_assoc}
+-- The first words of operations, and what operations are about, read from the text after these.
+use Rattle.std.proofs.Common.{◌≡◌, ◌≢◌, ◌∙◌, true, false, Some, None, ℕ, List, ◌++◌, codes, refl, ap, sym, append_assoc, ◌<◌, ◌≤◌, ◌+◌, ◌^◌, [], ◌∷◌, length, arith}
 use Rattle.std.specs.Fmt.{decimal}
 use Rattle.std.proofs.lemmas.Grind.{common_steps}
-use Rattle.tc_entry.specs.declared.limits.TheConstants.{ARGUMENTS}
-use Rattle.tc_verdict.specs.declared.run.Run.{Run}
-use Rattle.tc_entry.specs.declared.comp.Comp.{Comp}
-use Rattle.tc_entry.specs.declared.op.Group.{Group}
-use Rattle.tc_entry.specs.declared.op.Group.TheVariants as G
-use Rattle.tc_entry.specs.declared.op.Target.{Target}
-use Rattle.tc_entry.specs.declared.op.Target.TheVariants as T
-use Rattle.tc_entry.specs.declared.op.Op.TheVariants as O
-use Rattle.tc_text.specs.Spelling.{group_text, target_text, args_text, IsComp, IsGroup, IsTarget, AreComps, start_text}
-use Rattle.tc_text.specs.Reading.{EndsNumber, EndsMove}
+use Rattle.tc_entry.specs.declared.{comp.Comp.Comp, limits.TheConstants.ARGUMENTS, op.Group.Group, op.Op.Op, op.Target.Target}
+use Rattle.tc_entry.specs.Prelude.{Run}
+use Rattle.tc_text.specs.{Inside.IsWait, Inside.operand_text, Inside.status_text, Inside.verb_of, Inside.verb_text, Reading.EndsMove, Reading.EndsNumber, Spelling.AreComps, Spelling.IsComp, Spelling.IsGroup, Spelling.IsTarget, Spelling.args_text, Spelling.group_text, Spelling.op_text, Spelling.start_text, Spelling.target_text, declared.verb.Status.Status, declared.verb.Verb.Verb}
 use Rattle.tc_text.proofs.Lemmas.Digits.{digit_first, no_letter}
+
+-- an operation is its first words and what follows them
+pub op_words : (op : Op) → op_text op ≡ verb_text (verb_of op) ++ operand_text op
+op_words (Op.Create false None) = refl
+op_words (Op.Create true None) = refl
+op_words (Op.Create false (Some name)) = refl
+op_words (Op.Create true (Some name)) = refl
+op_words (Op.Wait false t) = refl
+op_words (Op.Wait true t) = refl
+op_words (Op.Wake false t) = refl
+op_words (Op.Wake true t) = refl
+op_words op = refl
+
+pub op_parts : (op : Op) (rest : List ℕ) → op_text op ++ rest ≡ verb_text (verb_of op) ++ (operand_text op ++ rest)
+op_parts op rest = ap (λ (l : List ℕ). l ++ rest) (op_words op) ∙ append_assoc (verb_text (verb_of op)) (operand_text op) rest
+
+-- a text of both is one of the operation
+pub op_spelled : (op : Op) (verb : Verb) (text after rest : List ℕ) → text ≡ verb_text verb ++ after → verb_of op ≡ verb → after ≡ operand_text op ++ rest → text ≡ op_text op ++ rest
+op_spelled op verb text after rest words is parts =
+    words ∙ (ap (λ (l : List ℕ). verb_text verb ++ l) parts ∙ (ap (λ (v : Verb). verb_text v ++ (operand_text op ++ rest)) (sym is) ∙ sym (op_parts op rest)))
+
+-- a text has the first words of a wait or a wake, or none of the four
+pub no_wait : (s : Status) (text rest : List ℕ)
+    → ((r : List ℕ) → text ≢ codes "wait done " ++ r) → ((r : List ℕ) → text ≢ codes "wait killed " ++ r) → ((r : List ℕ) → text ≢ codes "wake done " ++ r) → ((r : List ℕ) → text ≢ codes "wake killed " ++ r)
+    → IsWait s → text ≡ status_text s ++ rest → ⊥
+no_wait Status.WaitDone text rest a b c d is e = a rest e
+no_wait Status.WaitKilled text rest a b c d is e = b rest e
+no_wait Status.WakeDone text rest a b c d is e = c rest e
+no_wait Status.WakeKilled text rest a b c d is e = d rest e
+no_wait Status.Running text rest a b c d is e = is
+no_wait Status.Alive text rest a b c d is e = is
+no_wait Status.Done text rest a b c d is e = is
+no_wait Status.Killed text rest a b c d is e = is
 
 -- what reading a number shows: it is the number of each spelling that the text begins with
 abbrev pub IsThatNumber : List ℕ → ℕ → List ℕ → Type 0
 IsThatNumber text number behind = (n : ℕ) (rest : List ℕ) → n < 2 ^ 32 → EndsNumber rest → text ≡ decimal n ++ rest → (number ≡ n) × (behind ≡ rest)
 
-pub group_only : (number : ℕ) (text behind : List ℕ) (g : Group) (rest : List ℕ) → number < 2 ^ 32 → text ≡ decimal number ++ behind → IsThatNumber text number behind → IsGroup g → EndsNumber rest → text ≡ group_text g ++ rest → (G.One (record { 0 = number }) ≡ g) × (behind ≡ rest)
-group_only number text behind (G.One c) rest low spelled only fits ends e = let two = only c.0 rest fits ends e in (ap (λ k. G.One (record { 0 = k })) two.0, two.1)
-group_only number text behind G.All rest low spelled only fits ends e = absurd (no_letter number 97 behind (codes "ll" ++ rest) low (omega arith) (sym spelled ∙ e))
+pub group_only : (number : ℕ) (text behind : List ℕ) (g : Group) (rest : List ℕ) → number < 2 ^ 32 → text ≡ decimal number ++ behind → IsThatNumber text number behind → IsGroup g → EndsNumber rest → text ≡ group_text g ++ rest → (Group.One (record { 0 = number }) ≡ g) × (behind ≡ rest)
+group_only number text behind (Group.One c) rest low spelled only fits ends e = let two = only c.0 rest fits ends e in (ap (λ k. Group.One (record { 0 = k })) two.0, two.1)
+group_only number text behind Group.All rest low spelled only fits ends e = absurd (no_letter number 97 behind (codes "ll" ++ rest) low (omega arith) (sym spelled ∙ e))
 
-pub target_only : (number : ℕ) (text behind : List ℕ) (t : Target) (rest : List ℕ) → number < 2 ^ 32 → text ≡ decimal number ++ behind → IsThatNumber text number behind → IsTarget t → EndsNumber rest → text ≡ target_text t ++ rest → (T.One (record { 0 = number }) ≡ t) × (behind ≡ rest)
-target_only number text behind (T.One c) rest low spelled only fits ends e = let two = only c.0 rest fits ends e in (ap (λ k. T.One (record { 0 = k })) two.0, two.1)
-target_only number text behind T.All rest low spelled only fits ends e = absurd (no_letter number 97 behind (codes "ll" ++ rest) low (omega arith) (sym spelled ∙ e))
-target_only number text behind T.Any rest low spelled only fits ends e = absurd (no_letter number 97 behind (codes "ny" ++ rest) low (omega arith) (sym spelled ∙ e))
+pub target_only : (number : ℕ) (text behind : List ℕ) (t : Target) (rest : List ℕ) → number < 2 ^ 32 → text ≡ decimal number ++ behind → IsThatNumber text number behind → IsTarget t → EndsNumber rest → text ≡ target_text t ++ rest → (Target.One (record { 0 = number }) ≡ t) × (behind ≡ rest)
+target_only number text behind (Target.One c) rest low spelled only fits ends e = let two = only c.0 rest fits ends e in (ap (λ k. Target.One (record { 0 = k })) two.0, two.1)
+target_only number text behind Target.All rest low spelled only fits ends e = absurd (no_letter number 97 behind (codes "ll" ++ rest) low (omega arith) (sym spelled ∙ e))
+target_only number text behind Target.Any rest low spelled only fits ends e = absurd (no_letter number 97 behind (codes "ny" ++ rest) low (omega arith) (sym spelled ∙ e))
 
 -- ---- what may be after it
 
@@ -97,6 +123,6 @@ behind_comp text behind after comp c run args rest only space fits e =
     let two = only c.0 (32 ∷ (decimal run.0 ++ (args_text args ++ rest))) fits (ends_space (decimal run.0 ++ (args_text args ++ rest))) (e ∙ start_assoc c run args rest) in
     (two.0, behind_space after (decimal run.0 ++ (args_text args ++ rest)) (sym space ∙ two.1))
 
-pub same_start : (n : ℕ) (r : Run) (bs : List Comp) (c : Comp) (run : Run) (cs : List Comp) → n ≡ c.0 → r.0 ≡ run.0 → bs ≡ cs → O.Start (record { 0 = n }) r bs ≡ O.Start c run cs
+pub same_start : (n : ℕ) (r : Run) (bs : List Comp) (c : Comp) (run : Run) (cs : List Comp) → n ≡ c.0 → r.0 ≡ run.0 → bs ≡ cs → Op.Start (record { 0 = n }) r bs ≡ Op.Start c run cs
 same_start n r bs c run cs one two three =
-    ap (λ k. O.Start (record { 0 = k }) r bs) one ∙ ap (λ k. O.Start c (record { 0 = k }) bs) two ∙ ap (λ l. O.Start c run l) three
+    ap (λ k. Op.Start (record { 0 = k }) r bs) one ∙ ap (λ k. Op.Start c (record { 0 = k }) bs) two ∙ ap (λ l. Op.Start c run l) three

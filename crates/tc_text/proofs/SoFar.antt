@@ -2,10 +2,8 @@
 use Rattle.std.proofs.Common.{◌≡◌, ◌≢◌, ◌∙◌, ◌+◌, ℕ, List, [], ◌∷◌, ◌++◌, length, map, sym, ap, refl, append_assoc, arith}
 use Rattle.std.specs.List.{AllByRecursion}
 use Rattle.std.proofs.lemmas.List.{append-nil, length-append}
-use Rattle.tc_text.specs.Lines.{lines_of}
 use Rattle.tc_entry.specs.Prelude.{IsBehaviours}
-use Rattle.tc_text.specs.MoveList.{Move, behaviours_line, move_line, list_lines, IsMove, IsMoveList, IsMadeOfMoves, IsBadFirstLine, IsBadMove}
-use Rattle.tc_text.specs.Inside.{IsNoMove}
+use Rattle.tc_text.specs.{Inside.IsNoMove, MoveList.IsBadFirstLine, MoveList.IsBadMove, MoveList.IsMadeOfMoves, MoveList.IsMove, MoveList.IsMoveList, MoveList.Move, MoveList.behaviours_line, MoveList.lines_of, MoveList.list_lines, MoveList.move_line}
 use Rattle.tc_text.proofs.Lemmas.LinesOf.{some_line}
 
 -- the moves are the ones read, and those that the rest spells

@@ -1,23 +1,9 @@
 -- What only the way the texts are read needs: no public clause names a word of this file.
 use Rattle.std.specs.Prelude.{ℕ, ◌≡◌, ◌≢◌, ◌<◌, ◌≤◌, ◌+◌, ◌-◌, ◌*◌, ◌^◌, ◌++◌, codes, drop, length, take, Bool, true, false, if◌then◌else◌, List, [], ◌∷◌, Option, Some, None, MatchOption, slice_get}
-use Rattle.std.specs.Borrow.{Bor}
-use Rattle.std.specs.Char.{is_ascii_digit}
-use Rattle.std.specs.Str.{all_ascii_digits}
-use Rattle.std.specs.Fmt.{decimal}
-use Rattle.tc_verdict.specs.Prelude.{given, name_of}
-use Rattle.tc_entry.specs.declared.op.Op.{Op}
-use Rattle.tc_entry.specs.declared.op.Target.{Target}
-use Rattle.tc_entry.specs.declared.op.Op.TheVariants as O
-use Rattle.tc_text.specs.Lines.{lines_of}
-use Rattle.tc_text.specs.MoveList.{Move, IsMove, move_line}
-use Rattle.tc_text.specs.Spelling.{group_text, start_text, target_text}
-use Rattle.tc_text.specs.declared.verb.Verb.{Verb}
-use Rattle.tc_text.specs.declared.verb.Verb.TheVariants as V
-use Rattle.tc_text.specs.declared.verb.Status.{Status}
-use Rattle.tc_text.specs.declared.verb.Status.TheVariants as S
-use Rattle.tc_text.specs.declared.said.Part.{Part}
-use Rattle.tc_text.specs.declared.said.Part.TheVariants as P
-use Rattle.tc_text.specs.Said.{ends_word}
+use Rattle.std.specs.{Borrow.Bor, Char.is_ascii_digit, Fmt.decimal, Str.all_ascii_digits}
+use Rattle.tc_entry.specs.Prelude.{given, name_of}
+use Rattle.tc_entry.specs.declared.op.{Op.Op, Target.Target}
+use Rattle.tc_text.specs.{MoveList.IsMove, MoveList.Move, MoveList.lines_of, MoveList.move_line, Said.ends_word, Spelling.group_text, Spelling.start_text, Spelling.target_text, declared.said.Part.Part, declared.verb.Status.Status, declared.verb.Verb.Verb}
 
 -- this value was read of a line, and these lines are after it
 abbrev pub TakesLine : {A : Type 0} → Option (A × Bor (List ℕ)) → A → List (List ℕ) → Type 0
@@ -51,10 +37,10 @@ pub record Counted (text : List ℕ) (place number : ℕ) : Type 0 where
 
 -- the first words of a wait or a wake
 abbrev pub IsWait : Status → Type 0
-IsWait S.WaitDone = Unit {0}
-IsWait S.WaitKilled = Unit {0}
-IsWait S.WakeDone = Unit {0}
-IsWait S.WakeKilled = Unit {0}
+IsWait Status.WaitDone = Unit {0}
+IsWait Status.WaitKilled = Unit {0}
+IsWait Status.WakeDone = Unit {0}
+IsWait Status.WakeKilled = Unit {0}
 IsWait _ = ⊥
 
 -- no byte of the text comes before the digits
@@ -72,9 +58,9 @@ prose_text t = if ends_word t then t else 32 ∷ t
 
 -- a part of a line, as it is written
 abbrev pub part_text : Part → List ℕ
-part_text (P.Text t) = prose_text t.now
-part_text (P.Number n) = 32 ∷ decimal n
-part_text (P.Word w) = 32 ∷ w.now
+part_text (Part.Text t) = prose_text t.now
+part_text (Part.Number n) = 32 ∷ decimal n
+part_text (Part.Word w) = 32 ∷ w.now
 
 -- the first line is no move
 abbrev pub IsNoMove : List ℕ → Type 0
@@ -93,56 +79,56 @@ pub record IsMoveTakenBy {T : Type 0} (stands : ℕ → List Move → T → Type
 
 -- the first words of an operation that is about a target
 abbrev pub status_text : Status → List ℕ
-status_text S.Running = codes "running "
-status_text S.Alive = codes "alive "
-status_text S.Done = codes "done "
-status_text S.Killed = codes "killed "
-status_text S.WaitDone = codes "wait done "
-status_text S.WaitKilled = codes "wait killed "
-status_text S.WakeDone = codes "wake done "
-status_text S.WakeKilled = codes "wake killed "
+status_text Status.Running = codes "running "
+status_text Status.Alive = codes "alive "
+status_text Status.Done = codes "done "
+status_text Status.Killed = codes "killed "
+status_text Status.WaitDone = codes "wait done "
+status_text Status.WaitKilled = codes "wait killed "
+status_text Status.WakeDone = codes "wake done "
+status_text Status.WakeKilled = codes "wake killed "
 
 -- the operation that begins so and is about the target
 abbrev pub status_op : Status → Target → Op
-status_op S.Running t = O.Running t
-status_op S.Alive t = O.Alive t
-status_op S.Done t = O.Done t
-status_op S.Killed t = O.Killed t
-status_op S.WaitDone t = O.Wait false t
-status_op S.WaitKilled t = O.Wait true t
-status_op S.WakeDone t = O.Wake false t
-status_op S.WakeKilled t = O.Wake true t
+status_op Status.Running t = Op.Running t
+status_op Status.Alive t = Op.Alive t
+status_op Status.Done t = Op.Done t
+status_op Status.Killed t = Op.Killed t
+status_op Status.WaitDone t = Op.Wait false t
+status_op Status.WaitKilled t = Op.Wait true t
+status_op Status.WakeDone t = Op.Wake false t
+status_op Status.WakeKilled t = Op.Wake true t
 
 -- the first words of an operation
 abbrev pub verb_text : Verb → List ℕ
-verb_text V.Create = codes "create"
-verb_text V.Start = codes "start "
-verb_text V.Stop = codes "stop "
-verb_text V.Kill = codes "kill "
-verb_text V.StopCase = codes "stopcase"
-verb_text (V.Status s) = status_text s
-verb_text V.SetVerdict = codes "setverdict "
-verb_text V.GetVerdict = codes "getverdict"
-verb_text V.Finish = codes "finish"
+verb_text Verb.Create = codes "create"
+verb_text Verb.Start = codes "start "
+verb_text Verb.Stop = codes "stop "
+verb_text Verb.Kill = codes "kill "
+verb_text Verb.StopCase = codes "stopcase"
+verb_text (Verb.Status s) = status_text s
+verb_text Verb.SetVerdict = codes "setverdict "
+verb_text Verb.GetVerdict = codes "getverdict"
+verb_text Verb.Finish = codes "finish"
 
 -- the first words that an operation has
 abbrev pub verb_of : Op → Verb
-verb_of (O.Create _ _) = V.Create
-verb_of (O.Start _ _ _) = V.Start
-verb_of (O.Stop _) = V.Stop
-verb_of (O.Kill _) = V.Kill
-verb_of O.StopCase = V.StopCase
-verb_of (O.Running _) = V.Status S.Running
-verb_of (O.Alive _) = V.Status S.Alive
-verb_of (O.Done _) = V.Status S.Done
-verb_of (O.Killed _) = V.Status S.Killed
-verb_of (O.Wait false _) = V.Status S.WaitDone
-verb_of (O.Wait true _) = V.Status S.WaitKilled
-verb_of (O.Wake false _) = V.Status S.WakeDone
-verb_of (O.Wake true _) = V.Status S.WakeKilled
-verb_of (O.SetVerdict _) = V.SetVerdict
-verb_of O.GetVerdict = V.GetVerdict
-verb_of O.Finish = V.Finish
+verb_of (Op.Create _ _) = Verb.Create
+verb_of (Op.Start _ _ _) = Verb.Start
+verb_of (Op.Stop _) = Verb.Stop
+verb_of (Op.Kill _) = Verb.Kill
+verb_of Op.StopCase = Verb.StopCase
+verb_of (Op.Running _) = Verb.Status Status.Running
+verb_of (Op.Alive _) = Verb.Status Status.Alive
+verb_of (Op.Done _) = Verb.Status Status.Done
+verb_of (Op.Killed _) = Verb.Status Status.Killed
+verb_of (Op.Wait false _) = Verb.Status Status.WaitDone
+verb_of (Op.Wait true _) = Verb.Status Status.WaitKilled
+verb_of (Op.Wake false _) = Verb.Status Status.WakeDone
+verb_of (Op.Wake true _) = Verb.Status Status.WakeKilled
+verb_of (Op.SetVerdict _) = Verb.SetVerdict
+verb_of Op.GetVerdict = Verb.GetVerdict
+verb_of Op.Finish = Verb.Finish
 
 -- what follows `create` of the component's kind
 abbrev pub kind_text : Bool → List ℕ
@@ -155,18 +141,18 @@ named_text alive name = kind_text alive ++ (codes " named " ++ name)
 
 -- what follows the first words
 abbrev pub operand_text : Op → List ℕ
-operand_text (O.Create alive None) = kind_text alive
-operand_text (O.Create alive (Some name)) = named_text alive name
-operand_text (O.Start c run args) = start_text c run args
-operand_text (O.Stop g) = group_text g
-operand_text (O.Kill g) = group_text g
-operand_text O.StopCase = []
-operand_text (O.Running t) = target_text t
-operand_text (O.Alive t) = target_text t
-operand_text (O.Done t) = target_text t
-operand_text (O.Killed t) = target_text t
-operand_text (O.Wait _ t) = target_text t
-operand_text (O.Wake _ t) = target_text t
-operand_text (O.SetVerdict v) = name_of (given v)
-operand_text O.GetVerdict = []
-operand_text O.Finish = []
+operand_text (Op.Create alive None) = kind_text alive
+operand_text (Op.Create alive (Some name)) = named_text alive name
+operand_text (Op.Start c run args) = start_text c run args
+operand_text (Op.Stop g) = group_text g
+operand_text (Op.Kill g) = group_text g
+operand_text Op.StopCase = []
+operand_text (Op.Running t) = target_text t
+operand_text (Op.Alive t) = target_text t
+operand_text (Op.Done t) = target_text t
+operand_text (Op.Killed t) = target_text t
+operand_text (Op.Wait _ t) = target_text t
+operand_text (Op.Wake _ t) = target_text t
+operand_text (Op.SetVerdict v) = name_of (given v)
+operand_text Op.GetVerdict = []
+operand_text Op.Finish = []

@@ -1,15 +1,14 @@
--- Lists of moves as texts, and what is wrong with other texts.
-use Rattle.std.specs.Prelude.{ℕ, ◌≡◌, ◌≢◌, ◌<◌, ◌+◌, ◌^◌, List, [], ◌∷◌, ◌++◌, length, map, codes}
-use Rattle.std.specs.Fmt.{decimal}
-use Rattle.std.specs.List.{AllByRecursion}
-use Rattle.tc_entry.specs.Prelude.{IsBehaviours}
-use Rattle.tc_verdict.specs.declared.run.Run.{Run}
+-- The lines of a text, lists of moves as texts, and what is wrong with other texts.
+use Rattle.std.specs.Prelude.{ℕ, ◌==◌, if◌then◌else◌, List, [], ◌∷◌, ◌≡◌, ◌≢◌, ◌<◌, ◌+◌, ◌^◌, ◌++◌, length, map, codes}
+use Rattle.std.specs.{Fmt.decimal, List.AllByRecursion, List.onto_first}
+use Rattle.tc_entry.specs.Prelude.{IsBehaviours, Run}
 use Rattle.tc_entry.specs.declared.op.Op.{Op}
-use Rattle.tc_text.specs.declared.fault.TextKind.TheVariants as K
-use Rattle.tc_text.specs.declared.fault.TextFault.{TextFault}
-use Rattle.tc_text.specs.declared.fault.TextFault.TheVariants as F
-use Rattle.tc_text.specs.Spelling.{move_text, IsOp}
-use Rattle.tc_text.specs.Lines.{lines_of}
+use Rattle.tc_text.specs.{Spelling.IsOp, Spelling.move_text, declared.fault.TextFault.TextFault, declared.fault.TextKind.TextKind}
+
+-- LF ends a line; a last line may lack it, and after a last LF there is none
+abbrev pub lines_of : List ℕ → List (List ℕ)
+lines_of [] = []
+lines_of (b ∷ bs) = if b == 10 then [] ∷ lines_of bs else onto_first b (lines_of bs)
 
 -- a move: the caller's run, and its operation
 abbrev pub Move : Type 0
@@ -62,8 +61,8 @@ pub record IsBadMove (text : List ℕ) (line : ℕ) : Type 0 where
 
 -- the first fault of the text, read as a list of moves, is of this kind and in this line; if memory runs out, nothing is said
 abbrev pub IsListFault : List ℕ → TextFault → Type 0
-IsListFault text (F.At line K.Early) = (lines_of text ≡ []) × (line ≡ 1)
-IsListFault text (F.At line K.FirstLine) = IsBadFirstLine text × (line ≡ 1)
-IsListFault text (F.At line K.Move) = IsBadMove text line
-IsListFault text (F.At line K.Entry) = ⊥
-IsListFault text F.NoMemory = Unit {0}
+IsListFault text (TextFault.At line TextKind.Early) = (lines_of text ≡ []) × (line ≡ 1)
+IsListFault text (TextFault.At line TextKind.FirstLine) = IsBadFirstLine text × (line ≡ 1)
+IsListFault text (TextFault.At line TextKind.Move) = IsBadMove text line
+IsListFault text (TextFault.At line TextKind.Entry) = ⊥
+IsListFault text TextFault.NoMemory = Unit {0}

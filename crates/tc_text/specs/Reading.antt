@@ -2,9 +2,7 @@
 use Rattle.std.specs.Prelude.{ℕ, ◌≡◌, ◌≢◌, ◌<◌, ◌⊎◌, true, false, List, [], ◌∷◌, Option, None, MatchOption}
 use Rattle.std.specs.Borrow.{Bor}
 use Rattle.tc_entry.specs.declared.op.Op.{Op}
-use Rattle.tc_entry.specs.declared.op.Op.TheVariants as O
 use Rattle.tc_text.specs.declared.short.ShortOp.{ShortOp}
-use Rattle.tc_text.specs.declared.short.ShortOp.TheVariants as H
 
 -- this value was read, and this is after it
 abbrev pub Takes : {A : Type 0} → Option (A × Bor (List ℕ)) → A → List ℕ → Type 0
@@ -26,21 +24,21 @@ pub record EndsReply (text : List ℕ) : Type 0 where
 
 -- the operation that a short one is
 abbrev pub op_of : ShortOp → Op
-op_of (H.Create alive) = O.Create alive None
-op_of (H.Stop g) = O.Stop g
-op_of (H.Kill g) = O.Kill g
-op_of H.StopCase = O.StopCase
-op_of (H.Running t) = O.Running t
-op_of (H.Alive t) = O.Alive t
-op_of (H.Done t) = O.Done t
-op_of (H.Killed t) = O.Killed t
-op_of (H.WaitDone t) = O.Wait false t
-op_of (H.WaitKilled t) = O.Wait true t
-op_of (H.WakeDone t) = O.Wake false t
-op_of (H.WakeKilled t) = O.Wake true t
-op_of (H.SetVerdict v) = O.SetVerdict v
-op_of H.GetVerdict = O.GetVerdict
-op_of H.Finish = O.Finish
+op_of (ShortOp.Create alive) = Op.Create alive None
+op_of (ShortOp.Stop g) = Op.Stop g
+op_of (ShortOp.Kill g) = Op.Kill g
+op_of ShortOp.StopCase = Op.StopCase
+op_of (ShortOp.Running t) = Op.Running t
+op_of (ShortOp.Alive t) = Op.Alive t
+op_of (ShortOp.Done t) = Op.Done t
+op_of (ShortOp.Killed t) = Op.Killed t
+op_of (ShortOp.WaitDone t) = Op.Wait false t
+op_of (ShortOp.WaitKilled t) = Op.Wait true t
+op_of (ShortOp.WakeDone t) = Op.Wake false t
+op_of (ShortOp.WakeKilled t) = Op.Wake true t
+op_of (ShortOp.SetVerdict v) = Op.SetVerdict v
+op_of ShortOp.GetVerdict = Op.GetVerdict
+op_of ShortOp.Finish = Op.Finish
 
 -- the text begins with the end of a line, LF or the end of the text, and this is after it
 abbrev pub EndsLine : List ℕ → List ℕ → Type 0

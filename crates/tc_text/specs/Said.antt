@@ -1,11 +1,13 @@
--- Lines for a reader next to an answer, by what matters of each: its numbers and its names. No clause spells the prose
--- around them.
-use Rattle.std.specs.Prelude.{ℕ, ◌≡◌, ◌⊎◌, not, Bool, true, if◌then◌else◌, List, [], ◌∷◌, ◌++◌, map}
+-- Bytes that are shown to a reader, and lines for a reader next to an answer, by what matters of each: its numbers and
+-- its names. No clause spells the prose around them.
+use Rattle.std.specs.Prelude.{ℕ, ◌&&◌, nat_le, Bool, ◌≡◌, ◌⊎◌, not, true, if◌then◌else◌, List, [], ◌∷◌, ◌++◌, map}
 use Rattle.std.specs.Fmt.{decimal}
 use Rattle.tc_entry.specs.Prelude.{is_name_byte}
-use Rattle.tc_text.specs.Shown.{is_plain}
 use Rattle.tc_text.specs.declared.said.Part.{Part}
-use Rattle.tc_text.specs.declared.said.Part.TheVariants as P
+
+-- a byte from 32 to 126
+abbrev pub is_plain : ℕ → Bool
+is_plain b = nat_le 32 b && nat_le b 126
 
 -- what a line holds: its words
 abbrev pub Line : Type 0
@@ -26,9 +28,13 @@ Holds (word ∷ words) text =
 abbrev pub as_printable : ℕ → ℕ
 as_printable b = if is_plain b then b else 63
 
+-- a line of this text: it begins with a space, and has a question mark for each byte that is not printable
+abbrev pub shown_line : List ℕ → List ℕ
+shown_line text = 32 ∷ (map as_printable text ++ 10 ∷ [])
+
 -- one line is appended, which begins with a space and holds these words
 unfoldable pub TellsLine : Line → List ℕ → List ℕ → Type 0
-TellsLine words before after = (text : List ℕ) × (after ≡ before ++ (32 ∷ (map as_printable text ++ 10 ∷ []))) × Holds words text
+TellsLine words before after = (text : List ℕ) × (after ≡ before ++ shown_line text) × Holds words text
 
 -- a line is appended for each of these, in their order
 unfoldable pub Tells : List Line → List ℕ → List ℕ → Type 0
@@ -47,6 +53,6 @@ TellsAmong lines before after = (all : List Line) × AreAmong lines all × Tells
 
 -- what a part of a line holds
 abbrev pub part_words : Part → Line
-part_words (P.Text t) = []
-part_words (P.Number n) = decimal n ∷ []
-part_words (P.Word w) = w.now ∷ []
+part_words (Part.Text t) = []
+part_words (Part.Number n) = decimal n ∷ []
+part_words (Part.Word w) = w.now ∷ []

@@ -1,7 +1,6 @@
 //! What is wrong with a text.
 ghost use Rattle.std.specs.Prelude.{◌≡◌, Some};
 ghost use Rattle.tc_text.specs.TextKind.{fault_text, text_kind_text};
-ghost use Rattle.tc_text.specs.declared.fault.TextFault.TheVariants as faults;
 
 use std::fmt;
 use tc_verdict::{EARLY_END, NoMemory};
@@ -54,7 +53,7 @@ pub enum TextFault {
 impl TextFault {
     /// The fault of this kind in the line with this number.
     pub fn at(line: usize, kind: TextKind) -> TextFault
-        ensures { result ≡ faults.At line kind }
+        ensures { result ≡ TextFault.At line kind }
     {
         Self::At { line, kind }
     }
@@ -73,9 +72,9 @@ impl fmt::Display for TextFault {
 
 impl From<NoMemory> for TextFault {
     ghost use Rattle.std.specs.Prelude.{◌≡◌};
-    ghost use Rattle.tc_text.specs.declared.fault.TextFault.TheVariants as faults;
+    ghost use Rattle.tc_text.specs.declared.fault.TextFault.{TextFault};
 
-    ghost from_gives = { λ _ f. f ≡ faults.NoMemory };
+    ghost from_gives = { λ _ f. f ≡ TextFault.NoMemory };
 
     fn from(_: NoMemory) -> TextFault {
         TextFault::NoMemory

@@ -26,7 +26,7 @@ pub use name::take_name;
 pub use number::{read_number, take_number};
 pub use operand::take_run;
 pub use reply::{read_reply, take_reply, write_reply};
-pub use said::{Part, append_parts};
+pub use said::{Part, append_parts, append_shown};
 pub use short::{ShortOp, take_short_move};
 pub use shown::is_plain;
 pub use tc_entry::name_of_fault;

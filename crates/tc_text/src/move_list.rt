@@ -1,11 +1,7 @@
 //! Lists of moves as texts.
 ghost use Rattle.std.specs.Prelude.{◌≡◌, ◌<◌, ◌++◌, ℕ, List, [], ◌∷◌, length, Some, IfSome, IfNone, IfOk, IfErr, OnOk, MatchOption, MatchResult};
-ghost use Rattle.tc_text.specs.Lines.{lines_of};
-ghost use Rattle.tc_text.specs.Spelling.{IsLong};
-ghost use Rattle.tc_text.specs.Reading.{op_of};
 ghost use Rattle.tc_entry.specs.Prelude.{IsBehaviours};
-ghost use Rattle.tc_text.specs.MoveList.{Move as AnyMove, behaviours_line, move_line, IsMadeOfMoves, IsMove, IsMoveList, IsListFault};
-ghost use Rattle.tc_text.specs.Inside.{IsMoveTakenBy, IsNoMove, TakesLine};
+ghost use Rattle.tc_text.specs.{Inside.IsMoveTakenBy, Inside.IsNoMove, Inside.TakesLine, MoveList.IsListFault, MoveList.IsMadeOfMoves, MoveList.IsMove, MoveList.IsMoveList, MoveList.Move as AnyMove, MoveList.behaviours_line, MoveList.lines_of, MoveList.move_line, Reading.op_of, Spelling.IsLong};
 
 use crate::cursor::{after, take_line_end};
 use crate::fault::{TextFault, TextKind};

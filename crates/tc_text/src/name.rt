@@ -1,12 +1,12 @@
 //! Names in a text.
 ghost use Rattle.std.specs.Prelude.{◌≡◌, ◌++◌, ℕ, List, IfSome};
 ghost use Rattle.tc_entry.specs.Prelude.{IsName};
-ghost use Rattle.tc_text.specs.Inside.{NoLow};
-ghost use Rattle.tc_text.specs.Reading.{EndsNumber, Takes};
+ghost use Rattle.tc_text.specs.{Inside.NoLow, Reading.EndsNumber, Reading.Takes};
 
 use tc_entry::Name;
 
 // The bytes before the first one that comes before the digits, and the others.
+#[tactic(auto, using(crate::proofs::Lemmas::Naming::no_low_take))]
 fn cut_low(text: &[u8]) -> (&[u8], &[u8])
     ensures parts { text.now ≡ result.0.now ++ result.1.now }
     ensures before { NoLow result.0.now }

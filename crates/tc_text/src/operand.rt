@@ -1,19 +1,9 @@
 //! What operations are about.
 ghost use Rattle.std.specs.Prelude.{◌≡◌, ◌<◌, ◌≤◌, ◌+◌, ◌^◌, ◌++◌, ℕ, Bool, List, codes, length, Some, IfSome, MatchOption};
-ghost use Rattle.tc_entry.specs.declared.limits.TheConstants.{ARGUMENTS};
-ghost use Rattle.tc_verdict.specs.Prelude.{given, name_of};
-ghost use Rattle.tc_text.specs.Spelling.{group_text, target_text, args_text, IsGroup, IsTarget, IsOp, AreComps, start_text};
-ghost use Rattle.tc_entry.specs.Prelude.{IsName};
-ghost use Rattle.tc_text.specs.Inside.{EndsKind, kind_text, named_text, operand_text, verb_of};
-ghost use Rattle.tc_text.specs.Reading.{EndsNumber, EndsMove, Takes};
 ghost use Rattle.std.specs.Fmt.{decimal};
-ghost use Rattle.tc_verdict.specs.declared.user_verdict.UserVerdict.{UserVerdict as AnySetting};
-ghost use Rattle.tc_entry.specs.declared.op.Group.{Group as AnyGroup};
-ghost use Rattle.tc_entry.specs.declared.op.Target.{Target as AnyTarget};
-ghost use Rattle.tc_text.specs.declared.verb.Verb.TheVariants as words;
-ghost use Rattle.tc_entry.specs.declared.op.Op.TheVariants.{Create as AnyCreate, Start as AnyStart};
-ghost use Rattle.tc_entry.specs.declared.comp.Comp.{Comp as AnyComp};
-ghost use Rattle.tc_verdict.specs.declared.run.Run.{Run as AnyRun};
+ghost use Rattle.tc_entry.specs.declared.{limits.TheConstants.ARGUMENTS, op.Op.TheVariants.Create as AnyCreate, op.Op.TheVariants.Start as AnyStart};
+ghost use Rattle.tc_entry.specs.Prelude.{given, name_of, IsName};
+ghost use Rattle.tc_text.specs.{Inside.EndsKind, Inside.kind_text, Inside.named_text, Inside.operand_text, Inside.verb_of, Reading.EndsMove, Reading.EndsNumber, Reading.Takes, Spelling.AreComps, Spelling.IsGroup, Spelling.IsOp, Spelling.IsTarget, Spelling.args_text, Spelling.group_text, Spelling.start_text, Spelling.target_text, declared.verb.Verb.Verb};
 
 use crate::cursor::after;
 use crate::name::take_name;
@@ -26,7 +16,7 @@ use tc_verdict::to_user;
 pub(crate) fn take_group(text: &[u8]) -> Option<(Group, &[u8])>
     ensures spelled { IfSome result (λ r. text.now ≡ group_text r.0 ++ r.1.now) }
     ensures fits { IfSome result (λ r. IsGroup r.0) }
-    ensures only { (g : AnyGroup) (rest : List ℕ) → IsGroup g → EndsNumber rest → text.now ≡ group_text g ++ rest → Takes result g rest }
+    ensures only { (g : Group) (rest : List ℕ) → IsGroup g → EndsNumber rest → text.now ≡ group_text g ++ rest → Takes result g rest }
 {
     if let Some((number, rest)) = take_number(text) {
         return Some((Group::One(Comp(number)), rest));
@@ -39,7 +29,7 @@ pub(crate) fn take_group(text: &[u8]) -> Option<(Group, &[u8])>
 pub(crate) fn take_target(text: &[u8]) -> Option<(Target, &[u8])>
     ensures spelled { IfSome result (λ r. text.now ≡ target_text r.0 ++ r.1.now) }
     ensures fits { IfSome result (λ r. IsTarget r.0) }
-    ensures only { (t : AnyTarget) (rest : List ℕ) → IsTarget t → EndsNumber rest → text.now ≡ target_text t ++ rest → Takes result t rest }
+    ensures only { (t : Target) (rest : List ℕ) → IsTarget t → EndsNumber rest → text.now ≡ target_text t ++ rest → Takes result t rest }
 {
     if let Some((number, rest)) = take_number(text) {
         return Some((Target::One(Comp(number)), rest));
@@ -54,7 +44,7 @@ pub(crate) fn take_target(text: &[u8]) -> Option<(Target, &[u8])>
 #[inline(always)]
 pub(crate) fn take_setting(text: &[u8]) -> Option<(UserVerdict, &[u8])>
     ensures spelled { IfSome result (λ r. text.now ≡ name_of (given r.0) ++ r.1.now) }
-    ensures only { (v : AnySetting) (rest : List ℕ) → text.now ≡ name_of (given v) ++ rest → Takes result v rest }
+    ensures only { (v : UserVerdict) (rest : List ℕ) → text.now ≡ name_of (given v) ++ rest → Takes result v rest }
 {
     let (verdict, rest) = take_verdict(text)?;
     Some((to_user(verdict)?, rest))
@@ -104,7 +94,7 @@ pub(crate) const NAMED: &[u8] = b" named ";
 
 /// The Create with a name that continues as the text begins after its first word, and what follows it.
 pub(crate) fn take_named(text: &[u8]) -> Option<(Op, &[u8])>
-    ensures spelled { IfSome result (λ r. (verb_of r.0 ≡ words.Create) × (text.now ≡ operand_text r.0 ++ r.1.now)) }
+    ensures spelled { IfSome result (λ r. (verb_of r.0 ≡ Verb.Create) × (text.now ≡ operand_text r.0 ++ r.1.now)) }
     ensures fits { IfSome result (λ r. IsOp r.0) }
     ensures only { (alive : Bool) (name : List ℕ) (rest : List ℕ) → IsName name → EndsNumber rest → text.now ≡ named_text alive name ++ rest
         → Takes result (AnyCreate alive (Some name)) rest }
@@ -121,9 +111,9 @@ pub(crate) fn take_named(text: &[u8]) -> Option<(Op, &[u8])>
 // Appends the components that the text begins with, each with a space in front, as far as there is room; gives what
 // follows them.
 fn take_args<'a>(args: &mut Args, text: &'a [u8]) -> &'a [u8]
-    ensures spelled { (cs : List AnyComp) × (args.new ≡ args.old ++ cs) × AreComps cs × (text.now ≡ args_text cs ++ result.now) }
+    ensures spelled { (cs : List Comp) × (args.new ≡ args.old ++ cs) × AreComps cs × (text.now ≡ args_text cs ++ result.now) }
     ensures few { length args.old ≤ ARGUMENTS → length args.new ≤ ARGUMENTS }
-    ensures only { (cs : List AnyComp) (rest : List ℕ) → AreComps cs → length args.old + length cs ≤ ARGUMENTS → EndsMove rest
+    ensures only { (cs : List Comp) (rest : List ℕ) → AreComps cs → length args.old + length cs ≤ ARGUMENTS → EndsMove rest
         → text.now ≡ args_text cs ++ rest → (args.new ≡ args.old ++ cs) × (result.now ≡ rest) }
 {
     let Some(rest) = after(text, b" ") else {
@@ -140,9 +130,9 @@ fn take_args<'a>(args: &mut Args, text: &'a [u8]) -> &'a [u8]
 
 /// The Start that continues as the text begins after its first word, and what follows it.
 pub(crate) fn take_start(text: &[u8]) -> Option<(Op, &[u8])>
-    ensures spelled { IfSome result (λ r. (verb_of r.0 ≡ words.Start) × (text.now ≡ operand_text r.0 ++ r.1.now)) }
+    ensures spelled { IfSome result (λ r. (verb_of r.0 ≡ Verb.Start) × (text.now ≡ operand_text r.0 ++ r.1.now)) }
     ensures fits { IfSome result (λ r. IsOp r.0) }
-    ensures only { (c : AnyComp) (run : AnyRun) (args : List AnyComp) (rest : List ℕ) → IsOp (AnyStart c run args) → EndsMove rest
+    ensures only { (c : Comp) (run : Run) (args : List Comp) (rest : List ℕ) → IsOp (AnyStart c run args) → EndsMove rest
         → text.now ≡ start_text c run args ++ rest → Takes result (AnyStart c run args) rest }
 {
     let (comp, rest) = take_number(text)?;

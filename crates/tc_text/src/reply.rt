@@ -1,14 +1,9 @@
 //! The texts of replies.
 ghost use Rattle.std.specs.Prelude.{◌≡◌, ◌++◌, ℕ, List, Some, IfSome, OnOk, OnErr};
 ghost use Rattle.std.specs.Io.{StartsWith};
-ghost use Rattle.tc_text.specs.Spelling.{reply_text, IsReply};
 ghost use Rattle.tc_entry.specs.Prelude.{fault_name};
-ghost use Rattle.tc_text.specs.Reading.{EndsReply, Takes};
-ghost use Rattle.tc_text.specs.Inside.{BeginsWithE};
-ghost use Rattle.tc_entry.specs.declared.reply.Fault.{Fault as AnyFault};
-ghost use Rattle.tc_entry.specs.declared.reply.Reply.{Reply as AnyReply};
 ghost use Rattle.tc_entry.specs.declared.reply.Reply.TheVariants.{Made};
-ghost use Rattle.tc_entry.specs.declared.comp.Comp.{Comp as AnyComp};
+ghost use Rattle.tc_text.specs.{Inside.BeginsWithE, Reading.EndsReply, Reading.Takes, Spelling.IsReply, Spelling.reply_text};
 
 use crate::append::{append_number, append_text};
 use crate::cursor::{after, value_after};
@@ -19,7 +14,7 @@ use tc_verdict::name;
 // The name of a dynamic error that the text begins with, and what follows it.
 fn take_fault(text: &[u8]) -> Option<(Fault, &[u8])>
     ensures spelled { IfSome result (λ r. text.now ≡ fault_name r.0 ++ r.1.now) }
-    ensures only { (f : AnyFault) (rest : List ℕ) → text.now ≡ fault_name f ++ rest → Takes result f rest }
+    ensures only { (f : Fault) (rest : List ℕ) → text.now ≡ fault_name f ++ rest → Takes result f rest }
 {
     if let Some(rest) = after(text, b"no-component") {
         Some((Fault::NoComponent, rest))
@@ -47,7 +42,7 @@ fn take_fault(text: &[u8]) -> Option<(Fault, &[u8])>
 fn take_end_or_error(text: &[u8]) -> Option<(Reply, &[u8])>
     ensures spelled { IfSome result (λ r. text.now ≡ reply_text r.0 ++ r.1.now) }
     ensures fits { IfSome result (λ r. IsReply r.0) }
-    ensures only { (r : AnyReply) (rest : List ℕ) → BeginsWithE text.now → EndsReply rest → text.now ≡ reply_text r ++ rest → Takes result r rest }
+    ensures only { (r : Reply) (rest : List ℕ) → BeginsWithE text.now → EndsReply rest → text.now ≡ reply_text r ++ rest → Takes result r rest }
 {
     if let Some(rest) = after(text, b"ended") {
         return Some((Reply::Ended, rest));
@@ -64,7 +59,7 @@ fn take_end_or_error(text: &[u8]) -> Option<(Reply, &[u8])>
 fn take_made(text: &[u8]) -> Option<(Reply, &[u8])>
     ensures spelled { IfSome result (λ r. text.now ≡ reply_text r.0 ++ r.1.now) }
     ensures fits { IfSome result (λ r. IsReply r.0) }
-    ensures only { (comp : AnyComp) (rest : List ℕ) → IsReply (Made comp) → EndsReply rest
+    ensures only { (comp : Comp) (rest : List ℕ) → IsReply (Made comp) → EndsReply rest
         → text.now ≡ reply_text (Made comp) ++ rest → Takes result (Made comp) rest }
 {
     let (number, rest) = take_number(after(text, b"made ")?)?;
@@ -78,7 +73,7 @@ fn take_made(text: &[u8]) -> Option<(Reply, &[u8])>
 pub fn take_reply<T>(text: &[u8]) -> Option<(Reply, &[u8])>
     ensures spelled { IfSome result (λ r. text.now ≡ reply_text r.0 ++ r.1.now) }
     ensures fits { IfSome result (λ r. IsReply r.0) }
-    ensures only { (r : AnyReply) (rest : List ℕ) → IsReply r → EndsReply rest → text.now ≡ reply_text r ++ rest → Takes result r rest }
+    ensures only { (r : Reply) (rest : List ℕ) → IsReply r → EndsReply rest → text.now ≡ reply_text r ++ rest → Takes result r rest }
 {
     match *text.first()? {
         b'o' => value_after(text, b"ok", Reply::Ok),
@@ -106,7 +101,7 @@ pub fn take_reply<T>(text: &[u8]) -> Option<(Reply, &[u8])>
 pub fn read_reply(text: &[u8]) -> Option<Reply>
     ensures spelled { IfSome result (λ r. text.now ≡ reply_text r) }
     ensures fits { IfSome result IsReply }
-    ensures only { (r : AnyReply) → IsReply r → text.now ≡ reply_text r → result ≡ Some r }
+    ensures only { (r : Reply) → IsReply r → text.now ≡ reply_text r → result ≡ Some r }
 {
     match take_reply::<()>(text) {
         Some((reply, rest)) => if rest.is_empty() { Some(reply) } else { None },

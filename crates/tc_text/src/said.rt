@@ -1,7 +1,6 @@
 //! Lines for a reader next to an answer, by their parts.
 ghost use Rattle.std.specs.Prelude.{◌≡◌, ◌++◌, [], ◌∷◌, IfOk, OnOk, flat_map, map};
-ghost use Rattle.tc_text.specs.Inside.{part_text, prose_text};
-ghost use Rattle.tc_text.specs.Said.{TellsLine, ends_word as word_ends, as_printable as printable_byte, part_words};
+ghost use Rattle.tc_text.specs.{Inside.part_text, Inside.prose_text, Said.TellsLine, Said.as_printable as printable_byte, Said.ends_word as word_ends, Said.part_words, Said.shown_line};
 
 use crate::append::append_number;
 use crate::shown::is_plain;
@@ -96,6 +95,15 @@ fn append_ended(out: &mut Vec<u8>, text: &[u8]) -> Result<(), NoMemory>
     Ok(())
 }
 
+/// Appends a line of this text after a space, with a question mark for each byte that is not from 32 to 126. If memory
+/// runs out, a part of it.
+pub fn append_shown(alloc: Global, out: &mut Vec<u8>, text: &[u8]) -> Result<(), NoMemory>
+    ensures { OnOk result (out.new.items ≡ out.old.items ++ shown_line text.now) }
+{
+    let shown = printed(alloc, text)?;
+    append_ended(out, shown.as_slice())
+}
+
 /// Appends a line of these parts after a space, with a question mark for each byte that is not from 32 to 126. If
 /// memory runs out, a part of it.
 #[tactic(auto, using(crate::proofs::Lemmas::Saying::parts_said))]
@@ -104,6 +112,5 @@ pub fn append_parts(alloc: Global, out: &mut Vec<u8>, parts: &[Part]) -> Result<
 {
     let mut text = Vec::new(alloc);
     append_text_of(&mut text, parts)?;
-    let shown = printed(alloc, text.as_slice())?;
-    append_ended(out, shown.as_slice())
+    append_shown(alloc, out, text.as_slice())
 }

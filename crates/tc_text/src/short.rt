@@ -1,9 +1,6 @@
 //! Operations with neither arguments nor a name, which are small.
 ghost use Rattle.std.specs.Prelude.{◌≡◌, ◌<◌, ◌^◌, ◌++◌, ℕ, List, IfSome, MatchOption};
-ghost use Rattle.tc_text.specs.Spelling.{IsLong, IsOp, move_text, op_text};
-ghost use Rattle.tc_text.specs.Inside.{operand_text, status_op, verb_of};
-ghost use Rattle.tc_text.specs.Reading.{EndsMove, op_of};
-ghost use Rattle.tc_entry.specs.declared.op.Op.{Op as AnyOp};
+ghost use Rattle.tc_text.specs.{Inside.operand_text, Inside.status_op, Inside.verb_of, Reading.EndsMove, Reading.op_of, Spelling.IsLong, Spelling.IsOp, Spelling.move_text, Spelling.op_text};
 
 use crate::cursor::after;
 use crate::operand::{NAMED, take_caller, take_group, take_kind, take_setting, take_target};
@@ -92,7 +89,7 @@ fn about(status: Status, target: Target) -> ShortOp
 fn take_short_operand<T>(verb: Verb, text: &[u8]) -> Option<(ShortOp, &[u8])>
     ensures spelled { IfSome result (λ r. (verb_of (op_of r.0) ≡ verb) × (text.now ≡ operand_text (op_of r.0) ++ r.1.now)) }
     ensures fits { IfSome result (λ r. IsOp (op_of r.0)) }
-    ensures only { (op : AnyOp) (rest : List ℕ) → verb_of op ≡ verb → IsOp op → EndsMove rest → text.now ≡ operand_text op ++ rest
+    ensures only { (op : Op) (rest : List ℕ) → verb_of op ≡ verb → IsOp op → EndsMove rest → text.now ≡ operand_text op ++ rest
         → MatchOption result (IsLong op) (λ r. (op_of r.0 ≡ op) × (r.1.now ≡ rest)) }
 {
     match verb {
@@ -131,7 +128,7 @@ fn take_short_operand<T>(verb: Verb, text: &[u8]) -> Option<(ShortOp, &[u8])>
 fn take_short_op<T>(text: &[u8]) -> Option<(ShortOp, &[u8])>
     ensures spelled { IfSome result (λ r. text.now ≡ op_text (op_of r.0) ++ r.1.now) }
     ensures fits { IfSome result (λ r. IsOp (op_of r.0)) }
-    ensures only { (op : AnyOp) (rest : List ℕ) → IsOp op → EndsMove rest → text.now ≡ op_text op ++ rest
+    ensures only { (op : Op) (rest : List ℕ) → IsOp op → EndsMove rest → text.now ≡ op_text op ++ rest
         → MatchOption result (IsLong op) (λ r. (op_of r.0 ≡ op) × (r.1.now ≡ rest)) }
 {
     match take_verb::<T>(text) {
@@ -148,7 +145,7 @@ fn take_short_op<T>(text: &[u8]) -> Option<(ShortOp, &[u8])>
 pub fn take_short_move<T>(text: &[u8]) -> Option<((Run, ShortOp), &[u8])>
     ensures spelled { IfSome result (λ r. text.now ≡ move_text r.0.0.0 (op_of r.0.1) ++ r.1.now) }
     ensures fits { IfSome result (λ r. (r.0.0.0 < 2 ^ 16) × IsOp (op_of r.0.1)) }
-    ensures only { (run : ℕ) (op : AnyOp) (rest : List ℕ) → run < 2 ^ 16 → IsOp op → EndsMove rest → text.now ≡ move_text run op ++ rest
+    ensures only { (run : ℕ) (op : Op) (rest : List ℕ) → run < 2 ^ 16 → IsOp op → EndsMove rest → text.now ≡ move_text run op ++ rest
         → MatchOption result (IsLong op) (λ r. (r.0.0.0 ≡ run) × (op_of r.0.1 ≡ op) × (r.1.now ≡ rest)) }
 {
     let (caller, rest) = take_caller(text)?;

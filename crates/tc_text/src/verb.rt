@@ -1,9 +1,6 @@
 //! The first words of operations.
 ghost use Rattle.std.specs.Prelude.{◌≡◌, ◌≢◌, ◌++◌, ℕ, List, IfSome, MatchOption};
-ghost use Rattle.tc_text.specs.Reading.{Takes};
-ghost use Rattle.tc_text.specs.Inside.{IsWait, status_text, verb_of, verb_text};
-ghost use Rattle.tc_text.specs.declared.verb.Status.{Status as AnyStatus};
-ghost use Rattle.tc_text.specs.declared.verb.Verb.{Verb as AnyVerb};
+ghost use Rattle.tc_text.specs.{Inside.IsWait, Inside.status_text, Inside.verb_of, Inside.verb_text, Reading.Takes};
 
 use crate::cursor::after;
 use tc_entry::Op;
@@ -118,7 +115,7 @@ fn take_words(text: &[u8], verb: Verb) -> Option<(Verb, &[u8])>
 #[inline(always)]
 fn take_wait(text: &[u8]) -> Option<(Verb, &[u8])>
     ensures spelled { IfSome result (λ r. text.now ≡ verb_text r.0 ++ r.1.now) }
-    ensures only { (s : AnyStatus) (rest : List ℕ) → IsWait s → text.now ≡ status_text s ++ rest
+    ensures only { (s : Status) (rest : List ℕ) → IsWait s → text.now ≡ status_text s ++ rest
         → Takes result (Verb.Status s) rest }
 {
     if let Some(found) = take_words(text, Verb::Status(Status::WaitDone)) {
@@ -140,7 +137,7 @@ fn take_wait(text: &[u8]) -> Option<(Verb, &[u8])>
 #[inline(always)]
 pub(crate) fn take_verb<T>(text: &[u8]) -> Option<(Verb, &[u8])>
     ensures spelled { IfSome result (λ r. text.now ≡ verb_text r.0 ++ r.1.now) }
-    ensures only { (v : AnyVerb) (rest : List ℕ) → text.now ≡ verb_text v ++ rest → Takes result v rest }
+    ensures only { (v : Verb) (rest : List ℕ) → text.now ≡ verb_text v ++ rest → Takes result v rest }
 {
     match *text.first()? {
         b's' => {

@@ -1,7 +1,6 @@
 //! The names of verdicts in a text.
 ghost use Rattle.std.specs.Prelude.{◌≡◌, ◌++◌, ℕ, List, IfSome};
-ghost use Rattle.tc_verdict.specs.Prelude.{name_of};
-ghost use Rattle.tc_verdict.specs.declared.verdict.Verdict.{Verdict as AnyVerdict};
+ghost use Rattle.tc_entry.specs.Prelude.{name_of};
 ghost use Rattle.tc_text.specs.Reading.{Takes};
 
 use crate::cursor::value_after;
@@ -11,7 +10,7 @@ use tc_entry::Verdict;
 #[inline(always)]
 pub fn take_verdict(text: &[u8]) -> Option<(Verdict, &[u8])>
     ensures spelled { IfSome result (λ r. text.now ≡ name_of r.0 ++ r.1.now) }
-    ensures only { (v : AnyVerdict) (rest : List ℕ) → text.now ≡ name_of v ++ rest → Takes result v rest }
+    ensures only { (v : Verdict) (rest : List ℕ) → text.now ≡ name_of v ++ rest → Takes result v rest }
 {
     match text {
         [b'n', ..] => value_after(text, b"none", Verdict::None),

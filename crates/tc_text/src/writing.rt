@@ -1,9 +1,7 @@
 //! Writing moves.
 ghost use Rattle.std.specs.Prelude.{◌≡◌, ◌++◌, OnOk, OnErr};
 ghost use Rattle.std.specs.Io.{StartsWith};
-ghost use Rattle.tc_entry.specs.declared.op.Op.TheVariants as ops;
-ghost use Rattle.tc_text.specs.Spelling.{move_text, op_text, group_text, target_text, args_text};
-ghost use Rattle.tc_text.specs.Inside.{operand_text};
+ghost use Rattle.tc_text.specs.{Inside.operand_text, Spelling.args_text, Spelling.group_text, Spelling.move_text, Spelling.op_text, Spelling.target_text};
 
 use crate::append::{append_number, append_text};
 use crate::verb::Verb;
@@ -45,7 +43,7 @@ fn append_args(out: &mut Vec<u8>, args: &[Comp]) -> Result<(), NoMemory>
 
 // Appends what follows `create`; if memory runs out, a part of it.
 fn append_created(out: &mut Vec<u8>, alive: bool, name: &Option<Name>) -> Result<(), NoMemory>
-    ensures ok { OnOk result (out.new.items ≡ out.old.items ++ operand_text (ops.Create alive name.now)) }
+    ensures ok { OnOk result (out.new.items ≡ out.old.items ++ operand_text (Op.Create alive name.now)) }
     ensures err { OnErr result (StartsWith out.new.items out.old.items) }
 {
     if alive {

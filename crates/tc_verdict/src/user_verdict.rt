@@ -1,7 +1,6 @@
 //! What a behaviour may set.
 ghost use Rattle.std.specs.Prelude.{◌≡◌, Some, IfSome};
 ghost use Rattle.tc_verdict.specs.UserVerdict.{given, rank_of};
-ghost use Rattle.tc_verdict.specs.declared.user_verdict.UserVerdict.{UserVerdict as Setting};
 
 use crate::verdict::Verdict;
 
@@ -29,7 +28,7 @@ pub fn from_user(v: UserVerdict) -> Verdict
 /// The setting that is this verdict: none only for error.
 pub fn to_user(v: Verdict) -> Option<UserVerdict>
     ensures same { IfSome result (λ u. given u ≡ v) }
-    ensures only { (u : Setting) → given u ≡ v → result ≡ Some u }
+    ensures only { (u : UserVerdict) → given u ≡ v → result ≡ Some u }
 {
     match v {
         Verdict::None => Some(UserVerdict::None),
@@ -55,7 +54,7 @@ pub fn rank(v: UserVerdict) -> u64
 /// The setting of this rank: none above 3.
 pub fn of_rank(n: u64) -> Option<UserVerdict>
     ensures ranked { IfSome result (λ v. rank_of v ≡ n) }
-    ensures only { (v : Setting) → rank_of v ≡ n → result ≡ Some v }
+    ensures only { (v : UserVerdict) → rank_of v ≡ n → result ≡ Some v }
 {
     match n {
         0 => Some(UserVerdict::None),

@@ -2,7 +2,6 @@
 ghost use Rattle.std.specs.Prelude.{◌≡◌, ◌≢◌, ◌≤◌, [], ◌∷◌, Some, IfSome, All, Contains};
 ghost use Rattle.tc_verdict.specs.UserVerdict.{given};
 ghost use Rattle.tc_verdict.specs.Verdict as order;
-ghost use Rattle.tc_verdict.specs.declared.verdict.Verdict.{Verdict as AnyVerdict};
 
 use crate::user_verdict::{UserVerdict, from_user};
 
@@ -71,7 +70,7 @@ pub fn name(v: Verdict) -> &'static str
 /// The verdict of this name.
 pub fn read_name(text: &str) -> Option<Verdict>
     ensures spelled { IfSome result (λ v. text.now ≡ order.name_of v) }
-    ensures only { (v : AnyVerdict) → text.now ≡ order.name_of v → result ≡ Some v }
+    ensures only { (v : Verdict) → text.now ≡ order.name_of v → result ≡ Some v }
 {
     match text {
         "none" => Some(Verdict::None),

@@ -1,35 +1,11 @@
 -- The bytes of evidence.
 use Rattle.std.proofs.Common.{ℕ, ◌≡◌, ◌∙◌, ◌<◌, ◌^◌, ◌+◌, ◌==◌, ◌&&◌, Bool, true, false, if◌then◌else◌, All, IsTrue, Some, None, List, [], ◌∷◌, ◌++◌, codes, length, map, refl, sym, subst, arith}
-use Rattle.std.specs.List.{AllByRecursion, list_all, onto_first}
-use Rattle.std.specs.Fmt.{decimal}
-use Rattle.std.specs.Char.{is_ascii_digit}
-use Rattle.std.specs.Str.{all_ascii_digits}
-use Rattle.std.proofs.lemmas.Bool.Decides.{nat_tests}
-use Rattle.std.proofs.lemmas.List.Elements.{All-head, All-tail}
-use Rattle.std.proofs.lemmas.List.Folds.{list_all-append}
+use Rattle.std.specs.{Char.is_ascii_digit, Fmt.decimal, List.AllByRecursion, List.list_all, List.onto_first, Str.all_ascii_digits}
+use Rattle.std.proofs.lemmas.{Bool.Decides.nat_tests, List.Elements.All-head, List.Elements.All-tail, List.Folds.list_all-append}
 use Rattle.tc_rules.specs.Prelude.{Verdict, name_of, given, IsBehaviours, IsName, is_name_byte, fault_name, Comp, Entry, Group, Target, Op, Fault, Reply}
-use Rattle.tc_verdict.specs.declared.verdict.Verdict.TheVariants as V
-use Rattle.tc_entry.specs.declared.op.Group.TheVariants as G
-use Rattle.tc_entry.specs.declared.op.Target.TheVariants as T
-use Rattle.tc_entry.specs.declared.op.Op.TheVariants as O
-use Rattle.tc_entry.specs.declared.reply.Fault.TheVariants as F
-use Rattle.tc_entry.specs.declared.reply.Reply.TheVariants as R
 use Rattle.tc_text.specs.Prelude.{lines_of, is_plain, AreComps, IsGroup, IsOp, IsReply, IsTarget, args_text, group_text, move_text, op_text, reply_text, start_text, target_text}
-use Rattle.tc_text.proofs.Lemmas.Digits.{both, spelled_digits}
-use Rattle.tc_text.proofs.Lemmas.LinesOf.{NoLf}
-use Rattle.tc_blocks.specs.HistoryBlock.{end_text, entry_text}
-use Rattle.tc_blocks.specs.HistoryText.{IsEntry}
-use Rattle.tc_blocks.specs.declared.block.Block.{Block}
-use Rattle.tc_blocks.specs.declared.header.Header.{Header}
-use Rattle.tc_blocks.specs.declared.header.Kind.{Kind}
-use Rattle.tc_blocks.specs.declared.header.Kind.TheVariants as K
-use Rattle.tc_blocks.specs.declared.line.Line.{Line}
-use Rattle.tc_blocks.specs.declared.line.Line.TheVariants as L
-use Rattle.tc_blocks.specs.Line.{line_text, naming_text, said_text}
-use Rattle.tc_blocks.specs.Block.{header_text, kind_text}
-use Rattle.tc_blocks.specs.Inside.{mark_text}
-use Rattle.tc_blocks.specs.Text.{AreBlocks, AreLines, IsHeader, IsLine, all_lines, block_lines, format_of}
-use Rattle.tc_blocks.specs.Laws.{BytesOfEvidence, IsSaid, is_quiet_byte, is_text_byte}
+use Rattle.tc_text.proofs.Lemmas.{Digits.both, Digits.spelled_digits, LinesOf.NoLf}
+use Rattle.tc_blocks.specs.{Block.header_text, Block.kind_text, HistoryBlock.end_text, HistoryBlock.entry_text, HistoryText.IsEntry, Inside.mark_text, Laws.BytesOfEvidence, Laws.IsSaid, Laws.is_quiet_byte, Laws.is_text_byte, Line.line_text, Line.naming_text, Line.said_text, Text.AreBlocks, Text.AreLines, Text.IsHeader, Text.IsLine, Text.all_lines, Text.block_lines, Text.format_of, declared.block.Block.Block, declared.header.Header.Header, declared.header.Kind.Kind, declared.line.Line.Line}
 
 abbrev pub AreQuiet : List ℕ → Type 0
 AreQuiet bs = list_all is_quiet_byte bs ≡ true
@@ -75,49 +51,49 @@ name_quiet name is = name_bytes_quiet name is.allowed
 -- ---- the parts of an entry
 
 group_quiet : (g : Group) → IsGroup g → AreQuiet (group_text g)
-group_quiet (G.One c) fits = number_quiet c.0 fits
-group_quiet G.All fits = refl
+group_quiet (Group.One c) fits = number_quiet c.0 fits
+group_quiet Group.All fits = refl
 
 target_quiet : (t : Target) → IsTarget t → AreQuiet (target_text t)
-target_quiet (T.One c) fits = number_quiet c.0 fits
-target_quiet T.Any fits = refl
-target_quiet T.All fits = refl
+target_quiet (Target.One c) fits = number_quiet c.0 fits
+target_quiet Target.Any fits = refl
+target_quiet Target.All fits = refl
 
 args_quiet : (cs : List Comp) → AreComps cs → AreQuiet (args_text cs)
 args_quiet [] fits = refl
 args_quiet (c ∷ cs) fits = quiet-append (codes " ") (decimal c.0 ++ args_text cs) refl (quiet-append (decimal c.0) (args_text cs) (number_quiet c.0 fits.0) (args_quiet cs fits.1))
 
 verdict_quiet : (v : Verdict) → AreQuiet (name_of v)
-verdict_quiet V.None = refl
-verdict_quiet V.Pass = refl
-verdict_quiet V.Inconc = refl
-verdict_quiet V.Fail = refl
-verdict_quiet V.Error = refl
+verdict_quiet Verdict.None = refl
+verdict_quiet Verdict.Pass = refl
+verdict_quiet Verdict.Inconc = refl
+verdict_quiet Verdict.Fail = refl
+verdict_quiet Verdict.Error = refl
 
 op_quiet : (op : Op) → IsOp op → AreQuiet (op_text op)
-op_quiet (O.Create false None) fits = refl
-op_quiet (O.Create true None) fits = refl
-op_quiet (O.Create false (Some name)) fits = quiet-append (codes "create named ") name refl (name_quiet name fits)
-op_quiet (O.Create true (Some name)) fits = quiet-append (codes "create alive named ") name refl (name_quiet name fits)
-op_quiet (O.Start c run args) fits =
+op_quiet (Op.Create false None) fits = refl
+op_quiet (Op.Create true None) fits = refl
+op_quiet (Op.Create false (Some name)) fits = quiet-append (codes "create named ") name refl (name_quiet name fits)
+op_quiet (Op.Create true (Some name)) fits = quiet-append (codes "create alive named ") name refl (name_quiet name fits)
+op_quiet (Op.Start c run args) fits =
     quiet-append (codes "start ") (start_text c run args) refl
     (quiet-append (decimal c.0) (codes " " ++ (decimal run.0 ++ args_text args)) (number_quiet c.0 fits.0)
     (quiet-append (codes " ") (decimal run.0 ++ args_text args) refl
     (quiet-append (decimal run.0) (args_text args) (number_quiet run.0 (let low = fits.1 in omega (arith, low))) (args_quiet args fits.3))))
-op_quiet (O.Stop g) fits = quiet-append (codes "stop ") (group_text g) refl (group_quiet g fits)
-op_quiet (O.Kill g) fits = quiet-append (codes "kill ") (group_text g) refl (group_quiet g fits)
-op_quiet O.StopCase fits = refl
-op_quiet (O.Running t) fits = quiet-append (codes "running ") (target_text t) refl (target_quiet t fits)
-op_quiet (O.Alive t) fits = quiet-append (codes "alive ") (target_text t) refl (target_quiet t fits)
-op_quiet (O.Done t) fits = quiet-append (codes "done ") (target_text t) refl (target_quiet t fits)
-op_quiet (O.Killed t) fits = quiet-append (codes "killed ") (target_text t) refl (target_quiet t fits)
-op_quiet (O.Wait false t) fits = quiet-append (codes "wait done ") (target_text t) refl (target_quiet t fits)
-op_quiet (O.Wait true t) fits = quiet-append (codes "wait killed ") (target_text t) refl (target_quiet t fits)
-op_quiet (O.Wake false t) fits = quiet-append (codes "wake done ") (target_text t) refl (target_quiet t fits)
-op_quiet (O.Wake true t) fits = quiet-append (codes "wake killed ") (target_text t) refl (target_quiet t fits)
-op_quiet (O.SetVerdict v) fits = quiet-append (codes "setverdict ") (name_of (given v)) refl (verdict_quiet (given v))
-op_quiet O.GetVerdict fits = refl
-op_quiet O.Finish fits = refl
+op_quiet (Op.Stop g) fits = quiet-append (codes "stop ") (group_text g) refl (group_quiet g fits)
+op_quiet (Op.Kill g) fits = quiet-append (codes "kill ") (group_text g) refl (group_quiet g fits)
+op_quiet Op.StopCase fits = refl
+op_quiet (Op.Running t) fits = quiet-append (codes "running ") (target_text t) refl (target_quiet t fits)
+op_quiet (Op.Alive t) fits = quiet-append (codes "alive ") (target_text t) refl (target_quiet t fits)
+op_quiet (Op.Done t) fits = quiet-append (codes "done ") (target_text t) refl (target_quiet t fits)
+op_quiet (Op.Killed t) fits = quiet-append (codes "killed ") (target_text t) refl (target_quiet t fits)
+op_quiet (Op.Wait false t) fits = quiet-append (codes "wait done ") (target_text t) refl (target_quiet t fits)
+op_quiet (Op.Wait true t) fits = quiet-append (codes "wait killed ") (target_text t) refl (target_quiet t fits)
+op_quiet (Op.Wake false t) fits = quiet-append (codes "wake done ") (target_text t) refl (target_quiet t fits)
+op_quiet (Op.Wake true t) fits = quiet-append (codes "wake killed ") (target_text t) refl (target_quiet t fits)
+op_quiet (Op.SetVerdict v) fits = quiet-append (codes "setverdict ") (name_of (given v)) refl (verdict_quiet (given v))
+op_quiet Op.GetVerdict fits = refl
+op_quiet Op.Finish fits = refl
 
 move_quiet : (run : ℕ) (op : Op) → run < 2 ^ 16 → IsOp op → AreQuiet (move_text run op)
 move_quiet run op low fits =
@@ -125,25 +101,25 @@ move_quiet run op low fits =
     (quiet-append (codes " ") (op_text op) refl (op_quiet op fits))
 
 fault_quiet : (f : Fault) → AreQuiet (fault_name f)
-fault_quiet F.NoComponent = refl
-fault_quiet F.NotMain = refl
-fault_quiet F.StartMain = refl
-fault_quiet F.AlreadyRunning = refl
-fault_quiet F.NotStartable = refl
-fault_quiet F.NoBehaviour = refl
-fault_quiet F.TooMany = refl
-fault_quiet F.Stuck = refl
+fault_quiet Fault.NoComponent = refl
+fault_quiet Fault.NotMain = refl
+fault_quiet Fault.StartMain = refl
+fault_quiet Fault.AlreadyRunning = refl
+fault_quiet Fault.NotStartable = refl
+fault_quiet Fault.NoBehaviour = refl
+fault_quiet Fault.TooMany = refl
+fault_quiet Fault.Stuck = refl
 
 reply_quiet : (r : Reply) → IsReply r → AreQuiet (reply_text r)
-reply_quiet (R.Made c) fits = quiet-append (codes "made ") (decimal c.0) refl (number_quiet c.0 fits)
-reply_quiet R.Ok fits = refl
-reply_quiet (R.Answer true) fits = refl
-reply_quiet (R.Answer false) fits = refl
-reply_quiet (R.Local v) fits = verdict_quiet v
-reply_quiet R.Matched fits = refl
-reply_quiet R.Parked fits = refl
-reply_quiet R.Ended fits = refl
-reply_quiet (R.Fault f) fits = quiet-append (codes "error ") (fault_name f) refl (fault_quiet f)
+reply_quiet (Reply.Made c) fits = quiet-append (codes "made ") (decimal c.0) refl (number_quiet c.0 fits)
+reply_quiet Reply.Ok fits = refl
+reply_quiet (Reply.Answer true) fits = refl
+reply_quiet (Reply.Answer false) fits = refl
+reply_quiet (Reply.Local v) fits = verdict_quiet v
+reply_quiet Reply.Matched fits = refl
+reply_quiet Reply.Parked fits = refl
+reply_quiet Reply.Ended fits = refl
+reply_quiet (Reply.Fault f) fits = quiet-append (codes "error ") (fault_name f) refl (fault_quiet f)
 
 -- ---- the lines of a block
 
@@ -158,9 +134,9 @@ end_quiet v = quiet-append (codes "end ") (name_of v) refl (verdict_quiet v)
 -- ---- the first line, and the names of behaviours
 
 kind_quiet : (k : Kind) → AreQuiet (kind_text k)
-kind_quiet K.History1 = refl
-kind_quiet K.History2 = refl
-kind_quiet K.Evidence = refl
+kind_quiet Kind.History1 = refl
+kind_quiet Kind.History2 = refl
+kind_quiet Kind.Evidence = refl
 
 pub header_quiet : (h : Header) → IsHeader h → AreQuiet (header_text h)
 header_quiet h header =
@@ -203,16 +179,16 @@ below : (k n : ℕ) → k < n → IsBehaviours n → k < 2 ^ 32
 below k n few is = let most = is.1 in omega (arith, few, most)
 
 pub line_quiet : (kind : Kind) (n : ℕ) (before : List Line) (l : Line) → IsBehaviours n → IsLine kind n before l → (IsSaid l → ⊥) → AreQuiet (line_text l)
-line_quiet kind n before (L.Named run name) is fits quiet = naming_quiet run.0 name (below run.0 n fits.few is) fits.name_is
-line_quiet kind n before (L.Entry e) is fits quiet = entry_quiet (format_of kind) e fits
-line_quiet kind n before (L.Remark run sentence) is fits quiet = absurd (quiet tt)
-line_quiet kind n before (L.Refused run sentence) is fits quiet = absurd (quiet tt)
+line_quiet kind n before (Line.Named run name) is fits quiet = naming_quiet run.0 name (below run.0 n fits.few is) fits.name_is
+line_quiet kind n before (Line.Entry e) is fits quiet = entry_quiet (format_of kind) e fits
+line_quiet kind n before (Line.Remark run sentence) is fits quiet = absurd (quiet tt)
+line_quiet kind n before (Line.Refused run sentence) is fits quiet = absurd (quiet tt)
 
 pub line_plain : (kind : Kind) (n : ℕ) (before : List Line) (l : Line) → IsBehaviours n → IsLine kind n before l → AreAllPlain (line_text l)
-line_plain kind n before (L.Named run name) is fits = quiet_plain (naming_text run.0 name) (naming_quiet run.0 name (below run.0 n fits.few is) fits.name_is)
-line_plain kind n before (L.Entry e) is fits = quiet_plain (entry_text e) (entry_quiet (format_of kind) e fits)
-line_plain kind n before (L.Remark run sentence) is fits = said_plain false run.0 sentence (below run.0 n fits.few is) (sentence_bytes sentence fits.sentence_is.plain)
-line_plain kind n before (L.Refused run sentence) is fits = said_plain true run.0 sentence (below run.0 n fits.few is) (sentence_bytes sentence fits.sentence_is.plain)
+line_plain kind n before (Line.Named run name) is fits = quiet_plain (naming_text run.0 name) (naming_quiet run.0 name (below run.0 n fits.few is) fits.name_is)
+line_plain kind n before (Line.Entry e) is fits = quiet_plain (entry_text e) (entry_quiet (format_of kind) e fits)
+line_plain kind n before (Line.Remark run sentence) is fits = said_plain false run.0 sentence (below run.0 n fits.few is) (sentence_bytes sentence fits.sentence_is.plain)
+line_plain kind n before (Line.Refused run sentence) is fits = said_plain true run.0 sentence (below run.0 n fits.few is) (sentence_bytes sentence fits.sentence_is.plain)
 
 -- ---- the lines of blocks
 

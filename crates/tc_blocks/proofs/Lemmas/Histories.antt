@@ -1,36 +1,24 @@
 -- Texts of histories are evidence, and are written as it.
 use Rattle.std.proofs.Common.{ℕ, ◌≡◌, ◌≢◌, ◌∙◌, ◌+◌, List, [], ◌∷◌, ◌++◌, codes, length, map, ap, sym, refl, append_assoc}
-use Rattle.std.specs.List.{flat_map}
-use Rattle.std.specs.Fmt.{decimal}
+use Rattle.std.specs.{Fmt.decimal, List.flat_map}
 use Rattle.tc_text.specs.Prelude.{lines_of}
-use Rattle.tc_blocks.specs.HistoryBlock.{end_text, entry_line, format_text}
-use Rattle.tc_blocks.specs.declared.block.Block.{Block}
-use Rattle.tc_blocks.specs.declared.header.Kind.{Kind}
-use Rattle.tc_blocks.specs.declared.header.Kind.TheVariants as K
-use Rattle.tc_blocks.specs.declared.line.Line.{Line}
-use Rattle.tc_blocks.specs.declared.line.Line.TheVariants as L
-use Rattle.tc_blocks.specs.Line.{entries_of, line_text}
-use Rattle.tc_blocks.specs.Block.{with_lf, header_text, kind_text}
-use Rattle.tc_blocks.specs.Text.{AreBlocks, AreLines, IsHeader, block_lines, format_of}
-use Rattle.tc_blocks.specs.Written.{text_of_block}
-use Rattle.tc_blocks.specs.Laws.{history_of}
-use Rattle.tc_blocks.specs.Histories.{HistoriesAreRead, IsHistoryHeader, text_of_history}
+use Rattle.tc_blocks.specs.{Block.header_text, Block.kind_text, Block.with_lf, Histories.HistoriesAreRead, Histories.IsHistoryHeader, Histories.text_of_history, HistoryBlock.end_text, HistoryBlock.entry_line, HistoryBlock.format_text, Laws.history_of, Line.entries_of, Line.line_text, Text.AreBlocks, Text.AreLines, Text.IsHeader, Text.block_lines, Text.format_of, Written.text_of_block, declared.block.Block.Block, declared.header.Kind.Kind, declared.line.Line.Line}
 use Rattle.tc_blocks.proofs.Lemmas.WrittenEvidence.{written_lines}
 
-kind_words : (k : Kind) → k ≢ K.Evidence → format_text (format_of k) ≡ kind_text k
-kind_words K.History1 other = refl
-kind_words K.History2 other = refl
-kind_words K.Evidence other = absurd (other refl)
+kind_words : (k : Kind) → k ≢ Kind.Evidence → format_text (format_of k) ≡ kind_text k
+kind_words Kind.History1 other = refl
+kind_words Kind.History2 other = refl
+kind_words Kind.Evidence other = absurd (other refl)
 
 -- a history has entries only
-entries_ended : (kind : Kind) (n : ℕ) (before ls : List Line) → kind ≢ K.Evidence → AreLines kind n before ls → flat_map entry_line (entries_of ls) ≡ flat_map (λ l. with_lf (line_text l)) ls
+entries_ended : (kind : Kind) (n : ℕ) (before ls : List Line) → kind ≢ Kind.Evidence → AreLines kind n before ls → flat_map entry_line (entries_of ls) ≡ flat_map (λ l. with_lf (line_text l)) ls
 entries_ended kind n before [] other are = refl
-entries_ended kind n before (L.Entry e ∷ ls) other are = ap (λ l. entry_line e ++ l) (entries_ended kind n (before ++ L.Entry e ∷ []) ls other are.1)
-entries_ended kind n before (L.Named run name ∷ ls) other are = absurd (other are.0.evidence)
-entries_ended kind n before (L.Remark run sentence ∷ ls) other are = absurd (other are.0.evidence)
-entries_ended kind n before (L.Refused run sentence ∷ ls) other are = absurd (other are.0.evidence)
+entries_ended kind n before (Line.Entry e ∷ ls) other are = ap (λ l. entry_line e ++ l) (entries_ended kind n (before ++ Line.Entry e ∷ []) ls other are.1)
+entries_ended kind n before (Line.Named run name ∷ ls) other are = absurd (other are.0.evidence)
+entries_ended kind n before (Line.Remark run sentence ∷ ls) other are = absurd (other are.0.evidence)
+entries_ended kind n before (Line.Refused run sentence ∷ ls) other are = absurd (other are.0.evidence)
 
-text_is : (b : Block) → b.header.kind ≢ K.Evidence → AreLines b.header.kind b.header.behaviours [] b.lines → text_of_history (history_of b) ≡ text_of_block b
+text_is : (b : Block) → b.header.kind ≢ Kind.Evidence → AreLines b.header.kind b.header.behaviours [] b.lines → text_of_history (history_of b) ≡ text_of_block b
 text_is b other are =
     let behind = b.header.name ++ (codes " " ++ decimal b.header.behaviours) in
     let last = with_lf (end_text b.verdict) in

@@ -1,27 +1,12 @@
 -- The lines of evidence that are no entries, and how they differ from others.
 use Rattle.std.proofs.Common.{ℕ, ◌≡◌, ◌≢◌, ◌∙◌, ◌<◌, ◌≤◌, ◌+◌, ◌^◌, ◌&&◌, Bool, true, false, All, IsTrue, inl, inr, List, [], ◌∷◌, ◌++◌, codes, length, take, get_or, ap, sym, refl, append_assoc, arith}
-use Rattle.std.specs.Fmt.{decimal}
-use Rattle.std.specs.List.{list_all}
-use Rattle.std.specs.Char.{is_ascii_digit}
-use Rattle.std.specs.Str.{all_ascii_digits}
-use Rattle.std.proofs.lemmas.Bool.Decides.{nat_tests}
-use Rattle.std.proofs.lemmas.List.{take_more}
-use Rattle.std.proofs.lemmas.List.Elements.{All-head, All-tail}
+use Rattle.std.specs.{Char.is_ascii_digit, Fmt.decimal, List.list_all, Str.all_ascii_digits}
+use Rattle.std.proofs.lemmas.{Bool.Decides.nat_tests, List.Elements.All-head, List.Elements.All-tail, List.take_more}
 use Rattle.tc_rules.specs.Prelude.{Verdict, Run, name_of, IsName, Entry, Op}
-use Rattle.tc_entry.specs.declared.op.Op.TheVariants as O
 use Rattle.tc_text.specs.Inside.{NoLow}
 use Rattle.tc_text.specs.Prelude.{lines_of, EndsLine, EndsNumber, is_plain, op_text, reply_text}
-use Rattle.tc_text.proofs.Lemmas.Digits.{both, digit_first, no_letter, spelled_digits}
-use Rattle.tc_text.proofs.Lemmas.LinesOf.{line_ended, first_line}
-use Rattle.tc_text.proofs.Lemmas.Naming.{same_cut}
-use Rattle.tc_blocks.specs.HistoryBlock.{end_text, entry_text}
-use Rattle.tc_blocks.specs.HistoryText.{IsEntry}
-use Rattle.tc_blocks.specs.declared.header.Kind.{Kind}
-use Rattle.tc_blocks.specs.declared.line.Line.{Line}
-use Rattle.tc_blocks.specs.declared.line.Line.TheVariants as L
-use Rattle.tc_blocks.specs.Line.{line_text, naming_text, said_text}
-use Rattle.tc_blocks.specs.Text.{IsLine}
-use Rattle.tc_blocks.specs.Inside.{ArePlain, NoPlainFirst, mark_text}
+use Rattle.tc_text.proofs.Lemmas.{Digits.both, Digits.digit_first, Digits.no_letter, Digits.spelled_digits, LinesOf.first_line, LinesOf.line_ended, Naming.same_cut}
+use Rattle.tc_blocks.specs.{HistoryBlock.end_text, HistoryBlock.entry_text, HistoryText.IsEntry, Inside.ArePlain, Inside.NoPlainFirst, Inside.mark_text, Line.line_text, Line.naming_text, Line.said_text, Text.IsLine, declared.header.Kind.Kind, declared.line.Line.Line}
 use Rattle.tc_blocks.proofs.Lemmas.Bytes.{AreAllPlain, naming_quiet, plain_no_lf, quiet_plain, said_plain}
 
 pub first_is : (x y : ℕ) (xs ys : List ℕ) → x ∷ xs ≡ y ∷ ys → x ≡ y
@@ -159,22 +144,22 @@ behind_numbers n m xs ys one two e =
 
 -- an operation begins with a letter
 op_letter : (op : Op) (rest : List ℕ) → (b : ℕ) × ((more : List ℕ) × (op_text op ++ rest ≡ b ∷ more) × (97 ≤ b))
-op_letter (O.Create alive name) rest = (99, (_, refl, omega arith))
-op_letter (O.Start c run args) rest = (115, (_, refl, omega arith))
-op_letter (O.Stop g) rest = (115, (_, refl, omega arith))
-op_letter (O.Kill g) rest = (107, (_, refl, omega arith))
-op_letter O.StopCase rest = (115, (_, refl, omega arith))
-op_letter (O.Running t) rest = (114, (_, refl, omega arith))
-op_letter (O.Alive t) rest = (97, (_, refl, omega arith))
-op_letter (O.Done t) rest = (100, (_, refl, omega arith))
-op_letter (O.Killed t) rest = (107, (_, refl, omega arith))
-op_letter (O.Wait false t) rest = (119, (_, refl, omega arith))
-op_letter (O.Wait true t) rest = (119, (_, refl, omega arith))
-op_letter (O.Wake false t) rest = (119, (_, refl, omega arith))
-op_letter (O.Wake true t) rest = (119, (_, refl, omega arith))
-op_letter (O.SetVerdict v) rest = (115, (_, refl, omega arith))
-op_letter O.GetVerdict rest = (103, (_, refl, omega arith))
-op_letter O.Finish rest = (102, (_, refl, omega arith))
+op_letter (Op.Create alive name) rest = (99, (_, refl, omega arith))
+op_letter (Op.Start c run args) rest = (115, (_, refl, omega arith))
+op_letter (Op.Stop g) rest = (115, (_, refl, omega arith))
+op_letter (Op.Kill g) rest = (107, (_, refl, omega arith))
+op_letter Op.StopCase rest = (115, (_, refl, omega arith))
+op_letter (Op.Running t) rest = (114, (_, refl, omega arith))
+op_letter (Op.Alive t) rest = (97, (_, refl, omega arith))
+op_letter (Op.Done t) rest = (100, (_, refl, omega arith))
+op_letter (Op.Killed t) rest = (107, (_, refl, omega arith))
+op_letter (Op.Wait false t) rest = (119, (_, refl, omega arith))
+op_letter (Op.Wait true t) rest = (119, (_, refl, omega arith))
+op_letter (Op.Wake false t) rest = (119, (_, refl, omega arith))
+op_letter (Op.Wake true t) rest = (119, (_, refl, omega arith))
+op_letter (Op.SetVerdict v) rest = (115, (_, refl, omega arith))
+op_letter Op.GetVerdict rest = (103, (_, refl, omega arith))
+op_letter Op.Finish rest = (102, (_, refl, omega arith))
 
 -- the mark is no letter
 mark_low : (refused : Bool) (rest : List ℕ) → (b : ℕ) × ((more : List ℕ) × (mark_text refused ++ rest ≡ 32 ∷ b ∷ more) × (b ≤ 35))
@@ -208,13 +193,13 @@ said_not_naming refused j sentence k name low = λ same.
 
 -- no line inside a block is a last line
 pub line_no_end : (kind : Kind) (n : ℕ) (before : List Line) (l : Line) (v : Verdict) → n < 2 ^ 16 → IsLine kind n before l → line_text l ≢ end_text v
-line_no_end kind n before (L.Named run name) v small fits = λ same. let byte : ◌≡◌ {A = ℕ} 98 101 = ap (λ (l : List ℕ). get_or l 0 0) same in omega (arith, byte)
-line_no_end kind n before (L.Entry e) v small fits = λ same.
+line_no_end kind n before (Line.Named run name) v small fits = λ same. let byte : ◌≡◌ {A = ℕ} 98 101 = ap (λ (l : List ℕ). get_or l 0 0) same in omega (arith, byte)
+line_no_end kind n before (Line.Entry e) v small fits = λ same.
     let low = fits.caller in
     no_letter e.caller.0 101 _ (codes "nd " ++ name_of v) (omega (arith, low)) (omega arith) (sym (entry_parts e) ∙ same)
-line_no_end kind n before (L.Remark run sentence) v small fits = λ same.
+line_no_end kind n before (Line.Remark run sentence) v small fits = λ same.
     let few = fits.few in
     no_letter run.0 101 (codes " # " ++ sentence) (codes "nd " ++ name_of v) (omega (arith, few, small)) (omega arith) same
-line_no_end kind n before (L.Refused run sentence) v small fits = λ same.
+line_no_end kind n before (Line.Refused run sentence) v small fits = λ same.
     let few = fits.few in
     no_letter run.0 101 (codes " ! " ++ sentence) (codes "nd " ++ name_of v) (omega (arith, few, small)) (omega arith) same

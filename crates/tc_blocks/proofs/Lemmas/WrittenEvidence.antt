@@ -3,13 +3,7 @@ use Rattle.std.proofs.Common.{ℕ, ◌≡◌, ◌∙◌, List, [], ◌∷◌, �
 use Rattle.std.specs.List.{flat_map, AllByRecursion}
 use Rattle.tc_text.specs.Prelude.{lines_of}
 use Rattle.tc_text.proofs.Lemmas.LinesOf.{NoLf, ended_lines, lines-ended_lines}
-use Rattle.tc_blocks.specs.HistoryBlock.{end_text}
-use Rattle.tc_blocks.specs.declared.block.Block.{Block}
-use Rattle.tc_blocks.specs.declared.line.Line.{Line}
-use Rattle.tc_blocks.specs.Line.{line_text}
-use Rattle.tc_blocks.specs.Block.{with_lf, header_text}
-use Rattle.tc_blocks.specs.Text.{AreBlocks, IsHeader, all_lines, block_lines}
-use Rattle.tc_blocks.specs.Written.{WrittenIsRead, text_of_block}
+use Rattle.tc_blocks.specs.{Block.header_text, Block.with_lf, HistoryBlock.end_text, Line.line_text, Text.AreBlocks, Text.IsHeader, Text.all_lines, Text.block_lines, Written.WrittenIsRead, Written.text_of_block, declared.block.Block.Block, declared.line.Line.Line}
 use Rattle.tc_blocks.proofs.Lemmas.Bytes.{AreAllPlain, blocks_plain, plain_no_lf}
 
 all_no_lf : (ls : List (List ℕ)) → AllByRecursion AreAllPlain ls → AllByRecursion NoLf ls

@@ -1,10 +1,6 @@
 -- The views of the seats: each hand has one, and the keeper.
 use Rattle.std.specs.Prelude.{ℕ, zero, suc, true, false, List, [], ◌∷◌, ◌++◌}
-use Rattle.tc_board.specs.declared.answer.Answer.{Answer}
-use Rattle.tc_board.specs.declared.answer.AnswerList.{AnswerList}
-use Rattle.tc_board.specs.declared.record.Record.{Record}
-use Rattle.tc_board.specs.declared.rule.View.{View}
-use Rattle.tc_board.specs.Board.{first_answers, first_records}
+use Rattle.tc_board.specs.{Board.first_answers, Board.first_records, declared.answer.Answer.Answer, declared.answer.AnswerList.AnswerList, declared.record.Record.Record, declared.rule.View.View}
 
 -- the answers of the hand of a run
 abbrev pub list : ℕ → List Answer → AnswerList

@@ -2,20 +2,10 @@
 use Rattle.std.specs.Prelude.{◌≡◌, ℕ, ◌<◌, ◌==◌, if◌then◌else◌, nat_lt, List, [], ◌∷◌, ◌++◌, slice_set}
 use mathlib.Core.Option.{some}
 use lib.ListN.{get_elem?}
-use Rattle.tc_verdict.specs.declared.user_verdict.UserVerdict.{UserVerdict}
-use Rattle.tc_verdict.specs.declared.user_verdict.UserVerdict.TheVariants.{None, Pass, Inconc, Fail}
-use Rattle.tc_verdict.specs.Prelude.{given}
 use Rattle.atomic_table.specs.Table.{Me, Step}
-use Rattle.tc_board.specs.declared.answer.Answer.{Answer}
-use Rattle.tc_board.specs.declared.answer.Answer.TheVariants.{Met, Taken, Found, Shut}
-use Rattle.tc_board.specs.declared.answer.AnswerList.{AnswerList}
-use Rattle.tc_board.specs.declared.record.Record.{Record}
-use Rattle.tc_board.specs.declared.record.Record.TheVariants.{Open, Closed}
-use Rattle.tc_board.specs.declared.rule.View.{View}
-use Rattle.tc_board.specs.Answers.{worst_answer}
-use Rattle.tc_board.specs.Rule.{Fits}
-use Rattle.tc_board.specs.Keeper.{carried_by}
-use Rattle.tc_board.specs.Inside.Seats.{answers_of, keeper_view}
+use Rattle.tc_entry.specs.Prelude.{UserVerdict, given}
+use Rattle.tc_verdict.specs.declared.user_verdict.UserVerdict.TheVariants.{None, Pass, Inconc, Fail}
+use Rattle.tc_board.specs.{Answers.worst_answer, Inside.Seats.answers_of, Inside.Seats.keeper_view, Keeper.carried_by, Rule.Fits, declared.answer.Answer.Answer, declared.answer.Answer.TheVariants.Found, declared.answer.Answer.TheVariants.Met, declared.answer.Answer.TheVariants.Shut, declared.answer.Answer.TheVariants.Taken, declared.answer.AnswerList.AnswerList, declared.record.Record.Record, declared.record.Record.TheVariants.Closed, declared.record.Record.TheVariants.Open, declared.rule.View.View}
 
 -- a seat's view, and the slots that it holds: none
 abbrev pub Seated : Type 0

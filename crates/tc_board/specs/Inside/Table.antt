@@ -3,12 +3,7 @@ use Rattle.std.specs.Prelude.{◌≡◌, ℕ, true, List, map, length, slice_ind
 use mathlib.Core.Option.{some}
 use lib.ListN.{get_elem?}
 use Rattle.atomic_table.specs.Table.{State}
-use Rattle.tc_board.specs.declared.answer.Answer.{Answer}
-use Rattle.tc_board.specs.declared.answer.AnswerList.{AnswerList}
-use Rattle.tc_board.specs.declared.record.Record.{Record}
-use Rattle.tc_board.specs.declared.rule.View.{View}
-use Rattle.tc_board.specs.Rule.{Fits}
-use Rattle.tc_board.specs.Inside.Seats.{list}
+use Rattle.tc_board.specs.{Inside.Seats.list, Rule.Fits, declared.answer.Answer.Answer, declared.answer.AnswerList.AnswerList, declared.record.Record.Record, declared.rule.View.View}
 
 -- of one word: the keeper's record, the answers of its hand, and the seat in whose view they are
 pub record Row : Type 0 where

@@ -1,13 +1,9 @@
 -- A list of starts, as one more start is noted in it.
-use Rattle.std.proofs.Common.{ℕ, zero, suc, ◌≡◌, ◌≢◌, ◌<◌, ◌==◌, if◌then◌else◌, Bool, true, false, Option, Some, None, is_none, List, [], ◌∷◌, ◌++◌, length, set, get_or, refl, ◌∙◌, arith}
-use Rattle.std.proofs.lemmas.Bool.Decides.{nat_tests}
-use Rattle.std.proofs.lemmas.List.{get_or-set_same, get_or-set_other, length-set}
+use Rattle.std.proofs.Common.{ℕ, zero, suc, ◌≡◌, ◌≢◌, ◌<◌, ◌==◌, if◌then◌else◌, Bool, true, false, Option, Some, None, is_none, List, [], ◌∷◌, ◌++◌, length, set, refl, ◌∙◌, arith}
+use Rattle.std.proofs.lemmas.{Bool.Decides.nat_tests, List.get_or-set_other, List.get_or-set_same, List.length-set}
 use Rattle.tc_rules.specs.Prelude.{Run, Comp, Entry, Op, Reply, first_some, answer}
-use Rattle.tc_entry.specs.declared.op.Op.TheVariants as O
-use Rattle.tc_entry.specs.declared.reply.Reply.TheVariants as R
 use Rattle.tc_rules.proofs.Lemmas.Sound.{plain_if, no_special, start_in_range}
-use Rattle.tc_book.specs.Inside.{start_at}
-use Rattle.tc_book.specs.Inside.{StartsBelow}
+use Rattle.tc_book.specs.Inside.{start_at, StartsBelow}
 
 abbrev Starts : Type 0
 Starts = List (Option (Comp × List Comp))
@@ -55,10 +51,10 @@ noted_before xs run s b there = kept_if (start_at xs b) (run.0 == b) s (λ k. le
 
 -- the run of a Start replied Ok is one of the behaviours
 pub starts_below : (n m : ℕ) (past : List Entry) (run : Run) (op : Op) (reply : Reply) → reply ≡ answer n past run.0 op → m ≡ n → StartsBelow op reply m
-starts_below n m past run (O.Start c b args) R.Ok legal same =
-    let plain = plain_if n past run.0 (O.Start c b args) R.Ok refl refl legal in
-    rw same (start_in_range n past c.0 b.0 (no_special n past run.0 (O.Start c b args) plain.no_fault))
-starts_below n m past run (O.Start c b args) _ legal same = tt
+starts_below n m past run (Op.Start c b args) Reply.Ok legal same =
+    let plain = plain_if n past run.0 (Op.Start c b args) Reply.Ok refl refl legal in
+    rw same (start_in_range n past c.0 b.0 (no_special n past run.0 (Op.Start c b args) plain.no_fault))
+starts_below n m past run (Op.Start c b args) _ legal same = tt
 starts_below n m past run _ reply legal same = tt
 
 pub ruleset note_rules = (noted, noted_before, length-set, no_more)

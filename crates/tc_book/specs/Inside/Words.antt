@@ -1,11 +1,7 @@
 -- What only the way the words are settled needs: no public clause names a word of this file.
 use Rattle.std.specs.Prelude.{ℕ, ◌≡◌, ◌<◌, Bool, true, false, Some, List, length, set}
 use Rattle.tc_rules.specs.Prelude.{Run, UserVerdict, Entry, Op, Reply, comp_of, is_active}
-use Rattle.tc_verdict.specs.declared.user_verdict.UserVerdict.TheVariants as U
-use Rattle.tc_entry.specs.declared.op.Op.TheVariants as O
-use Rattle.tc_entry.specs.declared.reply.Reply.TheVariants as R
-use Rattle.tc_board.specs.declared.record.Record.{Record}
-use Rattle.tc_board.specs.declared.record.Record.TheVariants.{Unbegun, Open, Closed}
+use Rattle.tc_board.specs.declared.record.Record.{Record, TheVariants.Closed, TheVariants.Open, TheVariants.Unbegun}
 use Rattle.tc_book.specs.Words.{IsWordOf, record_at, carried, is_closed, run_before}
 
 -- the word was begun and not closed yet
@@ -17,7 +13,7 @@ is_open _ = false
 abbrev pub opening : Record → UserVerdict
 opening (Open carried) = carried
 opening (Closed carried counted) = carried
-opening Unbegun = U.None
+opening Unbegun = UserVerdict.None
 
 -- the record of a run's word is right, if the word of a run that no longer continues may still be open
 pub record Lags (past : List Entry) (words : List Record) (b : ℕ) : Type 0 where
@@ -34,10 +30,10 @@ pub record WordsLag (n : ℕ) (past : List Entry) (words : List Record) (i : ℕ
 
 -- the word of a run that is started by this call is unbegun
 abbrev pub CanBegin : Op → Reply → List Record → Type 0
-CanBegin (O.Start c run args) R.Ok words = (run.0 < length words) × (record_at words run.0 ≡ Unbegun)
+CanBegin (Op.Start c run args) Reply.Ok words = (run.0 < length words) × (record_at words run.0 ≡ Unbegun)
 CanBegin _ _ words = Unit {0}
 
 -- the words once that of the run that this call starts is begun
 abbrev pub with_start : Op → Reply → UserVerdict → List Record → List Record
-with_start (O.Start c run args) R.Ok u words = set words run.0 (Open u)
+with_start (Op.Start c run args) Reply.Ok u words = set words run.0 (Open u)
 with_start _ _ u words = words

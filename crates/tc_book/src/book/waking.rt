@@ -1,18 +1,13 @@
 //! Calls, with whether one that waits can continue by them.
 ghost use Rattle.std.specs.Prelude.{◌≡◌, ◌≢◌, ◌&&◌, not, true, false, IfOk, IfSome, OnErr, OnSome, IfNone, IsTrue};
-ghost use Rattle.tc_entry.specs.declared.op.Op.TheVariants as ops;
-ghost use Rattle.tc_entry.specs.declared.reply.Reply.TheVariants as replies;
+ghost use Rattle.tc_rules.specs.Prelude.{is_verdict_call, waiting};
 ghost use Rattle.tc_rules.specs.Laws as laws;
-ghost use Rattle.tc_book.specs.OpenCase.{has_wake, places_after, reply_to, with_entry, without_wake};
-ghost use Rattle.tc_book.specs.Replies.{suits};
-ghost use Rattle.tc_book.specs.Waking.{NobodyWakes, WouldPark};
-ghost use Rattle.tc_book.specs.Inside.{goes_on};
-ghost use Rattle.tc_rules.specs.Prelude.{is_verdict_call};
+ghost use Rattle.tc_book.specs.{Inside.StaysParked, Inside.goes_on, Inside.newest_wakes, Inside.parked_goes_on, Inside.wakes, OpenCase.NobodyWakes, OpenCase.has_wake, OpenCase.open_past, OpenCase.places_after, OpenCase.reply_to, OpenCase.with_entry, OpenCase.without_wake, Replies.suits};
 
 use crate::book::Book;
 use crate::until::Until;
 use tc_entry::{Op, Reply, Target};
-use tc_rules::keeps_phases;
+use tc_rules::{Awaited, ends_case, keeps_phases, started_on};
 use tc_verdict::{NoMemory, Run};
 
 /// Whether the caller continues after this reply.
@@ -53,12 +48,12 @@ impl Book {
     pub fn call_wake(&mut self, run: Run, killed: bool, target: Target) -> Option<(Reply, bool)>
         ensures behaviours { self.new.behaviours ≡ self.old.behaviours }
         ensures none { IfNone result (self.new ≡ self.old) }
-        ensures asleep { IfNone result (IsTrue (has_wake self.old run) → WouldPark self.old run killed target) }
+        ensures asleep { IfNone result (StaysParked self.old run killed target) }
         ensures kept { OnSome result (IsTrue (has_wake self.old run)) }
-        ensures awake { IfSome result (λ r. r.0 ≢ replies.Parked) }
-        ensures reply { IfSome result (λ r. r.0 ≡ reply_to self.old run (ops.Wake killed target)) }
-        ensures suits { IfSome result (λ r. suits (ops.Wake killed target) r.0 ≡ true) }
-        ensures history { IfSome result (λ r. self.new.history ≡ with_entry self.old run (ops.Wake killed target) r.0) }
+        ensures awake { IfSome result (λ r. r.0 ≢ Reply.Parked) }
+        ensures reply { IfSome result (λ r. r.0 ≡ reply_to self.old run (Op.Wake killed target)) }
+        ensures suits { IfSome result (λ r. suits (Op.Wake killed target) r.0 ≡ true) }
+        ensures history { IfSome result (λ r. self.new.history ≡ with_entry self.old run (Op.Wake killed target) r.0) }
         ensures places { OnSome result (self.new.places ≡ without_wake self.old run) }
         ensures silent { IfSome result (λ r. r.1 ≡ false → NobodyWakes self.old self.new) }
     {
@@ -77,6 +72,32 @@ impl Book {
             Until::Wake { killed, target } => {
                 !matches!(self.would(run, &Op::Wake { killed, target }), Reply::Parked)
             }
+        }
+    }
+
+    /// Whether a run is woken: the newest entry ends the case or starts the run, or the run is parked and can continue
+    /// now.
+    pub(crate) fn wakes(&self, run: Run) -> bool
+        ensures { result ≡ wakes self.now run }
+    {
+        self.newest_wakes(run) || self.parked_goes_on(run)
+    }
+
+    fn newest_wakes(&self, run: Run) -> bool
+        ensures { result ≡ newest_wakes (open_past self.now) run.0 }
+    {
+        match self.table.history().split_last() {
+            Some((entry, _)) => ends_case(entry) || started_on(entry, run.0).is_some(),
+            None => false,
+        }
+    }
+
+    fn parked_goes_on(&self, run: Run) -> bool
+        ensures { result ≡ parked_goes_on self.now run (waiting (open_past self.now) run.0) }
+    {
+        match self.table.parked(run) {
+            Some(Awaited { killed, target }) => self.goes_on(run, Until::Wake { killed, target }),
+            None => false,
         }
     }
 }

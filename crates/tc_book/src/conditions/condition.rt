@@ -4,24 +4,10 @@ ghost use Rattle.std.specs.Sync.Mutex.{mutex_guard_value};
 ghost use Rattle.tc_book.specs.Inside.{goes_on, lacks};
 
 use crate::logged_book::LoggedBook;
+use crate::told::Told;
 use crate::until::{Lack, Until};
 use std::sync::{Condvar, MutexGuard, Wait};
 use tc_verdict::Run;
-
-/// How many runs were looked at after a change, from run 0 on: each was woken, if it waits and can continue.
-#[derive(Drop)]
-pub(crate) struct Told {
-    runs: usize,
-}
-
-impl Told {
-    /// No run was looked at.
-    pub(crate) fn nobody() -> Told
-        ensures { result.runs ≡ 0 }
-    {
-        Told { runs: 0 }
-    }
-}
 
 /// What one run of a case waits on under the lock, until it is woken.
 #[derive(Drop)]
@@ -63,17 +49,15 @@ impl Condition {
         self.changed.wait_while(rt, book, |_| true);
     }
 
-    /// Wakes the run, which is the next to look at, if it waits and can continue now.
+    /// Wakes the run, which is the next to look at, unless it is none to wake.
     pub(super) fn tell(&self, book: &LoggedBook, told: Told) -> Told
         requires { told.runs ≡ self.now.run.0 }
         ensures { result.runs ≡ told.runs + 1 }
     {
         if book.wakes(self.run) {
-            self.changed.notify_all();
-        }
-        drop(told);
-        Told {
-            runs: usize::from(self.run.0) + 1,
+            told.notified(self.run, &self.changed)
+        } else {
+            told.passed_over(self.run, book)
         }
     }
 }

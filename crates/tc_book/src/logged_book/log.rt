@@ -2,17 +2,14 @@
 ghost use Rattle.std.specs.Prelude.{◌≡◌, ◌<◌, ◌≤◌, ◌+◌, ◌++◌, ◌∷◌, [], true, false, OnErr, OnOk};
 ghost use Rattle.std.specs.Vec.{vec_len, vec_capacity};
 ghost use Rattle.tc_board.specs.declared.answer.Answer.TheVariants.{Met};
-ghost use Rattle.tc_entry.specs.declared.op.Op.TheVariants as ops;
 ghost use Rattle.tc_rules.specs.Prelude.{is_verdict_call};
-ghost use Rattle.tc_book.specs.Hands.{IsHandOf};
-ghost use Rattle.tc_book.specs.Inside.{is_closed, with_own};
-ghost use Rattle.tc_book.specs.Passes.{ended_by};
-ghost use Rattle.tc_book.specs.Replies.{suits};
+ghost use Rattle.tc_book.specs.{Hands.IsHandOf, Inside.is_closed, Inside.with_own, Passes.ended_by, Replies.suits};
 
+use crate::logged_book::Started;
 use crate::run_hand::RunHand;
 use std::marker::Model;
 use tc_board::Hand;
-use tc_entry::{Comp, Entry, Op, Reply};
+use tc_entry::{Args, Comp, Entry, Op, Reply};
 use tc_rules::ends_pass;
 use tc_verdict::{NoMemory, Run, UserVerdict};
 
@@ -20,8 +17,7 @@ use tc_verdict::{NoMemory, Run, UserVerdict};
 /// the log's verdict entries.
 #[derive(Drop)]
 pub(crate) struct Log {
-    run: Run,
-    own: Comp,
+    started: Started,
     entries: Vec<Entry>,
     ended: bool,
     hand: RunHand,
@@ -36,9 +32,9 @@ impl Model for Log {
 
     ghost Value = { LogState };
 
-    ghost view = { λ l. record { run = l.run; own = l.own; entries = l.entries.items; room = vec_capacity l.entries - vec_len l.entries } };
+    ghost view = { λ l. record { started = l.started; entries = l.entries.items; room = vec_capacity l.entries - vec_len l.entries } };
 
-    ghost invariant = { λ l. (l.ended ≡ ended_by l.own l.entries.items) × IsHandOf l.hand l.run.0 l.entries.items };
+    ghost invariant = { λ l. (l.ended ≡ ended_by l.started.comp l.entries.items) × IsHandOf l.hand l.started.run.0 l.entries.items };
 }
 
 /// Adds an entry in its place to those of a run on component own, and returns whether one of them has ended the run.
@@ -56,20 +52,18 @@ fn add_to(entries: &mut Vec<Entry>, own: Comp, ended: bool, entry: Entry) -> boo
 
 #[tactic(auto, using(crate::proofs::Handed::hand_rules))]
 impl Log {
-    /// The log of a run on a component, with these places and no entry, and with the run's hand, which has met its word.
-    pub(crate) fn new(run: Run, own: Comp, places: Vec<Entry>, hand: RunHand) -> Log
-        requires of_run { hand.run ≡ run.0 }
+    /// The log of a run that was started so, with these places and no entry, and with the run's hand, which has met its word.
+    pub(crate) fn new(started: Started, places: Vec<Entry>, hand: RunHand) -> Log
+        requires of_run { hand.run ≡ started.run.0 }
         requires met { hand.answers ≡ Met ∷ [] }
         requires empty { places.items ≡ [] }
         requires room { vec_len places < vec_capacity places }
-        ensures run { result.run ≡ run }
-        ensures own { result.own ≡ own }
+        ensures started { result.started ≡ started }
         ensures entries { result.entries ≡ [] }
         ensures room { 1 ≤ result.room }
     {
         Log {
-            run,
-            own,
+            started,
             entries: places,
             ended: false,
             hand,
@@ -77,16 +71,23 @@ impl Log {
     }
 
     pub(crate) fn run(&self) -> Run
-        ensures { result ≡ self.now.run }
+        ensures { result ≡ self.now.started.run }
     {
-        self.run
+        self.started.run
     }
 
     /// The component that the run was started on.
     pub(crate) fn own(&self) -> Comp
-        ensures { result ≡ self.now.own }
+        ensures { result ≡ self.now.started.comp }
     {
-        self.own
+        self.started.comp
+    }
+
+    /// The arguments that the run was started with.
+    pub(crate) fn args(&self) -> &[Comp]
+        ensures { result.now ≡ self.now.started.args }
+    {
+        self.started.args.as_slice()
     }
 
     pub(crate) fn entries(&self) -> &[Entry]
@@ -97,7 +98,7 @@ impl Log {
 
     /// The run's hand on the verdict board.
     pub(crate) fn hand(&self) -> &Hand
-        ensures { IsHandOf result.now self.now.run.0 self.now.entries }
+        ensures { IsHandOf result.now self.now.started.run.0 self.now.entries }
     {
         self.hand.hand()
     }
@@ -110,8 +111,7 @@ impl Log {
 
     /// Makes the places for one more call, its Wake and the Finish.
     pub(crate) fn make_room(&mut self) -> Result<(), NoMemory>
-        ensures run { self.new.run ≡ self.old.run }
-        ensures own { self.new.own ≡ self.old.own }
+        ensures started { self.new.started ≡ self.old.started }
         ensures entries { self.new.entries ≡ self.old.entries }
         ensures room { OnOk result (3 ≤ self.new.room) }
         ensures no_less { self.old.room ≤ self.new.room }
@@ -121,70 +121,69 @@ impl Log {
         Ok(())
     }
 
-    /// Adds an entry of the run in its place, which is none of a verdict call: only the book does, once it has the entry.
-    pub(super) fn add(&mut self, op: Op, reply: Reply)
-        requires other { is_verdict_call op ≡ false }
+    /// Adds a copy of an entry of the run in its place, which is none of a verdict call: only the book does, which has the entry.
+    pub(super) fn add(&mut self, entry: &Entry)
+        requires other { is_verdict_call entry.now.op ≡ false }
         requires room { 1 ≤ self.old.room }
-        ensures run { self.new.run ≡ self.old.run }
-        ensures own { self.new.own ≡ self.old.own }
-        ensures entries { self.new.entries ≡ with_own self.old op reply }
+        ensures started { self.new.started ≡ self.old.started }
+        ensures entries { self.new.entries ≡ self.old.entries ++ entry.now ∷ [] }
         ensures room { self.new.room + 1 ≡ self.old.room }
     {
-        let entry = Entry {
-            caller: self.run,
-            op,
-            reply,
-        };
-        self.ended = add_to(&mut self.entries, self.own, self.ended, entry);
+        self.ended = add_to(
+            &mut self.entries,
+            self.started.comp,
+            self.ended,
+            entry.copy(),
+        );
     }
 
     /// Sets a verdict by one step of the run's hand, adds the entry in its place, and returns its reply.
     pub(crate) fn set_verdict(&mut self, value: UserVerdict) -> Reply
         requires room { 1 ≤ self.old.room }
-        ensures run { self.new.run ≡ self.old.run }
-        ensures own { self.new.own ≡ self.old.own }
-        ensures suits { suits (ops.SetVerdict value) result ≡ true }
-        ensures entries { self.new.entries ≡ with_own self.old (ops.SetVerdict value) result }
+        ensures started { self.new.started ≡ self.old.started }
+        ensures suits { suits (Op.SetVerdict value) result ≡ true }
+        ensures entries { self.new.entries ≡ with_own self.old (Op.SetVerdict value) result }
         ensures room { self.new.room + 1 ≡ self.old.room }
     {
         let reply = self.hand.set(value);
         let entry = Entry {
-            caller: self.run,
+            caller: self.started.run,
             op: Op::SetVerdict(value),
             reply,
         };
-        self.ended = add_to(&mut self.entries, self.own, self.ended, entry);
+        self.ended = add_to(&mut self.entries, self.started.comp, self.ended, entry);
         reply
     }
 
     /// Gets the verdict by one step of the run's hand, adds the entry in its place, and returns its reply.
     pub(crate) fn get_verdict(&mut self) -> Reply
         requires room { 1 ≤ self.old.room }
-        ensures run { self.new.run ≡ self.old.run }
-        ensures own { self.new.own ≡ self.old.own }
-        ensures suits { suits ops.GetVerdict result ≡ true }
-        ensures entries { self.new.entries ≡ with_own self.old ops.GetVerdict result }
+        ensures started { self.new.started ≡ self.old.started }
+        ensures suits { suits Op.GetVerdict result ≡ true }
+        ensures entries { self.new.entries ≡ with_own self.old Op.GetVerdict result }
         ensures room { self.new.room + 1 ≡ self.old.room }
     {
         let reply = self.hand.get();
         let entry = Entry {
-            caller: self.run,
+            caller: self.started.run,
             op: Op::GetVerdict,
             reply,
         };
-        self.ended = add_to(&mut self.entries, self.own, self.ended, entry);
+        self.ended = add_to(&mut self.entries, self.started.comp, self.ended, entry);
         reply
     }
 
-    /// Only the entries.
-    pub(crate) fn into_entries(self) -> Vec<Entry>
-        ensures { result.items ≡ self.entries }
+    /// The entries, and what the run was started with.
+    pub(crate) fn into_parts(self) -> (Vec<Entry>, Comp, Args)
+        ensures { (result.0.items ≡ self.entries) × (result.1 ≡ self.started.comp) × (result.2 ≡ self.started.args) }
     {
         let Log {
+            started,
             entries,
             hand: _,
             ..
         } = self;
-        entries
+        let Started { comp, args, .. } = started;
+        (entries, comp, args)
     }
 }

@@ -2,24 +2,15 @@
 use Rattle.std.proofs.Common.{ℕ, zero, suc, ◌≡◌, ◌≤◌, ◌∷◌, ◌++◌, [], Bool, List, Option, Some, None, length, map, take, arith, inl, inr, refl, sym, subst, ◌∙◌}
 use Rattle.std.specs.Prelude.{◌⊎◌, IfSome, slice_get}
 use Rattle.std.specs.Vec.{vec_capacity}
-use Rattle.std.proofs.lemmas.List.Elements.{All-nil}
-use Rattle.std.proofs.lemmas.Slice.Zip.{AllZip-long}
+use Rattle.std.proofs.lemmas.{List.Elements.All-nil, Slice.Zip.AllZip-long}
 use Rattle.tc_rules.specs.Prelude.{Verdict}
 use Rattle.tc_book.specs.Prelude.{PassState}
 use Rattle.tc_rules.specs.declared.refusal.CaseError.{CaseError}
-use Rattle.tc_rules.specs.declared.refusal.CaseError.TheVariants as C
-use Rattle.tc_exec.specs.declared.job.Back.{Back}
-use Rattle.tc_report.specs.declared.kept.Kept.{Kept}
-use Rattle.tc_report.specs.declared.results.CampaignEnd.{CampaignEnd}
-use Rattle.tc_report.specs.declared.results.CampaignEnd.TheVariants as E
-use Rattle.tc_report.specs.declared.results.Finished.{Finished}
+use Rattle.tc_exec.specs.declared.{job.Back.Back, test_case.Case.Case}
+use Rattle.tc_report.specs.{Inside.IsEndedAt, declared.kept.Kept.Kept, declared.results.CampaignEnd.CampaignEnd, declared.results.Finished.Finished}
 use Rattle.tc_report.specs.Prelude.{Keeps, AreTaken, IsMet}
-use Rattle.tc_report.specs.Inside.{IsEndedAt}
 use Rattle.tc_report.proofs.Lemmas.Keeping.{are_kept, never_ended}
-use Rattle.tc_campaign.specs.declared.case.Case.{Case}
-use Rattle.tc_campaign.specs.Outline.{Outline, outline_of}
-use Rattle.tc_campaign.specs.Campaign.{AreFinished, IsCalled, IsCutShort, IsEnding, IsObserved, IsRefusal, IsRunTo, IsTornAt}
-use Rattle.tc_campaign.specs.Inside.{HasBehaviours, IsUnrun}
+use Rattle.tc_campaign.specs.{Campaign.AreFinished, Campaign.IsCalled, Campaign.IsCutShort, Campaign.IsEnding, Campaign.IsObserved, Campaign.IsRefusal, Campaign.IsRunTo, Campaign.IsTornAt, Inside.HasBehaviours, Inside.IsUnrun, Outline.Outline, Outline.outline_of}
 
 take_short : {A : Type 0} (n : ℕ) (xs : List A) → length (take n xs) ≤ length xs
 take_short zero xs = omega arith
@@ -29,10 +20,10 @@ take_short (suc n) (x ∷ xs) = omega (arith, take_short n xs)
 -- an ending for which a case can be refused is one for which it can be refused so or otherwise
 may_end : (Stops : Finished → Type 0) (Refuses Also : CaseError → Outline → Type 0) (last : Option Finished) (next : Option Outline) (ending : CampaignEnd)
     → IsEnding Stops Refuses last next ending → IsEnding Stops (λ why c. Refuses why c ⊎ Also why c) last next ending
-may_end Stops Refuses Also last next E.Complete ends = ends
-may_end Stops Refuses Also last next (E.StoppedAfter name) ends = ends
-may_end Stops Refuses Also last None (E.Aborted name why) ends = absurd ends.1
-may_end Stops Refuses Also last (Some c) (E.Aborted name why) ends = (ends.0, (ends.1.0, inl ends.1.1))
+may_end Stops Refuses Also last next CampaignEnd.Complete ends = ends
+may_end Stops Refuses Also last next (CampaignEnd.StoppedAfter name) ends = ends
+may_end Stops Refuses Also last None (CampaignEnd.Aborted name why) ends = absurd ends.1
+may_end Stops Refuses Also last (Some c) (CampaignEnd.Aborted name why) ends = (ends.0, (ends.1.0, inl ends.1.1))
 
 -- a campaign that was observed is one that was run
 pub run_to : {B O : Type 0} {outcome : B → PassState → Back → Type 0} {cases : List (Case B)} {stop_on : Option Verdict} {threads : ℕ}
@@ -40,7 +31,7 @@ pub run_to : {B O : Type 0} {outcome : B → PassState → Back → Type 0} {cas
     → IsRunTo outline_of (IsCalled outcome) cases stop_on threads seen.finished ending
 run_to {B} {O} {outcome} {cases} {stop_on} {threads} {takes} {before} {after} {ending} seen = record {
   each = seen.run.each;
-  last = may_end (λ f. IsMet stop_on f.report.verdict) (IsRefusal threads) (λ why c. (seen.finished ≡ []) × (why ≡ C.NoMemory)) _ _ ending seen.run.last;
+  last = may_end (λ f. IsMet stop_on f.report.verdict) (IsRefusal threads) (λ why c. (seen.finished ≡ []) × (why ≡ CaseError.NoMemory)) _ _ ending seen.run.last;
 }
 
 -- an observer that cut a campaign short has ended it
@@ -108,5 +99,5 @@ module _ {B : Type 0} (outcome : B → PassState → Back → Type 0) (finished 
   unrun_torn cases is = subst (λ fs. IsTornAt outcome (slice_get cases (length fs)) ending) (sym none) (go cases is)
     where
       go : (cs : List (Case B)) → IsUnrun (map outline_of cs) ending → IsTornAt outcome (slice_get cs 0) ending
-      go [] is = λ name torn. let bad : E.Complete ≡ E.Aborted name C.Torn = sym is ∙ torn in absurd cc
-      go (c ∷ cs) is = λ name torn. let bad : E.Aborted (outline_of c).name C.NoMemory ≡ E.Aborted name C.Torn = sym is ∙ torn in absurd cc
+      go [] is = λ name torn. let bad : CampaignEnd.Complete ≡ CampaignEnd.Aborted name CaseError.Torn = sym is ∙ torn in absurd cc
+      go (c ∷ cs) is = λ name torn. let bad : CampaignEnd.Aborted (outline_of c).name CaseError.NoMemory ≡ CampaignEnd.Aborted name CaseError.Torn = sym is ∙ torn in absurd cc

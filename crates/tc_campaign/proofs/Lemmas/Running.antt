@@ -3,25 +3,12 @@ use Rattle.std.proofs.Common.{ℕ, ◌≡◌, ◌∙◌, ◌++◌, ◌∷◌, []
 use Rattle.std.specs.List.{AllZip}
 use Rattle.std.proofs.lemmas.List.Elements.{All-nil, All-push}
 use Rattle.tc_rules.specs.Prelude.{Verdict}
-use Rattle.tc_report.specs.declared.results.CampaignEnd.{CampaignEnd}
-use Rattle.tc_report.specs.declared.results.CampaignEnd.TheVariants as E
-use Rattle.tc_report.specs.declared.results.Finished.{Finished}
+use Rattle.tc_report.specs.declared.results.{CampaignEnd.CampaignEnd, Finished.Finished}
 use Rattle.tc_report.specs.Prelude.{IsMet}
-use Rattle.tc_campaign.specs.Outline.{Outline}
-use Rattle.tc_campaign.specs.Inside.{AreDone, HasThreads, IsAbortedAt, IsBetter, IsOf, IsSoFar, IsRun}
-use Rattle.tc_campaign.specs.Inside.IsRun.{complete, aborted, stopped, cut}
-use Rattle.tc_campaign.proofs.Places.{AllZip-pushed, AllZip-begin}
-
-pub done_none : {A B : Type 0} (R : A → B → Type 0) (all left : List A) → left ≡ all → AreDone R all left []
-done_none R all left same = record { done = []; prefix = sym same; each = tt }
-
-pub done_more : {A B : Type 0} (R : A → B → Type 0) (all left : List A) (x : A) (rest : List A) (ys : List B) (y : B) (now : List B)
-    → AreDone R all left ys → left ≡ x ∷ rest → R x y → now ≡ ys ++ y ∷ [] → AreDone R all rest now
-done_more R all left x rest ys y now are at one added = rw added (record {
-  done = are.done ++ x ∷ [];
-  prefix = subst (λ l. all ≡ are.done ++ l) at are.prefix ∙ sym (append_assoc are.done (x ∷ []) rest);
-  each = AllZip-pushed R are.done ys x y are.each one;
-})
+use Rattle.tc_exec.specs.Inside.{AreDone}
+use Rattle.tc_exec.proofs.Lemmas.Taking.{AllZip-pushed}
+use Rattle.tc_campaign.specs.{Inside.HasThreads, Inside.IsAbortedAt, Inside.IsBetter, Inside.IsOf, Inside.IsRun, Inside.IsRun.aborted, Inside.IsRun.complete, Inside.IsRun.cut, Inside.IsRun.stopped, Inside.IsSoFar, Outline.Outline}
+use Rattle.tc_campaign.proofs.Places.{AllZip-begin}
 
 pub done_begin : {A B : Type 0} (R : A → B → Type 0) (all left : List A) (ys : List B) → AreDone R all left ys → AllZip R (take (length ys) all) ys
 done_begin R all left ys are = AllZip-begin R all are.done left ys are.prefix are.each
@@ -52,7 +39,7 @@ pub run_aborted : (cases : List Outline) (stop_on : Option Verdict) (left : List
 run_aborted cases stop_on left c rest finished ending so at refused = aborted finished c rest ending (next_up cases stop_on left c rest finished so at) refused
 
 pub run_stopped : (cases : List Outline) (stop_on : Option Verdict) (left : List Outline) (c : Outline) (rest : List Outline) (finished : List Finished) (f : Finished) (ending : CampaignEnd)
-    → IsSoFar cases stop_on left finished → left ≡ c ∷ rest → IsOf c f → (ending ≡ E.StoppedAfter f.name) × IsMet stop_on f.report.verdict → IsRun cases stop_on (finished ++ f ∷ []) (Some ending)
+    → IsSoFar cases stop_on left finished → left ≡ c ∷ rest → IsOf c f → (ending ≡ CampaignEnd.StoppedAfter f.name) × IsMet stop_on f.report.verdict → IsRun cases stop_on (finished ++ f ∷ []) (Some ending)
 run_stopped cases stop_on left c rest finished f ending so at is met = rw met.0 (stopped finished f c rest (next_up cases stop_on left c rest finished so at) is met.1)
 
 pub run_cut : (cases : List Outline) (stop_on : Option Verdict) (left : List Outline) (c : Outline) (rest : List Outline) (finished : List Finished) (f : Finished)
@@ -60,6 +47,6 @@ pub run_cut : (cases : List Outline) (stop_on : Option Verdict) (left : List Out
 run_cut cases stop_on left c rest finished f so at is = cut finished f c rest (next_up cases stop_on left c rest finished so at) is
 
 pub run_complete : {A : Type 0} (f : A → Outline) (cases : List Outline) (stop_on : Option Verdict) (left : List A) (finished : List Finished)
-    → IsSoFar cases stop_on (map f left) finished → length left ≡ 0 → IsRun cases stop_on finished (Some E.Complete)
+    → IsSoFar cases stop_on (map f left) finished → length left ≡ 0 → IsRun cases stop_on finished (Some CampaignEnd.Complete)
 run_complete f cases stop_on [] finished so none = complete finished so
 run_complete f cases stop_on (x ∷ left) finished so none = absurd (omega arith)

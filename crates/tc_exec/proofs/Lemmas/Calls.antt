@@ -1,22 +1,12 @@
 -- What workers left, one after another.
 use Rattle.std.proofs.Common.{ℕ, zero, suc, ◌≡◌, ◌≢◌, ◌<◌, ◌+◌, ◌==◌, ◌||◌, inl, inr, Bool, true, false, Some, None, Result, Ok, Err, IfOk, List, [], ◌∷◌, ◌++◌, length, get_or, map, reverse, refl, sym, ap, subst, ◌∙◌, arith}
-use Rattle.std.proofs.lemmas.Bool.Decides.{nat_tests}
-use Rattle.std.proofs.lemmas.List.{append-nil}
-use Rattle.std.proofs.lemmas.List.Elements.{All-get_or}
+use Rattle.std.proofs.lemmas.{Bool.Decides.nat_tests, List.Elements.All-get_or, List.append-nil}
 use Rattle.tc_rules.specs.Prelude.{Entry, comp_of, Run}
-use Rattle.tc_rules.specs.declared.closed.Closed.{Closed}
-use Rattle.tc_book.specs.Prelude.{IsFitting, IsWhole, start_of, PassState, LeftState}
+use Rattle.tc_rules.specs.declared.{closed.Closed.Closed, refusal.CaseError.CaseError, refusal.CaseError.TheVariants.NoMemory, refusal.CaseError.TheVariants.Torn}
+use Rattle.tc_book.specs.Prelude.{IsFitting, IsOneEach, IsWhole, start_of, PassState, LeftState}
 use Rattle.tc_book.specs.Inside.{comp_by}
 use Rattle.tc_book.proofs.Lemmas.PartOf.{comp_is}
-use Rattle.tc_exec.specs.declared.handed.Handed.{Handed}
-use Rattle.tc_exec.specs.declared.job.Back.{Back}
-use Rattle.tc_rules.specs.declared.refusal.CaseError.{CaseError}
-use Rattle.tc_rules.specs.declared.refusal.CaseError.TheVariants.{NoMemory, Torn}
-use Rattle.tc_exec.specs.declared.job.Ending.{Ending}
-use Rattle.tc_exec.specs.declared.job.Ending.TheVariants as E
-use Rattle.tc_exec.specs.Case.{AreCalled, IsHandedBack, IsMadeOf}
-use Rattle.tc_exec.specs.Workers.{IsWorked, WasCalled, WasCalledFor, IsLeftBy, opening_pass}
-use Rattle.tc_exec.specs.Inside.{AreLeftBy, is_starved}
+use Rattle.tc_exec.specs.{Case.AreCalled, Case.IsHandedBack, Case.IsMadeOf, Case.IsOutOfMemory, Inside.AreLeftBy, Inside.Gathers, Inside.HasStarved, Inside.IsOneStarved, Inside.is_starved, Workers.IsLeftBy, Workers.IsWorked, Workers.WasCalled, Workers.WasCalledFor, Workers.opening_pass, declared.gathered.Gathered.Gathered, declared.handed.Handed.Handed, declared.job.Back.Back, declared.job.Ending.Ending}
 
 -- memory ran out neither before nor now
 pub neither : (before now after : Bool) → after ≡ (before || now) → after ≡ false → (before ≡ false) × (now ≡ false)
@@ -24,9 +14,13 @@ neither false false after is none = (refl, refl)
 neither true now after is none = absurd cc
 neither false true after is none = absurd cc
 
-came_back : (e : Ending) → is_starved e ≡ false → e ≡ E.Returned
-came_back E.Returned none = refl
-came_back E.Starved none = absurd cc
+came_back : (e : Ending) → is_starved e ≡ false → e ≡ Ending.Returned
+came_back Ending.Returned none = refl
+came_back Ending.Starved none = absurd cc
+
+ran_out : (e : Ending) → is_starved e ≡ true → e ≡ Ending.Starved
+ran_out Ending.Starved some = refl
+ran_out Ending.Returned some = absurd cc
 
 -- one more that was left keeps the first
 pub first_kept : (d : LeftState) (old now after : List LeftState) (x : LeftState) → (0 < length old → (0 < length now) × (get_or now 0 d ≡ get_or old 0 d)) → after ≡ now ++ x ∷ [] →
@@ -37,7 +31,7 @@ first_kept d old (n ∷ now) after x was is some = rw is (omega arith, (was some
 module _ {B : Type 0} (outcome : B → PassState → Back → Type 0) where
   -- what a worker handed back whose behaviour did not run out of memory
   pub left_by : (run : Run) (b : B) (h : Handed) → is_starved h.ending ≡ false → IsWorked run (outcome b) h → IsLeftBy outcome run b h.left
-  left_by run b h none (inl unstarted) = inl (ap (λ m. let x : Handed = record { left = m.left; ending = E.Returned } in x) unstarted)
+  left_by run b h none (inl unstarted) = inl (ap (λ m. let x : Handed = record { left = m.left; ending = Ending.Returned } in x) unstarted)
   left_by run b h none (inr w) =
       let called = w.called in
       inr (record {
@@ -62,17 +56,57 @@ module _ {B : Type 0} (outcome : B → PassState → Back → Type 0) where
   over f [] (v ∷ ws) w = ap (λ q. f v ∷ q) (over f [] ws w)
   over f (x ∷ xs) ws w = ap (λ q. x ∷ q) (over f xs ws w)
 
+  -- what a worker handed back whose behaviour ran out of memory
+  starved_by : (run : Run) (b : B) (h : Handed) → is_starved h.ending ≡ true → IsWorked run (outcome b) h → HasStarved outcome run b
+  starved_by run b h some (inl unstarted) = let bad : false ≡ true = sym (ap (λ m. is_starved m.ending) unstarted) ∙ some in absurd cc
+  starved_by run b h some (inr w) =
+      record { pass = w.pass; own = w.own; new = w.new; main = w.main; called = (w.called.back, (w.called.outcome_of, sym w.called.ending ∙ ran_out h.ending some)) }
+
+  -- with one more, the one that ran out of memory is among them still
+  one_stays : (runs : List Run) (bs : List B) (run : Run) (b : B) → IsOneStarved outcome runs bs → IsOneStarved outcome (runs ++ run ∷ []) (bs ++ b ∷ [])
+  one_stays (_ ∷ runs) (_ ∷ bs) run b (inl this) = inl this
+  one_stays (_ ∷ runs) (_ ∷ bs) run b (inr one) = inr (one_stays runs bs run b one)
+  one_stays [] bs run b one = absurd one
+  one_stays (_ ∷ runs) [] run b one = absurd one
+
+  one_added : (runs : List Run) (bs : List B) (ls : List LeftState) (run : Run) (b : B) →
+      AreLeftBy outcome runs bs ls → HasStarved outcome run b → IsOneStarved outcome (runs ++ run ∷ []) (bs ++ b ∷ [])
+  one_added [] [] [] run b all this = inl this
+  one_added (_ ∷ runs) (_ ∷ bs) (_ ∷ ls) run b all this = inr (one_added runs bs ls run b all.1 this)
+  one_added [] [] (_ ∷ ls) run b all this = absurd all
+  one_added [] (_ ∷ bs) ls run b all this = absurd all
+  one_added (_ ∷ runs) [] ls run b all this = absurd all
+  one_added (_ ∷ runs) (_ ∷ bs) [] run b all this = absurd all
+
+  -- what one run more left was gathered
+  pub gathered_more : (runs : List Run) (bs : List B) (run : Run) (b : B) (h : Handed) (before after : Gathered) → Gathers outcome runs bs before →
+      IsWorked run (outcome b) h → after.lefts.items ≡ before.lefts.items ++ h.left ∷ [] → after.starved ≡ (before.starved || is_starved h.ending) →
+      Gathers outcome (runs ++ run ∷ []) (bs ++ b ∷ []) after
+  gathered_more runs bs run b h before after all worked is starved = record {
+    lefts = λ none.
+        let both = neither _ _ _ starved none in
+        rw is (pushed runs bs before.lefts.items run b h.left (all.lefts both.0) (left_by run b h both.1 worked));
+    one_starved = λ some. one before.starved (is_starved h.ending) all.lefts all.one_starved (λ now. starved_by run b h now worked) (sym starved ∙ some);
+  }
+    where
+      one : (was now : Bool) → (was ≡ false → AreLeftBy outcome runs bs before.lefts.items) → (was ≡ true → IsOneStarved outcome runs bs) →
+          (now ≡ true → HasStarved outcome run b) → (was || now) ≡ true → IsOneStarved outcome (runs ++ run ∷ []) (bs ++ b ∷ [])
+      one true now left before_now this some = one_stays runs bs run b (before_now refl)
+      one false true left before_now this some = one_added runs bs before.lefts.items run b (left refl) (this refl)
+      one false false left before_now this some = absurd cc
+
   -- no worker was joined so far
-  pub joined_none : (runs : List Run) (bs : List B) (ls : List LeftState) → AreLeftBy outcome runs bs ls → AreLeftBy outcome (runs ++ []) (bs ++ []) ls
-  joined_none runs bs ls all = rw (append-nil runs, append-nil bs) all
+  pub joined_none : (runs : List Run) (bs : List B) (g : Gathered) → Gathers outcome runs bs g → Gathers outcome (runs ++ []) (bs ++ []) g
+  joined_none runs bs g all = rw (append-nil runs, append-nil bs) all
 
   -- one worker more was joined
-  pub joined : {W : Type 0} (run : W → Run) (behaviour : W → B) (runs : List Run) (bs : List B) (ls : List LeftState) (ws : List W) (w : W) (l : LeftState) (after : List LeftState) →
-      AreLeftBy outcome (runs ++ map run ws) (bs ++ map behaviour ws) ls → IsLeftBy outcome (run w) (behaviour w) l → after ≡ ls ++ l ∷ [] →
-      AreLeftBy outcome (runs ++ map run (ws ++ w ∷ [])) (bs ++ map behaviour (ws ++ w ∷ [])) after
-  joined run behaviour runs bs ls ws w l after all one is =
-      rw (is, ← over run runs ws w, ← over behaviour bs ws w)
-      (pushed (runs ++ map run ws) (bs ++ map behaviour ws) ls (run w) (behaviour w) l all one)
+  pub joined : {W : Type 0} (run : W → Run) (behaviour : W → B) (runs : List Run) (bs : List B) (ws : List W) (w : W) (h : Handed) (before after : Gathered) →
+      Gathers outcome (runs ++ map run ws) (bs ++ map behaviour ws) before → IsWorked (run w) (outcome (behaviour w)) h →
+      after.lefts.items ≡ before.lefts.items ++ h.left ∷ [] → after.starved ≡ (before.starved || is_starved h.ending) →
+      Gathers outcome (runs ++ map run (ws ++ w ∷ [])) (bs ++ map behaviour (ws ++ w ∷ [])) after
+  joined run behaviour runs bs ws w h before after all worked is starved =
+      rw (← over run runs ws w, ← over behaviour bs ws w)
+      (gathered_more (runs ++ map run ws) (bs ++ map behaviour ws) (run w) (behaviour w) h before after all worked is starved)
 
   -- as many runs left as there are behaviours
   as_many_left : (runs : List Run) (bs : List B) (ls : List LeftState) → AreLeftBy outcome runs bs ls → length ls ≡ length bs
@@ -136,12 +170,15 @@ module _ {B : Type 0} (outcome : B → PassState → Back → Type 0) where
           (All-get_or (IsFitting c.history) made.handed.lefts (suc k) nothing (omega (arith, below, made.handed.as_many)) made.whole.fitting) started
 
   -- what the main behaviour left, as the first of all
-  pub main_left : (p : PassState) (b : B) (h : Handed) → p ≡ opening_pass → WasCalled (outcome b p) h →
-      is_starved h.ending ≡ false → AreLeftBy outcome (record { 0 = 0 } ∷ []) (b ∷ []) (h.left ∷ [])
-  main_left p b h is called none =
+  pub main_left : (p : PassState) (b : B) (h : Handed) (before after : Gathered) → p ≡ opening_pass → WasCalled (outcome b p) h →
+      before.lefts.items ≡ [] → before.starved ≡ false →
+      after.lefts.items ≡ before.lefts.items ++ h.left ∷ [] → after.starved ≡ (before.starved || is_starved h.ending) →
+      Gathers outcome (record { 0 = 0 } ∷ []) (b ∷ []) after
+  main_left p b h before after is called empty fed taken starved =
       let own : p.run ≡ record { 0 = 0 } = ap (λ q. q.run) is in
       let new : p.log ≡ [] = ap (λ q. q.log) is in
-      (left_by (record { 0 = 0 }) b h none (inr (record { pass = p; own = own; new = new; main = λ _. is; called = called })), tt)
+      let none : Gathers outcome [] [] before = record { lefts = λ _. rw empty tt; one_starved = λ some. let bad : false ≡ true = sym fed ∙ some in absurd cc } in
+      gathered_more [] [] (record { 0 = 0 }) b h before after none (inr (record { pass = p; own = own; new = new; main = λ _. is; called = called })) taken starved
 
   -- run 0, and then the others from 1 on
   pub numbered : (runs : List Run) → ((k : ℕ) (run : Run) → k < length runs → (get_or runs k run).0 ≡ k + 1) →
@@ -157,16 +194,19 @@ module _ {B : Type 0} (outcome : B → PassState → Back → Type 0) where
       let bad : Some (called.back.pass.me, called.back.pass.args) ≡ None = sym called.left.started ∙ ap (λ m. m.started) (sym found) ∙ started in
       absurd cc
 
+  -- what was handed back of a case in which no behaviour ran out of memory
+  abbrev handed_back : (runs : List Run) (bs : List B) (ls : List LeftState) → AreLeftBy outcome runs bs ls →
+      ((k : ℕ) (run : Run) → k < length runs → (get_or runs k run).0 ≡ k) → ((l : LeftState) → (get_or ls 0 l).started ≢ None) → IsHandedBack outcome bs
+  handed_back runs bs ls all number main =
+      record { lefts = ls; as_many = as_many_left runs bs ls all; left = left_numbered runs bs ls all number; main = main }
+
   -- a report is made only if memory ran out in no behaviour
   pub report_made : (result : Result Closed CaseError) (starved : Bool) (runs : List Run) (bs : List B) (ls : List LeftState) →
       (starved ≡ true → result ≡ Err NoMemory) → (starved ≡ false → AreLeftBy outcome runs bs ls) →
       ((k : ℕ) (run : Run) → k < length runs → (get_or runs k run).0 ≡ k) →
       ((l : LeftState) → (get_or ls 0 l).started ≢ None) →
       IfOk result (λ c. IsWhole c.behaviours c.history ls) → IfOk result (IsMadeOf outcome bs)
-  report_made (Ok c) false runs bs ls refused all number main whole = record {
-    handed = record { lefts = ls; as_many = as_many_left runs bs ls (all refl); left = left_numbered runs bs ls (all refl) number; main = main };
-    whole = whole;
-  }
+  report_made (Ok c) false runs bs ls refused all number main whole = record { handed = handed_back runs bs ls (all refl) number main; whole = whole }
   report_made (Ok c) true runs bs ls refused all number main whole = let bad = refused refl in absurd cc
   report_made (Err e) starved runs bs ls refused all number main whole = tt
 
@@ -181,7 +221,27 @@ module _ {B : Type 0} (outcome : B → PassState → Back → Type 0) where
       ((k : ℕ) (run : Run) → k < length runs → (get_or runs k run).0 ≡ k) →
       ((l : LeftState) → (get_or ls 0 l).started ≢ None) →
       result ≡ Err Torn → IsHandedBack outcome bs
-  torn_handed result false runs bs ls refused all number main torn =
-      record { lefts = ls; as_many = as_many_left runs bs ls (all refl); left = left_numbered runs bs ls (all refl) number; main = main }
+  torn_handed result false runs bs ls refused all number main torn = handed_back runs bs ls (all refl) number main
   torn_handed (Err e) true runs bs ls refused all number main torn = let bad = refused refl in absurd cc
   torn_handed (Ok c) true runs bs ls refused all number main torn = absurd cc
+
+  -- the run in whose behaviour memory ran out
+  starved_at : (runs : List Run) (bs : List B) → IsOneStarved outcome runs bs →
+      (k : ℕ) × (k < length bs) × (k < length runs) × ((run : Run) (b : B) → HasStarved outcome (get_or runs k run) (get_or bs k b))
+  starved_at (_ ∷ runs) (_ ∷ bs) (inl this) = (0, omega arith, omega arith, λ run b. this)
+  starved_at (_ ∷ runs) (_ ∷ bs) (inr one) = let h = starved_at runs bs one in (suc h.0, omega (arith, h.1), omega (arith, h.2), λ run b. h.3 run b)
+  starved_at [] bs one = absurd one
+  starved_at (_ ∷ runs) [] one = absurd one
+
+  -- if a case is out of memory, it ran out in a behaviour, or one of each run was handed back
+  pub out_of_memory : (starved : Bool) (runs : List Run) (bs : List B) (ls : List LeftState) →
+      (starved ≡ false → AreLeftBy outcome runs bs ls) → (starved ≡ true → IsOneStarved outcome runs bs) →
+      ((k : ℕ) (run : Run) → k < length runs → (get_or runs k run).0 ≡ k) →
+      ((l : LeftState) → (get_or ls 0 l).started ≢ None) →
+      (starved ≡ false → IsOneEach (length ls) ls) → IsOutOfMemory outcome bs
+  out_of_memory false runs bs ls all one number main each =
+      inr (handed_back runs bs ls (all refl) number main, subst (λ n. IsOneEach n ls) (as_many_left runs bs ls (all refl)) (each refl))
+  out_of_memory true runs bs ls all one number main each =
+      let h = starved_at runs bs (one refl) in
+      let same : get_or runs h.0 (record { 0 = 0 }) ≡ record { 0 = h.0 } = ap (λ m. let r : Run = record { 0 = m } in r) (number h.0 (record { 0 = 0 }) h.2) in
+      inl (h.0, h.1, λ b. subst (λ r. HasStarved outcome r (get_or bs h.0 b)) same (h.3 (record { 0 = 0 }) b))

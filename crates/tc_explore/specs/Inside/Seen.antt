@@ -1,16 +1,39 @@
 -- The states that a search has seen.
-use Rattle.std.specs.Prelude.{ℕ, ◌≡◌, ◌<◌, ◌≤◌, ◌⊎◌, ◌&&◌, nat_le, if◌then◌else◌, Bool, true, Option, None, Some, List, [], ◌∷◌, ◌++◌, false, length, map, slice_get, slice_index_or, All}
-use Rattle.tc_rules.specs.Prelude.{Run, Verdict, level_of, Entry, Op, is_fault, Case, past_of, is_over, overall, answer, is_active}
-use Rattle.tc_verdict.specs.declared.verdict.Verdict.TheVariants as V
+use Rattle.std.specs.Prelude.{ℕ, ◌⊎◌, List, ◌∷◌, ◌≡◌, true, false, ◌<◌, length, slice_index_or, ◌≤◌, ◌&&◌, nat_le, if◌then◌else◌, Bool, Option, None, Some, [], ◌++◌, map, slice_get, All}
+use Rattle.tc_rules.specs.Prelude.{Entry, local_if_any, is_active, Run, Verdict, level_of, Op, is_fault, Case, past_of, is_over, overall, answer}
 use Rattle.tc_step.specs.Prelude.{ScriptView}
 use Rattle.tc_course.specs.declared.witness.Witness.{Witness}
-use Rattle.tc_explore.specs.declared.findings.Findings.{Findings}
-use Rattle.tc_explore.specs.declared.search.Met.{Met}
-use Rattle.tc_explore.specs.Found.{AreReached, AreCovered, Covers}
-use Rattle.tc_course.specs.Prelude.{IsWitness, is_found, carried_on, stand, goes_on, IsTurn, IsCourse, entry_made, IsOn}
-use Rattle.tc_explore.specs.Inside.Going.{AreNoted}
-use Rattle.tc_explore.specs.Inside.Keys.{key_of}
-use Rattle.tc_explore.specs.Inside.Simulation.{IsAlike, is_spent, IsWithin, IsFor, IsCovered, IsClosedFor, IsClosed}
+use Rattle.tc_course.specs.Prelude.{carried_on, IsTurn, IsCourse, CannotGo, AreWitnesses, IsWitness, is_found, stand, goes_on, entry_made, IsOn}
+use Rattle.tc_explore.specs.{Found.AreCovered, Found.AreReached, Found.Covers, Inside.Simulation.IsAlike, Inside.Simulation.IsClosed, Inside.Simulation.IsClosedFor, Inside.Simulation.IsCovered, Inside.Simulation.IsFor, Inside.Simulation.IsWithin, Inside.Simulation.is_spent, Inside.Twins.key_of, declared.findings.Findings.Findings, declared.search.Met.Met}
+
+-- the next call of run b is made, if it can continue
+abbrev pub IsStepped : List ScriptView → List Entry → List Entry → ℕ → Type 0
+IsStepped scripts before after b =
+    ((after ≡ before) × CannotGo scripts before b)
+    ⊎ ((e : Entry) × (after ≡ e ∷ before) × (e.caller.0 ≡ b) × IsTurn scripts before e)
+
+-- so it is, if it continues
+abbrev pub IsSteppedIfActive : List ScriptView → List Entry → List Entry → ℕ → Type 0
+IsSteppedIfActive scripts before after b =
+    ((after ≡ before) × (is_active before b ≡ false)) ⊎ ((is_active before b ≡ true) × IsStepped scripts before after b)
+
+-- in some course run b carries out that many calls
+abbrev pub Reaches : List ScriptView → ℕ → ℕ → Type 0
+Reaches scripts b k = (past : List Entry) × IsCourse scripts past × (carried_on past b ≡ k)
+
+-- no verdict has two witnesses
+abbrev pub IsOnce : List Witness → Type 0
+IsOnce found =
+    (i j : ℕ) (d : Witness) → i < length found → j < length found → (slice_index_or found i d).verdict ≡ (slice_index_or found j d).verdict → i ≡ j
+
+-- each is a witness, and no verdict has two
+pub record AreNoted (scripts : List ScriptView) (found : List Witness) : Type 0 where
+  pub sound : AreWitnesses scripts found
+  pub once : IsOnce found
+
+-- after both each component has the same local verdict
+abbrev pub HasSameLocals : List Entry → List Entry → Type 0
+HasSameLocals p q = (c : ℕ) → local_if_any q c ≡ local_if_any p c
 
 -- the same is known after both, and no run that continues has a Wake to come
 pub record IsSame (p q : List Entry) : Type 0 where
@@ -155,10 +178,10 @@ is_found_within found aim v = nat_le (level_of v) (level_of aim) && is_found fou
 -- the verdict next better than the worst of these, if there is one
 abbrev pub next_aim : List Witness → Verdict → Option Verdict
 next_aim found aim =
-    if is_found_within found aim V.Error then Some V.Fail
-    else if is_found_within found aim V.Fail then Some V.Inconc
-    else if is_found_within found aim V.Inconc then Some V.Pass
-    else if is_found_within found aim V.Pass then Some V.None
+    if is_found_within found aim Verdict.Error then Some Verdict.Fail
+    else if is_found_within found aim Verdict.Fail then Some Verdict.Inconc
+    else if is_found_within found aim Verdict.Inconc then Some Verdict.Pass
+    else if is_found_within found aim Verdict.Pass then Some Verdict.None
     else None
 
 -- each verdict worse than this one that a course gives is found

@@ -1,16 +1,10 @@
 -- A history represents others that differ from it only in calls that nobody can see were made: those that change
 -- nothing but their caller's place, and the ends of runs.
 use Rattle.std.specs.Prelude.{ℕ, suc, ◌≡◌, ◌==◌, ◌<◌, ◌≤◌, ◌-◌, ◌⊎◌, ◌&&◌, ◌||◌, not, nat_le, nat_lt, Bool, true, false, Option, Some, None, List, ◌∷◌, MatchOption, length, slice_get}
-use Rattle.tc_rules.specs.Prelude.{Run, Verdict, level_of, given, Comp, Entry, Op, Target, Phase, is_fault, comps, comp_of, is_alive_type, is_over, phase, phase_if_any, overall, fault, is_active}
-use Rattle.tc_verdict.specs.declared.verdict.Verdict.TheVariants as V
-use Rattle.tc_entry.specs.declared.op.Op.TheVariants as O
-use Rattle.tc_entry.specs.declared.op.Group.TheVariants as G
-use Rattle.tc_entry.specs.declared.op.Target.TheVariants as T
-use Rattle.tc_entry.specs.declared.phase.Phase.TheVariants as P
+use Rattle.tc_rules.specs.Prelude.{Run, Verdict, level_of, given, Comp, Entry, Op, Target, Phase, is_fault, comps, comp_of, is_alive_type, is_over, phase, phase_if_any, overall, fault, is_active, Group}
 use Rattle.tc_step.specs.Prelude.{ScriptView}
-use Rattle.tc_course.specs.declared.witness.Witness.{Witness}
+use Rattle.tc_course.specs.{Inside.call_of, declared.witness.Witness.Witness}
 use Rattle.tc_course.specs.Prelude.{CourseState, stand, goes_on, steps_of, turn, IsTurn, IsCourse, is_found}
-use Rattle.tc_course.specs.Inside.Standing.{call_of}
 
 -- the same components in the same phases, the same runs on them
 pub record IsAlike (p q : List Entry) : Type 0 where
@@ -21,28 +15,28 @@ pub record IsAlike (p q : List Entry) : Type 0 where
 
 -- the call asks a question, or sets a verdict that is no worse than this one
 abbrev pub is_quiet : Verdict → Op → Bool
-is_quiet worst (O.SetVerdict v) = nat_le (level_of (given v)) (level_of worst)
-is_quiet worst O.GetVerdict = true
-is_quiet worst (O.Running t) = true
-is_quiet worst (O.Alive t) = true
-is_quiet worst (O.Done t) = true
-is_quiet worst (O.Killed t) = true
+is_quiet worst (Op.SetVerdict v) = nat_le (level_of (given v)) (level_of worst)
+is_quiet worst Op.GetVerdict = true
+is_quiet worst (Op.Running t) = true
+is_quiet worst (Op.Alive t) = true
+is_quiet worst (Op.Done t) = true
+is_quiet worst (Op.Killed t) = true
 is_quiet worst op = false
 
 -- there is a component, and it is killed
 abbrev pub is_gone : Option Phase → Bool
-is_gone (Some P.Killed) = true
+is_gone (Some Phase.Killed) = true
 is_gone _ = false
 
 -- the call stops or kills a component that is killed already; the main component is none of these
 abbrev pub is_late : List Entry → Op → Bool
-is_late q (O.Stop (G.One c)) = not (c.0 == 0) && is_gone (phase_if_any q c.0)
-is_late q (O.Kill (G.One c)) = not (c.0 == 0) && is_gone (phase_if_any q c.0)
+is_late q (Op.Stop (Group.One c)) = not (c.0 == 0) && is_gone (phase_if_any q c.0)
+is_late q (Op.Kill (Group.One c)) = not (c.0 == 0) && is_gone (phase_if_any q c.0)
 is_late q op = false
 
 -- the call waits for a component that is killed already
 abbrev pub is_met : List Entry → Op → Bool
-is_met q (O.Wait killed (T.One c)) = is_gone (phase_if_any q c.0)
+is_met q (Op.Wait killed (Target.One c)) = is_gone (phase_if_any q c.0)
 is_met q op = false
 
 -- the call would change nothing but its caller's place
@@ -57,14 +51,14 @@ pub record IsQuietAt (n : ℕ) (q : List Entry) (b : ℕ) (op : Op) : Type 0 whe
 -- what a run that is known so calls at its k-th step
 abbrev pub call_at : List ScriptView → ℕ → CourseState → Option Comp → ℕ → Op
 call_at scripts b s (Some me) k = call_of me s.bound (slice_get (steps_of scripts b) k)
-call_at scripts b s None k = O.Finish
+call_at scripts b s None k = Op.Finish
 
 -- the Wake is that of the Wait
 pub record IsWakeOf (wait wake : Op) : Type 0 where
   pub killed : Bool
   pub target : Target
-  pub waits : wait ≡ O.Wait killed target
-  pub wakes : wake ≡ O.Wake killed target
+  pub waits : wait ≡ Op.Wait killed target
+  pub wakes : wake ≡ Op.Wake killed target
 
 -- run b has called as many steps as the other, or less, and those between are quiet
 pub record IsBefore (scripts : List ScriptView) (q : List Entry) (b : ℕ) (s t : CourseState) : Type 0 where
@@ -89,7 +83,7 @@ pub record IsFollowed (scripts : List ScriptView) (q : List Entry) (b : ℕ) (s 
 
 -- the call of run b would be quiet, or ends the run
 abbrev pub IsLastAt : ℕ → List Entry → ℕ → Op → Type 0
-IsLastAt n q b op = IsQuietAt n q b op ⊎ (op ≡ O.Finish)
+IsLastAt n q b op = IsQuietAt n q b op ⊎ (op ≡ Op.Finish)
 
 -- a run that is known so was parked at this Wait, which is quiet
 pub record WasParked (scripts : List ScriptView) (q : List Entry) (b : ℕ) (s : CourseState) (wake : Op) : Type 0 where
@@ -100,7 +94,7 @@ pub record WasParked (scripts : List ScriptView) (q : List Entry) (b : ℕ) (s :
 
 -- the call sets a verdict worse than this one
 abbrev pub is_barred : Verdict → Op → Bool
-is_barred aim (O.SetVerdict v) = nat_lt (level_of aim) (level_of (given v))
+is_barred aim (Op.SetVerdict v) = nat_lt (level_of aim) (level_of (given v))
 is_barred aim op = false
 
 -- run b, which is known so, sets a verdict worse than this one before its k-th call or by it
@@ -118,8 +112,8 @@ pub record IsLeaving (aim : Verdict) (scripts : List ScriptView) (q : List Entry
 -- after p a run is leaving component c, which nothing can start again; after q it has ended
 pub record IsEnding (aim : Verdict) (scripts : List ScriptView) (p q : List Entry) (c : ℕ) : Type 0 where
   pub run : Run
-  pub running : phase p c ≡ P.Running run
-  pub ended : phase q c ≡ P.Killed
+  pub running : phase p c ≡ Phase.Running run
+  pub ended : phase q c ≡ Phase.Killed
   pub not_main : (run.0 == 0) ≡ false
   pub on : comp_of p run.0 ≡ Some (record { 0 = c })
   pub ordinary : is_alive_type p c ≡ false
@@ -145,18 +139,18 @@ place_of s = place_by s.wake s.called
 -- run b on component c waits from now on for components only that are killed after q, and that come before c by rank
 abbrev pub IsOrdered : List ScriptView → (ℕ → ℕ) → List Entry → ℕ → ℕ → CourseState → Type 0
 IsOrdered scripts rank q c b s =
-    (k : ℕ) (killed : Bool) (t : Comp) → place_of s ≤ k → call_at scripts b s s.comp k ≡ O.Wait killed (T.One t) → (rank t.0 < rank c) × (is_gone (phase_if_any q t.0) ≡ true)
+    (k : ℕ) (killed : Bool) (t : Comp) → place_of s ≤ k → call_at scripts b s s.comp k ≡ Op.Wait killed (Target.One t) → (rank t.0 < rank c) × (is_gone (phase_if_any q t.0) ≡ true)
 
 -- so it is of each run that continues after p on a component that is killed after q
 pub record AreOrdered (scripts : List ScriptView) (p q : List Entry) : Type 0 where
   pub rank : ℕ → ℕ
   pub top : ℕ
   pub below : (c : ℕ) → rank c ≤ top
-  pub each : (c b : ℕ) → is_active p b ≡ true → comp_of p b ≡ Some (record { 0 = c }) → phase q c ≡ P.Killed → IsOrdered scripts rank q c b (stand p b)
+  pub each : (c b : ℕ) → is_active p b ≡ true → comp_of p b ≡ Some (record { 0 = c }) → phase q c ≡ Phase.Killed → IsOrdered scripts rank q c b (stand p b)
 
 -- the call ends run b, which is not the main one, on a component that nothing can start again
 pub record IsEnd (q : List Entry) (b : ℕ) (op : Op) : Type 0 where
-  pub finish : op ≡ O.Finish
+  pub finish : op ≡ Op.Finish
   pub not_main : (b == 0) ≡ false
   pub comp : Comp
   pub on : (stand q b).comp ≡ Some comp
@@ -176,7 +170,7 @@ pub record IsBarredNow (aim : Verdict) (scripts : List ScriptView) (q : List Ent
 pub record IsFelled (aim : Verdict) (scripts : List ScriptView) (q : List Entry) (b : ℕ) (comp : Comp) : Type 0 where
   pub not_main : (comp.0 == 0) ≡ false
   pub run : Run
-  pub running : phase q comp.0 ≡ P.Running run
+  pub running : phase q comp.0 ≡ Phase.Running run
   pub on : (stand q run.0).comp ≡ Some comp
   pub other : (b == run.0) ≡ false
   pub not_main_run : (run.0 == 0) ≡ false
@@ -186,7 +180,7 @@ pub record IsFelled (aim : Verdict) (scripts : List ScriptView) (q : List Entry)
 -- the call of run b stops or kills such a component
 pub record IsFelling (aim : Verdict) (scripts : List ScriptView) (q : List Entry) (b : ℕ) (op : Op) : Type 0 where
   pub comp : Comp
-  pub halts_it : (op ≡ O.Stop (G.One comp)) ⊎ (op ≡ O.Kill (G.One comp))
+  pub halts_it : (op ≡ Op.Stop (Group.One comp)) ⊎ (op ≡ Op.Kill (Group.One comp))
   pub felled : IsFelled aim scripts q b comp
 
 -- nobody can see that run b made this call, except that the verdict may be worse then, but no worse than this one
@@ -197,7 +191,7 @@ IsSilent aim scripts q b op = (is_spent q op ≡ true) ⊎ (IsEnd q b op ⊎ ((i
 pub record IsFor (aim : Verdict) (scripts : List ScriptView) (q p : List Entry) : Type 0 where
   pub ahead : IsAhead aim scripts p q
   pub runs : (b : ℕ) → is_active q b ≡ true → IsFollowed scripts q b (stand p b) (stand q b)
-  pub order : (level_of aim < level_of V.Error) ⊎ AreOrdered scripts p q
+  pub order : (level_of aim < level_of Verdict.Error) ⊎ AreOrdered scripts p q
 
 -- each history that q represents has one of these that represents it
 abbrev pub IsCovered : Verdict → List ScriptView → (List Entry → Type 0) → List Entry → Type 0
@@ -224,4 +218,4 @@ pub record IsClosed (aim : Verdict) (scripts : List ScriptView) (Seen : List Ent
   pub main : is_active q 0 ≡ true
   pub main_stays : (stand q 0).left ≡ false
   pub each : (e : Entry) → e.caller.0 < length scripts → IsTurn scripts q e → goes_on e.reply ≡ true → IsClosedFor aim scripts Seen found q e
-  pub stuck : (is_found found V.Error ≡ true) ⊎ (GoesOn scripts q ⊎ (level_of aim < level_of V.Error))
+  pub stuck : (is_found found Verdict.Error ≡ true) ⊎ (GoesOn scripts q ⊎ (level_of aim < level_of Verdict.Error))

@@ -1,15 +1,46 @@
 -- Courses of which the same is known, local verdicts and waits included, and what a search for local verdicts keeps.
-use Rattle.std.specs.Prelude.{ℕ, ◌≡◌, ◌==◌, ◌<◌, ◌≤◌, ◌+◌, ◌++◌, ◌∷◌, if◌then◌else◌, Bool, true, false, Option, Some, None, List, [], All, length, map, slice_get, slice_index_or}
+use Rattle.std.specs.Prelude.{ℕ, ◌+◌, ◌∷◌, ◌++◌, if◌then◌else◌, Bool, true, false, Option, Some, None, List, [], length, map, ◌≡◌, ◌==◌, ◌<◌, ◌≤◌, All, slice_get, slice_index_or}
 use Rattle.std.specs.List.{flat_map, range_with_len}
-use Rattle.tc_rules.specs.Prelude.{Verdict, level_of, Entry, Op, Target, Case, past_of, is_over, local, local_if_any, components, is_active}
-use Rattle.tc_entry.specs.declared.op.Op.TheVariants as O
-use Rattle.tc_entry.specs.declared.op.Target.TheVariants as T
+use Rattle.tc_rules.specs.Prelude.{level_of, Comp, Entry, Phase, is_alive_type, phase_if_any, overall, components, is_active, Verdict, Op, Target, Case, past_of, is_over, local, local_if_any}
+use Rattle.tc_course.specs.Prelude.{CourseState, stand, IsTurn, IsOn, is_local}
 use Rattle.tc_step.specs.Prelude.{ScriptView}
-use Rattle.tc_explore.specs.declared.search.Met.{Met}
-use Rattle.tc_course.specs.Prelude.{stand, IsTurn, IsOn}
-use Rattle.tc_explore.specs.Locals.{is_local}
-use Rattle.tc_explore.specs.Inside.Keys.{key_of}
-use Rattle.tc_explore.specs.Inside.Simulation.{IsAlike}
+use Rattle.tc_explore.specs.{Inside.Simulation.IsAlike, declared.search.Met.Met}
+
+-- what a component is doing, as a number
+abbrev pub phase_code : Option Phase → ℕ
+phase_code None = 0
+phase_code (Some Phase.Inactive) = 1
+phase_code (Some Phase.Stopped) = 2
+phase_code (Some Phase.Killed) = 3
+phase_code (Some (Phase.Running run)) = run.0 + 4
+
+-- a component, if there is one, as a number
+abbrev pub comp_code : Option Comp → ℕ
+comp_code None = 0
+comp_code (Some c) = c.0 + 1
+
+-- the number of a component
+abbrev pub number_of : Comp → ℕ
+number_of c = c.0
+
+-- what a run can still call depends on this: its component, and if it continues what it has called and what is bound
+abbrev pub run_key : Bool → CourseState → List ℕ
+run_key true s = comp_code s.comp ∷ 1 ∷ s.called ∷ length s.bound ∷ map number_of s.bound
+run_key false s = comp_code s.comp ∷ 0 ∷ []
+
+-- the same of run b
+abbrev pub run_key_of : List Entry → ℕ → List ℕ
+run_key_of past b = run_key (is_active past b) (stand past b)
+
+-- what component c does, and its kind
+abbrev pub comp_key : List Entry → ℕ → List ℕ
+comp_key past c = phase_code (phase_if_any past c) ∷ (if is_alive_type past c then 1 else 0) ∷ []
+
+-- the key of what n runs have done: the verdict, the components, and the runs
+unfoldable pub key_of : ℕ → List Entry → List ℕ
+key_of n past =
+    level_of (overall past) ∷ components past
+    ∷ (flat_map (comp_key past) (range_with_len 0 (components past)) ++ flat_map (run_key_of past) (range_with_len 0 n))
 
 -- the same is known after both, of each run that continues and of each local verdict
 pub record IsTwin (q p : List Entry) : Type 0 where
@@ -30,13 +61,13 @@ local_key past c = local_code (local_if_any past c) ∷ []
 
 -- what is waited for, as two numbers
 abbrev pub target_key : Bool → Target → List ℕ
-target_key killed (T.One c) = (if killed then 2 else 1) ∷ c.0 ∷ []
-target_key killed T.Any = (if killed then 4 else 3) ∷ 0 ∷ []
-target_key killed T.All = (if killed then 6 else 5) ∷ 0 ∷ []
+target_key killed (Target.One c) = (if killed then 2 else 1) ∷ c.0 ∷ []
+target_key killed Target.Any = (if killed then 4 else 3) ∷ 0 ∷ []
+target_key killed Target.All = (if killed then 6 else 5) ∷ 0 ∷ []
 
 -- the Wake to come of a run that continues, if there is one
 abbrev pub wake_key : Bool → Option Op → List ℕ
-wake_key true (Some (O.Wake killed target)) = target_key killed target
+wake_key true (Some (Op.Wake killed target)) = target_key killed target
 wake_key _ _ = 0 ∷ 0 ∷ []
 
 -- the same of run b

@@ -12,7 +12,7 @@ fn append_details<R: Abort>(
     assert!(rt; scripts.len() <= 64);
     let explored = explore(alloc, scripts, MANY)?;
     is(rt, "the ending", explored.ending, Ending::Complete);
-    explored.append_details(alloc, out, scripts)
+    tc_explored::append_details(alloc, out, scripts, &explored)
 }
 
 fn details<R: Abort>(rt: &R, alloc: Global, scripts: &[Script]) -> Result<Vec<u8>, NoMemory> {

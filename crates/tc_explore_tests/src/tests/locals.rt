@@ -138,7 +138,7 @@ fn are_lines<R: Abort>(
 ) -> Result<(), Fail> {
     let locals = locals_of(rt, alloc, scripts, limit)?;
     let mut out = Vec::new(alloc);
-    locals.append_lines(alloc, &mut out)?;
+    append_locals(alloc, &mut out, &locals)?;
     is(rt, "the lines", out.as_slice(), wanted.as_bytes());
     Ok(())
 }

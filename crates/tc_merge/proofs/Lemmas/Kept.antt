@@ -1,7 +1,6 @@
 -- Only verdict entries are put in.
 use Rattle.std.proofs.Common.{◌≡◌, ℕ, zero, suc, ◌&&◌, not, if◌then◌else◌, Bool, true, false, Option, Some, None, List, [], ◌∷◌, ◌++◌, filter, reverse, refl, sym, ap, ◌∙◌}
-use Rattle.std.proofs.lemmas.List.{append-nil, reverse-append, reverse-reverse}
-use Rattle.std.proofs.lemmas.List.Elements.{filter-append}
+use Rattle.std.proofs.lemmas.List.{Elements.filter-append, append-nil, reverse-append, reverse-reverse}
 use Rattle.tc_rules.specs.Prelude.{Run, Entry, is_ended, is_other, is_late, is_verdict_call, verdict_calls_after, calls_of, started, in_place, late, log_of, runs_end, merge}
 use Rattle.tc_rules.specs.declared.run_log.RunLog.{RunLog}
 use Rattle.tc_merge.specs.Inside.{head_at_start}

@@ -1,11 +1,10 @@
 -- A table of logs by run number.
 use Rattle.std.proofs.Common.{◌≡◌, ◌≢◌, ◌==◌, ℕ, ◌+◌, ◌<◌, ◌≤◌, max, true, false, if◌then◌else◌, List, [], ◌∷◌, ◌++◌, length, get_or, set, replicate, refl, sym, ap, ◌∙◌, subst, arith, eq-eqb, inl, inr}
 use Rattle.std.specs.Borrow.{Bor}
-use Rattle.std.proofs.lemmas.Bool.{ne_eqb, cases_eq, cases_lt}
-use Rattle.std.proofs.lemmas.List.{get_or-set_same, get_or-set_other, get_or-replicate, length-set, length-replicate}
+use Rattle.std.proofs.lemmas.{Bool.cases_eq, Bool.cases_lt, Bool.ne_eqb, List.get_or-replicate, List.get_or-set_other, List.get_or-set_same, List.length-replicate, List.length-set}
 use Rattle.tc_rules.specs.Prelude.{Entry, log_of, runs_end}
 use Rattle.tc_rules.specs.declared.run_log.RunLog.{RunLog}
-use Rattle.tc_merge.specs.Inside.{Has}
+use Rattle.tc_merge.specs.OneCase.{Has}
 
 -- the log of run b, otherwise other entries
 abbrev pub log_or : List RunLog → ℕ → List Entry → List Entry

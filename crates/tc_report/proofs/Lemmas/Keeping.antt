@@ -1,12 +1,8 @@
--- What one that keeps test cases has when it was given some.
-use Rattle.std.proofs.Common.{◌≡◌, ◌∙◌, ◌≤◌, ◌+◌, ◌++◌, ◌∷◌, [], true, false, List, length, arith, sym, ap, append_assoc}
+-- The test cases that an observer was given, one after another, and what one that keeps them has then.
+use Rattle.std.proofs.Common.{◌≡◌, ◌∙◌, ◌≤◌, ◌+◌, ◌++◌, ◌∷◌, [], true, false, List, length, arith, sym, ap, append_assoc, Bool, refl, subst}
 use Rattle.std.proofs.lemmas.List.{append-nil, length-append}
 use Rattle.std.specs.Vec.{vec_capacity}
-use Rattle.tc_report.specs.declared.kept.Kept.{Kept}
-use Rattle.tc_report.specs.declared.results.Finished.{Finished}
-use Rattle.tc_report.specs.Kept.{Keeps}
-use Rattle.tc_report.specs.Inside.{IsEndedAt}
-use Rattle.tc_report.specs.Observers.{AreTaken}
+use Rattle.tc_report.specs.{Inside.IsEndedAt, Observers.AreTaken, Observers.Keeps, declared.kept.Kept.Kept, declared.results.Finished.Finished}
 
 -- if there is room for them, those that it was given are kept after the others, and the room stays
 all_kept : (fs : List Finished) (before after : Kept) → AreTaken Keeps fs before after → length before.finished.items + length fs ≤ vec_capacity before.finished
@@ -34,3 +30,9 @@ module _ (fs : List Finished) (before after : Kept) (none : before.finished.item
       let there = ap length kept.0 ∙ length-append before.finished.items ended.others in
       let went : false ≡ true = (ended.at_last (omega (arith, fits, long, there, kept.1))).0 in
       absurd (cc went)
+
+-- one test case more
+pub taken_more : {O : Type 0} (takes : O → Finished → O → Bool → Type 0) (fs : List Finished) (f : Finished) (before between after : O)
+    → AreTaken takes fs before between → takes between f after true → AreTaken takes (fs ++ f ∷ []) before after
+taken_more takes [] f before between after same one = (after, subst (λ o. takes o f after true) same one, refl)
+taken_more takes (g ∷ fs) f before between after all one = (all.0, all.1, taken_more takes fs f all.0 between after all.2 one)

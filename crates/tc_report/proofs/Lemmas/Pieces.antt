@@ -3,23 +3,10 @@ use Rattle.std.proofs.Common.{ℕ, ◌≡◌, ◌∙◌, Bool, List, [], ◌∷�
 use Rattle.std.proofs.lemmas.List.{append-nil}
 use Rattle.std.specs.Prelude.{IsSomeAnd}
 use Rattle.std.specs.Io.KnownBytes.{Appends}
-use Rattle.tc_verdict.specs.declared.verdict.Verdict.TheVariants as V
-use Rattle.tc_rules.specs.Prelude.{worse}
+use Rattle.tc_rules.specs.Prelude.{worse, Verdict}
 use Rattle.tc_stream.specs.Prelude.{AppendsPrefix}
-use Rattle.tc_report.specs.declared.fault.OutFault.{OutFault}
-use Rattle.tc_report.specs.declared.live_form.LiveForm.{LiveForm}
-use Rattle.tc_report.specs.declared.results.CampaignEnd.{CampaignEnd}
-use Rattle.tc_report.specs.declared.results.Finished.{Finished}
-use Rattle.tc_report.specs.declared.live.LiveWriter.{LiveWriter}
-use Rattle.tc_report.specs.Live.{IsWritten, Writes, closing_text, opening_text, part_text}
-use Rattle.tc_report.specs.Inside.{IsEndedAt, form_text, text_so_far}
-use Rattle.tc_report.specs.Observers.{AreTaken}
-use Rattle.tc_report.specs.Output.{LeavesPrefix}
-use Rattle.tc_report.specs.Status.{ending_status, results_status, worst_of}
-use Rattle.tc_report.specs.Summary.{case_summary}
-use Rattle.tc_report.specs.Tally.{tally_of_cases}
-use Rattle.tc_report.proofs.Overalls.{worst_more}
-use Rattle.tc_report.proofs.Writing.{appends_both, left_is_prefix, prefix_behind, prefix_longer, so_far_more, whole_text}
+use Rattle.tc_report.specs.{Inside.IsEndedAt, Inside.form_text, Inside.text_so_far, Live.IsWritten, Live.Writes, Live.closing_text, Live.opening_text, Live.part_text, Observers.AreTaken, Output.LeavesPrefix, Report.tally_of_cases, Status.ending_status, Status.results_status, Status.worst_of, Summary.case_summary, declared.fault.OutFault.OutFault, declared.live.LiveWriter.LiveWriter, declared.live_form.LiveForm.LiveForm, declared.results.CampaignEnd.CampaignEnd, declared.results.Finished.Finished}
+use Rattle.tc_report.proofs.{Overalls.worst_more, Writing.appends_both, Writing.left_is_prefix, Writing.prefix_behind, Writing.prefix_longer, Writing.so_far_more, Writing.whole_text}
 
 -- a prefix of what comes up to some test case is one of the whole text
 cut_left : (form : LiveForm) (start after : Option (List ℕ)) (fs : List Finished) (ending : CampaignEnd) → AppendsPrefix start after (text_so_far form fs)
@@ -49,7 +36,7 @@ module _ {W : Type 0} (contents : W → Option (List ℕ)) where
 
   -- where it is when only what is before the test cases was written
   pub begun : (form : LiveForm) (start : Option (List ℕ)) (l : LiveWriter W) → l.form ≡ form → Appends start (contents l.writer.now) (opening_text form)
-      → l.tally ≡ tally_of_cases [] → l.worst ≡ V.None → IsAt form start [] l
+      → l.tally ≡ tally_of_cases [] → l.worst ≡ Verdict.None → IsAt form start [] l
   begun form start l same out tally worst = record {
     form_is = same;
     out = subst (Appends start (contents l.writer.now)) (sym (append-nil (opening_text form))) out;

@@ -1,18 +1,11 @@
 -- What was printed of test cases as they finished, test case by test case.
-use Rattle.std.proofs.Common.{ℕ, ◌≡◌, ◌∙◌, nat_lt, Bool, true, false, List, [], ◌∷◌, ◌++◌, Option, Some, None, Result, Ok, Err, OnOk, OnErr, IfErr, codes, not, refl, sym, ap, subst, append_assoc}
-use Rattle.std.proofs.lemmas.List.{append-nil}
-use Rattle.std.proofs.lemmas.List.Elements.{filter-append}
-use Rattle.std.specs.Io.KnownBytes.{Appends, Keeps}
+use Rattle.std.proofs.Common.{ℕ, ◌≡◌, ◌∙◌, nat_lt, Bool, true, false, List, [], ◌∷◌, ◌++◌, Option, Some, None, Result, Ok, Err, OnOk, OnErr, IfErr, codes, not, refl, sym, ap, subst, append_assoc, map, reverse}
+use Rattle.std.proofs.lemmas.List.{Elements.filter-append, append-nil}
+use Rattle.std.specs.{Io.KnownBytes.Appends, Io.KnownBytes.Keeps, List.AllZip}
 use Rattle.tc_rules.specs.Prelude.{is_name_byte}
 use Rattle.tc_text.specs.Prelude.{ends_word}
-use Rattle.tc_report.specs.declared.fault.OutFault.{OutFault}
-use Rattle.tc_report.specs.declared.progress.Progress.{Progress}
-use Rattle.tc_report.specs.declared.results.Finished.{Finished}
-use Rattle.tc_report.specs.Inside.{Adds, AddsWords, IsEndedAt, IsSoFar}
-use Rattle.tc_report.specs.Observers.{AreTaken}
-use Rattle.tc_report.specs.Output.{LeavesPrefix}
-use Rattle.tc_report.specs.Progress.{HasTold, IsToldBy, Names, Prints, TellsProgress, failed, told}
-use Rattle.tc_report.specs.Status.{verdict_status}
+use Rattle.tc_blocks.specs.declared.history_block.History.{History}
+use Rattle.tc_report.specs.{Inside.Adds, Inside.AddsWords, Inside.IsEndedAt, Inside.IsSoFar, Observers.AreTaken, Output.LeavesPrefix, Progress.HasTold, Progress.IsToldBy, Progress.Names, Progress.Prints, Progress.TellsProgress, Progress.failed, Progress.told, Status.verdict_status, Summary.IsBlockOf, Summary.SummariesOfHistories, Summary.block_summary, Summary.case_end, Summary.case_summary, declared.fault.OutFault.OutFault, declared.progress.Progress.Progress, declared.results.CaseEnd.CaseEnd, declared.results.Finished.Finished}
 use Rattle.tc_report.proofs.Writing.{appends_both, left_is_prefix}
 
 names_front : (fs : List Finished) (a b : List ℕ) → Names fs b → Names fs (a ++ b)
@@ -161,3 +154,17 @@ module _ {O E C : Type 0} (contents : E → Option (List ℕ)) (takes : O → Fi
         subst (λ l. HasTold contents start l after) (sym ended.all) (one.1 start ended.others others.1),
         (one.2 ∙ others.2.0, one.3 ∙ others.2.1, one.4 ∙ others.2.2),
       )
+
+pub one_same : (f : Finished) (b : History) → IsBlockOf f b → block_summary b ≡ case_summary f
+one_same f b is =
+    let ended : case_end (reverse f.report.history) ≡ CaseEnd.Over f.report.verdict = rw (is.report.over, is.report.verdict) refl in
+    rw (is.name, is.entries, is.report.locals, ended) refl
+
+all_same : (fs : List Finished) (bs : List History) → AllZip IsBlockOf fs bs → map block_summary bs ≡ map case_summary fs
+all_same [] [] each = refl
+all_same [] (b ∷ bs) each = absurd each
+all_same (f ∷ fs) [] each = absurd each
+all_same (f ∷ fs) (b ∷ bs) each = rw (one_same f b each.0, all_same fs bs each.1) refl
+
+pub summaries_of_histories : SummariesOfHistories
+summaries_of_histories r bs each = all_same r.finished bs each

@@ -1,14 +1,9 @@
 -- Small facts on tests, options and operations, which several files need.
 use Rattle.std.proofs.Common.{ℕ, ◌≡◌, ◌==◌, ◌&&◌, ◌<◌, ◌≤◌, if◌then◌else◌, Bool, true, false, Option, Some, None, is_some, refl, arith}
 use Rattle.std.proofs.lemmas.Bool.Decides.{nat_tests}
-use Rattle.tc_entry.specs.declared.comp.Comp.{Comp}
-use Rattle.tc_entry.specs.declared.op.Op.{Op}
-use Rattle.tc_entry.specs.declared.op.Op.TheVariants as O
-use Rattle.tc_entry.specs.declared.reply.Reply.{Reply}
-use Rattle.tc_entry.specs.declared.reply.Reply.TheVariants as R
+use Rattle.tc_entry.specs.declared.{comp.Comp.Comp, op.Op.Op, reply.Reply.Reply}
 use Rattle.tc_entry.specs.Prelude.{is_ok}
-use Rattle.tc_rules.specs.History.{first_some, is_comp, is_finish, is_kill_of, is_stop_case, is_stop_of}
-use Rattle.tc_rules.specs.Inside.Laws.{halting_op}
+use Rattle.tc_rules.specs.{History.first_some, History.is_comp, History.is_finish, History.is_kill_of, History.is_stop_case, History.is_stop_of, Inside.Laws.halting_op}
 
 pub self_equal : (m : ℕ) → (m == m) ≡ true
 self_equal m = grind (arith, nat_tests)
@@ -44,8 +39,8 @@ pub first_alone : {A : Type 0} (o : Option A) → first_some o None ≡ o
 first_alone (Some x) = refl
 first_alone None = refl
 
-pub ok_is : (reply : Reply) → is_ok reply ≡ true → reply ≡ R.Ok
-ok_is R.Ok h = refl
+pub ok_is : (reply : Reply) → is_ok reply ≡ true → reply ≡ Reply.Ok
+ok_is Reply.Ok h = refl
 ok_is _ h = absurd cc
 
 -- a component is none that is beyond it
@@ -56,17 +51,17 @@ other_comp (Some d) c n h out = let k : d.0 < n = h d refl in grind (arith, nat_
 -- what an operation that halts nothing is not
 
 pub no_stop : (op : Op) (c : ℕ) → halting_op op ≡ false → is_stop_of op c ≡ false
-no_stop (O.Stop group) c h = absurd cc
+no_stop (Op.Stop group) c h = absurd cc
 no_stop _ c h = refl
 
 pub no_kill : (op : Op) (c : ℕ) → halting_op op ≡ false → is_kill_of op c ≡ false
-no_kill (O.Kill group) c h = absurd cc
+no_kill (Op.Kill group) c h = absurd cc
 no_kill _ c h = refl
 
 pub no_stop_case : (op : Op) → halting_op op ≡ false → is_stop_case op ≡ false
-no_stop_case O.StopCase h = absurd cc
+no_stop_case Op.StopCase h = absurd cc
 no_stop_case _ h = refl
 
 pub no_finish : (op : Op) → halting_op op ≡ false → is_finish op ≡ false
-no_finish O.Finish h = absurd cc
+no_finish Op.Finish h = absurd cc
 no_finish _ h = refl

@@ -2,13 +2,8 @@
 use Rattle.std.proofs.Common.{ℕ, ◌≡◌, ◌<◌, ◌+◌, List, [], ◌∷◌, ◌++◌, length, get_or, take, drop, reverse, sym, ap, ◌∙◌, subst, add-one}
 use Rattle.std.proofs.lemmas.List.{reverse-append, take-append-drop}
 use Rattle.std.proofs.Math.Seq.{take-suc}
-use Rattle.tc_entry.specs.declared.op.Op.TheVariants as O
-use Rattle.tc_entry.specs.declared.entry.Entry.{Entry}
-use Rattle.tc_entry.specs.declared.reply.Reply.{Reply}
-use Rattle.tc_rules.specs.Legal.{IsLegal}
-use Rattle.tc_rules.specs.declared.check.CheckFault.{CheckFault}
-use Rattle.tc_rules.specs.declared.check.CheckFault.TheVariants as C
-use Rattle.tc_rules.specs.Check.{DiffersAt, IsFaultOf}
+use Rattle.tc_entry.specs.declared.{entry.Entry.Entry, op.Op.Op, reply.Reply.Reply}
+use Rattle.tc_rules.specs.{Legal.DiffersAt, Legal.IsFaultOf, Legal.IsLegal, declared.check.CheckFault.CheckFault}
 
 -- an earlier part of a legal history is legal
 pub later_legal : (n : ℕ) (new past : List Entry) → IsLegal n (new ++ past) → IsLegal n past
@@ -23,7 +18,7 @@ parted xs i d h =
 
 not_legal : (n : ℕ) (list : List Entry) (at : ℕ) (reply : Reply) → DiffersAt n list at reply → IsLegal n (reverse list) → ⊥
 not_legal n list at reply w legal =
-    let d : Entry = record { caller = record { 0 = 0 }; op = O.Finish; reply = reply } in
+    let d : Entry = record { caller = record { 0 = 0 }; op = Op.Finish; reply = reply } in
     let e : Entry = get_or list at d in
     let s : reverse list ≡ reverse (drop (at + 1) list) ++ (e ∷ reverse (take at list)) =
     ap reverse (parted list at d w.within) ∙ (reverse-append (take at list ++ (e ∷ [])) (drop (at + 1) list)
@@ -31,7 +26,7 @@ not_legal n list at reply w legal =
     let k : IsLegal n (e ∷ reverse (take at list)) = later_legal n (reverse (drop (at + 1) list)) (e ∷ reverse (take at list)) (subst (λ l. IsLegal n l) s legal) in
     w.other d (k.0 ∙ sym (w.answers d))
 
-pub not_merged : (n m : ℕ) (h k : List Entry) (f : CheckFault) (at : ℕ) (reply : Reply) → IsFaultOf n h f → f ≡ C.Differs at reply → n ≡ m → h ≡ k → IsLegal m (reverse k) → ⊥
+pub not_merged : (n m : ℕ) (h k : List Entry) (f : CheckFault) (at : ℕ) (reply : Reply) → IsFaultOf n h f → f ≡ CheckFault.Differs at reply → n ≡ m → h ≡ k → IsLegal m (reverse k) → ⊥
 not_merged n m h k f at reply fault is same_n same_h legal =
     let w : DiffersAt n h at reply = subst (λ x. IsFaultOf n h x) is fault in
     not_legal n h at reply w (rw (same_n, same_h) legal)

@@ -1,18 +1,11 @@
 -- A component that is not yet made, after one more entry.
 use Rattle.std.proofs.Common.{ℕ, ◌≡◌, ◌&&◌, Bool, true, false, Option, None, List, ◌∷◌, refl, ap}
-use Rattle.tc_verdict.specs.declared.verdict.Verdict.TheVariants as V
-use Rattle.tc_verdict.specs.declared.run.Run.{Run}
-use Rattle.tc_verdict.specs.Prelude.{worst}
-use Rattle.tc_entry.specs.declared.entry.Entry.{Entry}
-use Rattle.tc_entry.specs.declared.phase.Phase.TheVariants as P
-use Rattle.tc_rules.specs.History.{exists, comp_of, is_comp, created, is_alive_create, is_alive_type}
-use Rattle.tc_rules.specs.Phases.{phase, last_run, was_killed, was_halted, start_in}
-use Rattle.tc_rules.specs.Local.{local, verdicts_of}
-use Rattle.tc_rules.specs.Inside.Kept.{state_of, blank}
-use Rattle.tc_rules.specs.Inside.Counts.{made_state}
+use Rattle.tc_entry.specs.Prelude.{Run, worst, Verdict}
+use Rattle.tc_entry.specs.declared.{entry.Entry.Entry, phase.Phase.Phase}
+use Rattle.tc_rules.specs.{History.comp_of, History.created, History.exists, History.is_alive_create, History.is_alive_type, History.is_comp, Inside.Counts.made_state, Inside.Kept.blank, Inside.Kept.state_of, Local.local, Local.verdicts_of, Phases.last_run, Phases.phase, Phases.start_in, Phases.was_halted, Phases.was_killed}
 use Rattle.tc_rules.proofs.Lemmas.Steps.{phase_by}
 
-not_killed_if : (k : Bool) (r : Option Run) (h a : Bool) → phase_by k r h a ≡ P.Inactive → k ≡ false
+not_killed_if : (k : Bool) (r : Option Run) (h a : Bool) → phase_by k r h a ≡ Phase.Inactive → k ≡ false
 not_killed_if true r h a e = cc
 not_killed_if false r h a e = refl
 
@@ -26,5 +19,5 @@ unfolding phase local
 fresh_step past e c ex st on blank' =
     let k : was_killed past c ≡ false = fresh_not_killed past c blank' in
     let r : last_run past c ≡ None = ap (λ s. s.last) blank' in
-    let l : worst (verdicts_of past c) ≡ V.None = ap (λ s. s.local) blank' in
+    let l : worst (verdicts_of past c) ≡ Verdict.None = ap (λ s. s.local) blank' in
     rw (ex, st, on, k, r, l)

@@ -1,28 +1,9 @@
 -- Which runs continue after one more entry.
 use Rattle.std.proofs.Common.{ℕ, ◌≡◌, ◌<◌, ◌==◌, ◌&&◌, ◌||◌, not, nat_le, if◌then◌else◌, Bool, true, false, Option, Some, None, is_some, List, [], ◌∷◌, refl, ap, sym, ◌∙◌}
-use Rattle.tc_verdict.specs.declared.run.Run.{Run}
-use Rattle.tc_entry.specs.declared.comp.Comp.{Comp}
-use Rattle.tc_entry.specs.declared.entry.Entry.{Entry}
-use Rattle.tc_entry.specs.declared.op.Op.{Op}
-use Rattle.tc_entry.specs.declared.op.Op.TheVariants as O
-use Rattle.tc_entry.specs.declared.phase.Phase.{Phase}
-use Rattle.tc_entry.specs.declared.phase.Phase.TheVariants as P
-use Rattle.tc_entry.specs.declared.reply.Fault.TheVariants as F
-use Rattle.tc_entry.specs.declared.reply.Reply.TheVariants as R
-use Rattle.tc_entry.specs.Prelude.{is_ended, is_fault, is_ok}
-use Rattle.tc_rules.specs.History.{comp_of, exists, first_some, halts, is_alive_type, is_comp, is_finish, is_kill_of, is_stop_case, is_stop_of, kills, starts_on, starts_run}
-use Rattle.tc_rules.specs.Phases.{last_run, phase, start_in, was_halted, was_killed}
-use Rattle.tc_rules.specs.Status.{is_running, is_killed}
-use Rattle.tc_rules.specs.Faults.{start_fault}
-use Rattle.tc_rules.specs.Answers.{answer, is_active, is_run_of}
-use Rattle.tc_rules.specs.Legal.{IsLegal}
-use Rattle.tc_rules.specs.Inside.Laws.{halting_op, HaltedByEntry, OthersHaltNothing, StartedByEntry}
-use Rattle.tc_rules.proofs.Lemmas.Keeping.{kill_halts}
-use Rattle.tc_rules.proofs.Lemmas.Kept.{inactive}
-use Rattle.tc_rules.proofs.Lemmas.Over.{on_existing}
-use Rattle.tc_rules.proofs.Lemmas.Sound.{IsPlain, plain_if, no_special, runs_on, starts, starts_fresh}
-use Rattle.tc_rules.proofs.Lemmas.Steps.{phase_by}
-use Rattle.tc_rules.proofs.Lemmas.Deciding.{self_equal, equal_if, test_by, and_no, ok_is, no_stop, no_kill, no_stop_case, no_finish}
+use Rattle.tc_entry.specs.Prelude.{Run, is_ended, is_fault, is_ok}
+use Rattle.tc_entry.specs.declared.{comp.Comp.Comp, entry.Entry.Entry, op.Op.Op, phase.Phase.Phase, reply.Fault.Fault, reply.Reply.Reply}
+use Rattle.tc_rules.specs.{Answers.answer, Answers.is_active, Answers.is_run_of, Faults.start_fault, History.comp_of, History.exists, History.first_some, History.halts, History.is_alive_type, History.is_comp, History.is_finish, History.is_kill_of, History.is_stop_case, History.is_stop_of, History.kills, History.started_on, History.starts_on, History.starts_run, Inside.Laws.halting_op, Inside.Laws.may_halt, Legal.IsLegal, Phases.last_run, Phases.phase, Phases.start_in, Phases.was_halted, Phases.was_killed, Status.is_killed, Status.is_running}
+use Rattle.tc_rules.proofs.Lemmas.{Deciding.and_no, Deciding.equal_if, Deciding.no_finish, Deciding.no_kill, Deciding.no_stop, Deciding.no_stop_case, Deciding.ok_is, Deciding.self_equal, Deciding.test_by, Keeping.kill_halts, Kept.inactive, Over.on_existing, Sound.IsPlain, Sound.no_special, Sound.plain_if, Sound.runs_on, Sound.starts, Sound.starts_fresh, Steps.phase_by}
 
 -- this is run b
 abbrev is_the_run : ℕ → Option Run → Bool
@@ -61,7 +42,7 @@ runs_now : (past : List Entry) (b c : ℕ) → is_run_of b (phase past c) ≡ (n
 runs_now past b c = ap (is_run_of b) (phase_now past c) ∙ run_of_phase b (was_killed past c) (last_run past c) (was_halted past c) (is_alive_type past c)
 
 still_by : (main going killed bad : Bool) →
-    (if main then Some F.StartMain else if going then Some F.AlreadyRunning else if killed then Some F.NotStartable else if bad then Some F.NoBehaviour else None) ≡ None → going ≡ false
+    (if main then Some Fault.StartMain else if going then Some Fault.AlreadyRunning else if killed then Some Fault.NotStartable else if bad then Some Fault.NoBehaviour else None) ≡ None → going ≡ false
 still_by true going killed bad h = absurd cc
 still_by false true killed bad h = absurd cc
 still_by false false killed bad h = refl
@@ -70,10 +51,10 @@ not_running : (n : ℕ) (past : List Entry) (c b : ℕ) → start_fault n past c
 unfolding start_fault
 not_running n past c b h = still_by (c == 0) (is_running (phase past c)) (is_killed (phase past c)) ((b == 0) || nat_le n b || is_some (comp_of past b)) h
 
-still_of : (n : ℕ) (past : List Entry) (b : ℕ) (op : Op) (c : ℕ) (r : Run) → IsPlain n past b op R.Ok → starts_on op c ≡ Some r → is_running (phase past c) ≡ false
-still_of n past b (O.Start d run args) c r plain h =
+still_of : (n : ℕ) (past : List Entry) (b : ℕ) (op : Op) (c : ℕ) (r : Run) → IsPlain n past b op Reply.Ok → starts_on op c ≡ Some r → is_running (phase past c) ≡ false
+still_of n past b (Op.Start d run args) c r plain h =
     let same : d.0 ≡ c = equal_if d.0 c (test_by (d.0 == c) run r h).0 in
-    rw (← same) (not_running n past d.0 run.0 (no_special n past b (O.Start d run args) plain.no_fault))
+    rw (← same) (not_running n past d.0 run.0 (no_special n past b (Op.Start d run args) plain.no_fault))
 still_of n past b _ c r plain h = absurd cc
 
 both_is : {A : Type 0} (ok : Bool) (s : Option A) (r : A) → (if ok then s else None) ≡ Some r → (ok ≡ true) × (s ≡ Some r)
@@ -84,14 +65,14 @@ both_is false s r h = absurd cc
 pub starts_still : (n : ℕ) (past : List Entry) (e : Entry) (c : ℕ) (r : Run) → e.reply ≡ answer n past e.caller.0 e.op → start_in e c ≡ Some r → is_running (phase past c) ≡ false
 starts_still n past e c r legal h =
     let p = both_is (is_ok e.reply) (starts_on e.op c) r h in
-    let q : R.Ok ≡ answer n past e.caller.0 e.op = sym (ok_is e.reply p.0) ∙ legal in
-    still_of n past e.caller.0 e.op c r (plain_if n past e.caller.0 e.op R.Ok refl refl q) p.1
+    let q : Reply.Ok ≡ answer n past e.caller.0 e.op = sym (ok_is e.reply p.0) ∙ legal in
+    still_of n past e.caller.0 e.op c r (plain_if n past e.caller.0 e.op Reply.Ok refl refl q) p.1
 
 not_the_run : (p : Phase) (b : ℕ) → is_running p ≡ false → is_run_of b p ≡ false
-not_the_run (P.Running run) b h = absurd cc
-not_the_run P.Inactive b h = refl
-not_the_run P.Stopped b h = refl
-not_the_run P.Killed b h = refl
+not_the_run (Phase.Running run) b h = absurd cc
+not_the_run Phase.Inactive b h = refl
+not_the_run Phase.Stopped b h = refl
+not_the_run Phase.Killed b h = refl
 
 -- the run that an entry starts on a component is what runs there then
 started_runs : (n : ℕ) (past : List Entry) (e : Entry) (b c : ℕ) (r : Run) → e.reply ≡ answer n past e.caller.0 e.op → start_in e c ≡ Some r →
@@ -107,7 +88,8 @@ other_run past b c r on free = by_test (r.0 == b) refl
     by_test false k = refl
     by_test true k = let q : comp_of past r.0 ≡ Some c = rw (equal_if r.0 b k) on in let z : None ≡ Some c = sym free ∙ q in absurd cc
 
-pub halted_by_entry : HaltedByEntry
+pub halted_by_entry : (n : ℕ) (past : List Entry) (e : Entry) (b : ℕ) (c : Comp) → IsLegal n (e ∷ past) → comp_of past b ≡ Some c →
+    is_active (e ∷ past) b ≡ (is_active past b && not (halts (comp_of past e.caller.0) e c.0))
 halted_by_entry n past e b c legal on = by_start (start_in e c.0) refl
   where
     stays : comp_of (e ∷ past) b ≡ Some c
@@ -128,7 +110,7 @@ halted_by_entry n past e b c legal on = by_start (start_in e c.0) refl
 
 -- if an operation starts a run
 started_here : (op : Op) (b : ℕ) (d : Comp) → starts_run op b ≡ Some d → (r : Run) × (starts_on op d.0 ≡ Some r) × (r.0 ≡ b)
-started_here (O.Start c run args) b d h =
+started_here (Op.Start c run args) b d h =
     let t = test_by (run.0 == b) c d h in
     (run, rw (← t.1) (rw (self_equal c.0) refl), equal_if run.0 b t.0)
 started_here _ b d h = absurd cc
@@ -137,7 +119,7 @@ start_here : (ok : Bool) (op : Op) (b : ℕ) (d : Comp) → (if ok then starts_r
 start_here true op b d h = started_here op b d h
 start_here false op b d h = absurd cc
 
-pub started_by_entry : StartedByEntry
+pub started_by_entry : (n : ℕ) (past : List Entry) (e : Entry) (b : ℕ) → IsLegal n (e ∷ past) → comp_of past b ≡ None → is_active (e ∷ past) b ≡ is_some (started_on e b)
 started_by_entry n past e b legal free = by_start (if is_ok e.reply then starts_run e.op b else None) refl
   where
     by_start : (o : Option Comp) → (if is_ok e.reply then starts_run e.op b else None) ≡ o → is_active (e ∷ past) b ≡ is_some o
@@ -176,7 +158,7 @@ neither : (a b : Bool) → (a || b) ≡ false → (a ≡ false) × (b ≡ false)
 neither true b h = absurd cc
 neither false b h = (refl, h)
 
-pub others_halt_nothing : OthersHaltNothing
+pub others_halt_nothing : (own : Option Comp) (e : Entry) (c : ℕ) → may_halt e.op e.reply ≡ false → halts own e c ≡ false
 others_halt_nothing own e c h =
     let p = neither (halting_op e.op) (is_fault e.reply) h in
     by_reply (is_ended e.reply) (p.1) (no_stop_case e.op p.0) (no_finish e.op p.0) (no_stop e.op 0 p.0) (no_kill e.op 0 p.0) (no_stop e.op c p.0) (no_kill e.op c p.0)

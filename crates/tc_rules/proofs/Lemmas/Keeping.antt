@@ -1,26 +1,10 @@
 -- What the table keeps is right after one more entry.
 use Rattle.std.proofs.Common.{ℕ, ◌≡◌, ◌<◌, ◌≤◌, ◌==◌, ◌&&◌, ◌||◌, not, if◌then◌else◌, Bool, true, false, Option, Some, None, is_some, List, ◌∷◌, length, get_or, refl, ap, subst, sym, ◌∙◌, arith}
 use Rattle.std.specs.List.{list_all}
-use Rattle.tc_rules.specs.declared.awaited.Awaited.{Awaited}
-use Rattle.tc_entry.specs.declared.comp.Comp.{Comp}
-use Rattle.tc_entry.specs.declared.entry.Entry.{Entry}
-use Rattle.tc_rules.specs.declared.component_state.ComponentState.{ComponentState}
-use Rattle.tc_rules.specs.declared.run_state.RunState.{RunState}
+use Rattle.tc_entry.specs.declared.{comp.Comp.Comp, entry.Entry.Entry}
 use Rattle.tc_entry.specs.Prelude.{is_ended, is_ok}
-use Rattle.tc_rules.specs.History.{is_over, exists, comps, comp_of, created, add_new, is_comp, is_in, ends_case, is_finish, is_stop_of, is_kill_of, halts, kills, starts_run, first_some, is_alive_create}
-use Rattle.tc_rules.specs.Phases.{last_run, was_killed, was_halted, start_in}
-use Rattle.tc_rules.specs.Answers.{answer}
-use Rattle.tc_rules.specs.Faults.{all_exist, target_names}
-use Rattle.tc_rules.specs.Waiting.{waiting, parks}
-use Rattle.tc_rules.specs.Standing.{Kept, StandsFor}
-use Rattle.tc_rules.specs.Inside.Kept.{IsKept, numbers_from}
-use Rattle.tc_rules.specs.Inside.Step.{next_state, next_run}
-use Rattle.tc_rules.proofs.Lemmas.Kept.{exists_if, exists_unless, existing}
-use Rattle.tc_rules.proofs.Lemmas.Steps.{state_step, run_step}
-use Rattle.tc_rules.proofs.Lemmas.Fresh.{fresh_step}
-use Rattle.tc_rules.specs.Inside.Counts.{made_state}
-use Rattle.tc_rules.proofs.Lemmas.Sound.{starts, runs_on, parked, no_parks, starts_fresh}
-use Rattle.tc_rules.proofs.Lemmas.Deciding.{equal_if, other_comp}
+use Rattle.tc_rules.specs.{Answers.answer, Faults.all_exist, Faults.target_names, History.add_new, History.comp_of, History.comps, History.created, History.ends_case, History.exists, History.first_some, History.halts, History.is_alive_create, History.is_comp, History.is_finish, History.is_in, History.is_kill_of, History.is_over, History.is_stop_of, History.kills, History.starts_run, Inside.Counts.made_state, Inside.Kept.IsKept, Inside.Kept.numbers_from, Inside.Step.next_run, Inside.Step.next_state, Phases.last_run, Phases.start_in, Phases.was_halted, Phases.was_killed, Standing.Kept, Standing.StandsFor, Waiting.parks, Waiting.waiting, declared.awaited.Awaited.Awaited, declared.component_state.ComponentState.ComponentState, declared.run_state.RunState.RunState}
+use Rattle.tc_rules.proofs.Lemmas.{Deciding.equal_if, Deciding.other_comp, Fresh.fresh_step, Kept.existing, Kept.exists_if, Kept.exists_unless, Sound.no_parks, Sound.parked, Sound.runs_on, Sound.starts, Sound.starts_fresh, Steps.run_step, Steps.state_step}
 
 halting_by : (ended ends fin stop kill : Bool) → (ends || (not ended && kill)) ≡ true → (ends || (not ended && (fin || stop || kill))) ≡ true
 halting_by ended true fin stop kill h = refl

@@ -1,24 +1,10 @@
 -- What follows from what the table keeps.
 use Rattle.std.proofs.Common.{ℕ, ◌≡◌, ◌<◌, ◌≤◌, ◌&&◌, ◌||◌, not, Bool, true, false, Some, None, is_some, nat_lt, List, [], ◌∷◌, length, map, drop, get_or, refl, ap, sym, ◌∙◌, arith}
-use Rattle.std.proofs.lemmas.Bool.Decides.{nat_tests}
+use Rattle.std.proofs.lemmas.{Bool.Decides.nat_tests, List.Folds.list_all-map}
 use Rattle.std.specs.List.{list_any, list_all}
-use Rattle.std.proofs.lemmas.List.Folds.{list_all-map}
-use Rattle.tc_entry.specs.declared.comp.Comp.{Comp}
-use Rattle.tc_entry.specs.declared.op.Target.TheVariants as T
-use Rattle.tc_entry.specs.declared.entry.Entry.{Entry}
-use Rattle.tc_rules.specs.declared.component_state.ComponentState.{ComponentState}
-use Rattle.tc_rules.specs.declared.run_state.RunState.{RunState}
-use Rattle.tc_rules.specs.Status.{running, alive, done, killed, is_running, is_killed, is_done}
-use Rattle.tc_rules.specs.History.{comps, comp_of, ptcs, exists, is_in, is_alive_type}
-use Rattle.tc_rules.specs.Phases.{phase_if_any, phase, last_run, is_excused}
-use Rattle.tc_rules.specs.Local.{local_if_any, local, overall}
-use Rattle.tc_verdict.specs.Prelude.{worst}
-use Rattle.tc_rules.specs.declared.awaited.Awaited.{Awaited}
-use Rattle.tc_rules.specs.Faults.{components, all_exist, target_names}
-use Rattle.tc_rules.specs.Answers.{is_active, is_run_of}
-use Rattle.tc_rules.specs.Waiting.{waiting}
-use Rattle.tc_rules.specs.Inside.States.{any_running, none_running, any_killed, all_killed, any_alive, all_alive, any_done, none_lapsed, all_below, worst_local}
-use Rattle.tc_rules.specs.Inside.Kept.{IsKept, state_of, run_of}
+use Rattle.tc_entry.specs.declared.{comp.Comp.Comp, entry.Entry.Entry, op.Target.Target}
+use Rattle.tc_entry.specs.Prelude.{worst}
+use Rattle.tc_rules.specs.{Answers.is_active, Answers.is_run_of, Faults.all_exist, Faults.components, Faults.target_names, History.comp_of, History.comps, History.exists, History.is_alive_type, History.is_in, History.ptcs, Inside.Kept.IsKept, Inside.Kept.run_of, Inside.Kept.state_of, Inside.States.all_alive, Inside.States.all_below, Inside.States.all_killed, Inside.States.any_alive, Inside.States.any_done, Inside.States.any_killed, Inside.States.any_running, Inside.States.none_lapsed, Inside.States.none_running, Inside.States.worst_local, Local.local, Local.local_if_any, Local.overall, Phases.is_excused, Phases.last_run, Phases.phase, Phases.phase_if_any, Status.alive, Status.done, Status.is_done, Status.is_killed, Status.is_running, Status.killed, Status.running, Waiting.waiting, declared.awaited.Awaited.Awaited, declared.component_state.ComponentState.ComponentState, declared.run_state.RunState.RunState}
 use Rattle.tc_rules.proofs.Lemmas.Numbers.{length-numbers_from, is_in-numbers_from, map-numbers_from, drop-one-map}
 
 map-map : {A B C : Type 0} (g : B → C) (f : A → B) (xs : List A) → map g (map f xs) ≡ map (λ x. g (f x)) xs
@@ -99,53 +85,53 @@ module _ {n : ℕ} {past : List Entry} {states : List ComponentState} {runs : Li
   unfolding all_exist
   one_exists c kept h = let e : nat_lt c.0 (length states) ≡ true = sym (exists_kept c.0 kept) ∙ one-true _ h in grind (arith, nat_tests)
 
-  pub running_one : (c : Comp) (d : ComponentState) → IsKept n past states runs over → c.0 < length states → running past (T.One c) ≡ is_running (get_or states c.0 d).phase
+  pub running_one : (c : Comp) (d : ComponentState) → IsKept n past states runs over → c.0 < length states → running past (Target.One c) ≡ is_running (get_or states c.0 d).phase
   unfolding running
   running_one c d kept h = rw (kept.each_state c.0 d h)
 
-  pub alive_one : (c : Comp) (d : ComponentState) → IsKept n past states runs over → c.0 < length states → alive past (T.One c) ≡ not (is_killed (get_or states c.0 d).phase)
+  pub alive_one : (c : Comp) (d : ComponentState) → IsKept n past states runs over → c.0 < length states → alive past (Target.One c) ≡ not (is_killed (get_or states c.0 d).phase)
   unfolding alive
   alive_one c d kept h = rw (kept.each_state c.0 d h)
 
-  pub done_one : (c : Comp) (d : ComponentState) → IsKept n past states runs over → c.0 < length states → done past (T.One c) ≡ is_done (get_or states c.0 d).phase
+  pub done_one : (c : Comp) (d : ComponentState) → IsKept n past states runs over → c.0 < length states → done past (Target.One c) ≡ is_done (get_or states c.0 d).phase
   unfolding done
   done_one c d kept h = rw (kept.each_state c.0 d h)
 
-  pub killed_one : (c : Comp) (d : ComponentState) → IsKept n past states runs over → c.0 < length states → killed past (T.One c) ≡ is_killed (get_or states c.0 d).phase
+  pub killed_one : (c : Comp) (d : ComponentState) → IsKept n past states runs over → c.0 < length states → killed past (Target.One c) ≡ is_killed (get_or states c.0 d).phase
   unfolding killed
   killed_one c d kept h = rw (kept.each_state c.0 d h)
 
-  pub running_any : IsKept n past states runs over → running past T.Any ≡ any_running (drop 1 states)
+  pub running_any : IsKept n past states runs over → running past Target.Any ≡ any_running (drop 1 states)
   unfolding running any_running
   running_any kept = any_kept (λ s. is_running s.phase) kept
 
-  pub running_all : IsKept n past states runs over → running past T.All ≡ none_lapsed (drop 1 states)
+  pub running_all : IsKept n past states runs over → running past Target.All ≡ none_lapsed (drop 1 states)
   unfolding running none_lapsed
   running_all kept =
       list_all-same _ _ (ptcs past) (λ c. masked (is_some (last_run past c)) (is_running (phase past c)) (is_excused past c))
       ∙ all_kept (λ s. not (is_some s.last) || is_running s.phase || s.excused) kept
 
-  pub alive_any : IsKept n past states runs over → alive past T.Any ≡ any_alive (drop 1 states)
+  pub alive_any : IsKept n past states runs over → alive past Target.Any ≡ any_alive (drop 1 states)
   unfolding alive any_alive
   alive_any kept = any_kept (λ s. not (is_killed s.phase)) kept
 
-  pub alive_all : IsKept n past states runs over → alive past T.All ≡ all_alive (drop 1 states)
+  pub alive_all : IsKept n past states runs over → alive past Target.All ≡ all_alive (drop 1 states)
   unfolding alive all_alive
   alive_all kept = all_kept (λ s. not (is_killed s.phase)) kept
 
-  pub done_any : IsKept n past states runs over → done past T.Any ≡ any_done (drop 1 states)
+  pub done_any : IsKept n past states runs over → done past Target.Any ≡ any_done (drop 1 states)
   unfolding done any_done
   done_any kept = any_kept (λ s. is_done s.phase) kept
 
-  pub done_all : IsKept n past states runs over → done past T.All ≡ none_running (drop 1 states)
+  pub done_all : IsKept n past states runs over → done past Target.All ≡ none_running (drop 1 states)
   unfolding done none_running
   done_all kept = all_kept (λ s. not (is_running s.phase)) kept
 
-  pub killed_any : IsKept n past states runs over → killed past T.Any ≡ any_killed (drop 1 states)
+  pub killed_any : IsKept n past states runs over → killed past Target.Any ≡ any_killed (drop 1 states)
   unfolding killed any_killed
   killed_any kept = any_kept (λ s. is_killed s.phase) kept
 
-  pub killed_all : IsKept n past states runs over → killed past T.All ≡ all_killed (drop 1 states)
+  pub killed_all : IsKept n past states runs over → killed past Target.All ≡ all_killed (drop 1 states)
   unfolding killed all_killed
   killed_all kept = all_kept (λ s. is_killed s.phase) kept
 

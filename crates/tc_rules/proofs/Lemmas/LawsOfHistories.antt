@@ -1,26 +1,10 @@
 -- Facts on legal histories.
 use Rattle.std.proofs.Common.{ℕ, ◌≡◌, if◌then◌else◌, Bool, true, false, Option, Some, None, is_some, List, [], ◌∷◌, ◌++◌, refl, ap, sym, ◌∙◌, append_assoc, arith}
 use Rattle.std.proofs.lemmas.Bool.Decides.{nat_tests}
-use Rattle.tc_verdict.specs.declared.verdict.Verdict.{Verdict}
-use Rattle.tc_verdict.specs.Prelude.{worst}
-use Rattle.tc_entry.specs.declared.comp.Comp.{Comp}
-use Rattle.tc_entry.specs.declared.entry.Entry.{Entry}
-use Rattle.tc_entry.specs.declared.op.Op.{Op}
-use Rattle.tc_entry.specs.declared.phase.Phase.{Phase}
-use Rattle.tc_entry.specs.declared.phase.Phase.TheVariants as P
-use Rattle.tc_entry.specs.declared.reply.Reply.{Reply}
-use Rattle.tc_entry.specs.declared.reply.Reply.TheVariants as R
-use Rattle.tc_entry.specs.Prelude.{is_ended}
-use Rattle.tc_rules.specs.History.{comp_of, exists, halts, is_comp, kills}
-use Rattle.tc_rules.specs.Phases.{phase, was_killed, was_halted, start_in}
-use Rattle.tc_rules.specs.Local.{gives, local, verdicts_of}
-use Rattle.tc_rules.specs.Faults.{fault}
-use Rattle.tc_rules.specs.Answers.{answer, answer_unless, is_active, is_active_on, is_run_of, plain_answer}
-use Rattle.tc_rules.specs.Legal.{IsLegal}
-use Rattle.tc_rules.specs.Laws.{OverForAll, KilledWasHalted, AnsweredIsRunning, RunsNow, SameComponentLater, verdicts_in, LocalOfWhole}
-use Rattle.tc_rules.proofs.Lemmas.Keeping.{halted_by, kill_halts}
-use Rattle.tc_rules.proofs.Lemmas.Over.{all_over}
-use Rattle.tc_rules.proofs.Lemmas.Sound.{starts}
+use Rattle.tc_entry.specs.Prelude.{Verdict, worst, is_ended}
+use Rattle.tc_entry.specs.declared.{comp.Comp.Comp, entry.Entry.Entry, op.Op.Op, phase.Phase.Phase, reply.Reply.Reply}
+use Rattle.tc_rules.specs.{Answers.answer, Answers.answer_unless, Answers.is_active, Answers.is_active_on, Answers.is_run_of, Answers.plain_answer, Faults.fault, History.comp_of, History.exists, History.halts, History.is_comp, History.kills, Laws.AnsweredIsRunning, Laws.KilledWasHalted, Laws.LocalOfWhole, Laws.OverForAll, Laws.RunsNow, Laws.SameComponentLater, Laws.verdicts_in, Legal.IsLegal, Local.gives, Local.local, Local.verdicts_of, Phases.phase, Phases.start_in, Phases.was_halted, Phases.was_killed}
+use Rattle.tc_rules.proofs.Lemmas.{Keeping.halted_by, Keeping.kill_halts, Over.all_over, Sound.starts}
 
 pub over_for_all : OverForAll
 over_for_all = all_over
@@ -32,7 +16,7 @@ killed_was_halted n (e ∷ past) c legal h =
     (kill_halts (comp_of past e.caller.0) e c) (killed_was_halted n past c legal.1)
     (λ s. let st = starts n past e c legal.0 s in (st.no_kill, st.alive)) h
 
-active_by : (active : Bool) (reply other : Reply) → is_ended reply ≡ false → reply ≡ (if active then other else R.Ended) → active ≡ true
+active_by : (active : Bool) (reply other : Reply) → is_ended reply ≡ false → reply ≡ (if active then other else Reply.Ended) → active ≡ true
 active_by true reply other h e = refl
 active_by false reply other h e = let q : is_ended reply ≡ true = ap is_ended e in absurd cc
 
@@ -41,13 +25,13 @@ unfolding answer
 active_if_answered n past b op reply r h =
     active_by (is_active past b) reply (answer_unless (fault n past b op) (plain_answer past b op)) h r
 
-running_by : (b : ℕ) (p : Phase) → is_run_of b p ≡ true → p ≡ P.Running (record { 0 = b })
-running_by b (P.Running r) h =
+running_by : (b : ℕ) (p : Phase) → is_run_of b p ≡ true → p ≡ Phase.Running (record { 0 = b })
+running_by b (Phase.Running r) h =
     let e : r.0 ≡ b = grind (arith, nat_tests) in
-    ap (λ (k : ℕ). P.Running (record { 0 = k })) e
-running_by b P.Inactive h = absurd cc
-running_by b P.Stopped h = absurd cc
-running_by b P.Killed h = absurd cc
+    ap (λ (k : ℕ). Phase.Running (record { 0 = k })) e
+running_by b Phase.Inactive h = absurd cc
+running_by b Phase.Stopped h = absurd cc
+running_by b Phase.Killed h = absurd cc
 
 pub runs_if_active : (past : List Entry) (e : Entry) → is_active past e.caller.0 ≡ true → (c : Comp) × RunsNow past e c
 unfolding is_active
@@ -72,14 +56,14 @@ same_component_later n past later e legal h =
     stays_on later (e ∷ past) e.caller.0 r.0 (stays_on (e ∷ []) past e.caller.0 r.0 r.1.0) ∙ sym r.1.0
 
 ended_gives_none : (op : Op) (reply : Reply) → is_ended reply ≡ true → gives op reply ≡ []
-ended_gives_none op R.Ended h = refl
-ended_gives_none op (R.Made c) h = absurd cc
-ended_gives_none op R.Ok h = absurd cc
-ended_gives_none op (R.Answer b) h = absurd cc
-ended_gives_none op (R.Local v) h = absurd cc
-ended_gives_none op R.Matched h = absurd cc
-ended_gives_none op R.Parked h = absurd cc
-ended_gives_none op (R.Fault f) h = absurd cc
+ended_gives_none op Reply.Ended h = refl
+ended_gives_none op (Reply.Made c) h = absurd cc
+ended_gives_none op Reply.Ok h = absurd cc
+ended_gives_none op (Reply.Answer b) h = absurd cc
+ended_gives_none op (Reply.Local v) h = absurd cc
+ended_gives_none op Reply.Matched h = absurd cc
+ended_gives_none op Reply.Parked h = absurd cc
+ended_gives_none op (Reply.Fault f) h = absurd cc
 
 none_given : (t u : Bool) (given vs ws : List Verdict) → given ≡ [] → vs ≡ ws → (if t then given ++ vs else vs) ≡ (if u then given ++ ws else ws)
 none_given true true given vs ws g e = rw (g, e) refl

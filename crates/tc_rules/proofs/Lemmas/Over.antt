@@ -1,23 +1,9 @@
 -- After an entry that ends the case every component is killed, and every call is replied Ended.
 use Rattle.std.proofs.Common.{ℕ, ◌≡◌, ◌&&◌, ◌||◌, ◌==◌, not, if◌then◌else◌, Bool, true, false, Option, Some, None, List, [], ◌∷◌, ◌++◌, refl, ap, sym, ◌∙◌}
-use Rattle.tc_verdict.specs.declared.run.Run.{Run}
-use Rattle.tc_entry.specs.declared.comp.Comp.{Comp}
-use Rattle.tc_entry.specs.declared.entry.Entry.{Entry}
-use Rattle.tc_entry.specs.declared.op.Op.{Op}
-use Rattle.tc_entry.specs.declared.op.Op.TheVariants as O
-use Rattle.tc_entry.specs.declared.reply.Reply.{Reply}
-use Rattle.tc_entry.specs.declared.reply.Reply.TheVariants as R
-use Rattle.tc_entry.specs.declared.phase.Phase.TheVariants as P
-use Rattle.tc_rules.specs.declared.component_state.ComponentState.{ComponentState}
-use Rattle.tc_rules.specs.declared.run_state.RunState.{RunState}
-use Rattle.tc_entry.specs.Prelude.{is_ended, is_ok}
-use Rattle.tc_rules.specs.History.{comps, exists, comp_of, created, add_new, is_in, is_over, ends_case, kills, is_kill_of, starts_run, first_some}
-use Rattle.tc_rules.specs.Phases.{phase, was_killed}
-use Rattle.tc_rules.specs.Answers.{answer, is_active}
-use Rattle.tc_rules.specs.Legal.{IsLegal, IsAllOver}
-use Rattle.tc_rules.specs.Standing.{Kept, StandsFor}
-use Rattle.tc_rules.specs.Inside.Kept.{IsKept}
 use Rattle.std.specs.Bool.{OnTrue}
+use Rattle.tc_entry.specs.Prelude.{Run, is_ended, is_ok}
+use Rattle.tc_entry.specs.declared.{comp.Comp.Comp, entry.Entry.Entry, op.Op.Op, phase.Phase.Phase, reply.Reply.Reply}
+use Rattle.tc_rules.specs.{Answers.answer, Answers.is_active, History.add_new, History.comp_of, History.comps, History.created, History.ends_case, History.exists, History.first_some, History.is_in, History.is_kill_of, History.is_over, History.kills, History.starts_run, Inside.Kept.IsKept, Legal.IsAllOver, Legal.IsLegal, Phases.phase, Phases.was_killed, Standing.Kept, Standing.StandsFor, declared.component_state.ComponentState.ComponentState, declared.run_state.RunState.RunState}
 use Rattle.tc_rules.proofs.Lemmas.Sound.{runs_on}
 
 opening_exists : (b : ℕ) (c : Comp) → comp_of [] b ≡ Some c → exists [] c.0 ≡ true
@@ -62,29 +48,29 @@ on_existing n (e ∷ past) b c legal h =
     (λ s. (runs_on n past e b c legal.0 s).known) h)
 
 ends_makes_none : (op : Op) (reply : Reply) (caller : Run) → ends_case (record { caller = caller; op = op; reply = reply }) ≡ true → created op reply ≡ None
-ends_makes_none (O.Create alive name) (R.Made d) caller h = absurd cc
-ends_makes_none (O.Create alive name) _ caller h = refl
+ends_makes_none (Op.Create alive name) (Reply.Made d) caller h = absurd cc
+ends_makes_none (Op.Create alive name) _ caller h = refl
 ends_makes_none _ reply caller h = refl
 
 same_exist : (past : List Entry) (e : Entry) (c : ℕ) → created e.op e.reply ≡ None → exists (e ∷ past) c ≡ exists past c
 unfolding exists
 same_exist past e c h = ap (λ o. is_in c (add_new o (comps past))) h
 
-killed_phase : (past : List Entry) (c : ℕ) → was_killed past c ≡ true → phase past c ≡ P.Killed
+killed_phase : (past : List Entry) (c : ℕ) → was_killed past c ≡ true → phase past c ≡ Phase.Killed
 unfolding phase
 killed_phase past c h = rw h
 
-not_active : (past : List Entry) (b : ℕ) → ((c : Comp) → comp_of past b ≡ Some c → phase past c.0 ≡ P.Killed) → (o : Option Comp) → comp_of past b ≡ o → is_active past b ≡ false
+not_active : (past : List Entry) (b : ℕ) → ((c : Comp) → comp_of past b ≡ Some c → phase past c.0 ≡ Phase.Killed) → (o : Option Comp) → comp_of past b ≡ o → is_active past b ≡ false
 unfolding is_active
 not_active past b killed (Some c) e = rw (e, killed c e)
 not_active past b killed None e = rw e
 
-all_ended : (n : ℕ) (past : List Entry) (b : ℕ) (op : Op) → is_active past b ≡ false → answer n past b op ≡ R.Ended
+all_ended : (n : ℕ) (past : List Entry) (b : ℕ) (op : Op) → is_active past b ≡ false → answer n past b op ≡ Reply.Ended
 unfolding answer
 all_ended n past b op h = rw h
 
-ended_makes_none : (op : Op) (reply : Reply) → reply ≡ R.Ended → created op reply ≡ None
-ended_makes_none (O.Create alive name) reply h = rw h
+ended_makes_none : (op : Op) (reply : Reply) → reply ≡ Reply.Ended → created op reply ≡ None
+ended_makes_none (Op.Create alive name) reply h = rw h
 ended_makes_none _ reply h = refl
 
 now_killed : (ends x w : Bool) → ends ≡ true → ((true && (ends || x)) || w) ≡ true
@@ -95,7 +81,7 @@ still_killed : (x w : Bool) → w ≡ true → (x || w) ≡ true
 still_killed true w h = refl
 still_killed false w h = h
 
-over_answers : (n : ℕ) (past : List Entry) (b : ℕ) (op : Op) → IsLegal n past → ((c : ℕ) → exists past c ≡ true → was_killed past c ≡ true) → answer n past b op ≡ R.Ended
+over_answers : (n : ℕ) (past : List Entry) (b : ℕ) (op : Op) → IsLegal n past → ((c : ℕ) → exists past c ≡ true → was_killed past c ≡ true) → answer n past b op ≡ Reply.Ended
 over_answers n past b op legal all =
     all_ended n past b op (not_active past b (λ c h. killed_phase past c.0 (all c.0 (on_existing n past b c legal h))) (comp_of past b) refl)
 
@@ -109,7 +95,7 @@ all_killed n (e ∷ past) legal over c h = by_test (ends_case e) (all_killed n p
         let x : exists past c ≡ true = sym (same_exist past e c (ends_makes_none e.op e.reply e.caller k)) ∙ h in
         rw x (now_killed (ends_case e) (not (is_ended e.reply) && is_kill_of e.op c) (was_killed past c) k)
     by_test false before k o =
-        let r : e.reply ≡ R.Ended = legal.0 ∙ over_answers n past e.caller.0 e.op legal.1 (before o) in
+        let r : e.reply ≡ Reply.Ended = legal.0 ∙ over_answers n past e.caller.0 e.op legal.1 (before o) in
         let x : exists past c ≡ true = sym (same_exist past e c (ended_makes_none e.op e.reply r)) ∙ h in
         still_killed (exists past c && kills e c) (was_killed past c) (before o c x)
 

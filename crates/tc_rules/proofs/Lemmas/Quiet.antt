@@ -1,62 +1,39 @@
 -- An entry that changes no component's phase, and whose caller continues, wakes nobody.
 use Rattle.std.proofs.Common.{ℕ, ◌≡◌, ◌==◌, ◌&&◌, ◌||◌, not, if◌then◌else◌, Bool, true, false, Option, Some, None, is_some, List, [], ◌∷◌, ◌++◌, drop, refl, ap, sym, ◌∙◌}
 use Rattle.std.specs.List.{list_any, list_all}
-use Rattle.tc_verdict.specs.declared.run.Run.{Run}
-use Rattle.tc_entry.specs.declared.comp.Comp.{Comp}
-use Rattle.tc_entry.specs.declared.entry.Entry.{Entry}
-use Rattle.tc_entry.specs.declared.op.Op.{Op}
-use Rattle.tc_entry.specs.declared.op.Op.TheVariants as O
-use Rattle.tc_entry.specs.declared.op.Target.{Target}
-use Rattle.tc_entry.specs.declared.op.Target.TheVariants as T
-use Rattle.tc_entry.specs.declared.phase.Phase.TheVariants as P
-use Rattle.tc_entry.specs.declared.reply.Fault.{Fault}
-use Rattle.tc_entry.specs.declared.reply.Fault.TheVariants as F
-use Rattle.tc_entry.specs.declared.reply.Reply.{Reply}
-use Rattle.tc_entry.specs.declared.reply.Reply.TheVariants as R
-use Rattle.tc_rules.specs.declared.awaited.Awaited.{Awaited}
-use Rattle.tc_entry.specs.Prelude.{is_ended, is_fault, is_ok}
-use Rattle.tc_rules.specs.History.{add_new, comp_of, comps, created, ends_case, exists, first_some, halts, is_alive_type, is_finish, is_in, kills, starts_on, starts_run}
-use Rattle.tc_rules.specs.Phases.{phase, phase_if_not_killed, last_run, start_in, was_halted, was_killed}
-use Rattle.tc_rules.specs.Status.{done, is_done, is_killed, is_running, killed}
-use Rattle.tc_rules.specs.Waiting.{holds, is_still, is_stuck, parks, waiting}
-use Rattle.tc_rules.specs.Faults.{all_exist, asks_many, fault, target_names}
-use Rattle.tc_rules.specs.Answers.{answer, answer_unless, is_active, is_active_on, is_run_of}
-use Rattle.tc_rules.specs.Legal.{IsLegal}
-use Rattle.tc_rules.specs.Inside.Laws.{halting_op, keeps_phases, lets_go_on, is_quiet, QuietWakesNobody}
-use Rattle.tc_rules.proofs.Lemmas.LawsOfHistories.{answered_is_running}
-use Rattle.tc_rules.proofs.Lemmas.Over.{on_existing, stays}
-use Rattle.tc_rules.proofs.Lemmas.Sound.{starts}
-use Rattle.tc_rules.proofs.Lemmas.Stuck.{one_false}
-use Rattle.tc_rules.proofs.Lemmas.Deciding.{self_equal, if_same, and_no, and_left, and_right, none_if, first_alone, no_stop, no_kill, no_stop_case, no_finish}
+use Rattle.tc_entry.specs.Prelude.{Run, is_ended, is_fault, is_ok}
+use Rattle.tc_entry.specs.declared.{comp.Comp.Comp, entry.Entry.Entry, op.Op.Op, op.Target.Target, phase.Phase.Phase, reply.Fault.Fault, reply.Reply.Reply}
+use Rattle.tc_rules.specs.{Answers.answer, Answers.answer_unless, Answers.is_active, Answers.is_active_on, Answers.is_run_of, Faults.all_exist, Faults.asks_many, Faults.fault, Faults.target_names, History.add_new, History.comp_of, History.comps, History.created, History.ends_case, History.exists, History.first_some, History.halts, History.is_alive_type, History.is_finish, History.is_in, History.kills, History.starts_on, History.starts_run, Inside.Laws.WakesNobody, Inside.Laws.halting_op, Inside.Laws.is_quiet, Inside.Laws.keeps_phases, Inside.Laws.lets_go_on, Legal.IsLegal, Phases.last_run, Phases.phase, Phases.phase_if_not_killed, Phases.start_in, Phases.was_halted, Phases.was_killed, Status.done, Status.is_done, Status.is_killed, Status.is_running, Status.killed, Waiting.holds, Waiting.is_still, Waiting.is_stuck, Waiting.parks, Waiting.waiting, declared.awaited.Awaited.Awaited}
+use Rattle.tc_rules.proofs.Lemmas.{Deciding.and_left, Deciding.and_no, Deciding.and_right, Deciding.first_alone, Deciding.if_same, Deciding.no_finish, Deciding.no_kill, Deciding.no_stop, Deciding.no_stop_case, Deciding.none_if, Deciding.self_equal, LawsOfHistories.answered_is_running, Over.on_existing, Over.stays, Sound.starts, Stuck.one_false}
 
 -- what an operation that keeps the phases is not
 
 halts_none : (op : Op) → keeps_phases op ≡ true → halting_op op ≡ false
-halts_none (O.Start d run args) h = refl
-halts_none (O.Stop group) h = absurd cc
-halts_none (O.Kill group) h = absurd cc
-halts_none O.StopCase h = absurd cc
-halts_none O.Finish h = absurd cc
+halts_none (Op.Start d run args) h = refl
+halts_none (Op.Stop group) h = absurd cc
+halts_none (Op.Kill group) h = absurd cc
+halts_none Op.StopCase h = absurd cc
+halts_none Op.Finish h = absurd cc
 halts_none _ h = refl
 
 none_on : (op : Op) (c : ℕ) → keeps_phases op ≡ true → starts_on op c ≡ None
-none_on (O.Start d run args) c h = absurd cc
+none_on (Op.Start d run args) c h = absurd cc
 none_on _ c h = refl
 
 no_run : (op : Op) (b : ℕ) → keeps_phases op ≡ true → starts_run op b ≡ None
-no_run (O.Start d run args) b h = absurd cc
+no_run (Op.Start d run args) b h = absurd cc
 no_run _ b h = refl
 
 not_ended : (reply : Reply) → lets_go_on reply ≡ true → is_ended reply ≡ false
-not_ended R.Ended h = absurd cc
+not_ended Reply.Ended h = absurd cc
 not_ended _ h = refl
 
 no_fault : (reply : Reply) → lets_go_on reply ≡ true → is_fault reply ≡ false
-no_fault (R.Fault f) h = absurd cc
+no_fault (Reply.Fault f) h = absurd cc
 no_fault _ h = refl
 
 not_parked : (op : Op) (reply : Reply) → lets_go_on reply ≡ true → parks op reply ≡ None
-not_parked op R.Parked h = absurd cc
+not_parked op Reply.Parked h = absurd cc
 not_parked op _ h = refl
 
 -- what is known of a quiet entry
@@ -117,7 +94,7 @@ not_if : (x y : Bool) → (x ≡ true → y ≡ true) → y ≡ false → x ≡ 
 not_if true y f h = sym (f refl) ∙ h
 not_if false y f h = refl
 
-unmade : (n : ℕ) (past : List Entry) (c : ℕ) → IsLegal n past → exists past c ≡ false → phase past c ≡ P.Inactive
+unmade : (n : ℕ) (past : List Entry) (c : ℕ) → IsLegal n past → exists past c ≡ false → phase past c ≡ Phase.Inactive
 unfolding phase
 unmade n past c legal h =
     let k : was_killed past c ≡ false = not_if (was_killed past c) (exists past c) (killed_exists past c) h in
@@ -133,8 +110,8 @@ same_phase n past e c legal q =
     by_test (exists past c) refl k s h
   where
     by_test : (t : Bool) → exists past c ≡ t → was_killed (e ∷ past) c ≡ was_killed past c → last_run (e ∷ past) c ≡ last_run past c → was_halted (e ∷ past) c ≡ was_halted past c →
-        (if was_killed (e ∷ past) c then P.Killed else phase_if_not_killed (last_run (e ∷ past) c) (was_halted (e ∷ past) c) (is_alive_type (e ∷ past) c))
-        ≡ (if was_killed past c then P.Killed else phase_if_not_killed (last_run past c) (was_halted past c) (is_alive_type past c))
+        (if was_killed (e ∷ past) c then Phase.Killed else phase_if_not_killed (last_run (e ∷ past) c) (was_halted (e ∷ past) c) (is_alive_type (e ∷ past) c))
+        ≡ (if was_killed past c then Phase.Killed else phase_if_not_killed (last_run past c) (was_halted past c) (is_alive_type past c))
     by_test true x k s h =
         let a : is_alive_type (e ∷ past) c ≡ is_alive_type past c = rw x in
         rw (k, s, h, a)
@@ -208,20 +185,20 @@ not_in past c h = h
 
 not_done : (n : ℕ) (past : List Entry) (e : Entry) (t : Target) → IsLegal n past → Quiet e → done past t ≡ false → done (e ∷ past) t ≡ false
 unfolding done
-not_done n past e (T.One c) legal q h = ap is_done (same_phase n past e c.0 legal q) ∙ h
-not_done n past e T.Any legal q h =
+not_done n past e (Target.One c) legal q h = ap is_done (same_phase n past e c.0 legal q) ∙ h
+not_done n past e Target.Any legal q h =
     any_grown (λ c. is_done (phase past c)) (λ c. is_done (phase (e ∷ past) c)) (comps past) (created e.op e.reply) (λ c. ap is_done (same_phase n past e c legal q))
     (λ c k. ap is_done (unmade n past c legal (not_in past c k))) h
-not_done n past e T.All legal q h =
+not_done n past e Target.All legal q h =
     all_grown (λ c. not (is_running (phase past c))) (λ c. not (is_running (phase (e ∷ past) c))) (comps past) (created e.op e.reply) (λ c. ap (λ p. not (is_running p)) (same_phase n past e c legal q)) h
 
 not_killed : (n : ℕ) (past : List Entry) (e : Entry) (t : Target) → IsLegal n past → Quiet e → killed past t ≡ false → killed (e ∷ past) t ≡ false
 unfolding killed
-not_killed n past e (T.One c) legal q h = ap is_killed (same_phase n past e c.0 legal q) ∙ h
-not_killed n past e T.Any legal q h =
+not_killed n past e (Target.One c) legal q h = ap is_killed (same_phase n past e c.0 legal q) ∙ h
+not_killed n past e Target.Any legal q h =
     any_grown (λ c. is_killed (phase past c)) (λ c. is_killed (phase (e ∷ past) c)) (comps past) (created e.op e.reply) (λ c. ap is_killed (same_phase n past e c legal q))
     (λ c k. ap is_killed (unmade n past c legal (not_in past c k))) h
-not_killed n past e T.All legal q h =
+not_killed n past e Target.All legal q h =
     all_grown (λ c. is_killed (phase past c)) (λ c. is_killed (phase (e ∷ past) c)) (comps past) (created e.op e.reply) (λ c. ap is_killed (same_phase n past e c legal q)) h
 
 not_yet : (n : ℕ) (past : List Entry) (e : Entry) (k : Bool) (t : Target) → IsLegal n past → Quiet e → holds past (record { killed = k; target = t }) ≡ false → holds (e ∷ past) (record { killed = k; target = t }) ≡ false
@@ -241,9 +218,9 @@ not_stuck n past e legal q =
     let on = answered_is_running n past e legal q.goes_on in
     let c : Comp = on.0 in
     let there : is_in c.0 (comps (e ∷ past)) ≡ true = now_in (e ∷ past) c.0 (stays past e c.0 (on_existing n past e.caller.0 c legal.1 on.1.0)) in
-    let now : phase (e ∷ past) c.0 ≡ P.Running (record { 0 = e.caller.0 }) = same_phase n past e c.0 legal.1 q ∙ on.1.1 in
+    let now : phase (e ∷ past) c.0 ≡ Phase.Running (record { 0 = e.caller.0 }) = same_phase n past e c.0 legal.1 q ∙ on.1.1 in
     let none : waiting (e ∷ past) e.caller.0 ≡ None = rw (self_equal e.caller.0) q.park in
-    let goes : is_still (e ∷ past) (P.Running (record { 0 = e.caller.0 })) ≡ false = rw none refl in
+    let goes : is_still (e ∷ past) (Phase.Running (record { 0 = e.caller.0 })) ≡ false = rw none refl in
     one_false (λ d. is_still (e ∷ past) (phase (e ∷ past) d)) (comps (e ∷ past)) c.0 there (ap (is_still (e ∷ past)) now ∙ goes)
 
 -- the answers
@@ -271,31 +248,32 @@ fault_cases true true f g h = absurd cc
 fault_cases true false f g h = (refl, refl)
 fault_cases false y f g h = absurd cc
 
-no_new_fault : (n : ℕ) (past : List Entry) (e : Entry) (b : ℕ) (k : Bool) (t : Target) → fault n past b (O.Wake k t) ≡ None → fault n (e ∷ past) b (O.Wake k t) ≡ None
+no_new_fault : (n : ℕ) (past : List Entry) (e : Entry) (b : ℕ) (k : Bool) (t : Target) → fault n past b (Op.Wake k t) ≡ None → fault n (e ∷ past) b (Op.Wake k t) ≡ None
 unfolding fault
 no_new_fault n past e b k t h =
-    let f = fault_cases (all_exist past (target_names t)) (asks_many (O.Wake k t) && not (b == 0)) F.NoComponent F.NotMain h in
+    let f = fault_cases (all_exist past (target_names t)) (asks_many (Op.Wake k t) && not (b == 0)) Fault.NoComponent Fault.NotMain h in
     let x : all_exist (e ∷ past) (target_names t) ≡ true = still_exist past e (target_names t) f.0 in
     rw (x, f.1) refl
 
-parked_cases : (active : Bool) (f : Option Fault) (h z : Bool) → (if active then answer_unless f (if h then R.Matched else if z then R.Fault F.Stuck else R.Parked) else R.Ended) ≡ R.Parked → (active ≡ true) × (f ≡ None) × (h ≡ false)
+parked_cases : (active : Bool) (f : Option Fault) (h z : Bool) → (if active then answer_unless f (if h then Reply.Matched else if z then Reply.Fault Fault.Stuck else Reply.Parked) else Reply.Ended) ≡ Reply.Parked → (active ≡ true) × (f ≡ None) × (h ≡ false)
 parked_cases true None false z k = (refl, refl, refl)
 parked_cases true None true z k = absurd cc
 parked_cases true (Some f) h z k = absurd cc
 parked_cases false f h z k = absurd cc
 
-still_parked : (n : ℕ) (past : List Entry) (e : Entry) (b : ℕ) (k : Bool) (t : Target) → IsLegal n (e ∷ past) → Quiet e → answer n past b (O.Wake k t) ≡ R.Parked → answer n (e ∷ past) b (O.Wake k t) ≡ R.Parked
+still_parked : (n : ℕ) (past : List Entry) (e : Entry) (b : ℕ) (k : Bool) (t : Target) → IsLegal n (e ∷ past) → Quiet e → answer n past b (Op.Wake k t) ≡ Reply.Parked → answer n (e ∷ past) b (Op.Wake k t) ≡ Reply.Parked
 unfolding answer
 still_parked n past e b k t legal q h =
     let a : Awaited = record { killed = k; target = t } in
-    let p = parked_cases (is_active past b) (fault n past b (O.Wake k t)) (holds past a) ((b == 0) && is_stuck past) h in
+    let p = parked_cases (is_active past b) (fault n past b (Op.Wake k t)) (holds past a) ((b == 0) && is_stuck past) h in
     let active : is_active (e ∷ past) b ≡ true = same_active n past e b legal.1 q ∙ p.0 in
-    let no : fault n (e ∷ past) b (O.Wake k t) ≡ None = no_new_fault n past e b k t p.1 in
+    let no : fault n (e ∷ past) b (Op.Wake k t) ≡ None = no_new_fault n past e b k t p.1 in
     let vain : holds (e ∷ past) (record { killed = k; target = t }) ≡ false = not_yet n past e k t legal.1 q p.2 in
     let going : is_stuck (e ∷ past) ≡ false = not_stuck n past e legal q in
     rw (active, no, vain, going, and_no (b == 0)) refl
 
-pub quiet_wakes_nobody : QuietWakesNobody
+-- a quiet entry wakes nobody
+pub quiet_wakes_nobody : (n : ℕ) (past : List Entry) (e : Entry) → IsLegal n (e ∷ past) → is_quiet e.op e.reply ≡ true → WakesNobody n past e
 quiet_wakes_nobody n past e legal h =
     let q = quiet e h in
     record {

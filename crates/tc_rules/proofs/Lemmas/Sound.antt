@@ -1,27 +1,10 @@
 -- What an entry with the right reply says.
 use Rattle.std.proofs.Common.{ℕ, ◌≡◌, ◌<◌, ◌==◌, ◌&&◌, ◌||◌, not, nat_le, if◌then◌else◌, Bool, true, false, Option, Some, None, is_some, List, ◌∷◌, refl, ap, subst, sym, ◌∙◌, arith}
 use Rattle.std.proofs.lemmas.Bool.Decides.{nat_tests}
-use Rattle.tc_entry.specs.declared.limits.TheConstants.{COMPONENTS}
-use Rattle.tc_verdict.specs.declared.run.Run.{Run}
-use Rattle.tc_rules.specs.declared.awaited.Awaited.{Awaited}
-use Rattle.tc_entry.specs.declared.comp.Comp.{Comp}
-use Rattle.tc_entry.specs.declared.entry.Entry.{Entry}
-use Rattle.tc_entry.specs.declared.op.Op.{Op}
-use Rattle.tc_entry.specs.declared.op.Op.TheVariants as O
-use Rattle.tc_entry.specs.declared.reply.Reply.{Reply}
-use Rattle.tc_entry.specs.declared.reply.Reply.TheVariants as R
-use Rattle.tc_entry.specs.declared.reply.Fault.{Fault}
-use Rattle.tc_entry.specs.declared.reply.Fault.TheVariants as F
-use Rattle.tc_entry.specs.Prelude.{is_ended, is_fault, is_ok}
-use Rattle.tc_rules.specs.History.{exists, comp_of, is_alive_type, kills, starts_on, starts_run, created, is_alive_create}
-use Rattle.tc_rules.specs.Phases.{phase, was_killed, last_run, was_halted, start_in}
-use Rattle.tc_rules.specs.Status.{is_running, is_killed}
-use Rattle.tc_rules.specs.Answers.{answer, answer_unless, plain_answer, is_active}
-use Rattle.tc_rules.specs.Faults.{fault, all_exist, names, asks_many, special_fault, start_fault, components, target_names}
-use Rattle.tc_rules.specs.Waiting.{awaited, parks}
-use Rattle.tc_rules.proofs.Lemmas.Steps.{phase_by}
-use Rattle.tc_rules.proofs.Lemmas.Kept.{all_exist_more}
-use Rattle.tc_rules.proofs.Lemmas.Deciding.{self_equal, equal_if, test_by, ok_is}
+use Rattle.tc_entry.specs.declared.{comp.Comp.Comp, entry.Entry.Entry, limits.TheConstants.COMPONENTS, op.Op.Op, reply.Fault.Fault, reply.Reply.Reply}
+use Rattle.tc_entry.specs.Prelude.{Run, is_ended, is_fault, is_ok}
+use Rattle.tc_rules.specs.{Answers.answer, Answers.answer_unless, Answers.is_active, Answers.plain_answer, Faults.all_exist, Faults.asks_many, Faults.components, Faults.fault, Faults.names, Faults.special_fault, Faults.start_fault, Faults.target_names, History.comp_of, History.created, History.exists, History.is_alive_create, History.is_alive_type, History.kills, History.starts_on, History.starts_run, Phases.last_run, Phases.phase, Phases.start_in, Phases.was_halted, Phases.was_killed, Status.is_killed, Status.is_running, Waiting.awaited, Waiting.parks, declared.awaited.Awaited.Awaited}
+use Rattle.tc_rules.proofs.Lemmas.{Deciding.equal_if, Deciding.ok_is, Deciding.self_equal, Deciding.test_by, Kept.all_exist_more, Steps.phase_by}
 
 -- the call was made by a run that is active, and is no error
 pub record IsPlain (n : ℕ) (past : List Entry) (b : ℕ) (op : Op) (reply : Reply) : Type 0 where
@@ -30,7 +13,7 @@ pub record IsPlain (n : ℕ) (past : List Entry) (b : ℕ) (op : Op) (reply : Re
   pub is : reply ≡ plain_answer past b op
 
 plain_by : (active : Bool) (f : Option Fault) (plain reply : Reply) → is_ended reply ≡ false → is_fault reply ≡ false →
-    reply ≡ (if active then answer_unless f plain else R.Ended) → (active ≡ true) × (f ≡ None) × (reply ≡ plain)
+    reply ≡ (if active then answer_unless f plain else Reply.Ended) → (active ≡ true) × (f ≡ None) × (reply ≡ plain)
 plain_by true None plain reply e1 e2 h = (refl, refl, h)
 plain_by true (Some f) plain reply e1 e2 h = let e = ap is_fault h in absurd cc
 plain_by false f plain reply e1 e2 h = let e = ap is_ended h in absurd cc
@@ -42,7 +25,7 @@ plain_if n past b op reply e1 e2 h =
     let p = plain_by (is_active past b) (fault n past b op) (plain_answer past b op) reply e1 e2 h in
     record { active = p.0; no_fault = p.1; is = p.2 }
 
-exist_by : (known many : Bool) (f : Option Fault) → (if not known then Some F.NoComponent else if many then Some F.NotMain else f) ≡ None → (known ≡ true) × (f ≡ None)
+exist_by : (known many : Bool) (f : Option Fault) → (if not known then Some Fault.NoComponent else if many then Some Fault.NotMain else f) ≡ None → (known ≡ true) × (f ≡ None)
 exist_by true true f h = absurd cc
 exist_by true false f h = (refl, h)
 exist_by false many f h = absurd cc
@@ -56,7 +39,7 @@ pub no_special : (n : ℕ) (past : List Entry) (b : ℕ) (op : Op) → fault n p
 unfolding fault
 no_special n past b op h = (exist_by (all_exist past (names op)) (asks_many op && not (b == 0)) (special_fault n past op) h).1
 
-start_by : (main going killed bad : Bool) → (if main then Some F.StartMain else if going then Some F.AlreadyRunning else if killed then Some F.NotStartable else if bad then Some F.NoBehaviour else None) ≡ None →
+start_by : (main going killed bad : Bool) → (if main then Some Fault.StartMain else if going then Some Fault.AlreadyRunning else if killed then Some Fault.NotStartable else if bad then Some Fault.NoBehaviour else None) ≡ None →
     (killed ≡ false) × (bad ≡ false)
 start_by true going killed bad h = absurd cc
 start_by false true killed bad h = absurd cc
@@ -105,22 +88,22 @@ pub record CanStart (past : List Entry) (c : ℕ) (e : Entry) : Type 0 where
   pub alive : was_killed past c ≡ false
   pub no_kill : kills e c ≡ false
 
-start_of : (n : ℕ) (past : List Entry) (caller : Run) (op : Op) (c : ℕ) → IsPlain n past caller.0 op R.Ok → is_some (starts_on op c) ≡ true →
-    CanStart past c (record { caller = caller; op = op; reply = R.Ok })
-start_of n past caller (O.Start d run args) c plain h =
+start_of : (n : ℕ) (past : List Entry) (caller : Run) (op : Op) (c : ℕ) → IsPlain n past caller.0 op Reply.Ok → is_some (starts_on op c) ≡ true →
+    CanStart past c (record { caller = caller; op = op; reply = Reply.Ok })
+start_of n past caller (Op.Start d run args) c plain h =
     let same : d.0 ≡ c = same_by d.0 c run h in
-    let known : all_exist past (d ∷ args) ≡ true = names_exist n past caller.0 (O.Start d run args) plain.no_fault in
+    let known : all_exist past (d ∷ args) ≡ true = names_exist n past caller.0 (Op.Start d run args) plain.no_fault in
     let here : exists past d.0 ≡ true = first_true (exists past d.0) (all_exist past args) (sym (all_exist_more past d args) ∙ known) in
-    let free : was_killed past d.0 ≡ false = not_killed past d.0 (startable n past d.0 run.0 (no_special n past caller.0 (O.Start d run args) plain.no_fault)) in
+    let free : was_killed past d.0 ≡ false = not_killed past d.0 (startable n past d.0 run.0 (no_special n past caller.0 (Op.Start d run args) plain.no_fault)) in
     record { known = rw (← same) here; alive = rw (← same) free; no_kill = refl }
 start_of n past caller _ c plain h = absurd cc
 
 pub starts : (n : ℕ) (past : List Entry) (e : Entry) (c : ℕ) → e.reply ≡ answer n past e.caller.0 e.op → is_some (start_in e c) ≡ true → CanStart past c e
 starts n past e c legal h =
     let p = both_by (is_ok e.reply) (starts_on e.op c) h in
-    let ok : e.reply ≡ R.Ok = ok_is e.reply p.0 in
-    let q : R.Ok ≡ answer n past e.caller.0 e.op = sym ok ∙ legal in
-    let r = start_of n past e.caller e.op c (plain_if n past e.caller.0 e.op R.Ok refl refl q) p.1 in
+    let ok : e.reply ≡ Reply.Ok = ok_is e.reply p.0 in
+    let q : Reply.Ok ≡ answer n past e.caller.0 e.op = sym ok ∙ legal in
+    let r = start_of n past e.caller e.op c (plain_if n past e.caller.0 e.op Reply.Ok refl refl q) p.1 in
     subst (λ (x : Reply). CanStart past c (record { caller = e.caller; op = e.op; reply = x })) (sym ok) r
 
 -- the component and the run of a Start replied Ok
@@ -128,13 +111,13 @@ pub record CanRun (n : ℕ) (past : List Entry) (b : ℕ) (d : Comp) : Type 0 wh
   pub known : exists past d.0 ≡ true
   pub in_range : b < n
 
-run_of_start : (n : ℕ) (past : List Entry) (b : ℕ) (op : Op) (k : ℕ) (d : Comp) → IsPlain n past b op R.Ok → starts_run op k ≡ Some d → CanRun n past k d
-run_of_start n past b (O.Start c run args) k d plain h =
+run_of_start : (n : ℕ) (past : List Entry) (b : ℕ) (op : Op) (k : ℕ) (d : Comp) → IsPlain n past b op Reply.Ok → starts_run op k ≡ Some d → CanRun n past k d
+run_of_start n past b (Op.Start c run args) k d plain h =
     let t = test_by (run.0 == k) c d h in
     let same : run.0 ≡ k = equal_if run.0 k t.0 in
-    let known : all_exist past (c ∷ args) ≡ true = names_exist n past b (O.Start c run args) plain.no_fault in
+    let known : all_exist past (c ∷ args) ≡ true = names_exist n past b (Op.Start c run args) plain.no_fault in
     let here : exists past c.0 ≡ true = first_true (exists past c.0) (all_exist past args) (sym (all_exist_more past c args) ∙ known) in
-    let range : run.0 < n = start_in_range n past c.0 run.0 (no_special n past b (O.Start c run args) plain.no_fault) in
+    let range : run.0 < n = start_in_range n past c.0 run.0 (no_special n past b (Op.Start c run args) plain.no_fault) in
     record { known = rw (← t.1) here; in_range = rw (← same) range }
 run_of_start n past b _ k d plain h = absurd cc
 
@@ -146,19 +129,19 @@ pub runs_on : (n : ℕ) (past : List Entry) (e : Entry) (k : ℕ) (d : Comp) →
     (if is_ok e.reply then starts_run e.op k else None) ≡ Some d → CanRun n past k d
 runs_on n past e k d legal h =
     let p = if_ok (is_ok e.reply) (starts_run e.op k) d h in
-    let ok : e.reply ≡ R.Ok = ok_is e.reply p.0 in
-    let q : R.Ok ≡ answer n past e.caller.0 e.op = sym ok ∙ legal in
-    run_of_start n past e.caller.0 e.op k d (plain_if n past e.caller.0 e.op R.Ok refl refl q) p.1
+    let ok : e.reply ≡ Reply.Ok = ok_is e.reply p.0 in
+    let q : Reply.Ok ≡ answer n past e.caller.0 e.op = sym ok ∙ legal in
+    run_of_start n past e.caller.0 e.op k d (plain_if n past e.caller.0 e.op Reply.Ok refl refl q) p.1
 
 -- what is awaited exists
 awaited_of : (n : ℕ) (past : List Entry) (b : ℕ) (op : Op) (a : Awaited) → all_exist past (names op) ≡ true → awaited op ≡ Some a → all_exist past (target_names a.target) ≡ true
-awaited_of n past b (O.Wait k t) a known h = let e : t ≡ a.target = cc in rw (← e) known
-awaited_of n past b (O.Wake k t) a known h = let e : t ≡ a.target = cc in rw (← e) known
+awaited_of n past b (Op.Wait k t) a known h = let e : t ≡ a.target = cc in rw (← e) known
+awaited_of n past b (Op.Wake k t) a known h = let e : t ≡ a.target = cc in rw (← e) known
 awaited_of n past b _ a known h = absurd cc
 
 parked_of : (n : ℕ) (past : List Entry) (b : ℕ) (op : Op) (reply : Reply) (a : Awaited) → reply ≡ answer n past b op → parks op reply ≡ Some a → all_exist past (target_names a.target) ≡ true
-parked_of n past b op R.Parked a legal h =
-    awaited_of n past b op a (names_exist n past b op (plain_if n past b op R.Parked refl refl legal).no_fault) h
+parked_of n past b op Reply.Parked a legal h =
+    awaited_of n past b op a (names_exist n past b op (plain_if n past b op Reply.Parked refl refl legal).no_fault) h
 parked_of n past b op _ a legal h = absurd cc
 
 pub parked : (n : ℕ) (past : List Entry) (e : Entry) (a : Awaited) → e.reply ≡ answer n past e.caller.0 e.op → parks e.op e.reply ≡ Some a → all_exist past (target_names a.target) ≡ true
@@ -167,31 +150,31 @@ parked n past e a legal h = parked_of n past e.caller.0 e.op e.reply a legal h
 -- a run that is on no component is replied Ended
 pub no_parks : (n : ℕ) (past : List Entry) (e : Entry) → e.reply ≡ answer n past e.caller.0 e.op → comp_of past e.caller.0 ≡ None → parks e.op e.reply ≡ None
 unfolding answer is_active
-no_parks n past e legal none = let q : e.reply ≡ R.Ended = rw none at legal in rw q
+no_parks n past e legal none = let q : e.reply ≡ Reply.Ended = rw none at legal in rw q
 
 -- the component of a Create replied Made is the next one, and there were not too many
 pub record IsNext (past : List Entry) (op : Op) (reply : Reply) (d : Comp) : Type 0 where
   pub number : d.0 ≡ components past
   pub few : components past < COMPONENTS
   pub given_name : Option (List ℕ)
-  pub is_create : op ≡ O.Create (is_alive_create op) given_name
-  pub is_made : reply ≡ R.Made d
+  pub is_create : op ≡ Op.Create (is_alive_create op) given_name
+  pub is_made : reply ≡ Reply.Made d
 
-few_by : (over : Bool) → (if over then Some F.TooMany else None) ≡ None → over ≡ false
+few_by : (over : Bool) → (if over then Some Fault.TooMany else None) ≡ None → over ≡ false
 few_by true h = absurd cc
 few_by false h = refl
 
 next_of : (n : ℕ) (past : List Entry) (b : ℕ) (op : Op) (reply : Reply) (d : Comp) → reply ≡ answer n past b op → created op reply ≡ Some d → IsNext past op reply d
-next_of n past b (O.Create alive name) (R.Made m) d legal h =
-    let plain = plain_if n past b (O.Create alive name) (R.Made m) refl refl legal in
+next_of n past b (Op.Create alive name) (Reply.Made m) d legal h =
+    let plain = plain_if n past b (Op.Create alive name) (Reply.Made m) refl refl legal in
     let same : m ≡ d = cc in
     let number : m.0 ≡ components past = made_number m (components past) plain.is in
-    let few : nat_le COMPONENTS (components past) ≡ false = few_by (nat_le COMPONENTS (components past)) (no_special n past b (O.Create alive name) plain.no_fault) in
-    record { number = rw (← same) number; few = grind (arith, nat_tests); given_name = name; is_create = refl; is_made = ap R.Made same }
+    let few : nat_le COMPONENTS (components past) ≡ false = few_by (nat_le COMPONENTS (components past)) (no_special n past b (Op.Create alive name) plain.no_fault) in
+    record { number = rw (← same) number; few = grind (arith, nat_tests); given_name = name; is_create = refl; is_made = ap Reply.Made same }
   where
-    made_number : (m : Comp) (k : ℕ) → R.Made m ≡ R.Made (record { 0 = k }) → m.0 ≡ k
+    made_number : (m : Comp) (k : ℕ) → Reply.Made m ≡ Reply.Made (record { 0 = k }) → m.0 ≡ k
     made_number m k e = let q : m ≡ record { 0 = k } = cc in ap (λ x. x.0) q
-next_of n past b (O.Create alive name) _ d legal h = absurd cc
+next_of n past b (Op.Create alive name) _ d legal h = absurd cc
 next_of n past b _ reply d legal h = absurd cc
 
 pub next : (n : ℕ) (past : List Entry) (e : Entry) (d : Comp) → e.reply ≡ answer n past e.caller.0 e.op → created e.op e.reply ≡ Some d → IsNext past e.op e.reply d
@@ -214,11 +197,11 @@ start_free n past c b h =
     let p = (start_by (c == 0) (is_running (phase past c)) (is_killed (phase past c)) ((b == 0) || nat_le n b || is_some (comp_of past b)) h).1 in
     free_by (b == 0) (nat_le n b) (comp_of past b) p
 
-fresh_of : (n : ℕ) (past : List Entry) (b : ℕ) (op : Op) (c : ℕ) (r : Run) → IsPlain n past b op R.Ok → starts_on op c ≡ Some r → IsFresh past op c r
-fresh_of n past b (O.Start d run args) c r plain h =
+fresh_of : (n : ℕ) (past : List Entry) (b : ℕ) (op : Op) (c : ℕ) (r : Run) → IsPlain n past b op Reply.Ok → starts_on op c ≡ Some r → IsFresh past op c r
+fresh_of n past b (Op.Start d run args) c r plain h =
     let t = test_by (d.0 == c) run r h in
     let k : d.0 ≡ c = equal_if d.0 c t.0 in
-    let free : comp_of past run.0 ≡ None = start_free n past d.0 run.0 (no_special n past b (O.Start d run args) plain.no_fault) in
+    let free : comp_of past run.0 ≡ None = start_free n past d.0 run.0 (no_special n past b (Op.Start d run args) plain.no_fault) in
     record { free = ap (λ (x : Run). comp_of past x.0) (sym t.1) ∙ free; now = rw (← t.1) (rw (self_equal run.0) (ap (λ (x : ℕ). Some (let z : Comp = record { 0 = x } in z)) k)) }
 fresh_of n past b _ c r plain h = absurd cc
 
@@ -226,9 +209,9 @@ pub starts_fresh : (n : ℕ) (past : List Entry) (e : Entry) (c : ℕ) (r : Run)
     (is_ok e.reply ≡ true) × IsFresh past e.op c r
 starts_fresh n past e c r legal h =
     let p = both_is (is_ok e.reply) (starts_on e.op c) r h in
-    let ok : e.reply ≡ R.Ok = ok_is e.reply p.0 in
-    let q : R.Ok ≡ answer n past e.caller.0 e.op = sym ok ∙ legal in
-    (p.0, fresh_of n past e.caller.0 e.op c r (plain_if n past e.caller.0 e.op R.Ok refl refl q) p.1)
+    let ok : e.reply ≡ Reply.Ok = ok_is e.reply p.0 in
+    let q : Reply.Ok ≡ answer n past e.caller.0 e.op = sym ok ∙ legal in
+    (p.0, fresh_of n past e.caller.0 e.op c r (plain_if n past e.caller.0 e.op Reply.Ok refl refl q) p.1)
   where
     both_is : (ok : Bool) (s : Option Run) (r : Run) → (if ok then s else None) ≡ Some r → (ok ≡ true) × (s ≡ Some r)
     both_is true s r h = (refl, h)

@@ -1,9 +1,7 @@
 -- What a reader may take from a state that represents a history.
 use Rattle.std.proofs.Common.{ℕ, ◌≡◌, List, subst}
 use Rattle.tc_entry.specs.declared.entry.Entry.{Entry}
-use Rattle.tc_rules.specs.Standing.{Kept, StandsFor}
-use Rattle.tc_rules.specs.Laws.{StandsForLegal}
-use Rattle.tc_rules.specs.Legal.{IsLegal}
+use Rattle.tc_rules.specs.{Laws.StandsForLegal, Legal.IsLegal, Standing.Kept, Standing.StandsFor}
 
 -- a history that a state represents is legal
 pub stands_legal : StandsForLegal

@@ -1,20 +1,11 @@
 -- What one more entry does to the definitions.
 use Rattle.std.proofs.Common.{ℕ, ◌≡◌, ◌&&◌, ◌||◌, not, if◌then◌else◌, Bool, true, false, Option, Some, None, is_some, List, [], ◌∷◌, ◌++◌, refl}
-use Rattle.tc_verdict.specs.declared.verdict.Verdict.{Verdict}
-use Rattle.tc_verdict.specs.declared.run.Run.{Run}
-use Rattle.tc_verdict.specs.Prelude.{worst}
-use Rattle.tc_entry.specs.declared.entry.Entry.{Entry}
-use Rattle.tc_entry.specs.declared.phase.Phase.{Phase}
-use Rattle.tc_entry.specs.declared.phase.Phase.TheVariants as P
-use Rattle.tc_rules.specs.declared.component_state.ComponentState.{ComponentState}
-use Rattle.tc_rules.specs.History.{exists, comp_of, is_comp, halts, kills, first_some, is_alive_type}
-use Rattle.tc_rules.specs.Phases.{phase, phase_if_not_killed, last_run, was_killed, was_halted, is_excused, start_in, halts_from_outside}
-use Rattle.tc_rules.specs.Local.{local, verdicts_of, gives}
-use Rattle.tc_rules.specs.Inside.Kept.{state_of, run_of}
-use Rattle.tc_rules.specs.Inside.Step.{next_phase, next_excused, next_local, next_state, next_run}
+use Rattle.tc_entry.specs.Prelude.{Verdict, Run, worst}
+use Rattle.tc_entry.specs.declared.{entry.Entry.Entry, phase.Phase.Phase}
+use Rattle.tc_rules.specs.{History.comp_of, History.exists, History.first_some, History.halts, History.is_alive_type, History.is_comp, History.kills, Inside.Kept.run_of, Inside.Kept.state_of, Inside.Step.next_excused, Inside.Step.next_local, Inside.Step.next_phase, Inside.Step.next_run, Inside.Step.next_state, Local.gives, Local.local, Local.verdicts_of, Phases.halts_from_outside, Phases.is_excused, Phases.last_run, Phases.phase, Phases.phase_if_not_killed, Phases.start_in, Phases.was_halted, Phases.was_killed, declared.component_state.ComponentState.ComponentState}
 
 abbrev pub phase_by : Bool → Option Run → Bool → Bool → Phase
-phase_by killed run halt alive_type = if killed then P.Killed else phase_if_not_killed run halt alive_type
+phase_by killed run halt alive_type = if killed then Phase.Killed else phase_if_not_killed run halt alive_type
 
 phase_step : (k : Bool) (s : Option Run) (h : Bool) (killed : Bool) (r : Option Run) (was a : Bool) → (is_some s ≡ true → killed ≡ false) →
     phase_by (k || killed) (first_some s r) (not (is_some s) && (h || was)) a ≡ next_phase k s h a (phase_by killed r was a)

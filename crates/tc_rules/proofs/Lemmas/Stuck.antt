@@ -2,22 +2,10 @@
 use Rattle.std.proofs.Common.{ℕ, ◌≡◌, ◌<◌, ◌≤◌, ◌==◌, ◌&&◌, not, nat_lt, Bool, true, false, Option, Some, None, List, [], ◌∷◌, refl, ap, sym, ◌∙◌, arith}
 use Rattle.std.specs.List.{list_all}
 use Rattle.std.proofs.lemmas.Bool.Decides.{nat_tests}
-use Rattle.tc_verdict.specs.declared.run.Run.{Run}
-use Rattle.tc_entry.specs.declared.comp.Comp.{Comp}
-use Rattle.tc_entry.specs.declared.entry.Entry.{Entry}
-use Rattle.tc_entry.specs.declared.phase.Phase.{Phase}
-use Rattle.tc_entry.specs.declared.phase.Phase.TheVariants as P
-use Rattle.tc_rules.specs.declared.component_state.ComponentState.{ComponentState}
-use Rattle.tc_rules.specs.declared.run_state.RunState.{RunState}
-use Rattle.tc_rules.specs.History.{comps, comp_of, exists, is_in, is_alive_type}
-use Rattle.tc_rules.specs.Phases.{phase, last_run, was_killed, was_halted}
-use Rattle.tc_rules.specs.Answers.{is_active, is_run_of}
-use Rattle.tc_rules.specs.Waiting.{is_still, is_stuck, waiting, waits_in_vain}
-use Rattle.tc_rules.specs.Inside.States.{goes_on}
-use Rattle.tc_rules.specs.Inside.Kept.{IsKept}
-use Rattle.tc_rules.proofs.Lemmas.Kept.{exists_if}
-use Rattle.tc_rules.proofs.Lemmas.Steps.{phase_by}
-use Rattle.tc_rules.proofs.Lemmas.Deciding.{self_equal, and_no}
+use Rattle.tc_entry.specs.Prelude.{Run}
+use Rattle.tc_entry.specs.declared.{comp.Comp.Comp, entry.Entry.Entry, phase.Phase.Phase}
+use Rattle.tc_rules.specs.{Answers.is_active, Answers.is_run_of, History.comp_of, History.comps, History.exists, History.is_alive_type, History.is_in, Inside.Kept.IsKept, Inside.States.goes_on, Phases.last_run, Phases.phase, Phases.was_halted, Phases.was_killed, Waiting.is_still, Waiting.is_stuck, Waiting.waiting, Waiting.waits_in_vain, declared.component_state.ComponentState.ComponentState, declared.run_state.RunState.RunState}
+use Rattle.tc_rules.proofs.Lemmas.{Deciding.and_no, Deciding.self_equal, Kept.exists_if, Steps.phase_by}
 
 all_true : (f : ℕ → Bool) (xs : List ℕ) → ((x : ℕ) → f x ≡ true) → list_all f xs ≡ true
 all_true f [] h = refl
@@ -31,11 +19,11 @@ one_false f (y ∷ ys) x h k = by_test (x == y) refl (one_false f ys x)
     by_test true e ih = let q : x ≡ y = grind (arith, nat_tests) in let r : f y ≡ false = ap f (sym q) ∙ k in rw r
     by_test false e ih = let r : is_in x ys ≡ true = rw e at h in rw (ih r k) (and_no (f y))
 
-running_is : (b : ℕ) (p : Phase) (Q : Type 0) → ((r : Run) → p ≡ P.Running r → r.0 ≡ b → Q) → is_run_of b p ≡ true → Q
-running_is b (P.Running r) Q f h = f r refl (let t : (r.0 == b) ≡ true = h in grind (arith, nat_tests))
-running_is b P.Inactive Q f h = absurd cc
-running_is b P.Stopped Q f h = absurd cc
-running_is b P.Killed Q f h = absurd cc
+running_is : (b : ℕ) (p : Phase) (Q : Type 0) → ((r : Run) → p ≡ Phase.Running r → r.0 ≡ b → Q) → is_run_of b p ≡ true → Q
+running_is b (Phase.Running r) Q f h = f r refl (let t : (r.0 == b) ≡ true = h in grind (arith, nat_tests))
+running_is b Phase.Inactive Q f h = absurd cc
+running_is b Phase.Stopped Q f h = absurd cc
+running_is b Phase.Killed Q f h = absurd cc
 
 and_split : (a v : Bool) → (a && not v) ≡ true → (a ≡ true) × (v ≡ false)
 and_split true false h = (refl, refl)
@@ -56,14 +44,14 @@ active_if : (past : List Entry) (b : ℕ) (c : Comp) → comp_of past b ≡ Some
 unfolding is_active
 active_if past b c e h = rw e h
 
-running_by : (k : Bool) (last : Option Run) (h a : Bool) (r : Run) → phase_by k last h a ≡ P.Running r → last ≡ Some r
+running_by : (k : Bool) (last : Option Run) (h a : Bool) (r : Run) → phase_by k last h a ≡ Phase.Running r → last ≡ Some r
 running_by true last h a r e = absurd cc
 running_by false None h a r e = absurd cc
 running_by false (Some b) false a r e = cc
 running_by false (Some b) true true r e = absurd cc
 running_by false (Some b) true false r e = absurd cc
 
-phase_running : (past : List Entry) (c : ℕ) (r : Run) → phase past c ≡ P.Running r → last_run past c ≡ Some r
+phase_running : (past : List Entry) (c : ℕ) (r : Run) → phase past c ≡ Phase.Running r → last_run past c ≡ Some r
 unfolding phase
 phase_running past c r h = running_by (was_killed past c) (last_run past c) (was_halted past c) (is_alive_type past c) r h
 
@@ -93,7 +81,7 @@ module _ {n : ℕ} {past : List Entry} {states : List ComponentState} {runs : Li
       (comp_of past b) refl p.0
 
   still_at : (i : ℕ) → IsKept n past states runs over → n ≤ i → ((b : ℕ) → b < i → goes_on past b ≡ false) → (c : ℕ) (p : Phase) → phase past c ≡ p → is_still past p ≡ true
-  still_at i kept end none c (P.Running r) e =
+  still_at i kept end none c (Phase.Running r) e =
       let on : comp_of past r.0 ≡ Some (record { 0 = c }) = kept.on_last c r (phase_running past c r e) in
       let a : is_active past r.0 ≡ true = active_if past r.0 (record { 0 = c }) on (ap (is_run_of r.0) e ∙ self_equal r.0) in
       by_test (nat_lt r.0 n) refl on a
@@ -105,9 +93,9 @@ module _ {n : ℕ} {past : List Entry} {states : List ComponentState} {runs : Li
       by_test false k on a =
           let out : n ≤ r.0 = grind (arith, nat_tests) in
           absurd (none_some (comp_of past r.0) (record { 0 = c }) (kept.no_other_run r.0 out).0 on)
-  still_at i kept end none c P.Inactive e = refl
-  still_at i kept end none c P.Stopped e = refl
-  still_at i kept end none c P.Killed e = refl
+  still_at i kept end none c Phase.Inactive e = refl
+  still_at i kept end none c Phase.Stopped e = refl
+  still_at i kept end none c Phase.Killed e = refl
 
   pub stuck_if_none : (i : ℕ) → IsKept n past states runs over → n ≤ i → ((b : ℕ) → b < i → goes_on past b ≡ false) → is_stuck past ≡ true
   unfolding is_stuck

@@ -1,12 +1,8 @@
 -- What is counted over the states of all components.
 use Rattle.std.specs.Prelude.{ℕ, ◌≡◌, ◌+◌, ◌≤◌, ◌&&◌, not, if◌then◌else◌, Bool, false, Some, None, is_some, List, [], ◌∷◌, length, drop}
-use Rattle.tc_entry.specs.declared.limits.TheConstants.{COMPONENTS}
-use Rattle.tc_verdict.specs.declared.verdict.Verdict.{Verdict}
-use Rattle.tc_verdict.specs.declared.verdict.Verdict.TheVariants as V
-use Rattle.tc_entry.specs.declared.phase.Phase.TheVariants as P
-use Rattle.tc_rules.specs.declared.component_state.ComponentState.{ComponentState}
-use Rattle.tc_rules.specs.Status.{is_running, is_killed, is_done}
-use Rattle.tc_rules.specs.Inside.States.{worst_local}
+use Rattle.tc_entry.specs.declared.{limits.TheConstants.COMPONENTS, phase.Phase.Phase}
+use Rattle.tc_entry.specs.Prelude.{Verdict}
+use Rattle.tc_rules.specs.{Inside.States.worst_local, Status.is_done, Status.is_killed, Status.is_running, declared.component_state.ComponentState.ComponentState}
 
 abbrev pub bit : Bool → ℕ
 bit b = if b then 1 else 0
@@ -22,11 +18,11 @@ count_of p (s ∷ ss) = bit (p s) + count_of p ss
 
 -- what is made of a component by its creation
 abbrev pub made_state : Bool → ComponentState
-made_state alive_type = record { phase = P.Inactive; alive_type = alive_type; last = None; excused = false; local = V.None }
+made_state alive_type = record { phase = Phase.Inactive; alive_type = alive_type; last = None; excused = false; local = Verdict.None }
 
 -- the main component, at the opening
 abbrev pub main_state : ComponentState
-main_state = record { phase = P.Running (record { 0 = 0 }); alive_type = false; last = Some (record { 0 = 0 }); excused = false; local = V.None }
+main_state = record { phase = Phase.Running (record { 0 = 0 }); alive_type = false; last = Some (record { 0 = 0 }); excused = false; local = Verdict.None }
 
 -- the counts are over all states but the first
 pub record IsCounted (states : List ComponentState) (running done killed lapsed : ℕ) (worst : Verdict) : Type 0 where

@@ -1,21 +1,8 @@
 -- What the table keeps next to its history, and how that follows from the history.
 use Rattle.std.specs.Prelude.{ℕ, zero, suc, ◌≡◌, ◌+◌, ◌<◌, ◌≤◌, ◌&&◌, Bool, true, false, None, Some, is_some, List, [], ◌∷◌, length, slice_index_or}
-use Rattle.tc_entry.specs.Prelude.{IsBehaviours}
-use Rattle.tc_entry.specs.declared.limits.TheConstants.{COMPONENTS}
-use Rattle.tc_rules.specs.declared.awaited.Awaited.{Awaited}
-use Rattle.tc_entry.specs.declared.comp.Comp.{Comp}
-use Rattle.tc_verdict.specs.declared.run.Run.{Run}
-use Rattle.tc_entry.specs.declared.entry.Entry.{Entry}
-use Rattle.tc_verdict.specs.declared.verdict.Verdict.TheVariants as V
-use Rattle.tc_entry.specs.declared.phase.Phase.TheVariants as P
-use Rattle.tc_rules.specs.declared.component_state.ComponentState.{ComponentState}
-use Rattle.tc_rules.specs.declared.run_state.RunState.{RunState}
-use Rattle.tc_rules.specs.History.{comps, comp_of, is_alive_type, is_over}
-use Rattle.tc_rules.specs.Phases.{phase, last_run, was_killed, was_halted, is_excused}
-use Rattle.tc_rules.specs.Local.{local}
-use Rattle.tc_rules.specs.Waiting.{waiting}
-use Rattle.tc_rules.specs.Faults.{all_exist, target_names}
-use Rattle.tc_rules.specs.Legal.{IsLegal}
+use Rattle.tc_entry.specs.Prelude.{IsBehaviours, Run, Verdict}
+use Rattle.tc_entry.specs.declared.{comp.Comp.Comp, entry.Entry.Entry, limits.TheConstants.COMPONENTS, phase.Phase.Phase}
+use Rattle.tc_rules.specs.{Faults.all_exist, Faults.target_names, History.comp_of, History.comps, History.is_alive_type, History.is_over, Legal.IsLegal, Local.local, Phases.is_excused, Phases.last_run, Phases.phase, Phases.was_halted, Phases.was_killed, Waiting.waiting, declared.awaited.Awaited.Awaited, declared.component_state.ComponentState.ComponentState, declared.run_state.RunState.RunState}
 
 -- what the table keeps of component c
 abbrev pub state_of : List Entry → ℕ → ComponentState
@@ -29,7 +16,7 @@ state_of past c = record {
 
 -- what is kept of a component that is not yet made
 abbrev pub blank : ComponentState
-blank = record { phase = P.Inactive; alive_type = false; last = None; excused = false; local = V.None }
+blank = record { phase = Phase.Inactive; alive_type = false; last = None; excused = false; local = Verdict.None }
 
 -- what the table keeps of run b
 abbrev pub run_of : List Entry → ℕ → RunState

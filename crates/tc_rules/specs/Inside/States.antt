@@ -1,14 +1,9 @@
 -- Tests on what is kept of components.
 use Rattle.std.specs.Prelude.{ℕ, ◌≡◌, ◌&&◌, ◌||◌, not, nat_lt, Bool, true, false, Option, is_some, MatchOption, List, map}
-use Rattle.tc_verdict.specs.declared.verdict.Verdict.{Verdict}
-use Rattle.tc_verdict.specs.Prelude.{worst}
 use Rattle.std.specs.List.{list_any, list_all}
-use Rattle.tc_entry.specs.declared.comp.Comp.{Comp}
-use Rattle.tc_entry.specs.declared.entry.Entry.{Entry}
-use Rattle.tc_rules.specs.declared.component_state.ComponentState.{ComponentState}
-use Rattle.tc_rules.specs.Answers.{is_active}
-use Rattle.tc_rules.specs.Waiting.{waits_in_vain, waiting}
-use Rattle.tc_rules.specs.Status.{is_running, is_killed, is_done}
+use Rattle.tc_entry.specs.Prelude.{Verdict, worst}
+use Rattle.tc_entry.specs.declared.{comp.Comp.Comp, entry.Entry.Entry}
+use Rattle.tc_rules.specs.{Answers.is_active, Status.is_done, Status.is_killed, Status.is_running, Waiting.waiting, Waiting.waits_in_vain, declared.component_state.ComponentState.ComponentState}
 
 unfoldable pub any_running : List ComponentState → Bool
 any_running states = list_any (λ s. is_running s.phase) states

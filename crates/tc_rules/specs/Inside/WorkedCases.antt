@@ -1,20 +1,8 @@
 -- Worked cases: the calls of one test case with the reply to each, and the overall verdict at the end.
 use Rattle.std.specs.Prelude.{ℕ, ◌≡◌, true, false, Some, None, List, [], ◌∷◌, reverse, codes}
-use Rattle.tc_verdict.specs.declared.verdict.Verdict.{Verdict}
-use Rattle.tc_verdict.specs.declared.verdict.Verdict.TheVariants as V
-use Rattle.tc_verdict.specs.declared.user_verdict.UserVerdict.TheVariants as U
-use Rattle.tc_entry.specs.declared.comp.Comp.{Comp}
-use Rattle.tc_entry.specs.declared.entry.Entry.{Entry}
-use Rattle.tc_entry.specs.declared.op.Group.TheVariants as G
-use Rattle.tc_entry.specs.declared.op.Target.{Target}
-use Rattle.tc_entry.specs.declared.op.Target.TheVariants as T
-use Rattle.tc_entry.specs.declared.op.Op.{Op}
-use Rattle.tc_entry.specs.declared.op.Op.TheVariants as O
-use Rattle.tc_entry.specs.declared.reply.Reply.{Reply}
-use Rattle.tc_entry.specs.declared.reply.Reply.TheVariants as R
-use Rattle.tc_entry.specs.declared.reply.Fault.TheVariants as F
-use Rattle.tc_rules.specs.Legal.{IsLegal}
-use Rattle.tc_rules.specs.Local.{overall}
+use Rattle.tc_entry.specs.Prelude.{Verdict, UserVerdict}
+use Rattle.tc_entry.specs.declared.{comp.Comp.Comp, entry.Entry.Entry, op.Group.Group, op.Op.Op, op.Target.Target, reply.Fault.Fault, reply.Reply.Reply}
+use Rattle.tc_rules.specs.{Legal.IsLegal, Local.overall}
 
 -- among n behaviours the table gives the reply of each of these entries, the oldest first, and this is the overall verdict
 abbrev pub IsCase : ℕ → Verdict → List Entry → Type 0
@@ -30,81 +18,81 @@ comp c = record { 0 = c }
 
 -- the main component creates an ordinary component, which is c
 abbrev pub create : ℕ → Entry
-create c = call 0 (O.Create false None) (R.Made (comp c))
+create c = call 0 (Op.Create false None) (Reply.Made (comp c))
 
 -- the main component creates an alive-type component, which is c
 abbrev pub create_alive : ℕ → Entry
-create_alive c = call 0 (O.Create true None) (R.Made (comp c))
+create_alive c = call 0 (Op.Create true None) (Reply.Made (comp c))
 
 -- the main component starts run b on component c, without arguments
 abbrev pub start : ℕ → ℕ → Reply → Entry
-start c b reply = call 0 (O.Start (comp c) (record { 0 = b }) []) reply
+start c b reply = call 0 (Op.Start (comp c) (record { 0 = b }) []) reply
 
 -- only component c
 abbrev pub one : ℕ → Target
-one c = T.One (comp c)
+one c = Target.One (comp c)
 
 -- each case, by its name
 pub record WorkedCases : Type 0 where
   pub inconc_stays :
-      IsCase 1 V.Inconc (call 0 (O.SetVerdict U.Inconc) R.Ok ∷ call 0 (O.SetVerdict U.Pass) R.Ok ∷ call 0 O.GetVerdict (R.Local V.Inconc) ∷ [])
+      IsCase 1 Verdict.Inconc (call 0 (Op.SetVerdict UserVerdict.Inconc) Reply.Ok ∷ call 0 (Op.SetVerdict UserVerdict.Pass) Reply.Ok ∷ call 0 Op.GetVerdict (Reply.Local Verdict.Inconc) ∷ [])
   pub start_of_a_running_component :
-      IsCase 3 V.Error (create 1 ∷ start 1 1 R.Ok ∷ start 1 2 (R.Fault F.AlreadyRunning) ∷ call 1 O.GetVerdict R.Ended ∷ [])
+      IsCase 3 Verdict.Error (create 1 ∷ start 1 1 Reply.Ok ∷ start 1 2 (Reply.Fault Fault.AlreadyRunning) ∷ call 1 Op.GetVerdict Reply.Ended ∷ [])
   pub restart_keeps_fail :
-      IsCase 3 V.Fail (create_alive 1 ∷ start 1 1 R.Ok ∷ call 1 (O.SetVerdict U.Fail) R.Ok ∷ call 1 O.Finish R.Ok ∷ start 1 2 R.Ok
-      ∷ call 2 O.GetVerdict (R.Local V.Fail) ∷ [])
+      IsCase 3 Verdict.Fail (create_alive 1 ∷ start 1 1 Reply.Ok ∷ call 1 (Op.SetVerdict UserVerdict.Fail) Reply.Ok ∷ call 1 Op.Finish Reply.Ok ∷ start 1 2 Reply.Ok
+      ∷ call 2 Op.GetVerdict (Reply.Local Verdict.Fail) ∷ [])
   pub stopped_ordinary_is_killed :
-      IsCase 3 V.Error (create 1 ∷ start 1 1 R.Ok ∷ call 0 (O.Stop (G.One (comp 1))) R.Ok ∷ call 0 (O.Killed (one 1)) (R.Answer true)
-      ∷ start 1 2 (R.Fault F.NotStartable) ∷ [])
+      IsCase 3 Verdict.Error (create 1 ∷ start 1 1 Reply.Ok ∷ call 0 (Op.Stop (Group.One (comp 1))) Reply.Ok ∷ call 0 (Op.Killed (one 1)) (Reply.Answer true)
+      ∷ start 1 2 (Reply.Fault Fault.NotStartable) ∷ [])
   pub done_of_groups :
-      IsCase 1 V.None (call 0 (O.Done T.All) (R.Answer true) ∷ create 1 ∷ call 0 (O.Done T.All) (R.Answer true) ∷ call 0 (O.Done T.Any) (R.Answer false) ∷ [])
+      IsCase 1 Verdict.None (call 0 (Op.Done Target.All) (Reply.Answer true) ∷ create 1 ∷ call 0 (Op.Done Target.All) (Reply.Answer true) ∷ call 0 (Op.Done Target.Any) (Reply.Answer false) ∷ [])
   pub ptc_asks_of_any :
-      IsCase 2 V.Error (create 1 ∷ start 1 1 R.Ok ∷ call 1 (O.Running T.Any) (R.Fault F.NotMain) ∷ [])
+      IsCase 2 Verdict.Error (create 1 ∷ start 1 1 Reply.Ok ∷ call 1 (Op.Running Target.Any) (Reply.Fault Fault.NotMain) ∷ [])
   pub stop_and_kill_of_an_inactive_component :
-      IsCase 1 V.None (create 1 ∷ call 0 (O.Stop (G.One (comp 1))) R.Ok ∷ call 0 (O.Alive (one 1)) (R.Answer true) ∷ call 0 (O.Kill (G.One (comp 1))) R.Ok
-      ∷ call 0 (O.Done (one 1)) (R.Answer true) ∷ [])
+      IsCase 1 Verdict.None (create 1 ∷ call 0 (Op.Stop (Group.One (comp 1))) Reply.Ok ∷ call 0 (Op.Alive (one 1)) (Reply.Answer true) ∷ call 0 (Op.Kill (Group.One (comp 1))) Reply.Ok
+      ∷ call 0 (Op.Done (one 1)) (Reply.Answer true) ∷ [])
   pub stopped_by_another_is_excused :
-      IsCase 3 V.None (create 1 ∷ create 2 ∷ start 1 1 R.Ok ∷ start 2 2 R.Ok ∷ call 0 (O.Stop (G.One (comp 1))) R.Ok ∷ call 0 (O.Running T.All) (R.Answer true)
-      ∷ call 2 O.Finish R.Ok ∷ call 0 (O.Running T.All) (R.Answer false) ∷ [])
+      IsCase 3 Verdict.None (create 1 ∷ create 2 ∷ start 1 1 Reply.Ok ∷ start 2 2 Reply.Ok ∷ call 0 (Op.Stop (Group.One (comp 1))) Reply.Ok ∷ call 0 (Op.Running Target.All) (Reply.Answer true)
+      ∷ call 2 Op.Finish Reply.Ok ∷ call 0 (Op.Running Target.All) (Reply.Answer false) ∷ [])
   pub waiting_alone_is_stuck :
-      IsCase 1 V.Error (create 1 ∷ call 0 (O.Wait false (one 1)) R.Parked ∷ call 0 (O.Wake false (one 1)) (R.Fault F.Stuck) ∷ [])
+      IsCase 1 Verdict.Error (create 1 ∷ call 0 (Op.Wait false (one 1)) Reply.Parked ∷ call 0 (Op.Wake false (one 1)) (Reply.Fault Fault.Stuck) ∷ [])
   pub a_ptc_stops_the_main :
-      IsCase 2 V.Pass (create 1 ∷ start 1 1 R.Ok ∷ call 1 (O.SetVerdict U.Pass) R.Ok ∷ call 1 (O.Stop (G.One (comp 0))) R.Ok ∷ call 0 O.GetVerdict R.Ended
-      ∷ call 1 O.GetVerdict R.Ended ∷ [])
+      IsCase 2 Verdict.Pass (create 1 ∷ start 1 1 Reply.Ok ∷ call 1 (Op.SetVerdict UserVerdict.Pass) Reply.Ok ∷ call 1 (Op.Stop (Group.One (comp 0))) Reply.Ok ∷ call 0 Op.GetVerdict Reply.Ended
+      ∷ call 1 Op.GetVerdict Reply.Ended ∷ [])
   pub stop_of_a_case :
-      IsCase 2 V.Error (create 1 ∷ start 1 1 R.Ok ∷ call 1 (O.SetVerdict U.Pass) R.Ok ∷ call 1 O.StopCase R.Ok ∷ call 0 O.GetVerdict R.Ended ∷ [])
+      IsCase 2 Verdict.Error (create 1 ∷ start 1 1 Reply.Ok ∷ call 1 (Op.SetVerdict UserVerdict.Pass) Reply.Ok ∷ call 1 Op.StopCase Reply.Ok ∷ call 0 Op.GetVerdict Reply.Ended ∷ [])
   pub stop_of_a_case_by_the_main :
-      IsCase 1 V.Error (call 0 O.StopCase R.Ok ∷ call 0 O.GetVerdict R.Ended ∷ [])
+      IsCase 1 Verdict.Error (call 0 Op.StopCase Reply.Ok ∷ call 0 Op.GetVerdict Reply.Ended ∷ [])
   pub stop_of_a_case_by_a_run_that_was_never_started :
-      IsCase 2 V.None (call 1 O.StopCase R.Ended ∷ [])
+      IsCase 2 Verdict.None (call 1 Op.StopCase Reply.Ended ∷ [])
   pub settings_of_the_main :
-      IsCase 1 V.Pass (create 1 ∷ call 0 (O.SetVerdict U.Pass) R.Ok ∷ call 0 (O.SetVerdict U.None) R.Ok ∷ call 0 O.GetVerdict (R.Local V.Pass) ∷ call 0 O.Finish R.Ok
-      ∷ call 0 O.GetVerdict R.Ended ∷ [])
+      IsCase 1 Verdict.Pass (create 1 ∷ call 0 (Op.SetVerdict UserVerdict.Pass) Reply.Ok ∷ call 0 (Op.SetVerdict UserVerdict.None) Reply.Ok ∷ call 0 Op.GetVerdict (Reply.Local Verdict.Pass) ∷ call 0 Op.Finish Reply.Ok
+      ∷ call 0 Op.GetVerdict Reply.Ended ∷ [])
   pub order_of_faults :
-      IsCase 2 V.Error (create 1 ∷ start 1 1 R.Ok ∷ start 1 9 (R.Fault F.AlreadyRunning) ∷ [])
+      IsCase 2 Verdict.Error (create 1 ∷ start 1 1 Reply.Ok ∷ start 1 9 (Reply.Fault Fault.AlreadyRunning) ∷ [])
   pub status_of_a_restarted_component :
-      IsCase 3 V.None (create_alive 1 ∷ start 1 1 R.Ok ∷ call 1 O.Finish R.Ok ∷ call 0 (O.Done (one 1)) (R.Answer true) ∷ start 1 2 R.Ok
-      ∷ call 0 (O.Done (one 1)) (R.Answer false) ∷ call 0 (O.Running (one 1)) (R.Answer true) ∷ call 0 (O.Alive (one 1)) (R.Answer true) ∷ [])
+      IsCase 3 Verdict.None (create_alive 1 ∷ start 1 1 Reply.Ok ∷ call 1 Op.Finish Reply.Ok ∷ call 0 (Op.Done (one 1)) (Reply.Answer true) ∷ start 1 2 Reply.Ok
+      ∷ call 0 (Op.Done (one 1)) (Reply.Answer false) ∷ call 0 (Op.Running (one 1)) (Reply.Answer true) ∷ call 0 (Op.Alive (one 1)) (Reply.Answer true) ∷ [])
   pub two_waits_are_stuck :
-      IsCase 2 V.Error (create 1 ∷ start 1 1 R.Ok ∷ call 0 (O.Wait false (one 1)) R.Parked ∷ call 1 (O.Wait true (one 1)) R.Parked
-      ∷ call 1 (O.Wake true (one 1)) R.Parked ∷ call 0 (O.Wake false (one 1)) (R.Fault F.Stuck) ∷ [])
+      IsCase 2 Verdict.Error (create 1 ∷ start 1 1 Reply.Ok ∷ call 0 (Op.Wait false (one 1)) Reply.Parked ∷ call 1 (Op.Wait true (one 1)) Reply.Parked
+      ∷ call 1 (Op.Wake true (one 1)) Reply.Parked ∷ call 0 (Op.Wake false (one 1)) (Reply.Fault Fault.Stuck) ∷ [])
   pub a_finish_wakes :
-      IsCase 2 V.None (create 1 ∷ start 1 1 R.Ok ∷ call 0 (O.Wait false (one 1)) R.Parked ∷ call 0 (O.Wake false (one 1)) R.Parked ∷ call 1 O.Finish R.Ok
-      ∷ call 0 (O.Wake false (one 1)) R.Matched ∷ [])
+      IsCase 2 Verdict.None (create 1 ∷ start 1 1 Reply.Ok ∷ call 0 (Op.Wait false (one 1)) Reply.Parked ∷ call 0 (Op.Wake false (one 1)) Reply.Parked ∷ call 1 Op.Finish Reply.Ok
+      ∷ call 0 (Op.Wake false (one 1)) Reply.Matched ∷ [])
   pub groups_of_two :
-      IsCase 3 V.None (create 1 ∷ create_alive 2 ∷ start 2 1 R.Ok ∷ call 0 (O.Killed T.Any) (R.Answer false) ∷ call 0 (O.Stop G.All) R.Ok
-      ∷ call 0 (O.Done T.Any) (R.Answer true) ∷ call 0 (O.Killed T.All) (R.Answer false) ∷ call 0 (O.Alive T.All) (R.Answer true) ∷ call 0 (O.Kill G.All) R.Ok
-      ∷ call 0 (O.Killed T.All) (R.Answer true) ∷ call 0 (O.Alive T.Any) (R.Answer false) ∷ [])
+      IsCase 3 Verdict.None (create 1 ∷ create_alive 2 ∷ start 2 1 Reply.Ok ∷ call 0 (Op.Killed Target.Any) (Reply.Answer false) ∷ call 0 (Op.Stop Group.All) Reply.Ok
+      ∷ call 0 (Op.Done Target.Any) (Reply.Answer true) ∷ call 0 (Op.Killed Target.All) (Reply.Answer false) ∷ call 0 (Op.Alive Target.All) (Reply.Answer true) ∷ call 0 (Op.Kill Group.All) Reply.Ok
+      ∷ call 0 (Op.Killed Target.All) (Reply.Answer true) ∷ call 0 (Op.Alive Target.Any) (Reply.Answer false) ∷ [])
   pub unknown_argument :
-      IsCase 2 V.Error (create 1 ∷ call 0 (O.Start (comp 1) (record { 0 = 1 }) (comp 7 ∷ [])) (R.Fault F.NoComponent) ∷ [])
+      IsCase 2 Verdict.Error (create 1 ∷ call 0 (Op.Start (comp 1) (record { 0 = 1 }) (comp 7 ∷ [])) (Reply.Fault Fault.NoComponent) ∷ [])
   pub start_of_the_main :
-      IsCase 2 V.Error (start 0 1 (R.Fault F.StartMain) ∷ [])
+      IsCase 2 Verdict.Error (start 0 1 (Reply.Fault Fault.StartMain) ∷ [])
   pub start_of_run_0 :
-      IsCase 2 V.Error (create 1 ∷ start 1 0 (R.Fault F.NoBehaviour) ∷ [])
+      IsCase 2 Verdict.Error (create 1 ∷ start 1 0 (Reply.Fault Fault.NoBehaviour) ∷ [])
   pub start_of_a_run_out_of_range :
-      IsCase 2 V.Error (create 1 ∷ start 1 2 (R.Fault F.NoBehaviour) ∷ [])
+      IsCase 2 Verdict.Error (create 1 ∷ start 1 2 (Reply.Fault Fault.NoBehaviour) ∷ [])
   pub start_of_a_run_started_before :
-      IsCase 2 V.Error (create 1 ∷ create 2 ∷ start 1 1 R.Ok ∷ start 2 1 (R.Fault F.NoBehaviour) ∷ [])
+      IsCase 2 Verdict.Error (create 1 ∷ create 2 ∷ start 1 1 Reply.Ok ∷ start 2 1 (Reply.Fault Fault.NoBehaviour) ∷ [])
   pub many_behaviours :
-      IsCase 256 V.Pass (call 0 (O.Create false (Some (codes "pump"))) (R.Made (comp 1)) ∷ call 0 (O.Create true (Some (codes "pump"))) (R.Made (comp 2)) ∷ start 1 255 R.Ok
-      ∷ call 255 (O.SetVerdict U.Pass) R.Ok ∷ [])
+      IsCase 256 Verdict.Pass (call 0 (Op.Create false (Some (codes "pump"))) (Reply.Made (comp 1)) ∷ call 0 (Op.Create true (Some (codes "pump"))) (Reply.Made (comp 2)) ∷ start 1 255 Reply.Ok
+      ∷ call 255 (Op.SetVerdict UserVerdict.Pass) Reply.Ok ∷ [])

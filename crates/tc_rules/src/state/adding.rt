@@ -1,11 +1,8 @@
 //! Taking in an entry, and what it does to all that is kept.
 ghost use Rattle.std.specs.Prelude.{◌≡◌, ◌||◌, true, false, Some, None, List, OnErr, OnOk};
 ghost use Rattle.std.specs.Result.{IsOk};
-ghost use Rattle.tc_entry.specs.declared.entry.Entry.{Entry};
-ghost use Rattle.tc_rules.specs.Standing.{StandsFor, IsReplyOf, TakesIn};
 ghost use Rattle.tc_entry.specs.Prelude.{is_fault};
-ghost use Rattle.tc_entry.specs.declared.op.Op.TheVariants as ops;
-ghost use Rattle.tc_entry.specs.declared.reply.Reply.TheVariants as replies;
+ghost use Rattle.tc_rules.specs.Standing.{StandsFor, IsReplyOf, TakesIn};
 ghost use Rattle.tc_rules.specs.History as history;
 ghost use Rattle.tc_rules.specs.Inside.Step as step;
 
@@ -93,9 +90,9 @@ impl CaseState {
     /// Takes in a setting of a verdict that counts.
     #[inline(never)]
     fn set_verdict(&mut self, caller: Run, setting: UserVerdict)
-        requires legal { IsReplyOf self.old caller (ops.SetVerdict setting) replies.Ok }
+        requires legal { IsReplyOf self.old caller (Op.SetVerdict setting) Reply.Ok }
         ensures behaviours { self.new.behaviours ≡ self.old.behaviours }
-        ensures stands { TakesIn self.old (record { caller = caller; op = ops.SetVerdict setting; reply = replies.Ok }) self.new }
+        ensures stands { TakesIn self.old (record { caller = caller; op = Op.SetVerdict setting; reply = Reply.Ok }) self.new }
     {
         self.add_plain(&Entry {
             caller,
@@ -107,9 +104,9 @@ impl CaseState {
     /// Takes in a stop.
     #[inline(never)]
     fn stop(&mut self, caller: Run, group: Group)
-        requires legal { IsReplyOf self.old caller (ops.Stop group) replies.Ok }
+        requires legal { IsReplyOf self.old caller (Op.Stop group) Reply.Ok }
         ensures behaviours { self.new.behaviours ≡ self.old.behaviours }
-        ensures stands { TakesIn self.old (record { caller = caller; op = ops.Stop group; reply = replies.Ok }) self.new }
+        ensures stands { TakesIn self.old (record { caller = caller; op = Op.Stop group; reply = Reply.Ok }) self.new }
     {
         self.add_plain(&Entry {
             caller,
@@ -121,9 +118,9 @@ impl CaseState {
     /// Takes in a kill.
     #[inline(never)]
     fn kill(&mut self, caller: Run, group: Group)
-        requires legal { IsReplyOf self.old caller (ops.Kill group) replies.Ok }
+        requires legal { IsReplyOf self.old caller (Op.Kill group) Reply.Ok }
         ensures behaviours { self.new.behaviours ≡ self.old.behaviours }
-        ensures stands { TakesIn self.old (record { caller = caller; op = ops.Kill group; reply = replies.Ok }) self.new }
+        ensures stands { TakesIn self.old (record { caller = caller; op = Op.Kill group; reply = Reply.Ok }) self.new }
     {
         self.add_plain(&Entry {
             caller,

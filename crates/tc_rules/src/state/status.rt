@@ -22,7 +22,7 @@ impl CaseState {
 
     /// The component that a run is on.
     #[inline(always)]
-    pub(crate) fn comp_of(&self, run: Run) -> Option<Comp>
+    pub fn comp_of(&self, run: Run) -> Option<Comp>
         ensures is { (past : List Entry) → StandsFor self.now past → result ≡ history.comp_of past run.0 }
         ensures within { IfSome result (λ c. c.0 < length self.now.states) }
     {

@@ -17,7 +17,7 @@ use tc_verdict::Run;
 impl CaseState {
     /// The component of a run that is active.
     #[inline(always)]
-    pub(crate) fn active_on(&self, caller: Run) -> Option<Comp>
+    pub fn active_on(&self, caller: Run) -> Option<Comp>
         ensures active { (past : List Entry) → StandsFor self.now past → tests.IsThereIfActive past caller.0 result }
         ensures on { (past : List Entry) → StandsFor self.now past → IfSome result (λ c. history.comp_of past caller.0 ≡ Some c) }
         ensures within { IfSome result (λ c. c.0 < length self.now.states) }

@@ -1,14 +1,8 @@
 -- What the digits that a text begins with say of its number.
 use Rattle.std.proofs.Common.{◌≡◌, ◌∙◌, ◌<◌, ◌≤◌, ◌+◌, ◌-◌, ◌*◌, ◌^◌, ◌⊎◌, ◌&&◌, ℕ, Bool, List, [], ◌∷◌, ◌++◌, length, slice_index, take, drop, sym, ap, true, false, arith, rules, inl, inr, zero, suc, refl}
-use Rattle.std.specs.Fmt.{decimal}
-use Rattle.std.specs.Char.{is_ascii_digit}
-use Rattle.std.specs.Str.{all_ascii_digits}
-use Rattle.std.proofs.lemmas.Fmt.{digits_decimal, digits_value-decimal, first_decimal, decimal-digits_value, decimal_digit, decimal_is_IsNumeral, decimal_nonempty}
-use Rattle.std.proofs.lemmas.Str.Parse.{IsNumeralModel, numerals_by_fold, digit_at}
-use Rattle.std.proofs.lemmas.List.{take_more, take-append-drop}
-use Rattle.std.proofs.lemmas.Bool.Decides.{nat_tests}
-use Rattle.tc_text.specs.Reading.{EndsNumber}
-use Rattle.tc_text.specs.Inside.{AreDigits, Counted, NoDigitFirst, read_on}
+use Rattle.std.specs.{Char.is_ascii_digit, Fmt.decimal, Str.all_ascii_digits}
+use Rattle.std.proofs.lemmas.{Bool.Decides.nat_tests, Fmt.decimal-digits_value, Fmt.decimal_digit, Fmt.decimal_is_IsNumeral, Fmt.decimal_nonempty, Fmt.digits_decimal, Fmt.digits_value-decimal, Fmt.first_decimal, List.take-append-drop, List.take_more, Str.Parse.IsNumeralModel, Str.Parse.digit_at, Str.Parse.numerals_by_fold}
+use Rattle.tc_text.specs.{Inside.AreDigits, Inside.Counted, Inside.NoDigitFirst, Inside.read_on, Reading.EndsNumber}
 
 own : IsNumeralModel (λ ds. all_ascii_digits ds ≡ true) (read_on 0)
 own = numerals_by_fold _ (search rules) read_on (search rules)

@@ -2,8 +2,7 @@
 use Rattle.std.proofs.Common.{◌≡◌, ◌≢◌, ◌∙◌, ◌==◌, inl, inr, ℕ, List, [], ◌∷◌, ◌++◌, Bool, true, false, if◌then◌else◌, length, ◌<◌, sym, ap, refl, arith}
 use Rattle.std.specs.List.{onto_first, AllByRecursion}
 use Rattle.std.proofs.lemmas.Bool.Decides.{nat_tests}
-use Rattle.tc_text.specs.Lines.{lines_of}
-use Rattle.tc_text.specs.Reading.{EndsLine}
+use Rattle.tc_text.specs.{MoveList.lines_of, Reading.EndsLine}
 
 -- no byte is LF
 abbrev pub NoLf : List ℕ → Type 0

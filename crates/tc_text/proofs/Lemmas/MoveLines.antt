@@ -1,16 +1,10 @@
 -- The first line of a text, read as a move.
 use Rattle.std.proofs.Common.{◌≡◌, ◌≢◌, ◌∙◌, ◌<◌, ◌^◌, inl, inr, ℕ, List, ◌∷◌, ◌++◌, codes, sym, ap, refl, arith}
 use Rattle.std.specs.Fmt.{decimal}
-use Rattle.tc_verdict.specs.declared.run.Run.{Run}
+use Rattle.tc_entry.specs.Prelude.{Run, IsBehaviours}
 use Rattle.tc_entry.specs.declared.op.Op.{Op}
-use Rattle.tc_text.specs.Spelling.{move_text, IsOp}
-use Rattle.tc_text.specs.Lines.{lines_of}
-use Rattle.tc_entry.specs.Prelude.{IsBehaviours}
-use Rattle.tc_text.specs.MoveList.{Move, move_line, behaviours_line, IsMove}
-use Rattle.tc_text.specs.Reading.{EndsNumber, EndsMove, EndsReply, EndsLine}
-use Rattle.tc_text.proofs.Operands.{ends_nothing, IsThatNumber}
-use Rattle.tc_text.proofs.Lemmas.LinesOf.{line_ended, first_line}
-use Rattle.tc_text.proofs.Lemmas.Plain.{move_plain, behaviours_plain, some_behaviours, some_move}
+use Rattle.tc_text.specs.{MoveList.IsMove, MoveList.Move, MoveList.behaviours_line, MoveList.lines_of, MoveList.move_line, Reading.EndsLine, Reading.EndsMove, Reading.EndsNumber, Reading.EndsReply, Spelling.IsOp, Spelling.move_text}
+use Rattle.tc_text.proofs.{Lemmas.LinesOf.first_line, Lemmas.LinesOf.line_ended, Lemmas.Plain.behaviours_plain, Lemmas.Plain.move_plain, Lemmas.Plain.some_behaviours, Lemmas.Plain.some_move, Operands.IsThatNumber, Operands.ends_nothing}
 
 -- a line may end after a move
 pub ends_line : (rest behind : List ℕ) → EndsLine rest behind → EndsMove rest

@@ -1,11 +1,8 @@
 -- Names in texts: where one ends.
 use Rattle.std.proofs.Common.{ℕ, ◌≡◌, ◌==◌, ◌+◌, ◌<◌, ◌≤◌, true, false, IsTrue, All, List, [], ◌∷◌, ◌++◌, length, take, get_or, refl, sym, arith}
-use Rattle.std.proofs.lemmas.Bool.Decides.{nat_tests}
-use Rattle.std.proofs.lemmas.List.{take_more}
-use Rattle.std.proofs.lemmas.List.Elements.{All-head, All-tail}
+use Rattle.std.proofs.lemmas.{Bool.Decides.nat_tests, List.Elements.All-head, List.Elements.All-tail, List.take_more}
 use Rattle.tc_entry.specs.Prelude.{IsName, is_name_byte}
-use Rattle.tc_text.specs.Inside.{NoLow}
-use Rattle.tc_text.specs.Reading.{EndsNumber}
+use Rattle.tc_text.specs.{Inside.NoLow, Reading.EndsNumber}
 use Rattle.tc_text.proofs.Lemmas.LinesOf.{NoLf}
 
 -- a byte of a name is a digit, a letter or an underscore

@@ -1,25 +1,11 @@
 -- The texts of moves have no LF.
 use Rattle.std.proofs.Common.{◌≡◌, ◌≢◌, ◌∙◌, ◌<◌, ◌==◌, ◌^◌, ℕ, List, [], ◌∷◌, ◌++◌, codes, true, false, Some, None, refl, ap, sym, arith, rules}
-use Rattle.std.specs.Fmt.{decimal}
-use Rattle.std.specs.Char.{is_ascii_digit}
-use Rattle.std.specs.Str.{all_ascii_digits}
+use Rattle.std.specs.{Char.is_ascii_digit, Fmt.decimal, Str.all_ascii_digits}
 use Rattle.std.proofs.lemmas.Bool.Decides.{nat_tests}
-use Rattle.tc_verdict.specs.Prelude.{name_of, given}
-use Rattle.tc_verdict.specs.declared.user_verdict.UserVerdict.{UserVerdict}
-use Rattle.tc_verdict.specs.declared.user_verdict.UserVerdict.TheVariants as U
-use Rattle.tc_entry.specs.declared.comp.Comp.{Comp}
-use Rattle.tc_entry.specs.declared.op.Group.{Group}
-use Rattle.tc_entry.specs.declared.op.Group.TheVariants as G
-use Rattle.tc_entry.specs.declared.op.Target.{Target}
-use Rattle.tc_entry.specs.declared.op.Target.TheVariants as T
-use Rattle.tc_entry.specs.declared.op.Op.{Op}
-use Rattle.tc_entry.specs.declared.op.Op.TheVariants as O
-use Rattle.tc_text.specs.Spelling.{group_text, target_text, args_text, op_text, move_text, IsGroup, IsTarget, IsOp, AreComps}
-use Rattle.tc_entry.specs.Prelude.{IsBehaviours}
-use Rattle.tc_text.specs.MoveList.{behaviours_line}
-use Rattle.tc_text.proofs.Lemmas.Digits.{both, spelled_digits, digit_first}
-use Rattle.tc_text.proofs.Lemmas.LinesOf.{NoLf, no_lf-append}
-use Rattle.tc_text.proofs.Lemmas.Naming.{name_plain}
+use Rattle.tc_entry.specs.Prelude.{name_of, given, UserVerdict, IsBehaviours}
+use Rattle.tc_entry.specs.declared.{comp.Comp.Comp, op.Group.Group, op.Op.Op, op.Target.Target}
+use Rattle.tc_text.specs.{MoveList.behaviours_line, Spelling.AreComps, Spelling.IsGroup, Spelling.IsOp, Spelling.IsTarget, Spelling.args_text, Spelling.group_text, Spelling.move_text, Spelling.op_text, Spelling.target_text}
+use Rattle.tc_text.proofs.Lemmas.{Digits.both, Digits.digit_first, Digits.spelled_digits, LinesOf.NoLf, LinesOf.no_lf-append, Naming.name_plain}
 
 digit_plain : (b : ℕ) → is_ascii_digit b ≡ true → (b == 10) ≡ false
 digit_plain b digit = grind (arith, nat_tests)
@@ -32,46 +18,46 @@ pub number_plain : (n : ℕ) → n < 2 ^ 32 → NoLf (decimal n)
 number_plain n fits = digits_plain (decimal n) (spelled_digits n fits).0
 
 group_plain : (g : Group) → IsGroup g → NoLf (group_text g)
-group_plain (G.One c) fits = number_plain c.0 fits
-group_plain G.All fits = search rules
+group_plain (Group.One c) fits = number_plain c.0 fits
+group_plain Group.All fits = search rules
 
 target_plain : (t : Target) → IsTarget t → NoLf (target_text t)
-target_plain (T.One c) fits = number_plain c.0 fits
-target_plain T.Any fits = search rules
-target_plain T.All fits = search rules
+target_plain (Target.One c) fits = number_plain c.0 fits
+target_plain Target.Any fits = search rules
+target_plain Target.All fits = search rules
 
 args_plain : (cs : List Comp) → AreComps cs → NoLf (args_text cs)
 args_plain [] fits = tt
 args_plain (c ∷ cs) fits = (refl, no_lf-append (decimal c.0) (args_text cs) (number_plain c.0 fits.0) (args_plain cs fits.1))
 
 setting_plain : (v : UserVerdict) → NoLf (name_of (given v))
-setting_plain U.None = search rules
-setting_plain U.Pass = search rules
-setting_plain U.Inconc = search rules
-setting_plain U.Fail = search rules
+setting_plain UserVerdict.None = search rules
+setting_plain UserVerdict.Pass = search rules
+setting_plain UserVerdict.Inconc = search rules
+setting_plain UserVerdict.Fail = search rules
 
 op_plain : (op : Op) → IsOp op → NoLf (op_text op)
-op_plain (O.Create false None) fits = search rules
-op_plain (O.Create true None) fits = search rules
-op_plain (O.Create false (Some name)) fits = no_lf-append (codes "create named ") name (search rules) (name_plain name fits)
-op_plain (O.Create true (Some name)) fits = no_lf-append (codes "create alive named ") name (search rules) (name_plain name fits)
-op_plain (O.Start c run args) fits =
+op_plain (Op.Create false None) fits = search rules
+op_plain (Op.Create true None) fits = search rules
+op_plain (Op.Create false (Some name)) fits = no_lf-append (codes "create named ") name (search rules) (name_plain name fits)
+op_plain (Op.Create true (Some name)) fits = no_lf-append (codes "create alive named ") name (search rules) (name_plain name fits)
+op_plain (Op.Start c run args) fits =
     no_lf-append (codes "start ") _ (search rules)
     (no_lf-append (decimal c.0) _ (number_plain c.0 fits.0) (refl, no_lf-append (decimal run.0) (args_text args) (number_plain run.0 (let low = fits.1 in omega (arith, low))) (args_plain args fits.3)))
-op_plain (O.Stop g) fits = no_lf-append (codes "stop ") (group_text g) (search rules) (group_plain g fits)
-op_plain (O.Kill g) fits = no_lf-append (codes "kill ") (group_text g) (search rules) (group_plain g fits)
-op_plain (O.Running t) fits = no_lf-append (codes "running ") (target_text t) (search rules) (target_plain t fits)
-op_plain (O.Alive t) fits = no_lf-append (codes "alive ") (target_text t) (search rules) (target_plain t fits)
-op_plain (O.Done t) fits = no_lf-append (codes "done ") (target_text t) (search rules) (target_plain t fits)
-op_plain (O.Killed t) fits = no_lf-append (codes "killed ") (target_text t) (search rules) (target_plain t fits)
-op_plain (O.Wait false t) fits = no_lf-append (codes "wait done ") (target_text t) (search rules) (target_plain t fits)
-op_plain (O.Wait true t) fits = no_lf-append (codes "wait killed ") (target_text t) (search rules) (target_plain t fits)
-op_plain (O.Wake false t) fits = no_lf-append (codes "wake done ") (target_text t) (search rules) (target_plain t fits)
-op_plain (O.Wake true t) fits = no_lf-append (codes "wake killed ") (target_text t) (search rules) (target_plain t fits)
-op_plain (O.SetVerdict v) fits = no_lf-append (codes "setverdict ") (name_of (given v)) (search rules) (setting_plain v)
-op_plain O.StopCase fits = search rules
-op_plain O.GetVerdict fits = search rules
-op_plain O.Finish fits = search rules
+op_plain (Op.Stop g) fits = no_lf-append (codes "stop ") (group_text g) (search rules) (group_plain g fits)
+op_plain (Op.Kill g) fits = no_lf-append (codes "kill ") (group_text g) (search rules) (group_plain g fits)
+op_plain (Op.Running t) fits = no_lf-append (codes "running ") (target_text t) (search rules) (target_plain t fits)
+op_plain (Op.Alive t) fits = no_lf-append (codes "alive ") (target_text t) (search rules) (target_plain t fits)
+op_plain (Op.Done t) fits = no_lf-append (codes "done ") (target_text t) (search rules) (target_plain t fits)
+op_plain (Op.Killed t) fits = no_lf-append (codes "killed ") (target_text t) (search rules) (target_plain t fits)
+op_plain (Op.Wait false t) fits = no_lf-append (codes "wait done ") (target_text t) (search rules) (target_plain t fits)
+op_plain (Op.Wait true t) fits = no_lf-append (codes "wait killed ") (target_text t) (search rules) (target_plain t fits)
+op_plain (Op.Wake false t) fits = no_lf-append (codes "wake done ") (target_text t) (search rules) (target_plain t fits)
+op_plain (Op.Wake true t) fits = no_lf-append (codes "wake killed ") (target_text t) (search rules) (target_plain t fits)
+op_plain (Op.SetVerdict v) fits = no_lf-append (codes "setverdict ") (name_of (given v)) (search rules) (setting_plain v)
+op_plain Op.StopCase fits = search rules
+op_plain Op.GetVerdict fits = search rules
+op_plain Op.Finish fits = search rules
 
 pub move_plain : (run : ℕ) (op : Op) → run < 2 ^ 16 → IsOp op → NoLf (move_text run op)
 move_plain run op low fits = no_lf-append (decimal run) (codes " " ++ op_text op) (number_plain run (omega arith)) (refl, op_plain op fits)

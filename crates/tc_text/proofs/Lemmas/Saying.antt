@@ -1,12 +1,8 @@
 -- Lines that are said, one after another, and what the parts of a line hold.
 use Rattle.std.proofs.Common.{ℕ, ◌≡◌, ◌∙◌, Bool, true, false, if◌then◌else◌, List, [], ◌∷◌, ◌++◌, map, Result, Ok, Err, OnOk, refl, sym, ap, subst, append_assoc}
-use Rattle.std.specs.List.{flat_map}
-use Rattle.std.specs.Fmt.{decimal}
-use Rattle.std.proofs.lemmas.List.{append-nil, flat_map_more}
-use Rattle.tc_text.specs.declared.said.Part.{Part}
-use Rattle.tc_text.specs.declared.said.Part.TheVariants as P
-use Rattle.tc_text.specs.Inside.{part_text, prose_text}
-use Rattle.tc_text.specs.Said.{Holds, Line, Tells, TellsLine, ends_word, as_printable, part_words}
+use Rattle.std.specs.{Fmt.decimal, List.flat_map}
+use Rattle.std.proofs.lemmas.List.{append-nil}
+use Rattle.tc_text.specs.{Inside.part_text, Inside.prose_text, Said.Holds, Said.Line, Said.Tells, Said.TellsLine, Said.as_printable, Said.ends_word, Said.part_words, Said.shown_line, declared.said.Part.Part}
 
 -- ---- what the parts of a line hold
 
@@ -41,14 +37,14 @@ prose_ends t = by_test (ends_word t) refl
     by_test false e = refl
 
 part_ends : (p : Part) → ends_word (part_text p) ≡ true
-part_ends (P.Text t) = prose_ends t.now
-part_ends (P.Number n) = refl
-part_ends (P.Word w) = refl
+part_ends (Part.Text t) = prose_ends t.now
+part_ends (Part.Number n) = refl
+part_ends (Part.Word w) = refl
 
 part_holds : (p : Part) → Holds (part_words p) (part_text p)
-part_holds (P.Text t) = tt
-part_holds (P.Number n) = ([], [], ap (λ l. 32 ∷ l) (sym (append-nil (decimal n))), refl, tt)
-part_holds (P.Word w) = ([], [], ap (λ l. 32 ∷ l) (sym (append-nil w.now)), refl, tt)
+part_holds (Part.Text t) = tt
+part_holds (Part.Number n) = ([], [], ap (λ l. 32 ∷ l) (sym (append-nil (decimal n))), refl, tt)
+part_holds (Part.Word w) = ([], [], ap (λ l. 32 ∷ l) (sym (append-nil w.now)), refl, tt)
 
 parts_end : (ps : List Part) → ends_word (flat_map part_text ps) ≡ true
 parts_end [] = refl
@@ -60,11 +56,10 @@ parts_hold (p ∷ ps) =
     holds_both (part_words p) (flat_map part_words ps) (part_text p) (flat_map part_text ps) (part_holds p) (parts_hold ps) (parts_end ps)
 
 -- a line of these parts
-pub parts_said : (ps : List Part) (text shown before after : List ℕ) → text ≡ flat_map part_text ps → shown ≡ map as_printable text →
-    after ≡ before ++ (32 ∷ (shown ++ 10 ∷ [])) → TellsLine (flat_map part_words ps) before after
+pub parts_said : (ps : List Part) (text before after : List ℕ) → text ≡ flat_map part_text ps → after ≡ before ++ shown_line text →
+    TellsLine (flat_map part_words ps) before after
 unfolding TellsLine
-parts_said ps text shown before after is mapped made =
-    (text, made ∙ ap (λ l. before ++ (32 ∷ (l ++ 10 ∷ []))) mapped, subst (λ t. Holds (flat_map part_words ps) t) (sym is) (parts_hold ps))
+parts_said ps text before after is made = (text, made, subst (λ t. Holds (flat_map part_words ps) t) (sym is) (parts_hold ps))
 
 -- what follows where a call has not failed
 pub on_ok : {A E P Q : Type 0} (r : Result A E) → (P → Q) → OnOk r P → OnOk r Q
@@ -125,8 +120,3 @@ tells_some (words ∷ lines) a =
     let middle = a ++ (32 ∷ (map as_printable text.0 ++ 10 ∷ [])) in
     let rest = tells_some lines middle in
     (rest.0, (middle, (text.0, refl, text.2), rest.1))
-
--- ---- a part more
-
-pub words_push : (ps : List Part) (p : Part) → flat_map part_words (ps ++ p ∷ []) ≡ flat_map part_words ps ++ part_words p
-words_push ps p = sym (flat_map_more part_words [] ps p)

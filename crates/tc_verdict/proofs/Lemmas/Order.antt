@@ -1,12 +1,8 @@
 -- Lemmas on the order of verdicts.
 use Rattle.std.proofs.Common.{ℕ, suc, ◌≡◌, ◌≢◌, ◌+◌, ◌<◌, ◌≤◌, if◌then◌else◌, nat_lt, Bool, true, false, List, [], ◌∷◌, ◌++◌, length, get_or, take, All, Contains, refl, ap, sym, ◌∙◌, arith}
-use Rattle.std.proofs.lemmas.Bool.Decides.{nat_tests}
-use Rattle.std.proofs.lemmas.List.{take_more}
-use Rattle.std.proofs.lemmas.List.Elements.{All-from_recursion}
+use Rattle.std.proofs.lemmas.{Bool.Decides.nat_tests, List.Elements.All-from_recursion, List.take_more}
 use Rattle.std.specs.List.{AllByRecursion as EachOf}
-use Rattle.tc_verdict.specs.declared.verdict.Verdict.{Verdict}
-use Rattle.tc_verdict.specs.declared.verdict.Verdict.TheVariants as V
-use Rattle.tc_verdict.specs.Verdict.{worse, worst, level_of}
+use Rattle.tc_verdict.specs.{Verdict.level_of, Verdict.worse, Verdict.worst, declared.verdict.Verdict.Verdict}
 
 abbrev larger : ℕ → ℕ → ℕ
 larger m n = if nat_lt m n then n else m
@@ -19,16 +15,16 @@ level-worse a b = by_test (nat_lt (level_of a) (level_of b)) a b
     by_test false a b = refl
 
 same_level : (a b : Verdict) → level_of a ≡ level_of b → a ≡ b
-same_level V.None V.None e = refl
-same_level V.None _ e = absurd cc
-same_level V.Pass V.Pass e = refl
-same_level V.Pass _ e = absurd cc
-same_level V.Inconc V.Inconc e = refl
-same_level V.Inconc _ e = absurd cc
-same_level V.Fail V.Fail e = refl
-same_level V.Fail _ e = absurd cc
-same_level V.Error V.Error e = refl
-same_level V.Error _ e = absurd cc
+same_level Verdict.None Verdict.None e = refl
+same_level Verdict.None _ e = absurd cc
+same_level Verdict.Pass Verdict.Pass e = refl
+same_level Verdict.Pass _ e = absurd cc
+same_level Verdict.Inconc Verdict.Inconc e = refl
+same_level Verdict.Inconc _ e = absurd cc
+same_level Verdict.Fail Verdict.Fail e = refl
+same_level Verdict.Fail _ e = absurd cc
+same_level Verdict.Error Verdict.Error e = refl
+same_level Verdict.Error _ e = absurd cc
 
 larger_later : (w x y : ℕ) → x ≤ y → larger w y ≡ larger (larger w x) y
 larger_later w x y h = grind (arith, nat_tests)
@@ -48,12 +44,12 @@ worse_swap w x y =
     ((level-worse (worse w y) x ∙ ap (λ n. larger n (level_of x)) (level-worse w y))
     ∙ (larger_swap (level_of w) (level_of x) (level_of y) ∙ sym (level-worse (worse w x) y ∙ ap (λ n. larger n (level_of y)) (level-worse w x))))
 
-pub none_no_worse : (w : Verdict) → worse w V.None ≡ w
-none_no_worse V.None = refl
-none_no_worse V.Pass = refl
-none_no_worse V.Inconc = refl
-none_no_worse V.Fail = refl
-none_no_worse V.Error = refl
+pub none_no_worse : (w : Verdict) → worse w Verdict.None ≡ w
+none_no_worse Verdict.None = refl
+none_no_worse Verdict.Pass = refl
+none_no_worse Verdict.Inconc = refl
+none_no_worse Verdict.Fail = refl
+none_no_worse Verdict.Error = refl
 
 -- a verdict gets no better
 pub worse_left : (a b : Verdict) → level_of a ≤ level_of (worse a b)
@@ -93,12 +89,12 @@ pub worst_is_member : (vs : List Verdict) → vs ≢ [] → Contains vs (worst v
 worst_is_member [] h = absurd (h refl)
 worst_is_member (x ∷ []) h = (0, omega arith, by_none x)
   where
-    by_none : (x : Verdict) → get_or (x ∷ []) 0 (worse V.None x) ≡ worse V.None x
-    by_none V.None = refl
-    by_none V.Pass = refl
-    by_none V.Inconc = refl
-    by_none V.Fail = refl
-    by_none V.Error = refl
+    by_none : (x : Verdict) → get_or (x ∷ []) 0 (worse Verdict.None x) ≡ worse Verdict.None x
+    by_none Verdict.None = refl
+    by_none Verdict.Pass = refl
+    by_none Verdict.Inconc = refl
+    by_none Verdict.Fail = refl
+    by_none Verdict.Error = refl
 worst_is_member (x ∷ y ∷ ys) h =
     by_test (nat_lt (level_of (worst (y ∷ ys))) (level_of x)) (worst_is_member (y ∷ ys) (λ e. absurd cc))
   where

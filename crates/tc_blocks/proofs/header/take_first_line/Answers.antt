@@ -1,6 +1,5 @@
 use Rattle.std.proofs.Common.{◌≡◌, ◌≢◌, false, true, refl, subst, sym}
-use Rattle.tc_blocks.specs.declared.header.Header.{Header}
-use Rattle.tc_blocks.specs.declared.header.Kind.TheVariants as K
+use Rattle.tc_blocks.specs.declared.header.{Header.Header, Kind.Kind}
 use Rattle.tc_blocks.proofs.Headers.{first_header, first_kind, is_first}
 use Rattle.tc_blocks.proofs.header.take_first_line.Goals as goal
 
@@ -11,7 +10,7 @@ pub returns-then-not-may_have-clause-only : goal.returns-then-not-may_have-claus
 returns-then-not-may_have-clause-only c h others first lines =
     let only = c.args.only_histories in
     let two = c.in_ok-header.ensures.only h others (first_header only h first) lines in
-    let refused : false ≡ true = c.if-not-may_have.ensures.1 (subst (λ (x : Header). only ≡ true → x.kind ≢ K.Evidence) (sym two.0) (first_kind only h first)) in
+    let refused : false ≡ true = c.if-not-may_have.ensures.1 (subst (λ (x : Header). only ≡ true → x.kind ≢ Kind.Evidence) (sym two.0) (first_kind only h first)) in
     absurd cc
 
 pub returns-clause-first : goal.returns-clause-first

@@ -1,8 +1,7 @@
 use Rattle.std.proofs.Common.{rules, refl, ◌++◌, take}
-use Rattle.std.specs.Io.{StartsWith}
-use Rattle.std.specs.List.{flat_map}
+use Rattle.std.specs.{Io.StartsWith, List.flat_map}
 use Rattle.tc_blocks.specs.HistoryBlock.{entry_line}
-use Rattle.tc_blocks.proofs.Prefixes.{starts_before}
+use Rattle.tc_blocks.proofs.Unfinished.{starts_before}
 use Rattle.tc_blocks.proofs.history_block.append_entries.Goals as goal
 
 pub returns-in_err-append_entry-clause-err : goal.returns-in_err-append_entry-clause-err

@@ -1,7 +1,6 @@
 use Rattle.std.proofs.Common.{◌≡◌, ◌⊎◌, ◌∙◌, is_some, true, inl, inr, sym}
 use Rattle.tc_blocks.specs.Inside.{IsFirst}
-use Rattle.tc_blocks.proofs.PartByPart.{early_if, whole_if}
-use Rattle.tc_blocks.proofs.parts.finish.Goals.{then-is_some-via-then-is_some, then-is_some-via-else-is_some+then-line-eq1}
+use Rattle.tc_blocks.proofs.{PartByPart.early_if, PartByPart.whole_if, parts.finish.Goals.then-is_some-via-else-is_some+then-line-eq1, parts.finish.Goals.then-is_some-via-then-is_some}
 use Rattle.tc_blocks.proofs.parts.finish.Goals as goal
 
 pub returns-then-is_some-clause-fault : goal.returns-then-is_some-clause-fault

@@ -1,8 +1,6 @@
 use Rattle.std.proofs.Common.{◌≡◌, ◌∙◌, map, ap, sym, rules}
-use Rattle.tc_text.specs.declared.fault.TextFault.TheVariants as F
-use Rattle.tc_blocks.specs.Histories.{IsHistoryHeader}
-use Rattle.tc_blocks.specs.Laws.{history_of}
-use Rattle.tc_blocks.specs.Text.{IsFault}
+use Rattle.tc_text.specs.declared.fault.TextFault.{TextFault}
+use Rattle.tc_blocks.specs.{Histories.IsHistoryHeader, Laws.history_of, Text.IsFault}
 use Rattle.tc_blocks.proofs.PartByPart.{fault_only}
 use Rattle.tc_blocks.proofs.read.read_history.Goals as goal
 
@@ -13,7 +11,7 @@ returns-in_err-blocks-clause-fault c =
 
 pub returns-in_err-blocks-clause-only : goal.returns-in_err-blocks-clause-only
 returns-in_err-blocks-clause-only c all are =
-    let only : c.in_err-blocks.field-0.0 ≡ F.NoMemory = fault_only IsHistoryHeader c.args.text.now c.in_err-blocks.field-0.0 are.0 c.in_err-blocks.ensures.fault are.1 in
+    let only : c.in_err-blocks.field-0.0 ≡ TextFault.NoMemory = fault_only IsHistoryHeader c.args.text.now c.in_err-blocks.field-0.0 are.0 c.in_err-blocks.ensures.fault are.1 in
     search (rules, only)
 
 pub returns-clause-ok : goal.returns-clause-ok

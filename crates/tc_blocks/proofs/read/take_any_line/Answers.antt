@@ -1,5 +1,5 @@
 use Rattle.std.proofs.Common.{arith}
-use Rattle.tc_blocks.specs.declared.line.Line.TheVariants as L
+use Rattle.tc_blocks.specs.declared.line.Line.{Line}
 use Rattle.tc_blocks.proofs.NextLines.{entry_next}
 use Rattle.tc_blocks.proofs.read.take_any_line.Goals as goal
 
@@ -11,7 +11,7 @@ returns-in-Some g c =
     let taken = c.in-Some.ensures in
     let low = c.ranges.behaviours.fits in
     record {
-      line = L.Entry c.in-Some.entry;
+      line = Line.Entry c.in-Some.entry;
       next = λ before kept.
           entry_next c.args.kind c.args.behaviours before c.args.text.now c.in-Some.entry c.in-Some.rest.now (omega (arith, low)) taken.spelled (rw c.format.ensures at taken.fits) taken.less (rw c.format.ensures at taken.only);
       adds = c.add_entry.ensures;

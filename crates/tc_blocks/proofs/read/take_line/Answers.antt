@@ -1,7 +1,5 @@
 use Rattle.std.proofs.Common.{arith}
-use Rattle.tc_blocks.specs.HistoryText.{short_entry}
-use Rattle.tc_blocks.specs.Text.{format_of}
-use Rattle.tc_blocks.specs.declared.line.Line.TheVariants as L
+use Rattle.tc_blocks.specs.{HistoryText.short_entry, Text.format_of, declared.line.Line.Line}
 use Rattle.tc_blocks.proofs.NextLines.{entry_next}
 use Rattle.tc_blocks.proofs.read.take_line.Goals as goal
 
@@ -11,7 +9,7 @@ returns g c =
     let low = c.ranges.behaviours.fits in
     let entry = short_entry c.in-Some.caller c.in-Some.short c.in-Some.reply in
     record {
-      line = L.Entry entry;
+      line = Line.Entry entry;
       next = λ before kept. entry_next c.args.kind c.args.behaviours before c.args.text.now entry c.in-Some.rest.now (omega (arith, low)) taken.spelled (taken.fits (format_of c.args.kind)) taken.less (taken.only (format_of c.args.kind));
       adds = λ before kept. c.add_caller.ensures before c.in-Some.short c.in-Some.reply kept;
       opened = c.in_ok-take_short.ensures;

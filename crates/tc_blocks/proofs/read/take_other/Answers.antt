@@ -1,12 +1,7 @@
 use Rattle.std.proofs.Common.{List, subst, sym}
 use Rattle.std.proofs.lemmas.Result.{IfOk-weaker}
 use Rattle.std.specs.Result.{IfOk}
-use Rattle.tc_blocks.specs.declared.header.Kind.{Kind}
-use Rattle.tc_blocks.specs.declared.header.Kind.TheVariants as K
-use Rattle.tc_blocks.specs.declared.line.Line.{Line}
-use Rattle.tc_blocks.specs.Met.{AreMet}
-use Rattle.tc_blocks.specs.Text.{IsLine, format_of}
-use Rattle.tc_blocks.specs.Inside.{IsFound, IsNoEntryLine, IsNote}
+use Rattle.tc_blocks.specs.{Inside.IsFound, Inside.IsNoEntryLine, Inside.IsNote, Met.AreMet, Text.IsLine, Text.format_of, declared.header.Kind.Kind, declared.line.Line.Line}
 use Rattle.tc_blocks.proofs.NextLines.{line_of_note}
 use Rattle.tc_blocks.proofs.read.take_other.Goals as goal
 
@@ -17,5 +12,5 @@ returns-in-Evidence c =
     let met = c.args.met.now in
     subst (λ (k : Kind). IfOk c.take_note.result (λ found. (before : List Line) → AreMet met before → IsFound (IsLine k n before) text found)) (sym c.in-Evidence.is)
     (IfOk-weaker c.take_note.result (λ found. (before : List Line) → AreMet met before → IsFound (IsNote n before) text found)
-    (λ found. (before : List Line) → AreMet met before → IsFound (IsLine K.Evidence n before) text found)
+    (λ found. (before : List Line) → AreMet met before → IsFound (IsLine Kind.Evidence n before) text found)
     (λ found is before kept. line_of_note n before text (subst (λ (k : Kind). IsNoEntryLine (format_of k) text) c.in-Evidence.is c.requires.no_entry) found (is before kept)) c.take_note.ensures)

@@ -1,7 +1,6 @@
 use Rattle.std.proofs.Common.{◌≡◌, ◌++◌, take}
 use Rattle.std.specs.List.{flat_map}
-use Rattle.tc_blocks.specs.Block.{with_lf}
-use Rattle.tc_blocks.specs.Line.{line_text}
+use Rattle.tc_blocks.specs.{Block.with_lf, Line.line_text}
 use Rattle.tc_blocks.proofs.write.append_lines.Given as goal
 
 abbrev pub invariant-loop-line : goal.invariant-loop-line

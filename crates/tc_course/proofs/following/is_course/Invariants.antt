@@ -1,6 +1,6 @@
 use Rattle.std.proofs.Common.{◌≡◌, take, reverse}
 use Rattle.tc_rules.specs.Prelude.{past_of}
-use Rattle.tc_course.specs.Cases.{IsOn}
+use Rattle.tc_course.specs.Course.{IsOn}
 use Rattle.tc_course.proofs.following.is_course.Given as goal
 
 abbrev pub invariant-loop-entry : goal.invariant-loop-entry

@@ -1,6 +1,5 @@
 use Rattle.std.proofs.Common.{◌≡◌, ◌+◌, length}
-use Rattle.tc_entry.specs.Inside.{any_of}
-use Rattle.tc_entry.specs.Pattern.{matches}
+use Rattle.tc_entry.specs.{Inside.any_of, Name.matches}
 use Rattle.tc_entry.proofs.pattern.places_of.Given as goal
 
 -- the rest of the pattern matches what follows a place exactly if the pattern matches the name

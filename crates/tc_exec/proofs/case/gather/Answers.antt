@@ -1,5 +1,5 @@
 use Rattle.std.proofs.Common.{◌≡◌, [], ◌∷◌, ◌++◌, ap, ◌∙◌}
-use Rattle.tc_exec.proofs.Lemmas.Calls.{neither, main_left, main_started}
+use Rattle.tc_exec.proofs.Lemmas.Calls.{main_left, main_started}
 use Rattle.tc_exec.proofs.case.gather.Goals as goal
 
 pub returns-clause-first : goal.returns-clause-first
@@ -9,7 +9,5 @@ returns-clause-first g c = λ d.
 
 pub returns-clause-lefts : goal.returns-clause-lefts
 returns-clause-lefts g c =
-    let outcome = g.B.Callable.outcome in
-    let main = main_left outcome c.args.pass c.args.first c.act.result c.requires.main c.act.ensures in
-    let first : c.take.new.self.lefts.items ≡ c.act.result.left ∷ [] = c.take.ensures.left ∙ ap (λ ls. ls ++ c.act.result.left ∷ []) c.requires.empty in
-    c.join_workers.ensures.lefts (record { 0 = 0 } ∷ []) (c.args.first ∷ []) (λ none. rw first (main (neither _ _ _ c.take.ensures.starved none).1))
+    c.join_workers.ensures.lefts (record { 0 = 0 } ∷ []) (c.args.first ∷ [])
+    (main_left g.B.Callable.outcome c.args.pass c.args.first c.act.result c.args.gathered c.take.new.self c.requires.main c.act.ensures c.requires.empty c.requires.fed c.take.ensures.left c.take.ensures.starved)

@@ -1,10 +1,9 @@
 use Rattle.std.proofs.Common.{[], ◌∷◌, ◌++◌, refl, rules, arith}
-use Rattle.tc_exec.proofs.Lists.{passed}
-use Rattle.tc_exec.proofs.Lemmas.Calls.{neither, left_by, joined, joined_none, first_kept}
+use Rattle.tc_exec.proofs.{Lemmas.Calls.first_kept, Lemmas.Calls.joined, Lemmas.Calls.joined_none, Lists.passed}
 use Rattle.tc_exec.proofs.worker.join_workers.Goals as goal
 
 pub loop-worker-init : goal.loop-worker-init
-loop-worker-init g c = (search rules, search rules, ([], search rules, λ runs bs before none. joined_none g.B.Callable.outcome runs bs _ (before none)), λ d some. (some, refl))
+loop-worker-init g c = (search rules, search rules, ([], search rules, λ runs bs before. joined_none g.B.Callable.outcome runs bs _ before), λ d some. (some, refl))
 
 pub loop-worker-preserved : goal.loop-worker-preserved
 loop-worker-preserved g c =
@@ -14,10 +13,9 @@ loop-worker-preserved g c =
       (
         was.2.0 ++ c.in-Some.worker ∷ [],
         passed was.2.0 c.in-Some.worker _ _ _ was.2.1 c.in-Some.ensures.cases.0,
-        (λ runs bs before none.
-            let both = neither _ _ _ c.take.ensures.starved none in
-            joined g.B.Callable.outcome (λ w. w.handle.promise.run) (λ w. w.handle.promise.behaviour.value) runs bs _ was.2.0 c.in-Some.worker c.join.result.left _
-            (was.2.2 runs bs before both.0) (left_by g.B.Callable.outcome _ _ c.join.result both.1 c.join.ensures) c.take.ensures.left),
+        (λ runs bs before.
+            joined g.B.Callable.outcome (λ w. w.handle.promise.run) (λ w. w.handle.promise.behaviour.value) runs bs was.2.0 c.in-Some.worker c.join.result _ _
+            (was.2.2 runs bs before) c.join.ensures c.take.ensures.left c.take.ensures.starved),
       ),
       (λ d some. first_kept d _ _ _ _ (was.3 d) c.take.ensures.left some),
     )

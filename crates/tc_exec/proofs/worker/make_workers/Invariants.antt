@@ -1,6 +1,5 @@
 use Rattle.std.proofs.Common.{◌≡◌, ◌≤◌, ◌+◌, ◌++◌, length, map}
-use Rattle.std.specs.Vec.{vec_len, vec_capacity}
-use Rattle.std.specs.Vec.Iter.{into_iter_items, into_iter_len}
+use Rattle.std.specs.Vec.{Iter.into_iter_items, Iter.into_iter_len, vec_capacity, vec_len}
 use Rattle.tc_exec.specs.Gates.{IsPassed}
 use Rattle.tc_exec.proofs.worker.make_workers.Given as goal
 

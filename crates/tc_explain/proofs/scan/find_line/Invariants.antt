@@ -1,8 +1,7 @@
 use Rattle.std.proofs.Common.{◌≡◌}
 use Rattle.tc_reader.specs.Prelude.{lines}
-use Rattle.tc_explain.specs.Scan.{find}
-use Rattle.tc_explain.specs.declared.scan.Opened.TheVariants as O
+use Rattle.tc_explain.specs.{Explanation.find, declared.scan.Opened.Opened}
 use Rattle.tc_explain.proofs.scan.find_line.Given as goal
 
 abbrev pub invariant-loop-number : goal.invariant-loop-number
-invariant-loop-number l = find l.wanted l.number l.opened l.rest ≡ find l.wanted 1 O.Nothing (lines l.text)
+invariant-loop-number l = find l.wanted l.number l.opened l.rest ≡ find l.wanted 1 Opened.Nothing (lines l.text)

@@ -1,8 +1,6 @@
 use Rattle.std.proofs.Common.{rules, ◌≡◌, ◌+◌, false}
-use Rattle.tc_explore.proofs.Keeping.{AreCalmAfter, calm_more}
-use Rattle.tc_explore.proofs.Searching.{stands_then}
+use Rattle.tc_explore.proofs.{Keeping.AreCalmAfter, Keeping.calm_more, Searching.stands_then, calm.calmed_once.Goals.else-went_on, calm.calmed_once.Goals.then-went_on}
 use Rattle.tc_explore.proofs.calm.calmed_once.Goals as goal
-use Rattle.tc_explore.proofs.calm.calmed_once.Goals.{then-went_on, else-went_on}
 
 pub loop-run-preserved : goal.loop-run-preserved
 loop-run-preserved c =

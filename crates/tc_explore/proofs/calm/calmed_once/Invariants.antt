@@ -1,9 +1,8 @@
 use Rattle.std.proofs.Common.{◌≡◌, false}
-use Rattle.tc_explore.proofs.Keeping.{AreCalmAfter}
-use Rattle.tc_explore.specs.Inside.Seen.{IsOpen, StandsOn}
-use Rattle.tc_explore.proofs.calm.calmed_once.Given as goal
-use Rattle.tc_explore.specs.Inside.Simulation.{IsWithin}
 use Rattle.tc_rules.specs.Prelude.{past_of}
+use Rattle.tc_explore.specs.Inside.{Seen.IsOpen, Seen.StandsOn, Simulation.IsWithin}
+use Rattle.tc_explore.proofs.Keeping.{AreCalmAfter}
+use Rattle.tc_explore.proofs.calm.calmed_once.Given as goal
 
 abbrev pub invariant-loop-run : goal.invariant-loop-run
 invariant-loop-run l =

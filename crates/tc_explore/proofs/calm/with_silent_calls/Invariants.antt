@@ -1,8 +1,7 @@
 use Rattle.std.proofs.Common.{◌≡◌, false}
 use Rattle.tc_rules.specs.Prelude.{past_of}
-use Rattle.tc_explore.specs.Inside.Seen.{IsOpen, StandsOn}
+use Rattle.tc_explore.specs.Inside.{Seen.IsOpen, Seen.StandsOn, Simulation.IsWithin}
 use Rattle.tc_explore.proofs.calm.with_silent_calls.Given as goal
-use Rattle.tc_explore.specs.Inside.Simulation.{IsWithin}
 
 abbrev pub invariant-loop : goal.invariant-loop
 invariant-loop l =

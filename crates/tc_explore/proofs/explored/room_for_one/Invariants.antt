@@ -1,5 +1,5 @@
 use Rattle.std.proofs.Common.{◌≡◌, ◌≤◌, take}
-use Rattle.tc_explore.specs.Limits.{room_of}
+use Rattle.tc_explore.specs.Found.{room_of}
 use Rattle.tc_explore.proofs.explored.room_for_one.Given as goal
 
 -- there is an entry to divide by

@@ -1,8 +1,7 @@
 use Rattle.std.proofs.Common.{rules, ◌≡◌, false}
 use Rattle.tc_rules.specs.Prelude.{past_of, is_over}
 use Rattle.tc_course.specs.Prelude.{entry_made}
-use Rattle.tc_explore.proofs.Closed.{after_seen}
-use Rattle.tc_explore.proofs.Kept.{kept_with, longer_with}
+use Rattle.tc_explore.proofs.{Closed.after_seen, Kept.kept_with, Kept.longer_with}
 use Rattle.tc_explore.proofs.search.after_call.Goals as goal
 
 pub returns-clause-closed : goal.returns-clause-closed

@@ -1,10 +1,8 @@
 use Rattle.std.proofs.Common.{rules, ◌≡◌, ◌<◌, ◌∙◌, ◌+◌, arith, true, false, reverse, ap, sym, subst}
-use Rattle.tc_verdict.specs.declared.verdict.Verdict.TheVariants as V
-use Rattle.tc_rules.specs.Prelude.{past_of}
+use Rattle.tc_rules.specs.Prelude.{past_of, Verdict}
 use Rattle.tc_course.specs.Prelude.{carried_on, is_found}
 use Rattle.tc_explore.specs.Inside.Seen.{AreHeld}
-use Rattle.tc_explore.proofs.Parking.{held_if, never_held, reached_main}
-use Rattle.tc_explore.proofs.States.{closed_going, closed_stuck, closed_error, closed_better}
+use Rattle.tc_explore.proofs.{Parking.held_if, Parking.never_held, Parking.reached_main, States.closed_better, States.closed_error, States.closed_going, States.closed_stuck}
 use Rattle.tc_explore.proofs.search.expand_course.Goals as goal
 
 pub returns-then-tried-clause-closed : goal.returns-then-tried-clause-closed
@@ -24,14 +22,14 @@ returns-then-level-clause-closed c h =
 pub returns-then-is_found-clause-closed : goal.returns-then-is_found-clause-closed
 returns-then-is_found-clause-closed c h =
     let closed : c.in_ok-tried.tried.is_closed ≡ true = search rules in
-    let error : is_found c.try_runs.new.found.witnesses.items V.Error ≡ true = search rules in
+    let error : is_found c.try_runs.new.found.witnesses.items Verdict.Error ≡ true = search rules in
     closed_error c.args.scripts.now c.try_runs.new.met.states.items c.try_runs.new.found.witnesses.items c.args.course.now c.requires.state (c.in_ok-tried.ensures.closed closed) error
 
 pub note-requires-clause-over : goal.note-requires-clause-over
 note-requires-clause-over c =
     let closed : c.in_ok-tried.tried.is_closed ≡ true = search rules in
     let stays : c.in_ok-tried.tried.goes_on ≡ false = search rules in
-    let none : is_found c.try_runs.new.found.witnesses.items V.Error ≡ false = search rules in
+    let none : is_found c.try_runs.new.found.witnesses.items Verdict.Error ≡ false = search rules in
     let past : past_of c.in_ok-copied.field-0 ≡ past_of c.args.course.now = ap reverse c.in_ok-copied.ensures.entries in
     let held : AreHeld c.args.scripts.now (past_of c.in_ok-copied.field-0) = subst (AreHeld c.args.scripts.now) (sym past)
     (held_if c.args.scripts.now c.try_runs.new.met.states.items c.try_runs.new.found.witnesses.items (past_of c.args.course.now) c.requires.state.opened.on.course (c.in_ok-tried.ensures.still stays) (c.in_ok-tried.ensures.closed closed) none) in
@@ -41,11 +39,11 @@ pub returns-clause-closed : goal.returns-clause-closed
 returns-clause-closed c h =
     let closed : c.in_ok-tried.tried.is_closed ≡ true = search rules in
     let stays : c.in_ok-tried.tried.goes_on ≡ false = search rules in
-    let none : is_found c.try_runs.new.found.witnesses.items V.Error ≡ false = search rules in
+    let none : is_found c.try_runs.new.found.witnesses.items Verdict.Error ≡ false = search rules in
     let past : past_of c.in_ok-copied.field-0 ≡ past_of c.args.course.now = ap reverse c.in_ok-copied.ensures.entries in
     let held : AreHeld c.args.scripts.now (past_of c.in_ok-copied.field-0) = subst (AreHeld c.args.scripts.now) (sym past)
     (held_if c.args.scripts.now c.try_runs.new.met.states.items c.try_runs.new.found.witnesses.items (past_of c.args.course.now) c.requires.state.opened.on.course (c.in_ok-tried.ensures.still stays) (c.in_ok-tried.ensures.closed closed) none) in
-    let error : is_found c.note.new.found.witnesses.items V.Error ≡ true = ap (is_found c.note.new.found.witnesses.items) (sym (c.in_ok-stuck.ensures.error held)) ∙ c.in_ok-note.ensures.told in
+    let error : is_found c.note.new.found.witnesses.items Verdict.Error ≡ true = ap (is_found c.note.new.found.witnesses.items) (sym (c.in_ok-stuck.ensures.error held)) ∙ c.in_ok-note.ensures.told in
     closed_stuck c.args.scripts.now c.try_runs.new.met.states.items c.try_runs.new.found.witnesses.items c.note.new.found.witnesses.items c.args.course.now c.requires.state (c.in_ok-tried.ensures.closed closed) c.in_ok-note.ensures.more_found error
 
 pub returns-then-tried-clause-stuck : goal.returns-then-tried-clause-stuck

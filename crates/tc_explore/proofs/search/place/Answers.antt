@@ -1,11 +1,8 @@
-use Rattle.std.specs.Cmp.Lexicographic.{pointwise}
-use Rattle.std.specs.List.{list_any}
+use Rattle.std.specs.{Cmp.Lexicographic.pointwise, List.list_any}
 use Rattle.std.proofs.Common.{rules, ◌≡◌, true, nat_eq, length}
 use Rattle.tc_rules.specs.Prelude.{past_of}
-use Rattle.tc_explore.specs.Inside.Keys.{key_of}
-use Rattle.tc_explore.proofs.Keeping.{state_self}
-use Rattle.tc_explore.proofs.Keys.{seen_by_key}
-use Rattle.tc_explore.proofs.Seeing.{seen_last}
+use Rattle.tc_explore.specs.Inside.Twins.{key_of}
+use Rattle.tc_explore.proofs.{Keeping.state_self, Keys.seen_by_key, Seeing.seen_last}
 use Rattle.tc_explore.proofs.search.place.Goals as goal
 
 pub returns-then-contains-clause-seen : goal.returns-then-contains-clause-seen

@@ -1,9 +1,6 @@
 use Rattle.std.proofs.Common.{◌≡◌, ◌≤◌, ◌∙◌, false, length, ap, subst, sym}
 use Rattle.tc_explore.specs.declared.search.Met.{Met}
-use Rattle.tc_explore.proofs.Extents.{all_met, few_met, whole}
-use Rattle.tc_explore.proofs.Kept.{as_many_keys, kept_none, kept_with, keyed_none, met_of}
-use Rattle.tc_explore.proofs.Keeping.{within_opening}
-use Rattle.tc_explore.proofs.States.{complete_by}
+use Rattle.tc_explore.proofs.{Keeping.within_opening, Kept.as_many_keys, Kept.kept_none, Kept.kept_with, Kept.keyed_none, Kept.met_of, Room.all_met, Room.few_met, Room.whole, States.complete_by}
 use Rattle.tc_explore.proofs.search.search_all.Goals as goal
 
 pub place-requires-clause-keyed : goal.place-requires-clause-keyed

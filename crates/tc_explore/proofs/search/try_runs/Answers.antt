@@ -1,11 +1,8 @@
 use Rattle.std.proofs.Common.{rules, ◌∙◌, ◌≡◌, ◌+◌, ◌<◌, ℕ, true, false}
 use Rattle.tc_rules.specs.Prelude.{past_of}
-use Rattle.tc_explore.specs.Inside.Seen.{IsRunClosed, IsFull, AreStill}
-use Rattle.tc_explore.specs.Inside.Simulation.{GoesOn}
-use Rattle.tc_explore.proofs.Kept.{no_less_then}
-use Rattle.tc_explore.proofs.Closed.{runs_more, still_more, full_longer, longer_then}
+use Rattle.tc_explore.specs.Inside.{Seen.AreStill, Seen.IsFull, Seen.IsRunClosed, Simulation.GoesOn}
+use Rattle.tc_explore.proofs.{Closed.full_longer, Closed.longer_then, Closed.runs_more, Closed.still_more, Kept.no_less_then, search.try_runs.Goals.else-goes_on, search.try_runs.Goals.else-is_closed, search.try_runs.Goals.then-goes_on, search.try_runs.Goals.then-is_closed}
 use Rattle.tc_explore.proofs.search.try_runs.Goals as goal
-use Rattle.tc_explore.proofs.search.try_runs.Goals.{then-goes_on, else-goes_on, then-is_closed, else-is_closed}
 
 pub loop-run-preserved : goal.loop-run-preserved
 loop-run-preserved c =

@@ -1,8 +1,7 @@
 use Rattle.std.proofs.Common.{rules, ◌≡◌, ◌∷◌, false}
 use Rattle.tc_rules.specs.Prelude.{past_of, is_over}
 use Rattle.tc_course.specs.Prelude.{entry_made}
-use Rattle.tc_explore.proofs.Kept.{longer_with}
-use Rattle.tc_explore.proofs.LocalsClosed.{going_next, going_with, locals_seen}
+use Rattle.tc_explore.proofs.{Kept.longer_with, LocalsClosed.going_next, LocalsClosed.going_with, LocalsClosed.locals_seen}
 use Rattle.tc_explore.proofs.search_locals.after_call.Goals as goal
 
 pub returns-clause-closed : goal.returns-clause-closed

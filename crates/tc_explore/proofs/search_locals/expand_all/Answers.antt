@@ -1,10 +1,7 @@
 use Rattle.std.proofs.Common.{rules, ◌≡◌, ◌+◌, ◌<◌, ◌≤◌, ℕ, true, false, length, arith, ◌∙◌}
-use Rattle.tc_explore.specs.Inside.Seen.{IsFull}
-use Rattle.tc_explore.specs.Inside.Twins.{IsLocalsAt}
-use Rattle.tc_explore.proofs.Closed.{full_longer, longer_then}
-use Rattle.tc_explore.proofs.LocalsClosed.{going_at, locals_at, locals_ats_more, locals_ats_all}
+use Rattle.tc_explore.specs.Inside.{Seen.IsFull, Twins.IsLocalsAt}
+use Rattle.tc_explore.proofs.{Closed.full_longer, Closed.longer_then, LocalsClosed.going_at, LocalsClosed.locals_at, LocalsClosed.locals_ats_all, LocalsClosed.locals_ats_more, search_locals.expand_all.Goals.else-is_closed, search_locals.expand_all.Goals.then-is_closed}
 use Rattle.tc_explore.proofs.search_locals.expand_all.Goals as goal
-use Rattle.tc_explore.proofs.search_locals.expand_all.Goals.{then-is_closed, else-is_closed}
 
 pub loop-at-preserved : goal.loop-at-preserved
 loop-at-preserved c =

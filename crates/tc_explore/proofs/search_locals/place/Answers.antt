@@ -1,10 +1,8 @@
-use Rattle.std.specs.Cmp.Lexicographic.{pointwise}
-use Rattle.std.specs.List.{list_any}
+use Rattle.std.specs.{Cmp.Lexicographic.pointwise, List.list_any}
 use Rattle.std.proofs.Common.{rules, ◌≡◌, true, nat_eq, length}
 use Rattle.tc_rules.specs.Prelude.{past_of}
 use Rattle.tc_explore.specs.Inside.Twins.{twin_key}
-use Rattle.tc_explore.proofs.LocalsClosed.{twin_seen_last}
-use Rattle.tc_explore.proofs.TwinKeys.{seen_by_twin_key}
+use Rattle.tc_explore.proofs.{LocalsClosed.twin_seen_last, TwinKeys.seen_by_twin_key}
 use Rattle.tc_explore.proofs.search_locals.place.Goals as goal
 
 pub returns-then-contains-clause-seen : goal.returns-then-contains-clause-seen

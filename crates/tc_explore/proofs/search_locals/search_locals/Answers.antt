@@ -1,9 +1,7 @@
 use Rattle.std.proofs.Common.{rules, ◌≡◌, ◌≤◌, ◌∙◌, false, length, ap, subst, sym}
-use Rattle.tc_explore.specs.declared.search.Met.{Met}
-use Rattle.tc_explore.specs.Inside.Twins.{IsGoing, IsTwinSeen}
-use Rattle.tc_explore.proofs.Extents.{all_met, few_met, whole}
-use Rattle.tc_explore.proofs.LocalsClosed.{all_locals_found, as_many_twin_keys, courses_met, going_none, going_with, no_twin_keys, opening_rules, twin_seen_longer}
-use Rattle.tc_course.proofs.Lemmas.Turning.{turn_rules}
+use Rattle.tc_course.proofs.Lemmas.{turn_rules}
+use Rattle.tc_explore.specs.{Inside.Twins.IsGoing, Inside.Twins.IsTwinSeen, declared.search.Met.Met}
+use Rattle.tc_explore.proofs.{LocalsClosed.all_locals_found, LocalsClosed.as_many_twin_keys, LocalsClosed.courses_met, LocalsClosed.going_none, LocalsClosed.going_with, LocalsClosed.no_twin_keys, LocalsClosed.opening_rules, LocalsClosed.twin_seen_longer, Room.all_met, Room.few_met, Room.whole}
 use Rattle.tc_explore.proofs.search_locals.search_locals.Goals as goal
 
 pub place-requires-clause-keyed : goal.place-requires-clause-keyed

@@ -1,5 +1,5 @@
 use Rattle.std.proofs.Common.{◌≡◌, ◌++◌, map, take}
-use Rattle.tc_explore.specs.Inside.Keys.{number_of}
+use Rattle.tc_explore.specs.Inside.Twins.{number_of}
 use Rattle.tc_explore.proofs.state_keys.add_numbers.Given as goal
 
 abbrev pub invariant-loop-comp : goal.invariant-loop-comp

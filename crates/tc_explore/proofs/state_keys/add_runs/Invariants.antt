@@ -1,7 +1,7 @@
 use Rattle.std.proofs.Common.{◌≡◌, ◌++◌}
 use Rattle.std.specs.List.{flat_map, range_with_len}
 use Rattle.tc_rules.specs.Prelude.{past_of}
-use Rattle.tc_explore.specs.Inside.Keys.{run_key_of}
+use Rattle.tc_explore.specs.Inside.Twins.{run_key_of}
 use Rattle.tc_explore.proofs.state_keys.add_runs.Given as goal
 
 abbrev pub invariant-loop-run : goal.invariant-loop-run

@@ -1,7 +1,7 @@
 use Rattle.std.proofs.Common.{◌≡◌, ◌∙◌, ap, List}
 use Rattle.std.specs.Borrow.{Bor}
 use Rattle.tc_rules.specs.Prelude.{Entry}
-use Rattle.tc_merge.proofs.Late.{late_none, late_step}
+use Rattle.tc_merge.proofs.InPlace.{late_none, late_step}
 use Rattle.tc_merge.proofs.merging.add_all_late.Goals as goal
 
 pub loop-entries-init : goal.loop-entries-init

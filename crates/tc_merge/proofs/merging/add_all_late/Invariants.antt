@@ -1,6 +1,6 @@
 use Rattle.std.proofs.Common.{◌≡◌, ◌++◌, ℕ, List}
 use Rattle.tc_rules.specs.Prelude.{Entry, late}
-use Rattle.tc_merge.specs.Inside.{Has}
+use Rattle.tc_merge.specs.OneCase.{Has}
 use Rattle.tc_merge.proofs.merging.add_all_late.Given as goal
 
 -- those of the runs passed so far

@@ -1,7 +1,6 @@
 use Rattle.std.proofs.Common.{◌≡◌, ◌∷◌, [], ◌++◌, List, take, reverse, sym, ◌+◌}
 use Rattle.tc_rules.specs.Prelude.{Entry, calls_of, verdict_calls_after}
-use Rattle.tc_merge.proofs.Lemmas.Table.{at-run}
-use Rattle.tc_merge.proofs.InPlace.{past_more, has_none, has_more, calls_after, in_place_more}
+use Rattle.tc_merge.proofs.{InPlace.calls_after, InPlace.has_more, InPlace.has_none, InPlace.in_place_more, InPlace.past_more, Lemmas.Table.at-run}
 use Rattle.tc_merge.proofs.merging.add_history.Goals as goal
 
 pub loop-entry-init : goal.loop-entry-init

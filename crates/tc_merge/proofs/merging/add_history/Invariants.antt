@@ -1,6 +1,7 @@
 use Rattle.std.proofs.Common.{◌≡◌, ◌++◌, ℕ, List, take, reverse}
 use Rattle.tc_rules.specs.Prelude.{Entry, calls_of, in_place}
-use Rattle.tc_merge.specs.Inside.{Has, HasRests}
+use Rattle.tc_merge.specs.OneCase.{Has}
+use Rattle.tc_merge.proofs.InPlace.{HasRests}
 use Rattle.tc_merge.proofs.merging.add_history.Given as goal
 
 -- the entries passed so far are in their place, and the table has what follows them

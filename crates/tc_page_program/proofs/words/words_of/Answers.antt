@@ -1,7 +1,7 @@
 use Rattle.std.proofs.Common.{rules, inr}
 use Rattle.std.specs.Prelude.{map, string_bytes}
 use Rattle.tc_page_program.specs.Engine.{line_words as spec_words}
-use Rattle.tc_page_program.proofs.Splitting.{is_text}
+use Rattle.tc_page_program.proofs.Answering.{is_text}
 use Rattle.tc_page_program.proofs.words.words_of.Goals as goal
 
 pub returns-in-Err-clause-not_had : goal.returns-in-Err-clause-not_had

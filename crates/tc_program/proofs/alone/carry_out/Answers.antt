@@ -1,8 +1,8 @@
 use Rattle.std.proofs.Common.{◌≤◌, inl, inr, length, subst, sym}
-use Rattle.tc_program.specs.Input.{IsUnread}
+use Rattle.tc_answer.specs.Prelude.{IsUnread, held_streams}
+use Rattle.tc_answer.proofs.Lemmas.Giving.{keeps_same}
 use Rattle.tc_program.specs.Program.{IsCarriedOut}
-use Rattle.tc_program.specs.Streams.{held_streams}
-use Rattle.tc_program.proofs.Doing.{carried_out, done_or_left, keeps_same}
+use Rattle.tc_program.proofs.Doing.{carried_out, done_or_left}
 use Rattle.tc_program.proofs.alone.carry_out.Goals as goal
 
 pub returns-in-Serve : goal.returns-in-Serve

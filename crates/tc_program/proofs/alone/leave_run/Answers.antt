@@ -1,9 +1,7 @@
 use Rattle.std.proofs.Common.{inl, inr, subst, sym}
-use Rattle.tc_program.specs.Alone.{IsNotBegun}
-use Rattle.tc_program.specs.Inside.{Refuses}
-use Rattle.tc_program.specs.Program.{IsDoneBy}
-use Rattle.tc_program.specs.Streams.{held_streams}
-use Rattle.tc_program.proofs.Doing.{keeps_same}
+use Rattle.tc_answer.specs.Prelude.{held_streams}
+use Rattle.tc_answer.proofs.Lemmas.Giving.{keeps_same}
+use Rattle.tc_program.specs.{Alone.IsNotBegun, Inside.Refuses, Program.IsDoneBy}
 use Rattle.tc_program.proofs.alone.leave_run.Goals as goal
 
 pub returns-in-Err : goal.returns-in-Err

@@ -1,4 +1,4 @@
-use Rattle.tc_program.proofs.Doing.{some_text}
+use Rattle.tc_answer.proofs.Lemmas.Giving.{some_text}
 use Rattle.tc_program.proofs.answering.answer_no_task.Goals as goal
 
 pub returns-then-use_stderr-clause-refused : goal.returns-then-use_stderr-clause-refused

@@ -1,6 +1,8 @@
-use Rattle.std.proofs.Common.{subst, sym}
+use Rattle.std.proofs.Common.{rules, ◌≡◌, Ok, Err, subst, sym}
+use Rattle.tc_answer.proofs.Lemmas.Giving.{keeps_same}
+use Rattle.tc_answer.specs.Prelude.{held_streams}
 use Rattle.tc_program.specs.Program.{IsCarriedOut}
-use Rattle.tc_program.specs.Streams.{held_streams}
+use Rattle.tc_program.proofs.Doing.{parts_given, parts_refused}
 use Rattle.tc_program.proofs.carrying_out.carry_out.Goals as goal
 
 pub returns-in-Serve : goal.returns-in-Serve
@@ -9,8 +11,16 @@ returns-in-Serve g c =
     (held_streams g.W.Write.contents c.args.writer.now c.serve_input.new.writer g.E.Write.contents c.args.errors.now c.serve_input.new.errors) c.serve_input.result)
     (sym c.in-Serve.is) c.serve_input.ensures
 
-pub returns-in-Some : goal.returns-in-Some
-returns-in-Some g c =
-    subst (λ task. IsCarriedOut task (g.I.Read.remaining c.args.reader.now)
-    (held_streams g.W.Write.contents c.args.writer.now c.check_parts.new.writer g.E.Write.contents c.args.errors.now c.check_parts.new.errors) c.check_parts.result)
-    (sym c.in-Some.ensures.0) c.check_parts.ensures
+pub returns-in-Some-Ok : goal.returns-in-Some-Ok
+returns-in-Some-Ok g c =
+    let is : c.in-Some-Ok.field-0 ≡ Ok c.in-Some-Ok.answer = search rules in
+    parts_given c.args.task.now (g.I.Read.remaining c.args.reader.now) c.in-Some-Ok.field-0 c.in-Some-Ok.answer
+    (held_streams g.W.Write.contents c.args.writer.now c.give_answer.new.writer g.E.Write.contents c.args.errors.now c.give_answer.new.errors) c.give_answer.result
+    (rw c.in-Some-Ok.is at c.made_in_parts.ensures) is c.give_answer.ensures
+
+pub returns-in-Some-Err : goal.returns-in-Some-Err
+returns-in-Some-Err g c =
+    let is : c.in-Some-Err.field-0 ≡ Err c.in-Some-Err.fault = search rules in
+    parts_refused c.args.task.now (g.I.Read.remaining c.args.reader.now) c.in-Some-Err.field-0 c.in-Some-Err.fault
+    (held_streams g.W.Write.contents c.args.writer.now c.args.writer.now g.E.Write.contents c.args.errors.now c.refuse.new.errors) c.refuse.result
+    (rw c.in-Some-Err.is at c.made_in_parts.ensures) is (keeps_same (g.W.Write.contents c.args.writer.now)) c.refuse.ensures

@@ -1,8 +1,8 @@
 use Rattle.std.proofs.Common.{◌≤◌, inl, inr, length, subst}
-use Rattle.tc_program.specs.Input.{IsUnread}
+use Rattle.tc_answer.specs.Prelude.{IsUnread, held_streams}
+use Rattle.tc_answer.proofs.Lemmas.Giving.{keeps_same}
 use Rattle.tc_program.specs.Program.{IsDone}
-use Rattle.tc_program.specs.Streams.{held_streams}
-use Rattle.tc_program.proofs.Doing.{carried_out, keeps_same}
+use Rattle.tc_program.proofs.Doing.{carried_out}
 use Rattle.tc_program.proofs.carrying_out.do_input.Goals as goal
 
 pub returns-in-Ok : goal.returns-in-Ok

@@ -1,11 +1,9 @@
 use Rattle.std.proofs.Common.{subst, sym}
-use Rattle.tc_program.specs.Fault.{run_fault_line}
-use Rattle.tc_program.specs.Inside.{Refuses}
-use Rattle.tc_program.specs.Program.{IsDoneBy}
-use Rattle.tc_program.specs.Streams.{held_streams}
-use Rattle.tc_program.specs.Stderr.{IsPrintedRefusal}
-use Rattle.tc_program.proofs.Doing.{keeps_same}
-use Rattle.tc_program.proofs.Scripted.{even, run_done, run_left}
+use Rattle.tc_answer.specs.Prelude.{run_fault_line, held_streams, IsPrintedRefusal}
+use Rattle.tc_judge.specs.Prelude.{AreToRun}
+use Rattle.tc_answer.proofs.Lemmas.Giving.{keeps_same}
+use Rattle.tc_run.proofs.Lemmas.{even, run_done, run_left}
+use Rattle.tc_program.specs.{Inside.Refuses, Program.IsDoneBy}
 use Rattle.tc_program.proofs.carrying_out.run_text.Goals as goal
 
 pub returns-in-Err : goal.returns-in-Err
@@ -20,14 +18,14 @@ pub returns-in-Ok-run_cases : goal.returns-in-Ok-run_cases
 returns-in-Ok-run_cases g c =
     let are = c.in-Ok.ensures.chosen in
     IsDoneBy.run c.args.options.now c.requires
-    (run_done c.args.options.now c.args.text.now are.cases c.in-Ok.cases.items are.chosen are.lawful are.each
+    (run_done c.args.options.now (AreToRun c.args.options.now.choice c.args.text.now) are.cases c.in-Ok.cases.items are.chosen are.lawful are.each
     (held_streams g.W.Write.contents c.args.writer.now c.run_cases.new.writer g.E.Write.contents c.args.errors.now c.run_cases.new.errors) c.in-Ok-run_cases.outcome c.in-Ok-run_cases.ensures.done)
 
 pub returns-in-Err-run_cases : goal.returns-in-Err-run_cases
 returns-in-Err-run_cases g c =
     let are = c.in-Ok.ensures.chosen in
     IsDoneBy.run c.args.options.now c.requires
-    (run_left c.args.options.now c.args.text.now are.cases c.in-Ok.cases.items are.chosen are.lawful are.each
+    (run_left c.args.options.now (AreToRun c.args.options.now.choice c.args.text.now) are.cases c.in-Ok.cases.items are.chosen are.lawful are.each
     (held_streams g.W.Write.contents c.args.writer.now c.run_cases.new.writer g.E.Write.contents c.args.errors.now c.run_cases.new.errors) c.in-Err-run_cases.fault
     (g.E.Write.contents c.refuse.new.errors) c.refuse.result c.in-Err-run_cases.ensures.refused
-    (subst (λ f. IsPrintedRefusal (g.E.Write.contents c.run_cases.new.errors) (g.E.Write.contents c.refuse.new.errors) (run_fault_line f) c.refuse.result) c.from.ensures c.refuse.ensures))
+    (subst (λ f. IsPrintedRefusal (g.E.Write.contents c.run_cases.new.errors) (g.E.Write.contents c.refuse.new.errors) (run_fault_line f) c.refuse.result) c.fault_of.ensures c.refuse.ensures))

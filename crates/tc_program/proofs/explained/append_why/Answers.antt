@@ -1,11 +1,9 @@
 use Rattle.std.proofs.Common.{subst}
 use Rattle.std.specs.Option.{option_map}
-use Rattle.tc_text.proofs.Lemmas.Among.{among_more}
-use Rattle.tc_text.proofs.Lemmas.Saying.{on_ok}
+use Rattle.tc_text.proofs.Lemmas.{Among.among_more, Saying.on_ok}
 use Rattle.tc_text.specs.Prelude.{TellsAmong}
-use Rattle.tc_program.specs.Explained.{number_of, part_of}
-use Rattle.tc_program.specs.Inside.{notes_of}
-use Rattle.tc_program.specs.Limits.{has_blocks}
+use Rattle.tc_answer.specs.Prelude.{number_of}
+use Rattle.tc_program.specs.{Explained.part_of, Inside.notes_of, Limits.has_blocks}
 use Rattle.tc_program.proofs.explained.append_why.Goals as goal
 
 pub returns : goal.returns

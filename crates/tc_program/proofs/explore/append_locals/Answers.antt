@@ -8,5 +8,5 @@ returns c = record {
   met = c.in_ok-locals.ensures.met;
   most = c.in_ok-locals.ensures.most;
   undecided = c.in_ok-locals.ensures.undecided;
-  told = c.in_ok-append_lines.ensures;
+  told = c.in_ok-append_locals.ensures;
 }

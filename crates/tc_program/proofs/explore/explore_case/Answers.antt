@@ -1,11 +1,11 @@
 use Rattle.std.proofs.Common.{◌≡◌, ◌≤◌, ◌∙◌, List, length, ap, subst, sym}
 use Rattle.std.proofs.lemmas.List.{length-map}
 use Rattle.tc_step.specs.Prelude.{ScriptView}
-use Rattle.tc_explore.specs.Prelude.{most_states, AreLegal, AreAllMet, AreReached}
-use Rattle.tc_course.specs.Prelude.{AllFound, AreWitnesses}
-use Rattle.tc_explore.specs.declared.explored.Ending.TheVariants as E
+use Rattle.tc_explore.specs.Prelude.{most_states, AreAllMet, AreReached}
+use Rattle.tc_course.specs.Prelude.{AllFound, AreLegal, AreWitnesses}
+use Rattle.tc_course.specs.declared.found.Ending.{Ending}
+use Rattle.tc_answer.specs.Prelude.{scripts_of}
 use Rattle.tc_program.specs.Explore.{TellsAfter}
-use Rattle.tc_program.specs.Scripted.{scripts_of}
 use Rattle.tc_program.proofs.explore.explore_case.Goals as goal
 
 pub returns : goal.returns
@@ -19,11 +19,11 @@ returns c v of =
       sound = subst (λ (s : List ScriptView). AreWitnesses s e.found) same so.sound;
       legal = subst (λ (s : List ScriptView). AreLegal s e.found) same so.legal;
       ordered = so.ordered;
-      complete = subst (λ (s : List ScriptView). e.ending ≡ E.Complete → AllFound s e.found) same so.complete;
+      complete = subst (λ (s : List ScriptView). e.ending ≡ Ending.Complete → AllFound s e.found) same so.complete;
       reached = subst (λ (s : List ScriptView). AreReached s e.reached) same so.reached;
       met = subst (λ (s : List ScriptView). AreAllMet s e.reached e.states) same so.met;
       most = subst (λ (s : List ScriptView). e.states ≤ most_states s c.args.options.now.states) same so.most;
-      undecided = subst (λ (s : List ScriptView). e.ending ≡ E.Undecided → 1 ≤ length s → e.states ≡ most_states s c.args.options.now.states) same so.undecided;
+      undecided = subst (λ (s : List ScriptView). e.ending ≡ Ending.Undecided → 1 ≤ length s → e.states ≡ most_states s c.args.options.now.states) same so.undecided;
       details_are = subst (λ (s : List ScriptView). TellsAfter c.args.options.now s e c.new.result) same
           (subst (TellsAfter c.args.options.now c.as_slice-scripts.result.now e) (sym c.new.ensures) c.in_ok-details.ensures);
     }

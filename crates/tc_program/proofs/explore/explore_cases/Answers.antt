@@ -1,7 +1,7 @@
 use Rattle.std.proofs.Common.{rules, ◌∙◌, ap, All, arith, length, subst, sym}
 use Rattle.std.proofs.lemmas.List.Elements.{All-head, All-tail}
-use Rattle.tc_campaign.proofs.Lemmas.Running.{done_more}
-use Rattle.tc_program.specs.Inside.{HasFewJobs}
+use Rattle.tc_exec.proofs.Lemmas.Taking.{done_more}
+use Rattle.tc_judge.specs.Inside.{HasFewJobs}
 use Rattle.tc_program.proofs.Exploring.{done_all, done_start, none_left}
 use Rattle.tc_program.proofs.explore.explore_cases.Goals as goal
 

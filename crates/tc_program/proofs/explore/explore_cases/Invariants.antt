@@ -1,7 +1,8 @@
 use Rattle.std.proofs.Common.{◌≡◌, All, length}
 use Rattle.std.specs.Vec.Iter.{into_iter_items, into_iter_len}
-use Rattle.tc_campaign.specs.Inside.{AreDone}
-use Rattle.tc_program.specs.Inside.{HasFewJobs, IsExploredOf}
+use Rattle.tc_exec.specs.Inside.{AreDone}
+use Rattle.tc_judge.specs.Inside.{HasFewJobs}
+use Rattle.tc_program.specs.Inside.{IsExploredOf}
 use Rattle.tc_program.proofs.explore.explore_cases.Given as goal
 
 -- the test cases so far were explored, and those that are left have few jobs

@@ -1,6 +1,6 @@
 use Rattle.std.proofs.lemmas.Result.{IfErr-weaker}
+use Rattle.tc_answer.proofs.Lemmas.Giving.{both_ok}
 use Rattle.tc_program.proofs.OwnCases.{chosen_made, unchosen_made}
-use Rattle.tc_program.proofs.Doing.{both_ok}
 use Rattle.tc_program.proofs.own_cases.asked.Goals as goal
 
 pub returns-in-Ok-clause-chosen : goal.returns-in-Ok-clause-chosen

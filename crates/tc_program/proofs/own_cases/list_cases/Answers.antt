@@ -1,6 +1,6 @@
+use Rattle.tc_answer.proofs.Lemmas.Giving.{keeps_same}
 use Rattle.tc_program.specs.Program.{IsDoneBy}
-use Rattle.tc_program.proofs.OwnCases.{list_made, list_refused}
-use Rattle.tc_program.proofs.Doing.{done_by, keeps_same}
+use Rattle.tc_program.proofs.{Doing.done_by, OwnCases.list_made, OwnCases.list_refused}
 use Rattle.tc_program.proofs.own_cases.list_cases.Goals as goal
 
 pub returns-in-Ok : goal.returns-in-Ok

@@ -1,5 +1,6 @@
 use Rattle.tc_command.specs.declared.task.Task.TheVariants.{Replay}
-use Rattle.tc_program.proofs.Doing.{lent_does, made_of}
+use Rattle.tc_answer.proofs.Lemmas.Giving.{made_of}
+use Rattle.tc_program.proofs.Doing.{lent_does}
 use Rattle.tc_program.proofs.replaying.replay.Goals as goal
 
 pub returns : goal.returns

@@ -1,5 +1,4 @@
-use Rattle.tc_text.proofs.Lemmas.Among.{among_any}
-use Rattle.tc_text.proofs.Lemmas.Saying.{on_ok}
+use Rattle.tc_text.proofs.Lemmas.{Among.among_any, Saying.on_ok}
 use Rattle.tc_program.proofs.unknown.append_word.Goals as goal
 
 pub returns : goal.returns

@@ -1,5 +1,5 @@
 use Rattle.std.proofs.Common.{sym}
-use Rattle.tc_reader.proofs.WholeLines.{pass, fail, none, inconc}
+use Rattle.tc_reader.proofs.WalkedText.{pass, fail, none, inconc}
 use Rattle.tc_reader.proofs.plain.read_plain.Goals as goal
 
 pub returns-then-is_word-2 : goal.returns-then-is_word-2

@@ -1,5 +1,5 @@
 use Rattle.std.proofs.Common.{length}
-use Rattle.tc_reader.specs.Inside.Indented.{IsIndented}
+use Rattle.tc_reader.specs.Inside.{IsIndented}
 use Rattle.tc_reader.proofs.text.after_spaces.Given as goal
 
 abbrev pub invariant-loop-first : goal.invariant-loop-first

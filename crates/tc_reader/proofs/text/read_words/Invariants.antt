@@ -1,6 +1,6 @@
 use Rattle.std.proofs.Common.{◌≡◌, map}
 use Rattle.std.specs.Prelude.{filter}
-use Rattle.tc_reader.specs.Inside.Indented.{is_some_text}
+use Rattle.tc_reader.specs.Inside.{is_some_text}
 use Rattle.tc_reader.proofs.text.read_words.Given as goal
 
 abbrev pub invariant-loop-part : goal.invariant-loop-part

@@ -1,5 +1,5 @@
 use Rattle.std.proofs.lemmas.Result.{on_ok_weaker}
-use Rattle.tc_report.proofs.CaseBlock.{all_appended}
+use Rattle.tc_report.proofs.Writing.{all_appended}
 use Rattle.tc_report.proofs.blocks.append_block.Goals as goal
 
 pub returns : goal.returns

@@ -1,6 +1,6 @@
 use Rattle.std.proofs.Common.{◌≡◌, OnOk, codes, subst}
 use Rattle.tc_report.specs.Cause.{comp_text, named_text}
-use Rattle.tc_report.proofs.Joining.{joined_two}
+use Rattle.tc_report.proofs.Writing.{joined_two}
 use Rattle.tc_report.proofs.cause.append_comp.Goals as goal
 
 pub returns : goal.returns

@@ -1,6 +1,6 @@
 use Rattle.std.proofs.Common.{◌≡◌, OnOk, codes, subst}
 use Rattle.tc_report.specs.Junit.{counts_attributes, head_text, number_text, skipped, suite_tag}
-use Rattle.tc_report.proofs.Joining.{joined_five}
+use Rattle.tc_report.proofs.Writing.{joined_five}
 use Rattle.tc_report.proofs.junit.append_head.Goals as goal
 
 pub returns : goal.returns

@@ -1,6 +1,6 @@
 use Rattle.std.proofs.Common.{rules, ◌≡◌, ◌++◌, OnOk, codes, subst}
 use Rattle.tc_report.specs.Junit.{name_tag}
-use Rattle.tc_report.proofs.Joining.{joined_five}
+use Rattle.tc_report.proofs.Writing.{joined_five}
 use Rattle.tc_report.proofs.junit.append_name_tag.Goals as goal
 
 pub returns : goal.returns

@@ -1,6 +1,6 @@
 use Rattle.std.proofs.Common.{◌≡◌, OnOk, codes, subst}
 use Rattle.tc_report.specs.Junit.{version_text}
-use Rattle.tc_report.proofs.Joining.{joined}
+use Rattle.tc_report.proofs.Writing.{joined}
 use Rattle.tc_report.proofs.junit.append_version.Goals as goal
 
 pub returns : goal.returns

@@ -1,5 +1,4 @@
-use Rattle.tc_report.proofs.Aborts.{when_err}
-use Rattle.tc_report.proofs.Writing.{prefix_behind}
+use Rattle.tc_report.proofs.Writing.{prefix_behind, when_err}
 use Rattle.tc_report.proofs.output.write_both.Goals as goal
 
 pub returns-in_err-write_whole-2-clause-part : goal.returns-in_err-write_whole-2-clause-part

@@ -1,7 +1,6 @@
 use Rattle.std.proofs.Common.{◌≡◌, ◌++◌, take}
 use Rattle.std.specs.List.{flat_map}
-use Rattle.tc_report.specs.Csv.{row_line}
-use Rattle.tc_report.specs.Inside.{written_by, IsBetweenRecords}
+use Rattle.tc_report.specs.{Csv.row_line, Inside.IsBetweenRecords, Inside.written_by}
 use Rattle.tc_report.proofs.records.add_rows.Given as goal
 
 abbrev pub invariant-loop-case : goal.invariant-loop-case

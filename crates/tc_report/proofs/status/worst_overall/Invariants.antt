@@ -1,6 +1,5 @@
 use Rattle.std.proofs.Common.{◌≡◌, map, take}
-use Rattle.tc_report.specs.Status.{worst_of}
-use Rattle.tc_report.specs.Summary.{case_summary}
+use Rattle.tc_report.specs.{Status.worst_of, Summary.case_summary}
 use Rattle.tc_report.proofs.status.worst_overall.Given as goal
 
 abbrev pub invariant-loop-case : goal.invariant-loop-case

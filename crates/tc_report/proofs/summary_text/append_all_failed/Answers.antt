@@ -1,6 +1,5 @@
 use Rattle.std.proofs.Common.{[], ◌∷◌, subst}
-use Rattle.tc_report.specs.Inside.{AddsShown}
-use Rattle.tc_report.specs.SummaryText.{failed_of}
+use Rattle.tc_report.specs.{Inside.AddsShown, SummaryText.failed_of}
 use Rattle.tc_report.proofs.Wording.{shown_taken}
 use Rattle.tc_report.proofs.summary_text.append_all_failed.Goals as goal
 

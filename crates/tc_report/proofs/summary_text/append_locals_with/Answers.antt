@@ -1,7 +1,6 @@
 use Rattle.std.proofs.Common.{◌∙◌, OnOk, ap, map, subst}
 use Rattle.std.proofs.lemmas.Simd.{map-map}
-use Rattle.tc_report.specs.Inside.{AddsWords, member_text}
-use Rattle.tc_report.specs.SummaryText.{after_verdict}
+use Rattle.tc_report.specs.{Inside.AddsWords, Inside.member_text, SummaryText.after_verdict}
 use Rattle.tc_report.proofs.summary_text.append_locals_with.Goals as goal
 
 pub returns : goal.returns

@@ -1,7 +1,6 @@
 use Rattle.std.proofs.Common.{◌≡◌, ◌++◌, OnOk, subst}
 use Rattle.tc_text.proofs.Lemmas.Saying.{on_ok}
-use Rattle.tc_report.specs.Inside.{AddsWords}
-use Rattle.tc_report.specs.SummaryText.{by_verdicts, why}
+use Rattle.tc_report.specs.{Inside.AddsWords, SummaryText.by_verdicts, SummaryText.why}
 use Rattle.tc_report.proofs.Wording.{adds_front, adds_then}
 use Rattle.tc_report.proofs.summary_text.append_parts.Goals as goal
 

@@ -1,6 +1,5 @@
 use Rattle.std.proofs.Common.{◌≡◌, take, reverse}
-use Rattle.tc_rules.specs.Legal.{IsLegal}
-use Rattle.tc_rules.specs.Standing.{StandsFor}
+use Rattle.tc_rules.specs.{Legal.IsLegal, Standing.StandsFor}
 use Rattle.tc_rules.proofs.check.replay.Given as goal
 
 abbrev pub invariant-loop-at : goal.invariant-loop-at

@@ -1,6 +1,5 @@
 use Rattle.std.proofs.Common.{◌≡◌, ◌<◌, ℕ, [], length, get_or}
-use Rattle.tc_rules.specs.declared.run_state.RunState.{RunState}
-use Rattle.tc_rules.specs.Inside.Kept.{run_of}
+use Rattle.tc_rules.specs.{Inside.Kept.run_of, declared.run_state.RunState.RunState}
 use Rattle.tc_rules.proofs.run_state.opening_runs.Given as goal
 
 abbrev pub invariant-loop-b : goal.invariant-loop-b

@@ -1,6 +1,5 @@
 use Rattle.std.proofs.Common.{◌≡◌, ◌<◌, ◌≤◌, ℕ, length, get_or}
-use Rattle.tc_rules.specs.declared.component_state.ComponentState.{ComponentState}
-use Rattle.tc_rules.specs.Inside.Step.{next_state}
+use Rattle.tc_rules.specs.{Inside.Step.next_state, declared.component_state.ComponentState.ComponentState}
 use Rattle.tc_rules.proofs.step.take_in_found.Given as goal
 
 abbrev pub invariant-loop-i : goal.invariant-loop-i

@@ -1,7 +1,6 @@
 use Rattle.std.proofs.Common.{◌≡◌, true, false, arith}
 use Rattle.std.proofs.lemmas.Bool.Decides.{nat_tests}
-use Rattle.tc_rules.specs.History.{ends_case}
-use Rattle.tc_rules.specs.Inside.Step.{finds_none}
+use Rattle.tc_rules.specs.{History.ends_case, Inside.Step.finds_none}
 use Rattle.tc_rules.proofs.Unchanged.{none_found}
 use Rattle.tc_rules.proofs.step.take_in_many.Goals as goal
 

@@ -1,5 +1,5 @@
 use Rattle.std.proofs.Common.{◌∙◌, [], ◌∷◌, sym}
-use Rattle.tc_blocks.specs.declared.line.Line.TheVariants as L
+use Rattle.tc_blocks.specs.declared.line.Line.{Line}
 use Rattle.tc_serve.proofs.Calling.{met_none, met_some}
 use Rattle.tc_serve.proofs.open_case.meet.Goals as goal
 
@@ -8,4 +8,4 @@ returns-in_default c op reply ls is met = met_none _ c.args.caller op reply ls (
 
 pub returns : goal.returns
 returns c op reply ls is met =
-    met_some _ c.args.caller c.in-Some.run' op reply ls (sym c.in-Some.is ∙ is) (c.add_refused-2.ensures (L.Refused c.args.caller [] ∷ ls) [] (c.add_refused.ensures ls [] met))
+    met_some _ c.args.caller c.in-Some.run' op reply ls (sym c.in-Some.is ∙ is) (c.add_refused-2.ensures (Line.Refused c.args.caller [] ∷ ls) [] (c.add_refused.ensures ls [] met))

@@ -1,6 +1,5 @@
 use Rattle.std.proofs.Common.{◌≡◌, ◌≤◌, ◌*◌, ◌^◌, false, not}
-use Rattle.tc_serve.specs.Inside.{IsAt}
-use Rattle.tc_serve.specs.Serve.{devices}
+use Rattle.tc_serve.specs.{Inside.IsAt, Serve.devices}
 use Rattle.tc_serve.proofs.service.serve_lines.Given as goal
 
 abbrev pub invariant-loop-turns : goal.invariant-loop-turns

@@ -1,5 +1,5 @@
 use Rattle.std.proofs.Common.{◌∙◌, ap, is_err, arith, rules}
-use Rattle.tc_serve.specs.declared.fault.ServeFault.TheVariants as F
+use Rattle.tc_serve.specs.declared.fault.ServeFault.{ServeFault}
 use Rattle.tc_serve.proofs.Turns.{is_no_device, unread, unwritten, written}
 use Rattle.tc_serve.proofs.service.turn.Goals as goal
 
@@ -18,10 +18,10 @@ returns-in-Err-clause-turn g c = λ from turns at_.
     (rw c.as_slice-2.ensures.value at c.in-Err.ensures.part)
 
 pub returns-in-Ok-put-clause-read : goal.returns-in-Ok-put-clause-read
-returns-in-Ok-put-clause-read g c = is_no_device c.take_read-end.result F.Read _ c.take_read-end.ensures.own (λ own. own) (c.read.ensures.failed ∙ ap is_err c.in-Ok.is)
+returns-in-Ok-put-clause-read g c = is_no_device c.take_read-end.result ServeFault.Read _ c.take_read-end.ensures.own (λ own. own) (c.read.ensures.failed ∙ ap is_err c.in-Ok.is)
 
 pub returns-in-Ok-put-clause-written : goal.returns-in-Ok-put-clause-written
-returns-in-Ok-put-clause-written g c = is_no_device c.take_read-end.result F.Write _ c.take_read-end.ensures.own (λ own. own) (c.put.ensures.failed ∙ ap is_err c.in-Ok-put.is)
+returns-in-Ok-put-clause-written g c = is_no_device c.take_read-end.result ServeFault.Write _ c.take_read-end.ensures.own (λ own. own) (c.put.ensures.failed ∙ ap is_err c.in-Ok-put.is)
 
 pub returns-in_default-clause-turn : goal.returns-in_default-clause-turn
 returns-in_default-clause-turn g c = λ from turns at_.

@@ -1,7 +1,6 @@
 use Rattle.std.proofs.Common.{◌↔◌, ◌≤◌, ◌+◌, length}
 use Rattle.tc_entry.specs.declared.limits.TheConstants.{ARGUMENTS}
-use Rattle.tc_step.specs.Steps.{AreBound}
-use Rattle.tc_step.specs.declared.limits.TheConstants.{STEPS}
+use Rattle.tc_step.specs.{Steps.AreBound, declared.limits.TheConstants.STEPS}
 use Rattle.tc_step.proofs.script.are_bound.Given as goal
 
 abbrev pub invariant-loop-step : goal.invariant-loop-step

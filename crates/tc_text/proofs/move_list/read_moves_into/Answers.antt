@@ -1,8 +1,6 @@
 use Rattle.std.proofs.Common.{◌≡◌, ◌<◌, length, arith}
-use Rattle.std.proofs.lemmas.Grind.{common_steps}
-use Rattle.std.proofs.lemmas.List.{nil_from_length}
-use Rattle.tc_text.proofs.Lemmas.LinesOf.{not_empty}
-use Rattle.tc_text.proofs.SoFar.{bad_first, made_none, made_more, made_all, made_only, made_bad, no_list}
+use Rattle.std.proofs.lemmas.{Grind.common_steps, List.nil_from_length}
+use Rattle.tc_text.proofs.{Lemmas.LinesOf.not_empty, SoFar.bad_first, SoFar.made_all, SoFar.made_bad, SoFar.made_more, SoFar.made_none, SoFar.made_only, SoFar.no_list}
 use Rattle.tc_text.proofs.move_list.read_moves_into.Goals as goal
 
 pub returns-in_default-clause-fault : goal.returns-in_default-clause-fault

@@ -1,5 +1,5 @@
 use Rattle.std.proofs.Common.{◌≡◌, sym}
-use Rattle.tc_verdict.specs.Prelude.{given}
+use Rattle.tc_entry.specs.Prelude.{given}
 use Rattle.tc_text.proofs.operand.take_setting.Goals as goal
 
 pub returns-in_err-verdict-clause-only : goal.returns-in_err-verdict-clause-only

@@ -1,6 +1,5 @@
 use Rattle.std.proofs.Common.{◌∙◌, [], sym, inl, refl, arith, rules}
-use Rattle.std.proofs.lemmas.List.{append-nil}
-use Rattle.std.proofs.lemmas.Grind.{common_steps}
+use Rattle.std.proofs.lemmas.{Grind.common_steps, List.append-nil}
 use Rattle.tc_text.proofs.Lemmas.MoveLines.{ends_reply}
 use Rattle.tc_text.proofs.reply.read_reply.Goals as goal
 

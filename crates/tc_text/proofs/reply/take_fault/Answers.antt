@@ -1,6 +1,5 @@
 use Rattle.std.proofs.Common.{◌≡◌, ◌≢◌, ℕ, List, ◌++◌, codes}
 use Rattle.tc_entry.specs.declared.reply.Fault.{Fault}
-use Rattle.tc_entry.specs.declared.reply.Fault.TheVariants as F
 use Rattle.tc_entry.specs.Prelude.{fault_name}
 use Rattle.tc_text.proofs.reply.take_fault.Goals as goal
 
@@ -15,14 +14,14 @@ no_fault : (f : Fault) (text rest : List ℕ)
     → ((r : List ℕ) → text ≢ codes "too-many" ++ r)
     → ((r : List ℕ) → text ≢ codes "stuck" ++ r)
     → text ≡ fault_name f ++ rest → ⊥
-no_fault F.NoComponent text rest a b c d g h i j e = a rest e
-no_fault F.NotMain text rest a b c d g h i j e = b rest e
-no_fault F.StartMain text rest a b c d g h i j e = c rest e
-no_fault F.AlreadyRunning text rest a b c d g h i j e = d rest e
-no_fault F.NotStartable text rest a b c d g h i j e = g rest e
-no_fault F.NoBehaviour text rest a b c d g h i j e = h rest e
-no_fault F.TooMany text rest a b c d g h i j e = i rest e
-no_fault F.Stuck text rest a b c d g h i j e = j rest e
+no_fault Fault.NoComponent text rest a b c d g h i j e = a rest e
+no_fault Fault.NotMain text rest a b c d g h i j e = b rest e
+no_fault Fault.StartMain text rest a b c d g h i j e = c rest e
+no_fault Fault.AlreadyRunning text rest a b c d g h i j e = d rest e
+no_fault Fault.NotStartable text rest a b c d g h i j e = g rest e
+no_fault Fault.NoBehaviour text rest a b c d g h i j e = h rest e
+no_fault Fault.TooMany text rest a b c d g h i j e = i rest e
+no_fault Fault.Stuck text rest a b c d g h i j e = j rest e
 
 pub returns-in_default-after-7-clause-only : goal.returns-in_default-after-7-clause-only
 returns-in_default-after-7-clause-only c f rest e =

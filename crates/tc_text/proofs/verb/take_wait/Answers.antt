@@ -1,4 +1,4 @@
-use Rattle.tc_text.proofs.Verbs.{no_wait}
+use Rattle.tc_text.proofs.Operands.{no_wait}
 use Rattle.tc_text.proofs.verb.take_wait.Goals as goal
 
 pub returns-in_default-take_words-3-clause-only : goal.returns-in_default-take_words-3-clause-only

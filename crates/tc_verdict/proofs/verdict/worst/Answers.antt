@@ -1,13 +1,12 @@
 use Rattle.std.proofs.Common.{◌≡◌, arith}
 use Rattle.std.proofs.lemmas.Grind.{common_steps}
-use Rattle.tc_verdict.specs.declared.verdict.Verdict.TheVariants as V
-use Rattle.tc_verdict.specs.Verdict.{worst}
+use Rattle.tc_verdict.specs.{Verdict.worst, declared.verdict.Verdict.Verdict}
 use Rattle.tc_verdict.proofs.Lemmas.Order.{worst_take, worst_is_greatest, worst_is_member}
 use Rattle.tc_verdict.proofs.verdict.worst.Goals as goal
 
 pub loop-verdict-preserved : goal.loop-verdict-preserved
 loop-verdict-preserved c =
-    let e = worst_take c.args.all.now c.loop-verdict.verdict-index V.None c.loop-verdict-test.true in
+    let e = worst_take c.args.all.now c.loop-verdict.verdict-index Verdict.None c.loop-verdict-test.true in
     cc
 
 pub returns-clause-greatest : goal.returns-clause-greatest

@@ -1,6 +1,5 @@
 use Rattle.std.proofs.Common.{List, ◌∷◌, subst, sym}
-use Rattle.tc_blocks.specs.declared.line.Line.{Line}
-use Rattle.tc_blocks.specs.Met.{AreMet}
+use Rattle.tc_blocks.specs.{Met.AreMet, declared.line.Line.Line}
 use Rattle.tc_blocks.proofs.met.MetRuns.add_line.Goals as goal
 
 pub returns-in-Entry : goal.returns-in-Entry

@@ -1,6 +1,5 @@
 use Rattle.std.proofs.Common.{◌≡◌, ◌-◌, []}
-use Rattle.tc_board.specs.Board.{first_records, new_hands}
-use Rattle.tc_board.specs.Inside.Seats.{keeper_view, first_lists}
+use Rattle.tc_board.specs.{Board.first_records, Board.new_hands, Inside.Seats.first_lists, Inside.Seats.keeper_view}
 use Rattle.tc_board.proofs.board.Board.new.Given as goal
 
 abbrev pub invariant-loop-run : goal.invariant-loop-run

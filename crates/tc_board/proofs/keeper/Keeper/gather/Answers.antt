@@ -1,13 +1,7 @@
 use Rattle.std.specs.Prelude.{slice_get, Some}
 use Rattle.std.proofs.Common.{◌≡◌, ◌<◌, ℕ, List, [], ◌++◌, sym, ap, subst, ◌∙◌, arith}
 use Rattle.atomic_table.specs.Seated.{TableId}
-use Rattle.tc_board.specs.declared.answer.Answer.{Answer}
-use Rattle.tc_board.specs.declared.record.Record.{Record}
-use Rattle.tc_board.specs.Rule.{AnswersAgree}
-use Rattle.tc_board.specs.Hand.{HandView}
-use Rattle.tc_board.specs.Keeper.{KeeperView}
-use Rattle.tc_board.specs.Inside.Seats.{keeper_view, taken_back}
-use Rattle.tc_board.specs.Inside.Steps.{Seated}
+use Rattle.tc_board.specs.{Hand.HandView, Inside.Seats.keeper_view, Inside.Seats.taken_back, Inside.Steps.Seated, Keeper.KeeperView, Rule.AnswersAgree, declared.answer.Answer.Answer, declared.record.Record.Record}
 use Rattle.tc_board.proofs.KeeperSteps.{takes_back_at, looks_at, seen_agrees}
 use Rattle.tc_board.proofs.keeper.Keeper.gather.Goals as goal
 

@@ -1,10 +1,6 @@
-use Rattle.std.proofs.Common.{rules, ◌≡◌, false, true, map}
-use Rattle.tc_rules.specs.Prelude.{merge}
-use Rattle.tc_book.specs.Closing.{run_log}
+use Rattle.std.proofs.Common.{rules, ◌≡◌, false, true}
 use Rattle.tc_book.specs.Inside.{ArePlaced}
-use Rattle.tc_book.proofs.Merging.{joined_by}
-use Rattle.tc_book.proofs.Wholeness.{AtClose, torn_placed}
-use Rattle.tc_book.proofs.book.Book.close.Goals.{then-not-are_placed-via-then-not-are_placed, then-not-are_placed-via-else-not-are_placed+then-not-all_agreed}
+use Rattle.tc_book.proofs.{Wholeness.AtClose, Wholeness.torn_placed, book.Book.close.Goals.then-not-are_placed-via-else-not-are_placed+then-not-all_agreed, book.Book.close.Goals.then-not-are_placed-via-then-not-are_placed}
 use Rattle.tc_book.proofs.book.Book.close.Goals as goal
 
 pub returns-then-not-are_placed-clause-torn : goal.returns-then-not-are_placed-clause-torn
@@ -17,10 +13,13 @@ returns-then-not-are_placed-clause-torn c = λ torn m. elim c.then-not-are_place
       let q : false ≡ true = w.if-not-all_agreed.ensures.1 (search (rules, m.agreed)) in cc
 ]
 
-pub report_of_merged-requires-clause-joined : goal.report_of_merged-requires-clause-joined
-report_of_merged-requires-clause-joined c =
+pub report_of_parts-requires-clause-back : goal.report_of_parts-requires-clause-back
+report_of_parts-requires-clause-back c =
     let same : c.len-behaviours.result ≡ c.self.inside.table.behaviours = search rules in
     let placed : ArePlaced c.len-behaviours.result c.self.inside.starts.items c.args.lefts.items = search rules in
-    let is : c.in-Ok-merge.history.items ≡ merge c.self.inside.table.history (map run_log c.args.lefts.items) = search rules in
-    rw (c.deref-in-Ok-merge.ensures.value, c.of-came_back.ensures, c.self.invariant.as_many_starts)
-    (joined_by c.self.inside.table.behaviours c.self.inside.starts.items c.self.inside.table.history c.in-Ok-merge.history.items c.args.lefts.items (rw (← same) placed) c.self.invariant.each_start c.self.invariant.others is)
+    record {
+      placed = search rules;
+      logs = record { as_many = search rules; each = search rules };
+      known = search rules;
+      others = search rules;
+    }

@@ -1,6 +1,5 @@
 use Rattle.tc_rules.specs.Prelude.{past_of}
-use Rattle.tc_book.specs.Words.{StayClosed}
-use Rattle.tc_book.specs.Inside.Words.{WordsLag}
+use Rattle.tc_book.specs.{Inside.Words.WordsLag, Words.StayClosed}
 use Rattle.tc_book.proofs.words.Words.settle.Given as goal
 
 abbrev pub invariant-loop-b : goal.invariant-loop-b

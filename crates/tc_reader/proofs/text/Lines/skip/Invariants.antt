@@ -1,6 +1,5 @@
 use Rattle.std.proofs.Common.{suc, ◌≤◌, ◌-◌}
-use Rattle.tc_reader.specs.Text.{lines}
-use Rattle.tc_reader.specs.Inside.Skips.{Skips}
+use Rattle.tc_reader.specs.{Inside.Skips, Text.lines}
 use Rattle.tc_reader.proofs.text.Lines.skip.Given as goal
 
 abbrev pub invariant-loop-more : goal.invariant-loop-more

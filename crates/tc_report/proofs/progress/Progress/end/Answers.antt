@@ -1,7 +1,6 @@
 use Rattle.std.proofs.Common.{OnOk, IfErr, subst}
 use Rattle.std.specs.Io.KnownBytes.{Appends}
-use Rattle.tc_report.specs.Output.{LeavesPrefix}
-use Rattle.tc_report.specs.Inside.{IsSoFar}
+use Rattle.tc_report.specs.{Inside.IsSoFar, Output.LeavesPrefix}
 use Rattle.tc_report.proofs.Lemmas.Telling.{so_ended}
 use Rattle.tc_report.proofs.progress.Progress.end.Goals as goal
 

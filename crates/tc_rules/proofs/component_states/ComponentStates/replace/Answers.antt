@@ -1,5 +1,5 @@
 use Rattle.std.proofs.Common.{◌<◌, ◌≤◌, length, get_or}
-use Rattle.tc_verdict.specs.Prelude.{level_of}
+use Rattle.tc_entry.specs.Prelude.{level_of}
 use Rattle.tc_rules.proofs.Counting.{counted_set, lapsed_at}
 use Rattle.tc_rules.proofs.component_states.ComponentStates.replace.Goals as goal
 

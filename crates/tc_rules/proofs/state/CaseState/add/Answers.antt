@@ -1,8 +1,7 @@
-use Rattle.tc_rules.proofs.Lemmas.Keeping.{keeps_entry, stands_by}
-use Rattle.tc_rules.proofs.Settled.{settled_kept}
-use Rattle.tc_rules.specs.Standing.{StandsFor}
-use Rattle.tc_rules.proofs.state.CaseState.add.Goals as goal
 use Rattle.std.proofs.Common.{◌∷◌}
+use Rattle.tc_rules.specs.Standing.{StandsFor}
+use Rattle.tc_rules.proofs.{Lemmas.Keeping.keeps_entry, Lemmas.Keeping.stands_by, Settled.settled_kept}
+use Rattle.tc_rules.proofs.state.CaseState.add.Goals as goal
 
 pub take_in-requires : goal.take_in-requires
 take_in-requires c = record { settled = settled_kept c.self.invariant.1 }

@@ -1,8 +1,7 @@
-use Rattle.tc_rules.proofs.Asking.{keeps_asking}
-use Rattle.tc_rules.proofs.Lemmas.Keeping.{stands_by}
-use Rattle.tc_rules.specs.Standing.{StandsFor}
-use Rattle.tc_rules.proofs.state.CaseState.ask.Goals as goal
 use Rattle.std.proofs.Common.{◌∷◌}
+use Rattle.tc_rules.specs.Standing.{StandsFor}
+use Rattle.tc_rules.proofs.{Asking.keeps_asking, Lemmas.Keeping.stands_by}
+use Rattle.tc_rules.proofs.state.CaseState.ask.Goals as goal
 
 pub invariant_of-self : goal.invariant_of-self
 unfolding StandsFor

@@ -1,7 +1,6 @@
 use Rattle.std.proofs.Common.{◌≡◌, ◌<◌, ℕ, false, List}
 use Rattle.tc_entry.specs.declared.entry.Entry.{Entry}
-use Rattle.tc_rules.specs.Inside.States.{goes_on}
-use Rattle.tc_rules.specs.Standing.{StandsFor}
+use Rattle.tc_rules.specs.{Inside.States.goes_on, Standing.StandsFor}
 use Rattle.tc_rules.proofs.state.CaseState.is_stuck.Given as goal
 
 abbrev pub invariant-loop-b : goal.invariant-loop-b

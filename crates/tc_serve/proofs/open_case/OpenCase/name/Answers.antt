@@ -1,18 +1,17 @@
 use Rattle.std.proofs.Common.{◌∙◌, refl, sym}
 use Rattle.std.proofs.lemmas.Result.{IfOk-weaker}
-use Rattle.tc_blocks.specs.declared.line.Line.TheVariants as L
-use Rattle.tc_serve.specs.declared.refusal.Refusal.TheVariants as W
-use Rattle.tc_serve.specs.Protocol.{with_added_line}
+use Rattle.tc_blocks.specs.declared.line.Line.{Line}
+use Rattle.tc_serve.specs.{Protocol.with_added_line, declared.refusal.Refusal.Refusal}
 use Rattle.tc_serve.proofs.Calling.{is_barred, is_free}
 use Rattle.tc_serve.proofs.open_case.OpenCase.name.Goals as goal
 
 pub returns-then-has_met-clause-ok : goal.returns-then-has_met-clause-ok
 returns-then-has_met-clause-ok c p closed before holds =
-    is_barred _ (with_added_line c.args.run (L.Named c.args.run c.args.name) p) W.LateName _ _ (sym (c.has_met.ensures p holds.is.opened) ∙ c.if-has_met.true) (refl, holds)
+    is_barred _ (with_added_line c.args.run (Line.Named c.args.run c.args.name) p) Refusal.LateName _ _ (sym (c.has_met.ensures p holds.is.opened) ∙ c.if-has_met.true) (refl, holds)
 
 pub returns-clause-ok : goal.returns-clause-ok
 returns-clause-ok c =
     IfOk-weaker c.add.result _ _
     (λ why change p closed before holds.
-    is_free _ (with_added_line c.args.run (L.Named c.args.run c.args.name) p) W.LateName _ _ (sym (c.has_met.ensures p holds.is.opened) ∙ c.if-has_met.false) (change p closed before holds))
+    is_free _ (with_added_line c.args.run (Line.Named c.args.run c.args.name) p) Refusal.LateName _ _ (sym (c.has_met.ensures p holds.is.opened) ∙ c.if-has_met.false) (change p closed before holds))
     c.add.ensures.ok

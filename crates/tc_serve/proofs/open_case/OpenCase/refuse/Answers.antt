@@ -1,17 +1,15 @@
 use Rattle.std.proofs.Common.{◌∙◌, Ok, refl, sym}
-use Rattle.tc_blocks.specs.declared.line.Line.TheVariants as L
-use Rattle.tc_serve.specs.declared.refusal.Refusal.TheVariants as W
-use Rattle.tc_serve.specs.Inside.{with_line}
-use Rattle.tc_serve.specs.Refusal.{why_text}
+use Rattle.tc_blocks.specs.declared.line.Line.{Line}
+use Rattle.tc_serve.specs.{Inside.with_line, Protocol.why_text, declared.refusal.Refusal.Refusal}
 use Rattle.tc_serve.proofs.Calling.{may_change, may_not, noted}
 use Rattle.tc_serve.proofs.open_case.OpenCase.refuse.Goals as goal
 
 pub returns-then-not-has-clause-ok : goal.returns-then-not-has-clause-ok
 returns-then-not-has-clause-ok c p closed before holds =
-    may_not _ (Ok (with_line p (L.Refused c.args.run (why_text c.args.why)))) W.NoRun _ _ (sym (c.has.ensures.is p holds.is.opened) ∙ c.if-not-has.true) (refl, holds)
+    may_not _ (Ok (with_line p (Line.Refused c.args.run (why_text c.args.why)))) Refusal.NoRun _ _ (sym (c.has.ensures.is p holds.is.opened) ∙ c.if-not-has.true) (refl, holds)
 
 pub returns-clause-ok : goal.returns-clause-ok
 returns-clause-ok c p closed before holds =
     let appends = rw (c.as_bytes.ensures.value, c.text.ensures) at c.in_ok-append_said.ensures.ok in
-    may_change _ (Ok (with_line p (L.Refused c.args.run (why_text c.args.why)))) W.NoRun _ _ (sym (c.has.ensures.is p holds.is.opened) ∙ c.if-not-has.false)
-    (refl, noted c.args.self.now _ p (L.Refused c.args.run (why_text c.args.why)) closed before c.args.out.now.items c.append_said.new.out.items holds refl refl refl (λ ls met. c.add_refused.ensures ls (why_text c.args.why) met) appends)
+    may_change _ (Ok (with_line p (Line.Refused c.args.run (why_text c.args.why)))) Refusal.NoRun _ _ (sym (c.has.ensures.is p holds.is.opened) ∙ c.if-not-has.false)
+    (refl, noted c.args.self.now _ p (Line.Refused c.args.run (why_text c.args.why)) closed before c.args.out.now.items c.append_said.new.out.items holds refl refl refl (λ ls met. c.add_refused.ensures ls (why_text c.args.why) met) appends)

@@ -1,11 +1,10 @@
-use Rattle.tc_rules.specs.Prelude.{Entry}
-use Rattle.tc_entry.specs.declared.op.Op.TheVariants as ops
+use Rattle.tc_rules.specs.Prelude.{Entry, Op}
 use Rattle.tc_book.proofs.Handed.{hand_said}
 use Rattle.tc_book.proofs.logged_book.log.Log.set_verdict.Goals as goal
 
 pub invariant_of-self : goal.invariant_of-self
 invariant_of-self c =
-    let e : Entry = record { caller = c.self.inside.run; op = ops.SetVerdict c.args.value; reply = c.set-reply.result } in (
+    let e : Entry = record { caller = c.self.inside.started.run; op = Op.SetVerdict c.args.value; reply = c.set-reply.result } in (
       c.add_to-self-inside.ensures.ended,
-      hand_said c.self.inside.hand _ c.self.inside.run.0 c.self.inside.entries.items _ e c.set-reply.ensures.answer c.add_to-self-inside.ensures.items c.self.invariant.1,
+      hand_said c.self.inside.hand _ c.self.inside.started.run.0 c.self.inside.entries.items _ e c.set-reply.ensures.answer c.add_to-self-inside.ensures.items c.self.invariant.1,
     )

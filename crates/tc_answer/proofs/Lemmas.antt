@@ -1,0 +1,3 @@
+-- The lemmas that other crates cite.
+pub mod Chosen
+pub mod Giving

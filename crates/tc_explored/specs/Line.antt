@@ -1,0 +1,58 @@
+-- What is printed about a test case that was explored.
+use Rattle.std.specs.Prelude.{ℕ, ◌==◌, if◌then◌else◌, nat_lt, Bool, Option, List, [], ◌∷◌, ◌++◌, codes, filter, length, ◌+◌, ◌/◌, None, drop, slice_index_or}
+use Rattle.std.specs.{Fmt.decimal, List.flat_map, List.range_with_len, Option.option_map_or}
+use Rattle.tc_rules.specs.Prelude.{Verdict, name_of}
+use Rattle.tc_blocks.specs.Prelude.{history_text}
+use Rattle.tc_course.specs.Prelude.{is_found, is_local}
+use Rattle.tc_course.specs.declared.found.{Ending.Ending, Explored.Explored, Locals.Locals}
+use Rattle.tc_text.specs.Prelude.{shown_line}
+
+-- the verdicts of which this holds, from the best to the worst
+unfoldable pub verdicts_where : (Verdict → Bool) → List Verdict
+verdicts_where holds = filter holds (Verdict.None ∷ Verdict.Pass ∷ Verdict.Inconc ∷ Verdict.Fail ∷ Verdict.Error ∷ [])
+
+-- the first if the search came to its end, and the other if it met its limit
+abbrev pub if_complete : {A : Type 0} → Ending → A → A → A
+if_complete Ending.Complete first other = first
+if_complete Ending.Undecided first other = other
+
+-- the status of a test case by the number of verdicts: 0 for one, 1 for more; 3 if none was found, or the search met its limit
+abbrev pub explored_status : Explored → ℕ
+explored_status e =
+    let count = length (verdicts_where (is_found e.found)) in
+    if_complete e.ending (if count == 1 then 0 else if nat_lt 1 count then 1 else 3) 3
+
+-- how the search ended, and, if something may be missed, how many states it looked at
+abbrev pub ending_words : Ending → ℕ → List ℕ
+ending_words ending states = if_complete ending (codes " complete") (codes " undecided after " ++ (decimal states ++ codes " states"))
+
+-- the line of a test case of this name: the verdicts that were found, and how the search ended
+abbrev pub explored_line : List ℕ → Explored → List ℕ
+explored_line name e =
+    name ++ (flat_map (λ v. codes " " ++ name_of v) (verdicts_where (is_found e.found)) ++ (ending_words e.ending e.states ++ (10 ∷ [])))
+
+-- a component after a space: its number and its name, if it has one; the main one as mtc
+abbrev pub component_text : ℕ → Option (List ℕ) → List ℕ
+component_text c name = if c == 0 then codes " mtc" else 32 ∷ (decimal c ++ option_map_or (λ n. 32 ∷ n) name [])
+
+-- the histories of all witnesses, in a test case of this name and of n behaviours
+abbrev pub witnesses_text : List ℕ → ℕ → Explored → List ℕ
+witnesses_text name n e = flat_map (λ w. history_text 2 name n w.history w.verdict) e.found
+
+-- verdicts, with `or` between them
+abbrev pub or_text : List Verdict → List ℕ
+or_text verdicts = drop 3 (flat_map (λ v. codes " or " ++ name_of v) verdicts)
+
+-- a component, and the verdicts that it is found with, from the best to the worst, if these are more than one
+unfoldable pub local_line : Locals → ℕ → List ℕ
+local_line l c =
+    let verdicts = verdicts_where (is_local l.found c) in
+    if nat_lt 1 (length verdicts)
+    then shown_line (codes " local" ++ (component_text c (slice_index_or l.names c None) ++ (codes ":" ++ or_text verdicts)))
+    else []
+
+-- all that is printed; of a search that met its limit how many states it looked at
+unfoldable pub locals_text : Locals → List ℕ
+locals_text l =
+    flat_map (local_line l) (range_with_len 0 (length l.found / 5 + 1))
+    ++ if_complete l.ending [] (shown_line (codes " local verdicts undecided after " ++ (decimal l.states ++ codes " states")))

@@ -1,0 +1,136 @@
+//! What is printed of the local verdicts that the components of a test case may have.
+ghost use Rattle.std.specs.Prelude.{◌≡◌, ◌≤◌, ◌+◌, ◌*◌, ◌/◌, ◌++◌, [], None, OnOk, codes, drop, length, option_copied, slice_index_or};
+ghost use Rattle.std.specs.{Fmt.decimal, List.flat_map, List.range_with_len};
+ghost use Rattle.tc_course.specs.Prelude.{is_local};
+ghost use Rattle.tc_text.specs.Prelude.{shown_line};
+ghost use Rattle.tc_explored.specs.{Inside.has, Line.if_complete, Line.verdicts_where};
+ghost use Rattle.tc_explored.specs.Line as spec;
+
+use crate::components::append_comp;
+use crate::verdicts::Verdicts;
+use std::alloc::Global;
+use tc_course::{Ending, Locals, level};
+use tc_entry::Name;
+use tc_text::{append_number, append_shown, append_text};
+use tc_verdict::{NoMemory, Verdict};
+
+// Which verdicts a component is found with.
+#[tactic(auto, unfolding(crate::specs::Line::verdicts_where))]
+fn verdicts_of(locals: &Locals, comp: usize) -> Verdicts
+    requires { comp * 5 ≤ length locals.now.found }
+    ensures { verdicts_where (has result) ≡ verdicts_where (is_local locals.now.found comp) }
+{
+    Verdicts {
+        none: is_found_of(locals, comp, Verdict::None),
+        pass: is_found_of(locals, comp, Verdict::Pass),
+        inconc: is_found_of(locals, comp, Verdict::Inconc),
+        fail: is_found_of(locals, comp, Verdict::Fail),
+        error: is_found_of(locals, comp, Verdict::Error),
+    }
+}
+
+// Whether a component is found with this verdict.
+fn is_found_of(locals: &Locals, comp: usize, verdict: Verdict) -> bool
+    requires { comp * 5 ≤ length locals.now.found }
+    ensures { result ≡ is_local locals.now.found comp verdict }
+{
+    let found = locals.found.as_slice();
+    let first = comp * 5;
+    let at = level(verdict) as usize;
+    if at < found.len() - first {
+        found[first + at]
+    } else {
+        false
+    }
+}
+
+// The name of a component, if it has one.
+fn name_at(locals: &Locals, comp: usize) -> Option<&Name>
+    ensures { option_copied result ≡ slice_index_or locals.now.names comp None }
+{
+    let names = locals.names.as_slice();
+    if comp < names.len() {
+        names[comp].as_ref()
+    } else {
+        None
+    }
+}
+
+// The text after the ` or` that it begins with.
+fn after_or(text: &[u8]) -> &[u8]
+    ensures { result.now ≡ drop 3 text.now }
+{
+    if text.len() < 3 { &[] } else { &text[3..] }
+}
+
+// Appends verdicts, with `or` between them; if memory runs out, a part of them.
+fn append_or(alloc: Global, out: &mut Vec<u8>, verdicts: Verdicts) -> Result<(), NoMemory>
+    ensures { OnOk result (out.new.items ≡ out.old.items ++ spec.or_text (verdicts_where (has verdicts))) }
+{
+    let mut text = Vec::new(alloc);
+    verdicts.append(&mut text, " or ")?;
+    out.extend_from_slice(after_or(text.as_slice()))?;
+    Ok(())
+}
+
+// Appends the line of a component, if it is found with several verdicts; if memory runs out, a part of it.
+#[tactic(auto, unfolding(crate::specs::Line::local_line))]
+fn append_line(
+    alloc: Global,
+    out: &mut Vec<u8>,
+    locals: &Locals,
+    comp: usize,
+) -> Result<(), NoMemory>
+    requires { comp * 5 ≤ length locals.now.found }
+    ensures { OnOk result (out.new.items ≡ out.old.items ++ spec.local_line locals.now comp) }
+{
+    let verdicts = verdicts_of(locals, comp);
+    if verdicts.count() <= 1 {
+        return Ok(());
+    }
+    let mut text = Vec::new(alloc);
+    append_text(&mut text, " local")?;
+    append_comp(&mut text, comp as u64, name_at(locals, comp))?;
+    append_text(&mut text, ":")?;
+    append_or(alloc, &mut text, verdicts)?;
+    append_shown(alloc, out, text.as_slice())
+}
+
+// Appends the lines of all components; if memory runs out, a part of them.
+#[tactic(auto, using(tc_course::proofs::Lemmas::next_of))]
+fn append_lines(alloc: Global, out: &mut Vec<u8>, locals: &Locals) -> Result<(), NoMemory>
+    ensures { OnOk result (out.new.items ≡ out.old.items
+        ++ flat_map (spec.local_line locals.now) (range_with_len 0 (length locals.now.found / 5 + 1))) }
+{
+    for comp in 0..locals.found.as_slice().len() / 5 + 1 {
+        append_line(alloc, out, locals, comp)?;
+    }
+    Ok(())
+}
+
+// Appends how many states a search looked at that met its limit; if memory runs out, a part of it.
+fn append_undecided(alloc: Global, out: &mut Vec<u8>, locals: &Locals) -> Result<(), NoMemory>
+    ensures { OnOk result (out.new.items ≡ out.old.items ++ if_complete locals.now.ending []
+        (shown_line (codes " local verdicts undecided after " ++ (decimal locals.now.states ++ codes " states")))) }
+{
+    match locals.ending {
+        Ending::Complete => Ok(()),
+        Ending::Undecided => {
+            let mut text = Vec::new(alloc);
+            append_text(&mut text, " local verdicts undecided after ")?;
+            append_number(&mut text, locals.states as u64)?;
+            append_text(&mut text, " states")?;
+            append_shown(alloc, out, text.as_slice())
+        }
+    }
+}
+
+/// Appends the components that are found with several local verdicts, each with these; and, if the search met its limit,
+/// how many states it looked at. If memory runs out, a part of it.
+#[tactic(auto, unfolding(crate::specs::Line::locals_text))]
+pub fn append_locals(alloc: Global, out: &mut Vec<u8>, locals: &Locals) -> Result<(), NoMemory>
+    ensures { OnOk result (out.new.items ≡ out.old.items ++ spec.locals_text locals.now) }
+{
+    append_lines(alloc, out, locals)?;
+    append_undecided(alloc, out, locals)
+}

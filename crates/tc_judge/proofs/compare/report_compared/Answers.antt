@@ -1,0 +1,36 @@
+use Rattle.std.proofs.Common.{rules, ◌≡◌, ◌∙◌, ap, reverse, subst, sym}
+use Rattle.std.specs.List.{AllZip}
+use Rattle.tc_answer.specs.Prelude.{blocks_part}
+use Rattle.tc_judge.specs.{Compared.missing, Inside.AreJudgedIn, Inside.IsJudgedBlock, Inside.IsWholeOfBlock, Inside.first_illegal, Report.IsReport}
+use Rattle.tc_judge.proofs.Judging.{all_reports}
+use Rattle.tc_judge.proofs.compare.report_compared.Goals as goal
+
+pub returns-clause-done : goal.returns-clause-done
+returns-clause-done c =
+    let ready = c.in_ok-ready.ensures.ready in
+    let form = c.args.form.now in
+    let part : c.split_script.result.1.now ≡ blocks_part c.args.text.now = search rules in
+    let blocks = c.in_ok-blocks.blocks.items in
+    let judged = subst (λ t. AreJudgedIn IsWholeOfBlock t blocks) part c.in_ok-blocks.ensures.judged in
+    let found = c.in_ok-notes.field-0 in
+    let missing_is = c.in_ok-notes.missing-is in
+    let lent = c.as_slice-3.ensures.value in
+    let names : c.as_slice-3.result.now ≡ found.missing.items = cc in
+    let answer = c.in_ok-answer.answer in
+    record {
+      cases = ready.cases;
+      chosen = ready.chosen;
+      notes = found.notes.items;
+      made = record {
+        blocks = judged.blocks;
+        evidence = judged.evidence;
+        holds = λ all are.
+            let each = judged.holds all are in
+            let so = c.in_ok-notes.ensures ready.cases all ready.each (subst (λ l. AllZip (IsJudgedBlock IsWholeOfBlock) all l) (sym c.as_slice-2.ensures.value) each) in
+            let reports = all_reports all blocks c.first_illegal-illegal.result each (c.first_illegal-illegal.ensures ∙ ap first_illegal c.as_slice.ensures.value) in (
+              so.0,
+              subst (λ t. IsReport form t all all (missing (reverse all) ready.cases) found.notes.items answer) part
+                  (subst (λ l. IsReport form c.split_script.result.1.now all all l found.notes.items answer) (names ∙ so.1) (c.in_ok-answer.ensures all all reports)),
+            );
+      };
+    }

@@ -1,0 +1,25 @@
+use Rattle.std.proofs.Common.{◌≡◌, true, false, arith}
+use Rattle.std.specs.Prelude.{is_some}
+use Rattle.tc_blocks.specs.declared.line.Line.{Line}
+use Rattle.tc_judge.proofs.Lemmas.Playing.{entry_played, passed_played}
+use Rattle.tc_judge.proofs.playing.Playing.play.Goals as goal
+
+pub returns-then-has_differed : goal.returns-then-has_differed
+returns-then-has_differed c first_line h lines here played =
+    let p = c.args.self.now in
+    let said = c.has_differed.ensures in
+    let tested = c.if-has_differed.true in
+    let some : is_some p.difference ≡ true = cc in
+    (played.0, passed_played h.behaviours first_line lines (Line.Entry c.args.entry.now) p.state p.entries p.difference some played.1)
+
+pub returns-in_default : goal.returns-in_default
+returns-in_default c first_line h lines here played =
+    let p = c.args.self.now in
+    let said = c.has_differed.ensures in
+    let tested = c.if-has_differed.false in
+    let none : is_some p.difference ≡ false = cc in
+    let fits = c.ranges.line.fits in (
+      played.0,
+      entry_played h.behaviours first_line lines c.args.entry.now p.state c.play_entry.new.self p.entries c.saturating_add-self.result c.args.line p.difference none played.1
+          (rw c.in_default.is at c.in_ok-reply.ensures.same) (rw c.in_default.is at c.in_ok-reply.ensures.stands) c.in_ok-reply.ensures.behaviours c.saturating_add-self.ensures here (omega (arith, fits)),
+    )

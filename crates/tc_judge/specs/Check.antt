@@ -1,0 +1,82 @@
+-- What `check` prints for histories and evidence, and of them the chosen.
+use Rattle.std.specs.Prelude.{ℕ, ◌≡◌, ◌≢◌, ◌⊎◌, ◌+◌, All, Bool, true, false, if◌then◌else◌, List, [], ◌∷◌, ◌++◌, length, reverse, codes, MatchResult, Option, Result, Err}
+use Rattle.std.specs.Fmt.{decimal}
+use Rattle.tc_rules.specs.Prelude.{Verdict, name_of, Entry, Reply, answer}
+use Rattle.tc_text.specs.Prelude.{reply_text}
+use Rattle.tc_blocks.specs.declared.{block.Block.Block, line.Line.Line}
+use Rattle.tc_blocks.specs.Prelude.{entries_of, LinesAreLegal, overall_of, AreEvidence, HoldsOfBlocks, IsFault, IsHeader}
+use Rattle.tc_command.specs.declared.task.Choice.{Choice}
+use Rattle.tc_stream.specs.Prelude.{IsRead}
+use Rattle.tc_answer.specs.Prelude.{have_names, IsUnread, RefusesText}
+use Rattle.tc_answer.specs.declared.{fault.RunFault.RunFault, reply.Answer.Answer}
+
+-- the line of a legal block: its name, how many entries it has, its verdict
+abbrev pub legal_line : List ℕ → ℕ → Verdict → List ℕ
+legal_line name entries verdict = codes "legal " ++ (name ++ (codes " " ++ (decimal entries ++ (codes " " ++ (name_of verdict ++ (10 ∷ []))))))
+
+-- the line of the text with this number gives one thing, and the table another
+unfoldable pub disagreeing_line : ℕ → List ℕ → List ℕ → List ℕ
+disagreeing_line line given table = codes "line " ++ (decimal line ++ (codes ": " ++ (given ++ (codes ", table gives " ++ (table ++ (10 ∷ []))))))
+
+-- the block is legal: each reply is the table's, and the verdict is right
+pub record IsLegalBlock (b : Block) : Type 0 where
+  pub replies : LinesAreLegal b.header.behaviours b.lines
+  pub verdict : b.verdict ≡ overall_of b.lines
+
+-- the line of a legal block
+abbrev pub IsLegalLine : Block → List ℕ → Type 0
+IsLegalLine b line = IsLegalBlock b × (line ≡ legal_line b.header.name (length (entries_of b.lines)) b.verdict)
+
+-- the line of a block that is not legal: its first entry with another reply, or, if there is none, its verdict
+pub data IsIllegalLine (b : Block) (line : List ℕ) : Type 0 where
+  other_reply : (before behind : List Line) (e : Entry) (reply : Reply) → b.lines ≡ before ++ Line.Entry e ∷ behind → LinesAreLegal b.header.behaviours before
+      → reply ≡ answer b.header.behaviours (reverse (entries_of before)) e.caller.0 e.op → e.reply ≢ reply
+      → line ≡ disagreeing_line (b.first_line + length before + 1) (reply_text e.reply) (reply_text reply) → IsIllegalLine b line
+  other_verdict : LinesAreLegal b.header.behaviours b.lines → b.verdict ≢ overall_of b.lines
+      → line ≡ disagreeing_line (b.first_line + length b.lines + 1) (name_of b.verdict) (name_of (overall_of b.lines)) → IsIllegalLine b line
+
+-- what is printed for blocks, one after the other up to the first that is not legal, and whether all are legal; of the
+-- legal ones only the chosen have a line
+pub data Checks (is_chosen : Block → Bool) : List Block → List ℕ → Bool → Type 0 where
+  none : Checks is_chosen [] [] true
+  goes_on : (b : Block) (rest : List Block) (line out : List ℕ) (legal : Bool) → IsLegalLine b line
+      → Checks is_chosen rest out legal → Checks is_chosen (b ∷ rest) ((if is_chosen b then line else []) ++ out) legal
+  stops : (b : Block) (rest : List Block) (line : List ℕ) → IsIllegalLine b line → Checks is_chosen (b ∷ rest) line false
+
+-- This output says which of the chosen blocks of the text are legal, and which is the first of all that is not. The status
+-- is 0 if all are, otherwise 3.
+pub record IsChecked (is_chosen : Block → Bool) (text out : List ℕ) (status : ℕ) : Type 0 where
+  pub legal : Bool
+  pub checks : HoldsOfBlocks text (λ all. Checks is_chosen all out legal)
+  pub status_is : status ≡ (if legal then 0 else 3)
+
+-- a text is refused as one of histories and evidence, and is none of any
+abbrev pub RefusesHistory : List ℕ → RunFault → Type 0
+RefusesHistory text = RefusesText (λ fault. IsFault IsHeader text fault × ((blocks : List Block) → AreEvidence text blocks → ⊥))
+
+-- all of these blocks are legal
+abbrev pub AreAllLegal : List Block → Type 0
+AreAllLegal = All IsLegalBlock
+
+-- each of these patterns matches the name of a block of the text, if all its blocks are legal
+abbrev pub NameBlocks : List (List ℕ) → List ℕ → Type 0
+NameBlocks only text = (all : List Block) → AreEvidence text all → AreAllLegal all → have_names (λ b. b.header.name) only all ≡ true
+
+-- the text is refused as one of histories and evidence; or all its blocks are legal, and some pattern matches the name of none
+abbrev pub RefusesBlocks : List (List ℕ) → List ℕ → RunFault → Type 0
+RefusesBlocks only text RunFault.Only = (all : List Block) × AreEvidence text all × AreAllLegal all × (have_names (λ b. b.header.name) only all ≡ false)
+RefusesBlocks only text fault = RefusesHistory text fault
+
+-- an answer of which nothing is printed, with such an output and status
+abbrev pub IsSilent : (List ℕ → ℕ → Type 0) → Answer → Type 0
+IsSilent Is a = Is a.out a.status × (a.told ≡ [])
+
+-- The answer is so, and if all blocks are legal, each pattern of the choice matches the name of one. Otherwise the text is
+-- refused, and after its blocks are judged a pattern.
+abbrev pub IsMadeOfBlocks : Choice → List ℕ → (Answer → Type 0) → Result Answer RunFault → Type 0
+IsMadeOfBlocks choice text Is made = MatchResult made (λ a. Is a × NameBlocks choice.only.items text) (RefusesBlocks choice.only.items text)
+
+-- the input was read, and this is made of its text; or it was not, and the fault says why
+abbrev pub IsMadeOfInput : ℕ → Option (List ℕ) → (List ℕ → Result Answer RunFault → Type 0) → Result Answer RunFault → Type 0
+IsMadeOfInput limit input Made made =
+    IsRead limit input (λ text. Made text made) ⊎ ((fault : RunFault) × (made ≡ Err fault) × IsUnread limit input fault)

@@ -1,0 +1,101 @@
+-- Histories and evidence after their script in one text, and what of them is no course of its test cases.
+use Rattle.std.specs.Prelude.{ℕ, ◌≡◌, ◌==◌, ◌≤◌, nat_lt, Bool, true, false, if◌then◌else◌, Option, Some, None, not, List, [], ◌∷◌, ◌++◌, codes, filter, length, map, position, reverse, slice_get}
+use Rattle.std.specs.{List.flat_map, List.list_any, Option.option_map_or}
+use Rattle.tc_command.specs.declared.task.{Choice.Choice, ReportForm.ReportForm}
+use Rattle.tc_answer.specs.declared.{fault.RunFault.RunFault, reply.Answer.Answer}
+use Rattle.tc_blocks.specs.declared.block.Block.{Block}
+use Rattle.tc_blocks.specs.Prelude.{entries_of, AreEvidence, HoldsOfBlocks}
+use Rattle.tc_course.specs.Prelude.{IsWitness}
+use Rattle.tc_step.specs.Prelude.{ScriptView}
+use Rattle.tc_reader.specs.Prelude.{is_text, CampaignView, Word}
+use Rattle.tc_answer.specs.Prelude.{AreChosen, RefusesChoice, CaseView, scripts_of, script_part, blocks_part}
+use Rattle.tc_judge.specs.{Check.IsChecked, Check.RefusesHistory, Report.IsReport, declared.compare.Wrong.Wrong}
+
+-- the place of the test case of this name in the script
+abbrev pub place_in : CampaignView → Word → Option ℕ
+place_in cases name = position (is_text name) (map (λ c. c.0) cases)
+
+-- one of these blocks has this name
+abbrev pub has_block_named : List Block → Word → Bool
+has_block_named blocks name = list_any (λ b. is_text name b.header.name) blocks
+
+-- one of these blocks is of a later test case than the one at this place
+abbrev pub has_later : CampaignView → List Block → ℕ → Bool
+has_later cases blocks p = list_any (λ b. option_map_or (nat_lt p) (place_in cases b.header.name) false) blocks
+
+-- the block is a complete course of these scripts, with its verdict
+pub record IsCourseOf (scripts : List ScriptView) (b : Block) : Type 0 where
+  pub some : 1 ≤ length scripts
+  pub behaviours : b.header.behaviours ≡ length scripts
+  pub witness : IsWitness scripts (entries_of b.lines) b.verdict
+
+-- what is wrong with a block after these, if something is
+pub data IsJudged (cases : CampaignView) (before : List Block) (b : Block) : Option Wrong → Type 0 where
+  unknown : place_in cases b.header.name ≡ None → IsJudged cases before b (Some Wrong.Unknown)
+  twice : (p : ℕ) → place_in cases b.header.name ≡ Some p → has_block_named before b.header.name ≡ true
+      → IsJudged cases before b (Some Wrong.Twice)
+  out_of_order : (p : ℕ) → place_in cases b.header.name ≡ Some p → has_block_named before b.header.name ≡ false → has_later cases before p ≡ true
+      → IsJudged cases before b (Some Wrong.OutOfOrder)
+  no_course : (p : ℕ) (c : CaseView) → place_in cases b.header.name ≡ Some p → has_block_named before b.header.name ≡ false → has_later cases before p ≡ false
+      → slice_get cases p ≡ Some c → (IsCourseOf (scripts_of c.1) b → ⊥) → IsJudged cases before b (Some Wrong.NoCourse)
+  right : (p : ℕ) (c : CaseView) → place_in cases b.header.name ≡ Some p → has_block_named before b.header.name ≡ false → has_later cases before p ≡ false
+      → slice_get cases p ≡ Some c → IsCourseOf (scripts_of c.1) b → IsJudged cases before b None
+
+-- the words for what is wrong
+abbrev pub wrong_text : Wrong → List ℕ
+wrong_text Wrong.Unknown = codes "unknown "
+wrong_text Wrong.Twice = codes "twice "
+wrong_text Wrong.OutOfOrder = codes "out of order "
+wrong_text Wrong.NoCourse = codes "no course "
+wrong_text Wrong.Missing = codes "missing "
+
+-- the line that says what is wrong, with the name of the test case
+abbrev pub note : Word → Wrong → List ℕ
+note name wrong = wrong_text wrong ++ (name ++ (10 ∷ []))
+
+-- what is said of these blocks, the newest first
+pub data AreJudged (cases : CampaignView) : List Block → List ℕ → Type 0 where
+  none : AreJudged cases [] []
+  more : (before : List Block) (notes : List ℕ) (b : Block) (wrong : Option Wrong) → AreJudged cases before notes → IsJudged cases before b wrong
+      → AreJudged cases (b ∷ before) (notes ++ option_map_or (note b.header.name) wrong [])
+
+-- the names of test cases, in their order, that none of these blocks has
+abbrev pub missing : List Block → CampaignView → List Word
+missing blocks cases = filter (λ n. not (has_block_named blocks n)) (map (λ c. c.0) cases)
+
+-- what is said of the blocks of test cases, one after the other, and then of the test cases that have none
+pub record IsCompared (cases : CampaignView) (blocks : List Block) (out : List ℕ) : Type 0 where
+  pub notes : List ℕ
+  pub judged : AreJudged cases (reverse blocks) notes
+  pub out_is : out ≡ notes ++ flat_map (λ n. note n Wrong.Missing) (missing (reverse blocks) cases)
+
+-- ---- a whole text
+
+-- The text is a script, and histories and evidence after it. What `check` prints for the blocks is printed, and then what is
+-- wrong with them as courses of the chosen test cases. The status is that of `check` if nothing is wrong, otherwise 3.
+pub record IsCheckedAgainst (choice : Choice) (text out : List ℕ) (status : ℕ) : Type 0 where
+  pub cases : CampaignView
+  pub chosen : AreChosen choice (script_part text) cases
+  pub lines : List ℕ
+  pub checked : ℕ
+  pub are_checked : IsChecked (λ b. true) (blocks_part text) lines checked
+  pub notes : List ℕ
+  pub compared : (blocks : List Block) → AreEvidence (blocks_part text) blocks → IsCompared cases blocks notes
+  pub out_is : out ≡ lines ++ notes
+  pub status_is : status ≡ (if length notes == 0 then checked else 3)
+
+-- The script is refused, or a name that is asked for. If neither is, the text after it may be refused as one of histories
+-- and evidence, its lines counted from its own first.
+abbrev pub RefusesAgainst : Choice → List ℕ → RunFault → Type 0
+RefusesAgainst choice text (RunFault.Text fault) =
+    ((cases : CampaignView) × AreChosen choice (script_part text) cases) × RefusesHistory (blocks_part text) (RunFault.Text fault)
+RefusesAgainst choice text fault = RefusesChoice choice (script_part text) fault
+
+-- The text is a script, and histories and evidence after it. Their test cases are reported, and after them the chosen ones that
+-- are missing; what is wrong goes to standard error.
+pub record IsReportedAgainst (form : ReportForm) (choice : Choice) (text : List ℕ) (a : Answer) : Type 0 where
+  pub cases : CampaignView
+  pub chosen : AreChosen choice (script_part text) cases
+  pub notes : List ℕ
+  pub made : HoldsOfBlocks (blocks_part text) (λ all.
+      IsCompared cases all notes × IsReport form (blocks_part text) all all (missing (reverse all) cases) notes a)

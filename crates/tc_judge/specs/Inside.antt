@@ -1,0 +1,242 @@
+-- What the functions inside of this crate say, which no clause of the program names.
+use Rattle.std.specs.Prelude.{ℕ, ◌≡◌, ◌≢◌, ◌&&◌, ◌≤◌, ◌+◌, nat_lt, slice_get, slice_index_or, All, Bool, true, false, Option, Some, None, List, [], ◌∷◌, ◌++◌, length, map, reverse, take, codes, if◌then◌else◌, not}
+use Rattle.std.specs.List.{AllZip, find, list_any}
+use Rattle.tc_entry.specs.declared.limits.TheConstants.{BEHAVIOURS}
+use Rattle.tc_rules.specs.Prelude.{Verdict, Entry, Kept, StandsFor, answer, name_of, Reply}
+use Rattle.tc_text.specs.Prelude.{reply_text}
+use Rattle.tc_step.specs.Prelude.{ScriptView}
+use Rattle.tc_reader.specs.Prelude.{is_text, Word, among, has_twice, CampaignView}
+use Rattle.tc_blocks.specs.Prelude.{entries_of, entry_in, HoldsOfBlocks, LinesAreLegal, history_of, overall_of}
+use Rattle.tc_blocks.specs.declared.{block.Block.Block, header.Header.Header, line.Line.Line as BlockLine}
+use Rattle.tc_report.specs.Prelude.{block_summary}
+use Rattle.tc_report.specs.declared.summary.Summary.{Summary}
+use Rattle.tc_exec.specs.declared.test_case.Case.{Case}
+use Rattle.tc_command.specs.declared.task.{Choice.Choice, ReportForm.ReportForm}
+use Rattle.tc_answer.specs.Prelude.{is_asked, CaseView}
+use Rattle.tc_answer.specs.Inside.{AreReadyAs, place_text, IsCaseOf}
+use Rattle.tc_judge.specs.{Check.AreAllLegal, Check.Checks, Check.IsLegalBlock, Check.legal_line, Compared.AreJudged, Compared.IsCompared, Compared.IsJudged, Compared.has_block_named, Compared.has_later, Compared.missing, Passed.AreToRun, Picking.is_passing, declared.compare.Comparing.Comparing, declared.compare.Comparison.Comparison, declared.compare.Wrong.Wrong, declared.judged.Judged.Judged, declared.judged.Recorded.Recorded, declared.kept.Nothing.Nothing, declared.kept.Whole.Whole, declared.passed.Seen.Seen, declared.playing.Difference.Difference, declared.playing.Judgement.Judgement, declared.playing.Playing.Playing}
+
+-- the name of a block
+abbrev pub block_name : Block → Word
+block_name b = b.header.name
+
+-- what has this name and this verdict is picked
+abbrev pub is_picked : List Word → Bool → Word → Verdict → Bool
+is_picked only failed name v = is_asked only name && not (failed && is_passing v)
+
+-- each block is chosen
+abbrev pub each : Block → Bool
+each b = true
+
+-- the words before what the table gives
+unfoldable pub gives_text : List ℕ
+gives_text = codes ", table gives "
+
+-- the line of another reply or verdict, as it is made
+abbrev pub made_line : ℕ → List ℕ → List ℕ → List ℕ
+made_line line given table = place_text line ++ (given ++ (gives_text ++ (table ++ (10 ∷ []))))
+
+-- of these lines below a first line, the one with this number is the first entry with another reply than the table's
+pub record IsOtherReply (n first_line : ℕ) (lines : List BlockLine) (line : ℕ) (given reply : Reply) : Type 0 where
+  pub before : List BlockLine
+  pub behind : List BlockLine
+  pub entry : Entry
+  pub place : lines ≡ before ++ BlockLine.Entry entry ∷ behind
+  pub legal : LinesAreLegal n before
+  pub answers : reply ≡ answer n (reverse (entries_of before)) entry.caller.0 entry.op
+  pub other : entry.reply ≢ reply
+  pub given_is : given ≡ entry.reply
+  pub line_is : line ≡ first_line + length before + 1
+
+-- what the table says of a block: each reply is the table's and the verdict is right, or the first other reply, or another verdict
+abbrev pub IsJudgement : Block → Judgement → Type 0
+IsJudgement b (Judgement.Legal entries) = IsLegalBlock b × (entries ≡ length (entries_of b.lines))
+IsJudgement b (Judgement.OtherReply line given reply) = IsOtherReply b.header.behaviours b.first_line b.lines line given reply
+IsJudgement b (Judgement.OtherVerdict line given verdict) =
+    LinesAreLegal b.header.behaviours b.lines × (verdict ≡ overall_of b.lines) × (b.verdict ≢ verdict) × (given ≡ b.verdict) × (line ≡ b.first_line + length b.lines + 1)
+
+-- whether it is the judgement of a legal block
+abbrev pub judges_legal : Judgement → Bool
+judges_legal (Judgement.Legal entries) = true
+judges_legal judgement = false
+
+-- what is printed for a block that is not legal
+abbrev pub illegal_line : Judgement → List ℕ
+illegal_line (Judgement.Legal entries) = []
+illegal_line (Judgement.OtherReply line given reply) = made_line line (reply_text given) (reply_text reply)
+illegal_line (Judgement.OtherVerdict line given verdict) = made_line line (name_of given) (name_of verdict)
+
+-- this state represents the entries among the lines, of which there are that many, and each of whose replies is the table's; or this is their first difference
+abbrev pub IsPlayedTo : ℕ → ℕ → List BlockLine → Kept → ℕ → Option Difference → Type 0
+IsPlayedTo n first_line lines k entries None =
+    (k.behaviours ≡ n) × StandsFor k (reverse (entries_of lines)) × LinesAreLegal n lines × (entries ≡ length (entries_of lines))
+IsPlayedTo n first_line lines k entries (Some d) = IsOtherReply n first_line lines d.line d.given d.reply
+
+-- these lines of a block, which are below its first line, are played
+abbrev pub IsPlayed : ℕ → Header → List BlockLine → Playing → Type 0
+IsPlayed first_line h lines p = (p.header ≡ h) × IsPlayedTo h.behaviours first_line lines p.state p.entries p.difference
+
+-- the entry of the line, if it is one and entries are recorded
+abbrev pub recorded_in : Bool → BlockLine → List Entry
+recorded_in records l = if records then entry_in l else []
+
+-- the entries among the lines, if they are recorded
+abbrev pub recorded : Bool → List BlockLine → List Entry
+recorded records lines = if records then entries_of lines else []
+
+-- the same, and the entries are kept, if they are recorded
+abbrev pub IsRecorded : Bool → ℕ → Header → List BlockLine → Recorded → Type 0
+IsRecorded records first_line h lines r = IsPlayed first_line h lines r.playing × (r.entries.items ≡ recorded records lines)
+
+-- the line with this number was played after those of a block, if it is the next
+abbrev pub PlaysNext : ℕ → BlockLine → Playing → Playing → Type 0
+PlaysNext line l before after =
+    (first_line : ℕ) (h : Header) (lines : List BlockLine) → line ≡ first_line + length lines + 1
+    → IsPlayed first_line h lines before → IsPlayed first_line h (lines ++ l ∷ []) after
+
+-- of a block that was played, with this last line and this verdict, it is what the table says
+abbrev pub JudgesPlayed : Playing → ℕ → Verdict → Judgement → Type 0
+JudgesPlayed p line given j =
+    (b : Block) → IsPlayed b.first_line b.header b.lines p → line ≡ b.first_line + length b.lines + 1 → given ≡ b.verdict → IsJudgement b j
+
+-- nothing is kept of a block
+abbrev pub KeepsNothing : Block → Nothing → Type 0
+KeepsNothing b kept = Unit {0}
+
+-- what is kept of a block for its report: what the forms say of it, if it is legal
+abbrev pub IsSummaryOf : Block → Summary → Type 0
+IsSummaryOf b s = IsLegalBlock b → s ≡ block_summary (history_of b)
+
+-- and what is kept of it next to a script
+pub record IsWholeOfBlock (b : Block) (w : Whole) : Type 0 where
+  pub summary : IsSummaryOf b w.summary
+  pub behaviours : w.behaviours ≡ b.header.behaviours
+  pub entries : w.entries.items ≡ entries_of b.lines
+
+-- a block was judged so, and this is kept of it
+pub record IsJudgedBlock {K : Type 0} (keeps : Block → K → Type 0) (b : Block) (j : Judged K) : Type 0 where
+  pub name : j.name ≡ b.header.name
+  pub verdict : j.verdict ≡ b.verdict
+  pub judgement : IsJudgement b j.judgement
+  pub kept : keeps b j.kept
+
+-- the text is that of histories and evidence, and whatever blocks it is of, they were judged so
+abbrev pub AreJudgedIn : {K : Type 0} → (Block → K → Type 0) → List ℕ → List (Judged K) → Type 0
+AreJudgedIn {K} keeps text js = HoldsOfBlocks text (λ all. AllZip (IsJudgedBlock keeps) all js)
+
+-- the name of a judged block
+abbrev pub judged_name : {K : Type 0} → Judged K → Word
+judged_name j = j.name
+
+-- the judgement of the first block that is not legal
+abbrev pub first_illegal : {K : Type 0} → List (Judged K) → Option Judgement
+first_illegal js = find (λ judgement. not (judges_legal judgement)) (map (λ j. j.judgement) js)
+
+-- the blocks that are picked by name and verdict
+abbrev pub picked_by : (Word → Verdict → Bool) → Block → Bool
+picked_by picks b = picks (block_name b) b.verdict
+
+-- the same by its name, its verdict and its judgement, and whether it is picked
+abbrev pub line_of_judgement : Bool → Word → Verdict → Judgement → List ℕ
+line_of_judgement picked name verdict (Judgement.Legal entries) = if picked then legal_line name entries verdict else []
+line_of_judgement picked name verdict judgement = illegal_line judgement
+
+-- what is printed for a block, if it is picked or not legal
+abbrev pub line_by : {K : Type 0} → (Word → Verdict → Bool) → Judged K → List ℕ
+line_by picks j = line_of_judgement (picks j.name j.verdict) j.name j.verdict j.judgement
+
+-- what is printed for blocks, up to the first that is not legal
+abbrev pub printed : {K : Type 0} → (Word → Verdict → Bool) → List (Judged K) → List ℕ
+printed picks [] = []
+printed picks (j ∷ js) = if judges_legal j.judgement then line_by picks j ++ printed picks js else line_by picks j
+
+-- what the forms say of a block, by what is kept of it
+abbrev pub summary_by : {K : Type 0} → (K → Summary) → Judged K → Summary
+summary_by summary j = summary j.kept
+
+-- the form is not made of the text, or is made of this one
+abbrev pub IsTextFor : ReportForm → List ℕ → List ℕ → Type 0
+IsTextFor form given text = form ≡ ReportForm.Html → text ≡ given
+
+-- this is the judgement of the first of these blocks that is not legal, if there is one
+abbrev pub IsFirstIllegal : List Block → Option Judgement → Type 0
+IsFirstIllegal blocks None = AreAllLegal blocks
+IsFirstIllegal blocks (Some judgement) = Checks (λ b. false) blocks (illegal_line judgement) false
+
+-- and these are the test cases of the chosen ones, if there is none
+abbrev pub Reports : List Block → List Block → List Summary → Option Judgement → Type 0
+Reports blocks chosen ss illegal = IsFirstIllegal blocks illegal × (AreAllLegal blocks → ss ≡ map (λ b. block_summary (history_of b)) chosen)
+
+-- the test cases that a run is asked for
+abbrev pub AreReadyToRun : Choice → List ℕ → List (Case ScriptView) → Type 0
+AreReadyToRun choice text = AreReadyAs (AreToRun choice text)
+
+-- by its judgement a block shows its test case to have passed
+abbrev pub passes : Judged Nothing → Bool
+passes j = judges_legal j.judgement && is_passing j.verdict
+
+-- the block has this name, and does not show its test case to have passed
+abbrev pub fails : Word → Judged Nothing → Bool
+fails name j = not (passes j) && is_text name j.name
+
+-- these are the names that the blocks have, and those of the blocks that do not show their test cases to have passed
+abbrev pub HasSeen : List (Judged Nothing) → Seen → Type 0
+HasSeen js s = (name : Word) → (among name s.names.keys ≡ list_any (λ j. is_text name j.name) js) × (among name s.failed.keys ≡ list_any (fails name) js)
+
+-- the names show that the test case of this name has passed
+abbrev pub shows_passed : Seen → Word → Bool
+shows_passed s name = among name s.names.keys && not (among name s.failed.keys)
+
+-- a test case has as few jobs as it may have
+abbrev pub HasFewJobs : Case ScriptView → Type 0
+HasFewJobs k = length k.jobs.items ≤ BEHAVIOURS
+
+-- ---- blocks beside their script
+
+-- these test cases have different names, and each has few behaviours
+pub record AreComparable (ready : List (Case ScriptView)) : Type 0 where
+  pub distinct : has_twice (map (λ k. k.name) ready) ≡ false
+  pub few : All (λ k. length k.jobs.items ≤ BEHAVIOURS) ready
+
+-- this is said of blocks next to test cases, and these are missing
+abbrev pub Finds : CampaignView → List Block → Comparison → Type 0
+Finds cases blocks r = IsCompared cases blocks r.notes.items × (r.missing.items ≡ missing (reverse blocks) cases)
+
+-- as much is kept of each test case, and its behaviours are few
+pub record IsWhole (c : Comparing) : Type 0 where
+  pub met : length c.met.items ≡ length c.names.keys
+  pub ready : length c.ready.items ≡ length c.names.keys
+  pub few : All HasFewJobs c.ready.items
+
+-- what is kept of these test cases after these blocks, the newest first
+pub record StandsBeside (cases : CampaignView) (before : List Block) (c : Comparing) : Type 0 where
+  pub names : c.names.keys ≡ map (λ t. t.0) cases
+  pub ready : AllZip IsCaseOf cases c.ready.items
+  pub met : (p : ℕ) (t : CaseView) → slice_get cases p ≡ Some t → slice_index_or c.met.items p false ≡ has_block_named before t.0
+  pub next : (p : ℕ) → has_later cases before p ≡ nat_lt (p + 1) c.next
+
+-- a block was taken in after those before it, and this is wrong with it, if something is
+abbrev pub Judges : Comparing → Judged Whole → Option Wrong → Comparing → Type 0
+Judges c j wrong after =
+    (cases : CampaignView) (before : List Block) (b : Block) → IsJudgedBlock IsWholeOfBlock b j → has_twice (map (λ t. t.0) cases) ≡ false
+    → StandsBeside cases before c → StandsBeside cases (b ∷ before) after × IsJudged cases before b wrong
+
+-- the same, and what is wrong with it is said after what is said of those before it
+abbrev pub SaysNext : Comparing → Judged Whole → List ℕ → Comparing → List ℕ → Type 0
+SaysNext c j out after new =
+    (cases : CampaignView) (before : List Block) (b : Block) → IsJudgedBlock IsWholeOfBlock b j → has_twice (map (λ t. t.0) cases) ≡ false
+    → StandsBeside cases before c → AreJudged cases before out → StandsBeside cases (b ∷ before) after × AreJudged cases (b ∷ before) new
+
+-- the test case at this place was added, if no block has its name
+abbrev pub AddsIfMissing : ℕ → Comparing → List Word → List Word → Type 0
+AddsIfMissing p c old new =
+    (cases : CampaignView) (before : List Block) → StandsBeside cases before c → (t : CaseView) → slice_get cases p ≡ Some t
+    → new ≡ old ++ missing before (t ∷ [])
+
+-- of the first of the test cases, that many, these are missing
+abbrev pub AreMissingTo : ℕ → Comparing → List Word → Type 0
+AreMissingTo n c names = (cases : CampaignView) (before : List Block) → StandsBeside cases before c → names ≡ missing before (take n cases)
+
+-- these are missing
+abbrev pub AreMissing : Comparing → List Word → Type 0
+AreMissing c names = (cases : CampaignView) (before : List Block) → StandsBeside cases before c → names ≡ missing before cases

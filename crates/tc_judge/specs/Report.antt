@@ -1,0 +1,40 @@
+-- What `report` writes of histories and evidence, and of them the chosen.
+use Rattle.std.specs.Prelude.{ℕ, Bool, false, ◌≡◌, ◌==◌, if◌then◌else◌, List, [], ◌++◌, codes, filter, length, map}
+use Rattle.tc_command.specs.declared.{command.TheConstants.VERSION, task.ReportForm.ReportForm}
+use Rattle.tc_blocks.specs.Prelude.{HoldsOfBlocks, history_of}
+use Rattle.tc_blocks.specs.declared.block.Block.{Block}
+use Rattle.tc_answer.specs.Prelude.{page_of}
+use Rattle.tc_report.specs.declared.{results.CaseEnd.CaseEnd, summary.Summary.Summary}
+use Rattle.tc_report.specs.Prelude.{csv_of, junit_of, verdict_status, worst_of, bare_summary, block_summary, IsSummary}
+use Rattle.tc_answer.specs.declared.reply.Answer.{Answer}
+use Rattle.tc_judge.specs.Check.{AreAllLegal, Checks}
+
+-- this is the form of blocks by their text and the summaries of their test cases
+abbrev pub IsForm : ReportForm → List ℕ → List Summary → List ℕ → Type 0
+IsForm ReportForm.Csv text ss out = out ≡ csv_of ss
+IsForm (ReportForm.Junit suite) text ss out = out ≡ junit_of VERSION.now suite ss
+IsForm ReportForm.Html text ss out = out ≡ page_of text
+IsForm ReportForm.Summary text ss out = IsSummary ss out
+
+-- this is answered for test cases, with these lines for standard error: their form, and their status, or 3 if there is a line
+abbrev pub AnswersCases : ReportForm → List ℕ → List ℕ → List Summary → Answer → Type 0
+AnswersCases form text notes ss a =
+    IsForm form text ss a.out × (a.told ≡ notes) × (a.status ≡ (if length notes == 0 then verdict_status (worst_of ss) else 3))
+
+-- what is answered if a block is not legal: nothing is written, its line of `check` is printed, and the status is 3
+abbrev pub unreported : List ℕ → Answer
+unreported line = record { out = []; told = codes "ttrun: " ++ line; status = 3 }
+
+-- the test cases of blocks, and after them those of these names, of which there is none
+abbrev pub summaries_of : List Block → List (List ℕ) → List Summary
+summaries_of blocks missing = map (λ b. block_summary (history_of b)) blocks ++ map (bare_summary CaseEnd.Missing) missing
+
+-- What is answered for blocks of a text, some of them chosen, and missing test cases, with lines for standard error. `check`
+-- finds each block legal; or it finds one that is not, and this line is all that it prints if no block is chosen.
+pub data IsReport (form : ReportForm) (text : List ℕ) (blocks chosen : List Block) (missing : List (List ℕ)) (notes : List ℕ) (a : Answer) : Type 0 where
+  legal : AreAllLegal blocks → AnswersCases form text notes (summaries_of chosen missing) a → IsReport form text blocks chosen missing notes a
+  illegal : (line : List ℕ) → Checks (λ b. false) blocks line false → a ≡ unreported line → IsReport form text blocks chosen missing notes a
+
+-- this is answered for the chosen blocks of the text
+abbrev pub IsReported : ReportForm → (Block → Bool) → List ℕ → Answer → Type 0
+IsReported form is_chosen text a = HoldsOfBlocks text (λ all. IsReport form text all (filter is_chosen all) [] [] a)

@@ -1,0 +1,63 @@
+//! The subcommand `check`.
+ghost use Rattle.std.specs.Prelude.{◌≡◌, List, ℕ, if◌then◌else◌, is_some};
+ghost use Rattle.tc_answer.specs.declared.limits.TheConstants.{HISTORY_LIMIT};
+ghost use Rattle.tc_judge.specs.{Check.IsChecked, Check.IsMadeOfBlocks, Check.IsMadeOfInput, Check.IsSilent, Inside.AreJudgedIn, Inside.first_illegal as spec_first, Picking.is_chosen};
+
+use crate::judged::{Judged, first_illegal, judge_input, judge_text};
+use crate::kept::{Keeps, Nothing};
+use crate::lines::printed_lines;
+use crate::picked::name_blocks;
+use std::alloc::Global;
+use std::io::Read;
+use tc_answer::{Answer, REFUSED, RunFault};
+use tc_command::Choice;
+
+/// The status if all blocks are legal, and if one is not.
+pub(crate) fn checked_status<K: Drop>(blocks: &[Judged<K>]) -> u8
+    ensures { result ≡ (if is_some (spec_first blocks.now) then 3 else 0) }
+{
+    if first_illegal(blocks).is_some() {
+        REFUSED
+    } else {
+        0
+    }
+}
+
+// What `check` makes of the blocks of a text.
+fn checked<K: Keeps + Drop>(
+    alloc: Global,
+    choice: &Choice,
+    blocks: &[Judged<K>],
+) -> Result<Answer, RunFault>
+    ensures { (text : List ℕ) → AreJudgedIn K.keeps text blocks.now
+        → IsMadeOfBlocks choice.now text (IsSilent (IsChecked (is_chosen choice.now) text)) result }
+{
+    let only = choice.only.as_slice();
+    if !name_blocks(only, blocks) {
+        return Err(RunFault::Only);
+    }
+    let out = printed_lines(alloc, blocks, only, choice.failed)?;
+    Ok(Answer::silent(alloc, out, checked_status(blocks)))
+}
+
+/// What `check` makes of a text of histories and evidence: which of the chosen blocks are legal, up to the first of all that
+/// is not, and the status 0 if all are, otherwise 3. If all are, each pattern has to match the name of one.
+pub fn check_text(alloc: Global, choice: &Choice, text: &[u8]) -> Result<Answer, RunFault>
+    ensures { IsMadeOfBlocks choice.now text.now (IsSilent (IsChecked (is_chosen choice.now) text.now)) result }
+{
+    let blocks = judge_text::<Nothing>(alloc, text)?;
+    checked(alloc, choice, blocks.as_slice())
+}
+
+/// The same of an input, of which only a part is in memory at a time.
+pub fn check_input<R: Read>(
+    alloc: Global,
+    choice: &Choice,
+    reader: &mut R,
+) -> Result<Answer, RunFault>
+    ensures { IsMadeOfInput HISTORY_LIMIT (R.remaining reader.old)
+        (λ text made. IsMadeOfBlocks choice.now text (IsSilent (IsChecked (is_chosen choice.now) text)) made) result }
+{
+    let blocks = judge_input::<R, Nothing>(alloc, reader)?;
+    checked(alloc, choice, blocks.as_slice())
+}

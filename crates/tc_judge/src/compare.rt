@@ -1,0 +1,304 @@
+//! The blocks of evidence next to the test cases of their script.
+ghost use Rattle.std.specs.Prelude.{◌≡◌, ◌↔◌, ◌≤◌, ◌<◌, ◌++◌, ◌∷◌, [], List, false, true, IfErr, IfOk, IfSome, OnOk, length, map};
+ghost use Rattle.std.specs.List.{AllZip, flat_map};
+ghost use Rattle.tc_entry.specs.declared.limits.TheConstants.{BEHAVIOURS};
+ghost use Rattle.tc_blocks.specs.declared.block.Block.{Block};
+ghost use Rattle.tc_reader.specs.Prelude.{CampaignView};
+ghost use Rattle.tc_answer.specs.Prelude.{script_part};
+ghost use Rattle.tc_answer.specs.Inside.{AreReady, IsCaseOf};
+ghost use Rattle.tc_judge.specs.{Compared.IsCheckedAgainst, Compared.IsCourseOf, Compared.IsReportedAgainst, Compared.RefusesAgainst, Compared.note, Compared.place_in, Compared.wrong_text, Inside.AddsIfMissing, Inside.AreComparable, Inside.AreMissing, Inside.Finds, Inside.IsJudgedBlock, Inside.IsWhole, Inside.IsWholeOfBlock, Inside.Judges, Inside.SaysNext, Inside.StandsBeside, declared.compare.Wrong.TheVariants.Missing};
+
+use crate::check::checked_status;
+use crate::judged::{Judged, first_illegal, judge_text};
+use crate::kept::Whole;
+use crate::lines::printed_lines;
+use crate::passed::add_name;
+use crate::report::{noted_status, report_blocks};
+use indexmap::IndexSet;
+use std::alloc::Global;
+use tc_answer::{Answer, RunFault, chosen_cases, split_script};
+use tc_command::{Choice, ReportForm};
+use tc_course::is_course;
+use tc_entry::Name;
+use tc_exec::Case;
+use tc_step::Script;
+use tc_text::append_text;
+use tc_verdict::NoMemory;
+
+/// What is wrong with a block, or with a test case, of evidence next to its script.
+#[derive(Clone, Copy, Debug, PartialEq, Eq)]
+pub(crate) enum Wrong {
+    /// The script has no test case of this name.
+    Unknown,
+    /// A block of this name came before.
+    Twice,
+    /// A block of a later test case came before.
+    OutOfOrder,
+    /// The block is no complete course of the scripts with its verdict.
+    NoCourse,
+    /// No block has the name of this test case.
+    Missing,
+}
+
+impl Wrong {
+    // The words for it.
+    fn text(self) -> &'static str
+        ensures { result.now ≡ wrong_text self }
+    {
+        match self {
+            Wrong::Unknown => "unknown ",
+            Wrong::Twice => "twice ",
+            Wrong::OutOfOrder => "out of order ",
+            Wrong::NoCourse => "no course ",
+            Wrong::Missing => "missing ",
+        }
+    }
+}
+
+// Appends the line that says what is wrong with the test case of this name; if memory runs out, a part of it.
+fn append_note(out: &mut Vec<u8>, name: &Name, wrong: Wrong) -> Result<(), NoMemory>
+    ensures { OnOk result (out.new.items ≡ out.old.items ++ note name.now wrong) }
+{
+    append_text(out, wrong.text())?;
+    out.extend_from_slice(name.bytes())?;
+    out.push(b'\n')?;
+    Ok(())
+}
+
+// Whether the block is a complete course of these scripts, with its verdict.
+fn is_course_of(alloc: Global, scripts: &[Script], block: &Judged<Whole>) -> Result<bool, NoMemory>
+    requires { length scripts.now ≤ BEHAVIOURS }
+    ensures { IfOk result (λ is. (b : Block) → IsJudgedBlock IsWholeOfBlock b block.now → (is ≡ true) ↔ IsCourseOf scripts.now b) }
+{
+    let Whole {
+        behaviours,
+        entries,
+        ..
+    } = &block.kept;
+    if scripts.is_empty() || scripts.len() != usize::from(*behaviours) {
+        return Ok(false);
+    }
+    is_course(alloc, scripts, entries.as_slice(), block.verdict)
+}
+
+// The names of test cases, which are different.
+fn names_of(alloc: Global, cases: &[Case<Script>]) -> Result<IndexSet<Name>, NoMemory>
+    requires { AreComparable cases.now }
+    ensures { IfOk result (λ names. names.keys ≡ map (λ k. k.name) cases.now) }
+{
+    let mut names = IndexSet::new(alloc);
+    for case in cases {
+        add_name(&mut names, &case.name)?;
+    }
+    Ok(names)
+}
+
+/// Test cases of a script, and of which of them there were blocks so far.
+#[derive(Drop)]
+pub(crate) struct Comparing {
+    /// The test cases, in their order.
+    ready: Vec<Case<Script>>,
+    /// The name of each.
+    names: IndexSet<Name>,
+    /// Whether a block had the name of each.
+    met: Vec<bool>,
+    /// One more than the place of the last test case that a block had the name of; 0 if there was none.
+    next: usize,
+}
+
+impl Comparing {
+    // The test cases, before any block.
+    fn new(alloc: Global, ready: Vec<Case<Script>>) -> Result<Comparing, NoMemory>
+        requires { AreComparable ready.items }
+        ensures whole { IfOk result IsWhole }
+        ensures beside { IfOk result (λ c. (cases : CampaignView) → AllZip IsCaseOf cases ready.items → StandsBeside cases [] c) }
+    {
+        let names = names_of(alloc, ready.as_slice())?;
+        let met = vec![in alloc; false; ready.len()]?;
+        Ok(Comparing {
+            ready,
+            names,
+            met,
+            next: 0,
+        })
+    }
+
+    // The place of the test case of this name.
+    #[tactic(auto, unfolding(tc_reader::specs::Words::is_text))]
+    fn place_of(&self, name: &Name) -> Option<usize>
+        ensures is { (cases : CampaignView) → self.now.names.keys ≡ map (λ t. t.0) cases → result ≡ place_in cases name.now }
+        ensures within { IfSome result (λ p. p < length self.now.names.keys) }
+    {
+        self.names.get_index_of(name)
+    }
+
+    // Takes the next block in, and says what is wrong with it, if something is.
+    fn take(&mut self, alloc: Global, block: &Judged<Whole>) -> Result<Option<Wrong>, NoMemory>
+        requires { IsWhole self.old }
+        ensures whole { OnOk result (IsWhole self.new) }
+        ensures judged { IfOk result (λ wrong. Judges self.old block.now wrong self.new) }
+    {
+        let Some(place) = self.place_of(&block.name) else {
+            return Ok(Some(Wrong::Unknown));
+        };
+        if self.met[place] {
+            return Ok(Some(Wrong::Twice));
+        }
+        self.met[place] = true;
+        if place + 1 < self.next {
+            return Ok(Some(Wrong::OutOfOrder));
+        }
+        self.next = place + 1;
+        if is_course_of(alloc, self.ready[place].jobs.as_slice(), block)? {
+            Ok(None)
+        } else {
+            Ok(Some(Wrong::NoCourse))
+        }
+    }
+
+    // Takes the next block in, and appends the line that says what is wrong with it, if something is; if memory runs out, a
+    // part of it.
+    #[tactic(auto, using(crate::proofs::Beside::saying_rules))]
+    fn append_judged(
+        &mut self,
+        alloc: Global,
+        out: &mut Vec<u8>,
+        block: &Judged<Whole>,
+    ) -> Result<(), NoMemory>
+        requires { IsWhole self.old }
+        ensures whole { OnOk result (IsWhole self.new) }
+        ensures says { OnOk result (SaysNext self.old block.now out.old.items self.new out.new.items) }
+    {
+        if let Some(wrong) = self.take(alloc, block)? {
+            append_note(out, &block.name, wrong)?;
+        }
+        Ok(())
+    }
+
+    // Adds the name of the test case at this place, if no block had it.
+    #[tactic(auto, using(crate::proofs::Beside::missing_rules))]
+    fn add_if_missing(&self, missing: &mut Vec<Name>, place: usize) -> Result<(), NoMemory>
+        requires whole { IsWhole self.now }
+        requires within { place < length self.now.names.keys }
+        ensures { OnOk result (AddsIfMissing place self.now missing.old.items missing.new.items) }
+    {
+        if self.met[place] {
+            return Ok(());
+        }
+        missing.push(self.names.as_slice()[place].copy())?;
+        Ok(())
+    }
+
+    // The names of the test cases that no block had, in their order.
+    #[tactic(auto, using(crate::proofs::Beside::missing_rules))]
+    fn missing(&self, alloc: Global) -> Result<Vec<Name>, NoMemory>
+        requires { IsWhole self.now }
+        ensures { IfOk result (λ v. AreMissing self.now v.items) }
+    {
+        let mut missing = Vec::new(alloc);
+        for place in 0..self.names.len() {
+            self.add_if_missing(&mut missing, place)?;
+        }
+        Ok(missing)
+    }
+}
+
+// Appends a line for each test case that is missing; if memory runs out, a part of them.
+fn append_missing(out: &mut Vec<u8>, missing: &[Name]) -> Result<(), NoMemory>
+    ensures { OnOk result (out.new.items ≡ out.old.items ++ flat_map (λ n. note n Missing) missing.now) }
+{
+    for name in missing {
+        append_note(out, name, Wrong::Missing)?;
+    }
+    Ok(())
+}
+
+/// What is wrong with blocks as courses of test cases.
+#[derive(Drop)]
+pub(crate) struct Comparison {
+    /// A line for each block that is wrong, in their order, and then one for each test case that is missing.
+    pub notes: Vec<u8>,
+    /// The names of the test cases that have no block, in their order.
+    pub missing: Vec<Name>,
+}
+
+/// What is wrong with the blocks as courses of the test cases.
+pub(crate) fn compare(
+    alloc: Global,
+    ready: Vec<Case<Script>>,
+    blocks: &[Judged<Whole>],
+) -> Result<Comparison, NoMemory>
+    requires { AreComparable ready.items }
+    ensures { IfOk result (λ r. (cases : CampaignView) (all : List Block) → AllZip IsCaseOf cases ready.items
+        → AllZip (IsJudgedBlock IsWholeOfBlock) all blocks.now → Finds cases all r) }
+{
+    let mut comparing = Comparing::new(alloc, ready)?;
+    let mut notes = Vec::new(alloc);
+    for block in blocks {
+        comparing.append_judged(alloc, &mut notes, block)?;
+    }
+    let missing = comparing.missing(alloc)?;
+    append_missing(&mut notes, missing.as_slice())?;
+    Ok(Comparison { notes, missing })
+}
+
+/// The chosen test cases of the script that is before the blocks.
+#[tactic(auto, using(crate::proofs::Beside::script_refused))]
+pub(crate) fn chosen_before(
+    alloc: Global,
+    choice: &Choice,
+    text: &[u8],
+) -> Result<Vec<Case<Script>>, RunFault>
+    ensures ready { IfOk result (λ v. AreReady choice.now (script_part text.now) v.items) }
+    ensures refused { IfErr result (RefusesAgainst choice.now text.now) }
+{
+    let (script, _) = split_script(text);
+    chosen_cases(alloc, script, choice)
+}
+
+/// What `check --script` makes of a script with histories and evidence after it: what `check` makes of these, and then what
+/// is wrong with them as courses of the chosen test cases of the script. The status is 3 if something is.
+#[tactic(auto, using(crate::proofs::Beside::refusing_rules))]
+pub fn compare_text(alloc: Global, choice: &Choice, text: &[u8]) -> Result<Answer, RunFault>
+    ensures done { IfOk result (λ a. IsCheckedAgainst choice.now text.now a.out a.status × (a.told ≡ [])) }
+    ensures refused { IfErr result (RefusesAgainst choice.now text.now) }
+{
+    let ready = chosen_before(alloc, choice, text)?;
+    let (_, rest) = split_script(text);
+    let blocks = judge_text::<Whole>(alloc, rest)?;
+    let mut out = printed_lines(alloc, blocks.as_slice(), &[], false)?;
+    let Comparison { notes, missing } = compare(alloc, ready, blocks.as_slice())?;
+    drop(missing);
+    out.extend_from_slice(notes.as_slice())?;
+    let status = noted_status(notes.as_slice(), checked_status(blocks.as_slice()));
+    Ok(Answer::silent(alloc, out, status))
+}
+
+/// What `report --script` makes of a script with histories and evidence after it: what `report` makes of these, with the
+/// chosen test cases that are missing. What is wrong goes to standard error, and then the status is 3.
+#[tactic(auto, using(crate::proofs::Beside::refusing_rules))]
+pub fn report_compared(
+    alloc: Global,
+    form: &ReportForm,
+    choice: &Choice,
+    text: &[u8],
+) -> Result<Answer, RunFault>
+    ensures done { IfOk result (IsReportedAgainst form.now choice.now text.now) }
+    ensures refused { IfErr result (RefusesAgainst choice.now text.now) }
+{
+    let ready = chosen_before(alloc, choice, text)?;
+    let (_, rest) = split_script(text);
+    let blocks = judge_text::<Whole>(alloc, rest)?;
+    let illegal = first_illegal(blocks.as_slice());
+    let Comparison { notes, missing } = compare(alloc, ready, blocks.as_slice())?;
+    let answer = report_blocks(
+        alloc,
+        form,
+        rest,
+        blocks,
+        illegal,
+        missing.as_slice(),
+        notes,
+    )?;
+    Ok(answer)
+}

@@ -1,0 +1,166 @@
+//! The blocks of a text, each of which is judged: what all that reads histories and evidence is made of.
+ghost use Rattle.std.specs.Prelude.{◌≡◌, ◌++◌, ◌⊎◌, IfOk, IfErr, OnOk};
+ghost use Rattle.std.specs.List.{AllZip};
+ghost use Rattle.tc_stream.specs.Prelude.{IsRead};
+ghost use Rattle.tc_answer.specs.Prelude.{IsUnread};
+ghost use Rattle.tc_answer.specs.declared.limits.TheConstants.{HISTORY_LIMIT};
+ghost use Rattle.tc_judge.specs.{Check.RefusesHistory, Inside.AreJudgedIn, Inside.IsJudgedBlock, Inside.IsRecorded, Inside.first_illegal as spec_first, Inside.recorded_in};
+
+use crate::kept::Keeps;
+use crate::playing::{Judgement, Playing};
+use std::alloc::Global;
+use std::io::Read;
+use tc_answer::{HISTORY_LIMIT, RunFault, of_input};
+use tc_blocks::{Header, Line, TakesEvidence, read_evidence_from, read_evidence_into};
+use tc_entry::Name;
+use tc_rules::{Entry, NoMemory, Reply, Run, Verdict};
+use tc_text::ShortOp;
+
+/// A block that was judged.
+#[derive(Drop)]
+pub(crate) struct Judged<K: Drop> {
+    /// The name of the test case.
+    pub(crate) name: Name,
+    /// The verdict of the block.
+    pub(crate) verdict: Verdict,
+    /// What the table says of it.
+    pub(crate) judgement: Judgement,
+    /// What is kept of it.
+    pub(crate) kept: K,
+}
+
+/// The judgement of the first block that is not legal, if there is one.
+pub(crate) fn first_illegal<K: Drop>(blocks: &[Judged<K>]) -> Option<Judgement>
+    ensures { result ≡ spec_first blocks.now }
+{
+    blocks
+        .iter()
+        .map(|block| block.judgement)
+        .find(|judgement| !judgement.is_legal())
+}
+
+/// A block that is played as it is read, with its entries if they are asked for.
+#[derive(Drop)]
+pub(crate) struct Recorded {
+    playing: Playing,
+    entries: Vec<Entry>,
+}
+
+/// The blocks so far, each of which is judged.
+#[derive(Drop)]
+pub(crate) struct Judging<K: Keeps + Drop> {
+    alloc: Global,
+    blocks: Vec<Judged<K>>,
+}
+
+// Keeps the entry, if entries are asked for.
+#[inline(always)]
+fn record<K: Keeps>(entries: &mut Vec<Entry>, entry: Entry) -> Result<(), NoMemory>
+    ensures { OnOk result (entries.new.items ≡ entries.old.items ++ recorded_in K.RECORDS (Line.Entry entry)) }
+{
+    if K::RECORDS {
+        entries.push(entry)?;
+    }
+    Ok(())
+}
+
+impl<K: Keeps + Drop> TakesEvidence for Judging<K> {
+    type Begun = Recorded;
+
+    ghost opens = { IsRecorded K.RECORDS };
+
+    ghost stands = { λ blocks judging. AllZip (IsJudgedBlock K.keeps) blocks judging.blocks.items };
+
+    fn begin(alloc: Global) -> Judging<K> {
+        Judging {
+            alloc,
+            blocks: Vec::new(alloc),
+        }
+    }
+
+    fn start(alloc: Global, _first_line: usize, header: Header) -> Result<Recorded, NoMemory> {
+        Ok(Recorded {
+            playing: Playing::new(alloc, header)?,
+            entries: Vec::new(alloc),
+        })
+    }
+
+    fn take(begun: &mut Recorded, line: usize, taken: Line) -> Result<(), NoMemory> {
+        match &taken {
+            Line::Entry(entry) => Self::take_entry(begun, line, entry.copy()),
+            Line::Named { .. } | Line::Remark { .. } | Line::Refused { .. } => Ok(()),
+        }
+    }
+
+    fn take_entry(begun: &mut Recorded, line: usize, entry: Entry) -> Result<(), NoMemory> {
+        begun.playing.play(line, &entry)?;
+        record::<K>(&mut begun.entries, entry)?;
+        Ok(())
+    }
+
+    #[inline(always)]
+    fn take_short(
+        begun: &mut Recorded,
+        line: usize,
+        caller: Run,
+        op: ShortOp,
+        reply: Reply,
+    ) -> Result<(), NoMemory> {
+        begun.playing.play_short(line, caller, op, reply)?;
+        let entry = Entry {
+            caller,
+            op: op.op(),
+            reply,
+        };
+        record::<K>(&mut begun.entries, entry)?;
+        Ok(())
+    }
+
+    fn close(&mut self, begun: Recorded, line: usize, verdict: Verdict) -> Result<(), NoMemory> {
+        let Recorded { playing, entries } = begun;
+        let kept = K::keep(self.alloc, &playing, entries)?;
+        self.blocks.push(Judged {
+            name: playing.name(),
+            verdict,
+            judgement: playing.judge(line, verdict),
+            kept,
+        })?;
+        Ok(())
+    }
+}
+
+// The blocks that were judged.
+fn blocks_of<K: Keeps + Drop>(judging: Judging<K>) -> Vec<Judged<K>>
+    ensures { result ≡ judging.blocks }
+{
+    let Judging { alloc: _, blocks } = judging;
+    blocks
+}
+
+/// The blocks that the text spells, each judged; otherwise the text's first fault, or NoMemory.
+pub(crate) fn judge_text<K: Keeps + Drop>(
+    alloc: Global,
+    text: &[u8],
+) -> Result<Vec<Judged<K>>, RunFault>
+    ensures judged { IfOk result (λ v. AreJudgedIn K.keeps text.now v.items) }
+    ensures refused { IfErr result (RefusesHistory text.now) }
+{
+    let judging: Judging<K> = read_evidence_into(alloc, text)?;
+    Ok(blocks_of(judging))
+}
+
+/// The same of the text of an input, of which only a part is in memory at a time; or why the input was not read.
+pub(crate) fn judge_input<R: Read, K: Keeps + Drop>(
+    alloc: Global,
+    reader: &mut R,
+) -> Result<Vec<Judged<K>>, RunFault>
+    ensures judged { IfOk result (λ v. IsRead HISTORY_LIMIT (R.remaining reader.old) (λ text. AreJudgedIn K.keeps text v.items)) }
+    ensures refused { IfErr result (λ fault. IsUnread HISTORY_LIMIT (R.remaining reader.old) fault
+        ⊎ IsRead HISTORY_LIMIT (R.remaining reader.old) (λ text. RefusesHistory text fault)) }
+{
+    match read_evidence_from(alloc, reader, HISTORY_LIMIT) {
+        Ok(Ok(judging)) => Ok(blocks_of(judging)),
+        Ok(Err(fault)) => Err(RunFault::from(fault)),
+        Err(fault) => Err(of_input(fault)),
+    }
+}

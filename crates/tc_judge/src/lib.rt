@@ -1,0 +1,19 @@
+//! Histories and evidence, each block judged once: what `check`, `report` and `--failed` make of them.
+#![tactic(auto)]
+
+mod check;
+mod compare;
+mod judged;
+mod kept;
+mod lines;
+mod passed;
+mod picked;
+mod playing;
+mod report;
+mod short;
+
+pub use check::{check_input, check_text};
+pub use compare::{compare_text, report_compared};
+pub use passed::cases_to_run;
+pub use report::{report_input, report_text};
+pub use short::play_short;

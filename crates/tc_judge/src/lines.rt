@@ -1,0 +1,127 @@
+//! The lines that `check` prints.
+ghost use Rattle.std.specs.Prelude.{◌≡◌, ◌++◌, IfOk, OnOk};
+ghost use Rattle.tc_text.specs.Prelude.{reply_text};
+ghost use Rattle.tc_rules.specs.Prelude.{name_of};
+ghost use Rattle.tc_judge.specs.{Check.legal_line, Inside.gives_text, Inside.illegal_line, Inside.is_picked as spec_picked, Inside.line_by, Inside.made_line, Inside.printed};
+
+use crate::judged::Judged;
+use crate::picked::is_picked;
+use crate::playing::Judgement;
+use std::alloc::Global;
+use tc_answer::append_place;
+use tc_entry::{Name, Pattern};
+use tc_rules::{NoMemory, Reply, Verdict};
+use tc_text::{append_number, append_text, write_reply};
+use tc_verdict::name as name_of_verdict;
+
+// Appends the line of a legal block; if memory runs out, a part of it.
+fn append_legal(
+    out: &mut Vec<u8>,
+    name: &Name,
+    entries: usize,
+    verdict: Verdict,
+) -> Result<(), NoMemory>
+    ensures { OnOk result (out.new.items ≡ out.old.items ++ legal_line name.now entries verdict) }
+{
+    append_text(out, "legal ")?;
+    out.extend_from_slice(name.bytes())?;
+    append_text(out, " ")?;
+    append_number(out, entries as u64)?;
+    append_text(out, " ")?;
+    append_text(out, name_of_verdict(verdict))?;
+    out.push(b'\n')?;
+    Ok(())
+}
+
+// Appends the words before what the table gives.
+#[tactic(auto, unfolding(crate::specs::Inside::gives_text))]
+fn append_gives(out: &mut Vec<u8>) -> Result<(), NoMemory>
+    ensures { OnOk result (out.new.items ≡ out.old.items ++ gives_text) }
+{
+    append_text(out, ", table gives ")
+}
+
+// Appends the line of an entry with another reply than the table's; if memory runs out, a part of it.
+fn append_other_reply(
+    out: &mut Vec<u8>,
+    line: usize,
+    given: Reply,
+    reply: Reply,
+) -> Result<(), NoMemory>
+    ensures { OnOk result (out.new.items ≡ out.old.items ++ made_line line (reply_text given) (reply_text reply)) }
+{
+    append_place(out, line)?;
+    write_reply(out, &given)?;
+    append_gives(out)?;
+    write_reply(out, &reply)?;
+    out.push(b'\n')?;
+    Ok(())
+}
+
+// Appends the line of another verdict than the table's; if memory runs out, a part of it.
+fn append_other_verdict(
+    out: &mut Vec<u8>,
+    line: usize,
+    given: Verdict,
+    verdict: Verdict,
+) -> Result<(), NoMemory>
+    ensures { OnOk result (out.new.items ≡ out.old.items ++ made_line line (name_of given) (name_of verdict)) }
+{
+    append_place(out, line)?;
+    append_text(out, name_of_verdict(given))?;
+    append_gives(out)?;
+    append_text(out, name_of_verdict(verdict))?;
+    out.push(b'\n')?;
+    Ok(())
+}
+
+/// Appends what is printed for a block that is not legal; if memory runs out, a part of it.
+pub(crate) fn append_illegal(out: &mut Vec<u8>, judgement: Judgement) -> Result<(), NoMemory>
+    ensures { OnOk result (out.new.items ≡ out.old.items ++ illegal_line judgement) }
+{
+    match judgement {
+        Judgement::Legal { .. } => Ok(()),
+        Judgement::OtherReply { line, given, reply } => append_other_reply(out, line, given, reply),
+        Judgement::OtherVerdict {
+            line,
+            given,
+            verdict,
+        } => append_other_verdict(out, line, given, verdict),
+    }
+}
+
+// Appends what is printed for a block, if it is picked or not legal; if memory runs out, a part of it.
+fn append_picked<K: Drop>(
+    out: &mut Vec<u8>,
+    block: &Judged<K>,
+    only: &[Pattern],
+    failed: bool,
+) -> Result<(), NoMemory>
+    ensures { OnOk result (out.new.items ≡ out.old.items ++ line_by (spec_picked only.now failed) block.now) }
+{
+    match block.judgement {
+        Judgement::Legal { entries } if is_picked(only, failed, &block.name, block.verdict) => {
+            append_legal(out, &block.name, entries, block.verdict)
+        }
+        judgement => append_illegal(out, judgement),
+    }
+}
+
+/// What is printed for the blocks up to the first that is not legal: a line for each that is picked, and for that one.
+pub(crate) fn printed_lines<K: Drop>(
+    alloc: Global,
+    blocks: &[Judged<K>],
+    only: &[Pattern],
+    failed: bool,
+) -> Result<Vec<u8>, NoMemory>
+    ensures { IfOk result (λ v. v.items ≡ printed (spec_picked only.now failed) blocks.now) }
+{
+    let mut out = Vec::new(alloc);
+    for block in blocks {
+        append_picked(&mut out, block, only, failed)?;
+        if !block.judgement.is_legal() {
+            return Ok(out);
+        }
+    }
+    Ok(out)
+}

@@ -1,0 +1,133 @@
+//! The test cases that a run is asked to run: not those that evidence shows to have passed, if it is given any.
+ghost use Rattle.std.specs.Prelude.{◌≡◌, IfOk, IfErr, OnOk, [], filter, if◌then◌else◌, not};
+ghost use Rattle.tc_reader.specs.Prelude.{add, among};
+ghost use Rattle.tc_answer.specs.Inside.{AreReadyAs};
+ghost use Rattle.tc_judge.specs.{Compared.RefusesAgainst, Inside.AreReadyToRun, Inside.HasSeen, Inside.passes, Inside.shows_passed, Passed.AreUnpassed, Passed.RefusesRun};
+
+use crate::compare::chosen_before;
+use crate::judged::{Judged, judge_text};
+use crate::kept::Nothing;
+use indexmap::IndexSet;
+use std::alloc::Global;
+use tc_answer::{RunFault, chosen_cases, split_script};
+use tc_command::Choice;
+use tc_entry::Name;
+use tc_exec::Case;
+use tc_report::verdict_status;
+use tc_step::Script;
+use tc_verdict::NoMemory;
+
+/// The names that blocks have, and those of the blocks that do not show their test case to have passed.
+#[derive(Drop)]
+pub(crate) struct Seen {
+    names: IndexSet<Name>,
+    failed: IndexSet<Name>,
+}
+
+/// Adds a name, if it is not there.
+#[tactic(auto, unfolding(tc_reader::specs::Words::is_text, tc_reader::specs::Names::among))]
+pub(crate) fn add_name(names: &mut IndexSet<Name>, name: &Name) -> Result<(), NoMemory>
+    ensures { OnOk result (names.new.keys ≡ add name.now names.old.keys) }
+{
+    names.insert(name.copy())?;
+    Ok(())
+}
+
+// Whether the name is one of them.
+#[tactic(auto, unfolding(tc_reader::specs::Words::is_text, tc_reader::specs::Names::among))]
+fn has_name(names: &IndexSet<Name>, name: &Name) -> bool
+    ensures { result ≡ among name.now names.now.keys }
+{
+    names.contains(name)
+}
+
+// Whether the block shows its test case to have passed: it is legal, and its verdict is none or pass.
+fn shows_pass(block: &Judged<Nothing>) -> bool
+    ensures { result ≡ passes block.now }
+{
+    block.judgement.is_legal() && verdict_status(block.verdict) == 0
+}
+
+impl Seen {
+    // No names.
+    fn new(alloc: Global) -> Seen
+        ensures names { result.names.keys ≡ [] }
+        ensures failed { result.failed.keys ≡ [] }
+    {
+        Seen {
+            names: IndexSet::new(alloc),
+            failed: IndexSet::new(alloc),
+        }
+    }
+
+    // Takes the next block in.
+    fn take(&mut self, block: &Judged<Nothing>) -> Result<(), NoMemory>
+        ensures names { OnOk result (self.new.names.keys ≡ add block.now.name self.old.names.keys) }
+        ensures failed { OnOk result (self.new.failed.keys ≡ (if passes block.now then self.old.failed.keys else add block.now.name self.old.failed.keys)) }
+    {
+        add_name(&mut self.names, &block.name)?;
+        if !shows_pass(block) {
+            add_name(&mut self.failed, &block.name)?;
+        }
+        Ok(())
+    }
+
+    // Whether the test case of this name has passed.
+    fn has_passed(&self, name: &Name) -> bool
+        ensures { result ≡ shows_passed self.now name.now }
+    {
+        has_name(&self.names, name) && !has_name(&self.failed, name)
+    }
+}
+
+// The names that the blocks have.
+fn seen_of(alloc: Global, blocks: &[Judged<Nothing>]) -> Result<Seen, NoMemory>
+    ensures { IfOk result (HasSeen blocks.now) }
+{
+    let mut seen = Seen::new(alloc);
+    for block in blocks {
+        seen.take(block)?;
+    }
+    Ok(seen)
+}
+
+// The test cases that have not passed, in their order.
+fn unpassed(ready: Vec<Case<Script>>, seen: &Seen) -> Vec<Case<Script>>
+    ensures { result.items ≡ filter (λ k. not (shows_passed seen.now k.name)) ready.items }
+{
+    let mut cases = ready;
+    cases.retain(|case| !seen.has_passed(&case.name));
+    cases
+}
+
+// The chosen test cases of the script but those that have passed by the evidence after it.
+fn unpassed_cases(
+    alloc: Global,
+    text: &[u8],
+    choice: &Choice,
+) -> Result<Vec<Case<Script>>, RunFault>
+    ensures are { IfOk result (λ v. AreReadyAs (AreUnpassed choice.now text.now) v.items) }
+    ensures refused { IfErr result (RefusesAgainst choice.now text.now) }
+{
+    let ready = chosen_before(alloc, choice, text)?;
+    let (_, rest) = split_script(text);
+    let blocks = judge_text::<Nothing>(alloc, rest)?;
+    let seen = seen_of(alloc, blocks.as_slice())?;
+    Ok(unpassed(ready, &seen))
+}
+
+/// The test cases that a run is asked for, of the campaign that the text spells.
+pub fn cases_to_run(
+    alloc: Global,
+    text: &[u8],
+    choice: &Choice,
+) -> Result<Vec<Case<Script>>, RunFault>
+    ensures are { IfOk result (λ v. AreReadyToRun choice.now text.now v.items) }
+    ensures refused { IfErr result (RefusesRun choice.now text.now) }
+{
+    if choice.failed {
+        unpassed_cases(alloc, text, choice)
+    } else {
+        chosen_cases(alloc, text, choice)
+    }
+}

@@ -1,0 +1,191 @@
+//! A block, played as it is read.
+ghost use Rattle.std.specs.Prelude.{◌≡◌, [], ℕ, Some, IfOk, OnOk, is_some, reverse};
+ghost use Rattle.tc_blocks.specs.Prelude.{short_entry, IsHeader};
+ghost use Rattle.tc_rules.specs.Prelude.{StandsFor};
+ghost use Rattle.tc_report.specs.Prelude.{summary_of};
+ghost use Rattle.tc_judge.specs.Inside.{IsPlayed, JudgesPlayed, PlaysNext, judges_legal};
+
+use crate::short::play_short;
+use std::alloc::Global;
+use tc_blocks::{Header, Line};
+use tc_entry::Name;
+use tc_report::{Summary, summary_of_state};
+use tc_rules::{CaseState, Entry, NoMemory, Reply, Run, Verdict};
+use tc_text::ShortOp;
+
+/// What the table says of a block.
+#[derive(Clone, Copy, Debug)]
+pub(crate) enum Judgement {
+    /// Each reply is the table's, and the verdict is that of the block.
+    Legal {
+        entries: usize,
+    },
+    /// The entry in this line of the text is the first with another reply than the table's.
+    OtherReply {
+        line: usize,
+        given: Reply,
+        reply: Reply,
+    },
+    /// Each reply is the table's, and this line, the last of the block, gives another verdict.
+    OtherVerdict {
+        line: usize,
+        given: Verdict,
+        verdict: Verdict,
+    },
+}
+
+impl Judgement {
+    /// Whether it is that of a legal block.
+    pub(crate) fn is_legal(self) -> bool
+        ensures { result ≡ judges_legal self }
+    {
+        match self {
+            Judgement::Legal { .. } => true,
+            Judgement::OtherReply { .. } | Judgement::OtherVerdict { .. } => false,
+        }
+    }
+}
+
+/// The first entry of a block with another reply than the table's.
+#[derive(Clone, Copy, Debug)]
+pub(crate) struct Difference {
+    /// The number of its line in the text.
+    line: usize,
+    given: Reply,
+    reply: Reply,
+}
+
+/// A block that is played as it is read, up to its first difference.
+#[derive(Drop)]
+pub(crate) struct Playing {
+    header: Header,
+    state: CaseState,
+    /// How many entries were played.
+    entries: usize,
+    difference: Option<Difference>,
+}
+
+// An entry in this line, with another reply than the table's.
+#[inline(always)]
+fn differing(line: usize, given: Reply, reply: Reply) -> Option<Difference>
+    ensures { result ≡ Some (record { line = line; given = given; reply = reply }) }
+{
+    Some(Difference { line, given, reply })
+}
+
+impl Playing {
+    // Whether an entry had another reply than the table's.
+    #[inline(always)]
+    fn has_differed(&self) -> bool
+        ensures { result ≡ is_some self.now.difference }
+    {
+        self.difference.is_some()
+    }
+
+    /// The name of the test case.
+    pub(crate) fn name(&self) -> Name
+        ensures { result ≡ self.now.header.name }
+    {
+        self.header.name.copy()
+    }
+
+    /// How many behaviours the test case had.
+    pub(crate) fn behaviours(&self) -> u16
+        ensures { result ≡ self.now.header.behaviours }
+    {
+        self.header.behaviours
+    }
+
+    /// A block with this first line, with no line below it yet.
+    pub(crate) fn new(alloc: Global, header: Header) -> Result<Playing, NoMemory>
+        requires { IsHeader header }
+        ensures { IfOk result (λ p. (first_line : ℕ) → IsPlayed first_line header [] p) }
+    {
+        let state = CaseState::new(alloc, header.behaviours)?;
+        Ok(Playing {
+            header,
+            state,
+            entries: 0,
+            difference: None,
+        })
+    }
+
+    /// Plays the entry in this line, unless the table gave another reply to one before it.
+    #[inline(never)]
+    pub(crate) fn play(&mut self, line: usize, entry: &Entry) -> Result<(), NoMemory>
+        ensures { OnOk result (PlaysNext line (Line.Entry entry.now) self.old self.new) }
+    {
+        if self.has_differed() {
+            return Ok(());
+        }
+        if let Some(reply) = self.state.play_entry(entry)? {
+            let given = entry.reply;
+            self.difference = differing(line, given, reply);
+        } else {
+            // There are fewer entries than lines.
+            self.entries = self.entries.saturating_add(1);
+        }
+        Ok(())
+    }
+
+    /// The same, if its operation is a short one.
+    #[inline(always)]
+    pub(crate) fn play_short(
+        &mut self,
+        line: usize,
+        caller: Run,
+        op: ShortOp,
+        given: Reply,
+    ) -> Result<(), NoMemory>
+        ensures { OnOk result (PlaysNext line (Line.Entry (short_entry caller op given)) self.old self.new) }
+    {
+        if self.has_differed() {
+            return Ok(());
+        }
+        let reply = play_short::<Playing>(&mut self.state, caller, op)?;
+        if reply.same(&given) {
+            self.entries = self.entries.saturating_add(1);
+        } else {
+            self.difference = differing(line, given, reply);
+        }
+        Ok(())
+    }
+
+    /// Takes the line with this number: plays it if it is an entry.
+    pub(crate) fn take(&mut self, line: usize, taken: &Line) -> Result<(), NoMemory>
+        ensures { OnOk result (PlaysNext line taken.now self.old self.new) }
+    {
+        match taken {
+            Line::Entry(entry) => self.play(line, entry),
+            Line::Named { .. } | Line::Remark { .. } | Line::Refused { .. } => Ok(()),
+        }
+    }
+
+    /// What the forms say of the block with these entries, if each of its replies was the table's.
+    pub(crate) fn summary(&self, alloc: Global, entries: &[Entry]) -> Result<Summary, NoMemory>
+        ensures { StandsFor self.now.state (reverse entries.now) → IfOk result (λ s. s ≡ summary_of self.now.header.name entries.now) }
+    {
+        summary_of_state(alloc, &self.header.name, &self.state, entries)
+    }
+
+    /// What the table says of the block whose last line has this number, and which gives this verdict.
+    pub(crate) fn judge(&self, line: usize, given: Verdict) -> Judgement
+        ensures { JudgesPlayed self.now line given result }
+    {
+        if let Some(Difference { line, given, reply }) = self.difference {
+            return Judgement::OtherReply { line, given, reply };
+        }
+        let verdict = self.state.overall();
+        if verdict == given {
+            Judgement::Legal {
+                entries: self.entries,
+            }
+        } else {
+            Judgement::OtherVerdict {
+                line,
+                given,
+                verdict,
+            }
+        }
+    }
+}

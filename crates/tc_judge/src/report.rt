@@ -1,0 +1,188 @@
+//! The subcommand `report`.
+ghost use Rattle.std.specs.Prelude.{◌≡◌, ◌≢◌, ◌==◌, ◌++◌, List, ℕ, filter, IfOk, OnOk, if◌then◌else◌, length, map};
+ghost use Rattle.tc_answer.specs.declared.limits.TheConstants.{HISTORY_LIMIT};
+ghost use Rattle.tc_blocks.specs.declared.block.Block.{Block};
+ghost use Rattle.tc_report.specs.Prelude.{bare_summary as bare};
+ghost use Rattle.tc_report.specs.declared.results.CaseEnd.TheVariants.{Missing};
+ghost use Rattle.tc_judge.specs.{Check.IsMadeOfBlocks, Check.IsMadeOfInput, Inside.AreJudgedIn, Inside.IsSummaryOf, Inside.IsTextFor, Inside.Reports, Inside.illegal_line, Inside.is_picked as spec_picked, Inside.summary_by, Picking.is_chosen, Report.AnswersCases, Report.IsForm, Report.IsReport, Report.IsReported, Report.unreported};
+
+use crate::judged::{Judged, first_illegal, judge_input, judge_text};
+use crate::kept::Summarizes;
+use crate::lines::append_illegal;
+use crate::picked::{is_picked, name_blocks};
+use crate::playing::Judgement;
+use std::alloc::Global;
+use std::io::Read;
+use tc_answer::{Answer, REFUSED, RunFault, html_page};
+use tc_command::{Choice, ReportForm, VERSION};
+use tc_entry::{Name, Pattern, Sequence};
+use tc_report::{
+    CaseEnd, Summary, bare_summary, csv_report, junit_report, summary_report, worst_status,
+};
+use tc_rules::NoMemory;
+use tc_text::append_text;
+
+// The blocks that are picked, in their order.
+fn picked<K: Drop>(blocks: Vec<Judged<K>>, only: &[Pattern], failed: bool) -> Vec<Judged<K>>
+    ensures { result.items ≡ filter (λ j. spec_picked only.now failed j.name j.verdict) blocks.items }
+{
+    let mut blocks = blocks;
+    blocks.retain(|block| is_picked(only, failed, &block.name, block.verdict));
+    blocks
+}
+
+// The test cases of the blocks.
+fn cases_of<K: Summarizes + Drop>(
+    alloc: Global,
+    blocks: Vec<Judged<K>>,
+) -> Result<Vec<Summary>, NoMemory>
+    ensures { IfOk result (λ v. v.items ≡ map (summary_by K.summary) blocks.items) }
+{
+    let mut cases = Vec::new(alloc);
+    for block in blocks {
+        let Judged { kept, .. } = block;
+        cases.push(kept.into_summary())?;
+    }
+    Ok(cases)
+}
+
+// The form of the blocks that the text spells, whose test cases these are.
+fn form_text(
+    alloc: Global,
+    form: &ReportForm,
+    text: &[u8],
+    cases: &[Summary],
+) -> Result<Vec<u8>, NoMemory>
+    ensures { IfOk result (λ v. IsForm form.now text.now cases.now v.items) }
+{
+    match form {
+        ReportForm::Csv => csv_report(alloc, cases),
+        ReportForm::Junit(suite) => junit_report(alloc, VERSION, suite, cases),
+        ReportForm::Html => html_page(alloc, text),
+        ReportForm::Summary => summary_report(alloc, cases),
+    }
+}
+
+// Adds the test cases of these names, which are missing.
+fn add_missing(alloc: Global, cases: &mut Vec<Summary>, missing: &[Name]) -> Result<(), NoMemory>
+    ensures { OnOk result (cases.new.items ≡ cases.old.items ++ map (bare Missing) missing.now) }
+{
+    for name in missing {
+        cases.push(bare_summary(alloc, CaseEnd::Missing, name))?;
+    }
+    Ok(())
+}
+
+/// This status, or 3 if there are notes.
+pub(crate) fn noted_status(notes: &[u8], status: u8) -> u8
+    ensures { result ≡ (if length notes.now == 0 then status else 3) }
+{
+    if notes.is_empty() { status } else { REFUSED }
+}
+
+// The answer for test cases, with lines for standard error.
+fn legal_answer(
+    alloc: Global,
+    form: &ReportForm,
+    text: &[u8],
+    cases: &[Summary],
+    notes: Vec<u8>,
+) -> Result<Answer, NoMemory>
+    ensures { IfOk result (AnswersCases form.now text.now notes.items cases.now) }
+{
+    let out = form_text(alloc, form, text, cases)?;
+    let status = noted_status(notes.as_slice(), worst_status(cases));
+    Ok(Answer {
+        out: Sequence::new(out),
+        told: Sequence::new(notes),
+        status,
+    })
+}
+
+// The answer for blocks of which this is the judgement of the first that is not legal.
+fn illegal_answer(alloc: Global, judgement: Judgement) -> Result<Answer, NoMemory>
+    ensures { IfOk result (λ a. a ≡ unreported (illegal_line judgement)) }
+{
+    let mut line = Vec::new(alloc);
+    append_text(&mut line, "ttrun: ")?;
+    append_illegal(&mut line, judgement)?;
+    Ok(Answer {
+        out: Sequence::new(Vec::new(alloc)),
+        told: Sequence::new(line),
+        status: REFUSED,
+    })
+}
+
+/// The answer for the blocks of a text, of which these are the chosen ones, and missing test cases, with lines for standard
+/// error. If all blocks are legal, the form is written; otherwise the line of `check` for the first that is not is printed.
+pub(crate) fn report_blocks<K: Summarizes + Drop>(
+    alloc: Global,
+    form: &ReportForm,
+    text: &[u8],
+    chosen: Vec<Judged<K>>,
+    illegal: Option<Judgement>,
+    missing: &[Name],
+    notes: Vec<u8>,
+) -> Result<Answer, NoMemory>
+    ensures { IfOk result (λ a. (blocks of : List Block) → Reports blocks of (map (summary_by K.summary) chosen.items) illegal
+        → IsReport form.now text.now blocks of missing.now notes.items a) }
+{
+    match illegal {
+        None => {
+            let mut cases = cases_of(alloc, chosen)?;
+            add_missing(alloc, &mut cases, missing)?;
+            legal_answer(alloc, form, text, cases.as_slice(), notes)
+        }
+        Some(judgement) => illegal_answer(alloc, judgement),
+    }
+}
+
+// What `report` makes of the blocks of a text.
+fn reported(
+    alloc: Global,
+    form: &ReportForm,
+    choice: &Choice,
+    text: &[u8],
+    blocks: Vec<Judged<Summary>>,
+) -> Result<Answer, RunFault>
+    ensures { (given : List ℕ) → IsTextFor form.now given text.now → AreJudgedIn IsSummaryOf given blocks.items
+        → IsMadeOfBlocks choice.now given (IsReported form.now (is_chosen choice.now) given) result }
+{
+    let only = choice.only.as_slice();
+    if !name_blocks(only, blocks.as_slice()) {
+        return Err(RunFault::Only);
+    }
+    let illegal = first_illegal(blocks.as_slice());
+    let chosen = picked(blocks, only, choice.failed);
+    let answer = report_blocks(alloc, form, text, chosen, illegal, &[], Vec::new(alloc))?;
+    Ok(answer)
+}
+
+/// What `report` makes of a text of histories and evidence, each block of which is replayed on a table of its own. If all
+/// are legal, each pattern has to match the name of one.
+pub fn report_text(
+    alloc: Global,
+    form: &ReportForm,
+    choice: &Choice,
+    text: &[u8],
+) -> Result<Answer, RunFault>
+    ensures { IsMadeOfBlocks choice.now text.now (IsReported form.now (is_chosen choice.now) text.now) result }
+{
+    let blocks = judge_text::<Summary>(alloc, text)?;
+    reported(alloc, form, choice, text, blocks)
+}
+
+/// The same of an input, of which only a part is in memory at a time, if the form is not made of its text.
+pub fn report_input<R: Read>(
+    alloc: Global,
+    form: &ReportForm,
+    choice: &Choice,
+    reader: &mut R,
+) -> Result<Answer, RunFault>
+    requires { form.now ≢ ReportForm.Html }
+    ensures { IsMadeOfInput HISTORY_LIMIT (R.remaining reader.old)
+        (λ text made. IsMadeOfBlocks choice.now text (IsReported form.now (is_chosen choice.now) text) made) result }
+{
+    let blocks = judge_input::<R, Summary>(alloc, reader)?;
+    reported(alloc, form, choice, &[], blocks)
+}

@@ -1,6 +1,0 @@
-use Rattle.std.proofs.Common.{◌≡◌, ◌++◌, take}
-use Rattle.tc_page.specs.Page.{held}
-use Rattle.tc_page.proofs.page.append_held.Given as goal
-
-abbrev pub invariant-loop-byte : goal.invariant-loop-byte
-invariant-loop-byte l = l.page.items ≡ l.fn.page.items ++ held (take l.byte-index l.text)

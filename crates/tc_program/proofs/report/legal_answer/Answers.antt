@@ -1,9 +1,0 @@
-use Rattle.std.proofs.Common.{subst, sym}
-use Rattle.tc_program.specs.Report.{IsForm}
-use Rattle.tc_program.proofs.Reporting.{answer_made}
-use Rattle.tc_program.proofs.report.legal_answer.Goals as goal
-
-pub returns : goal.returns
-returns c =
-    answer_made c.args.form.now c.args.text.now c.args.notes.items c.as_slice.result.now c.args.cases.now c.new.result c.new-2.result c.status_with-status.result
-    (subst (IsForm c.args.form.now c.args.text.now c.args.cases.now) (sym c.new.ensures) c.in_ok-out.ensures) c.new-2.ensures c.as_slice.ensures.value c.status_with-status.ensures

@@ -1,0 +1,223 @@
+//! What is made of the lines of a script, one by one: its test cases.
+ghost use Rattle.std.specs.Prelude.{◌≡◌, ◌≤◌, [], ◌∷◌, ◌++◌, Some, None, All, length, IfOk, OnOk};
+ghost use Rattle.std.specs.Option.{option_map};
+ghost use Rattle.tc_entry.specs.declared.limits.TheConstants.{BEHAVIOURS};
+ghost use Rattle.tc_reader.specs.Inside.{MakeScripts, MakesScript, all_filled, behaviour_ended, case_ended, case_left, filled, finished, left_of, started_of, with_last, with_step};
+
+use crate::campaign::{Campaign, CaseScript};
+use crate::heads::Heads;
+use crate::starts::{Start, fill};
+use crate::{Name, Script, Step};
+use std::alloc::{AllocError, Global};
+use std::collections::VecDeque;
+use std::marker::Model;
+
+/// A behaviour, with the steps that were read so far.
+#[derive(Drop)]
+struct Draft {
+    name: Name,
+    parameters: usize,
+    steps: Vec<Step>,
+}
+
+impl Model for Draft {
+    ghost use Rattle.std.specs.Prelude.{List, ℕ};
+    ghost use Rattle.tc_step.specs.Prelude.{ScriptView};
+
+    ghost Value = { List ℕ × ScriptView };
+
+    ghost view = { λ d. (d.name, record { parameters = d.parameters; steps = d.steps.items }) };
+}
+
+/// The test cases before, the name of the one that is open, its behaviours before, and the one that is open.
+#[derive(Drop)]
+pub(crate) struct Made {
+    done: VecDeque<(Name, CaseScript)>,
+    case: Option<Name>,
+    drafts: VecDeque<Draft>,
+    current: Option<Draft>,
+}
+
+impl Model for Made {
+    ghost use Rattle.tc_reader.specs.Inside.{MadeView};
+
+    ghost Value = { MadeView };
+
+    ghost view = { λ m. record { done = m.done.items; case = m.case; drafts = m.drafts.items; current = m.current } };
+}
+
+impl Draft {
+    fn push(&mut self, step: Step) -> Result<(), AllocError>
+        ensures { OnOk result (self.new ≡ with_step step self.old) }
+    {
+        self.steps.push(step)?;
+        Ok(())
+    }
+
+    /// Its script, with the runs of its starts, which are the first of these; and the others.
+    fn finish<'s>(self, heads: &Heads, starts: &'s [Start]) -> (Name, Script, &'s [Start])
+        requires few { length heads.now ≤ BEHAVIOURS }
+        requires script { MakesScript (
+          self.0,
+          record {
+            parameters = self.1.parameters;
+            steps = filled heads.now self.1.steps (started_of starts.now);
+          },
+        ) }
+        ensures name { result.0 ≡ self.0 }
+        ensures script { result.1 ≡ record { parameters = self.1.parameters; steps = filled heads.now self.1.steps (started_of starts.now) } }
+        ensures left { started_of result.2.now ≡ left_of self.1.steps (started_of starts.now) }
+    {
+        let Draft {
+            name,
+            parameters,
+            mut steps,
+        } = self;
+        let left = fill(heads, &mut steps, starts);
+        (name, Script::new(parameters, steps), left)
+    }
+}
+
+/// Makes scripts of the behaviours, with the runs of their starts, after the others.
+fn finish_into(
+    heads: &Heads,
+    starts: &[Start],
+    drafts: &mut VecDeque<Draft>,
+    scripts: &mut VecDeque<(Name, Script)>,
+) -> Result<(), AllocError>
+    requires few { length heads.now ≤ BEHAVIOURS }
+    requires scripts { All MakesScript (all_filled heads.now drafts.old.items (started_of starts.now)) }
+    ensures made { OnOk result (scripts.new.items
+        ≡ scripts.old.items ++ all_filled heads.now drafts.old.items (started_of starts.now)) }
+    ensures left { OnOk result (drafts.new.items ≡ []) }
+{
+    let mut rest = starts;
+    while let Some(draft) = drafts.pop_front() {
+        let (name, script, left) = draft.finish(heads, rest);
+        scripts.push_back((name, script))?;
+        rest = left;
+    }
+    Ok(())
+}
+
+fn finish_all(
+    alloc: Global,
+    heads: &Heads,
+    starts: &[Start],
+    drafts: &mut VecDeque<Draft>,
+) -> Result<VecDeque<(Name, Script)>, AllocError>
+    requires few { length heads.now ≤ BEHAVIOURS }
+    requires scripts { All MakesScript (all_filled heads.now drafts.old.items (started_of starts.now)) }
+    ensures made { IfOk result (λ s. s.items ≡ all_filled heads.now drafts.old.items (started_of starts.now)) }
+    ensures left { OnOk result (drafts.new.items ≡ []) }
+{
+    let mut scripts = VecDeque::new(alloc);
+    match finish_into(heads, starts, drafts, &mut scripts) {
+        Ok(()) => Ok(scripts),
+        Err(error) => {
+            drop(scripts);
+            Err(error)
+        }
+    }
+}
+
+impl Made {
+    /// Nothing.
+    pub(crate) fn new(alloc: Global) -> Made
+        ensures { result ≡ record { done = []; case = None; drafts = []; current = None } }
+    {
+        Made {
+            done: VecDeque::new(alloc),
+            case: None,
+            drafts: VecDeque::new(alloc),
+            current: None,
+        }
+    }
+
+    /// Adds a step to the behaviour that is open.
+    pub(crate) fn add_step(&mut self, step: Step) -> Result<(), AllocError>
+        ensures { OnOk result (self.new ≡ record self.old { current = option_map (with_step step) self.old.current }) }
+    {
+        match &mut self.current {
+            Some(draft) => draft.push(step),
+            None => Ok(()),
+        }
+    }
+
+    /// Ends the behaviour that is open.
+    pub(crate) fn end_behaviour(&mut self) -> Result<(), AllocError>
+        ensures { OnOk result (self.new ≡ behaviour_ended self.old) }
+    {
+        if let Some(draft) = self.current.take() {
+            self.drafts.push_back(draft)?;
+        }
+        Ok(())
+    }
+
+    /// Begins a behaviour. One that is open ends.
+    pub(crate) fn begin_behaviour(
+        &mut self,
+        alloc: Global,
+        name: &Name,
+        parameters: usize,
+    ) -> Result<(), AllocError>
+        ensures { OnOk result (self.new ≡ record self.old {
+          drafts = with_last self.old.drafts self.old.current;
+          current = Some (name.now, record { parameters = parameters; steps = [] });
+        }) }
+    {
+        self.end_behaviour()?;
+        self.current = Some(Draft {
+            name: name.copy(),
+            parameters,
+            steps: Vec::new(alloc),
+        });
+        Ok(())
+    }
+
+    /// Begins a test case, where none is open.
+    pub(crate) fn begin_case(&mut self, name: &Name)
+        ensures { self.new ≡ record self.old { case = Some name.now } }
+    {
+        self.case = Some(name.copy());
+    }
+
+    /// Ends the test case that is open, whose starts these are.
+    pub(crate) fn end_case(
+        &mut self,
+        alloc: Global,
+        heads: &Heads,
+        starts: &[Start],
+    ) -> Result<(), AllocError>
+        requires few { length heads.now ≤ BEHAVIOURS }
+        requires scripts { MakeScripts self.old.case (finished heads.now (started_of starts.now) self.old) }
+        ensures { OnOk result (self.new ≡ case_ended heads.now (started_of starts.now) self.old) }
+    {
+        self.end_behaviour()?;
+        match self.case.take() {
+            Some(name) => {
+                let scripts = finish_all(alloc, heads, starts, &mut self.drafts)?;
+                self.done.push_back((name, CaseScript { scripts }))?;
+            }
+            None => self.drafts.clear(),
+        }
+        Ok(())
+    }
+
+    /// Leaves out the test case that is open.
+    pub(crate) fn leave_case(&mut self)
+        ensures { self.new ≡ case_left self.old }
+    {
+        self.case = None;
+        self.drafts.clear();
+        self.current = None;
+    }
+
+    /// The test cases that have ended.
+    pub(crate) fn into_campaign(self) -> Campaign
+        ensures { result ≡ self.done }
+    {
+        let Made { done, .. } = self;
+        Campaign { cases: done }
+    }
+}

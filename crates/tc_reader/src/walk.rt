@@ -1,0 +1,175 @@
+//! What one walk over the lines of a script finds: its test cases, and the first fault of names.
+ghost use Rattle.std.specs.Prelude.{◌≡◌, OnOk, if◌then◌else◌, is_some};
+ghost use Rattle.tc_reader.specs.Inside.{IsWithin, MayEnd, after, begins, ended, or_fault, with_start};
+
+use crate::campaign::Campaign;
+use crate::fault::ScriptFault;
+use crate::made::Made;
+use crate::scope::Scope;
+use crate::starts::{Start, first_wrong};
+use crate::{Call, Line, Name, ScriptKind};
+use std::alloc::{AllocError, Global};
+use std::marker::Model;
+
+/// The names so far, the first fault of names, the starts that are still to be looked up, and what is made.
+#[derive(Drop)]
+pub(crate) struct Walk {
+    names: Scope,
+    fault: Option<ScriptFault>,
+    starts: Vec<Start>,
+    made: Made,
+}
+
+impl Model for Walk {
+    ghost use Rattle.tc_reader.specs.Inside.{WalkView};
+
+    ghost Value = { WalkView };
+
+    ghost view = { λ w. record { names = w.names; fault = w.fault; starts = w.starts.items; made = w.made } };
+}
+
+impl Walk {
+    /// Before the first line.
+    pub(crate) fn new(alloc: Global) -> Walk
+        ensures { result ≡ begins }
+    {
+        Walk {
+            names: Scope::new(alloc),
+            fault: None,
+            starts: Vec::new(alloc),
+            made: Made::new(alloc),
+        }
+    }
+
+    /// The first fault of names.
+    pub(crate) fn fault(&self) -> Option<ScriptFault>
+        ensures { result ≡ self.now.fault }
+    {
+        self.fault
+    }
+
+    /// The test cases that have ended.
+    pub(crate) fn into_campaign(self) -> Campaign
+        ensures { result ≡ self.made.done }
+    {
+        let Walk { made, .. } = self;
+        made.into_campaign()
+    }
+
+    // Keeps the fault of a line, if there is none before.
+    fn note(&mut self, line: usize, kind: Option<ScriptKind>)
+        ensures { self.new ≡ record self.old { fault = or_fault self.old.fault line kind } }
+    {
+        match (self.fault, kind) {
+            (None, Some(kind)) => self.fault = Some(ScriptFault { line, kind }),
+            _ => {}
+        }
+    }
+
+    // Keeps the start that a call is, to be looked up when the test case ends.
+    fn keep_start(&mut self, line: usize, call: &Call) -> Result<(), AllocError>
+        ensures { OnOk result (self.new
+            ≡ record self.old { starts = if is_some self.old.fault then self.old.starts else with_start self.old.starts line call.now }) }
+    {
+        if self.fault.is_some() {
+            return Ok(());
+        }
+        match call {
+            Call::Start {
+                behaviour,
+                args,
+                ..
+            } => {
+                let given = args.as_slice().len();
+                let behaviour = behaviour.copy();
+                self.starts.push(Start {
+                    line,
+                    behaviour,
+                    given,
+                })?;
+                Ok(())
+            }
+            _ => Ok(()),
+        }
+    }
+
+    fn take_call(&mut self, line: usize, call: &Call) -> Result<(), AllocError>
+        requires within { IsWithin self.old.names.bound (Line.Step call.now) }
+        ensures { OnOk result (self.new ≡ after line (Line.Step call.now) self.old) }
+    {
+        match self.names.step_of(call) {
+            Ok(step) => {
+                self.keep_start(line, call)?;
+                self.made.add_step(step)?;
+            }
+            Err(kind) => self.note(line, Some(kind)),
+        }
+        self.names.take_call(call)
+    }
+
+    fn take_behaviour(
+        &mut self,
+        alloc: Global,
+        line: usize,
+        name: &Name,
+        parameters: &[Name],
+    ) -> Result<(), AllocError>
+        ensures { OnOk result (self.new ≡ after line (Line.Behaviour name.now parameters.now) self.old) }
+    {
+        let kind = self.names.fault_of_behaviour(name, parameters);
+        self.note(line, kind);
+        self.names.take_behaviour(alloc, name, parameters)?;
+        self.made.begin_behaviour(alloc, name, parameters.len())
+    }
+
+    fn take_case(&mut self, alloc: Global, line: usize, name: &Name) -> Result<(), AllocError>
+        requires may_end { MayEnd self.old }
+        ensures { OnOk result (self.new ≡ after line (Line.TestCase name.now) self.old) }
+    {
+        self.end(alloc)?;
+        let kind = self.names.fault_of_case(name);
+        self.note(line, kind);
+        self.names.take_case(alloc, name)?;
+        self.made.begin_case(name);
+        Ok(())
+    }
+
+    /// Continues after this line.
+    pub(crate) fn take(
+        &mut self,
+        alloc: Global,
+        number: usize,
+        line: &Line,
+    ) -> Result<(), AllocError>
+        requires may_end { MayEnd self.old }
+        requires within { IsWithin self.old.names.bound line.now }
+        ensures { OnOk result (self.new ≡ after number line.now self.old) }
+    {
+        match line {
+            Line::Step(call) => self.take_call(number, call),
+            Line::Skipped => Ok(()),
+            Line::End => self.made.end_behaviour(),
+            Line::TestCase(name) => self.take_case(alloc, number, name),
+            Line::Behaviour(name, parameters) => {
+                self.take_behaviour(alloc, number, name, parameters.as_slice())
+            }
+        }
+    }
+
+    /// Ends the test case that is open: its starts are looked up.
+    pub(crate) fn end(&mut self, alloc: Global) -> Result<(), AllocError>
+        requires may_end { MayEnd self.old }
+        ensures { OnOk result (self.new ≡ ended self.old) }
+    {
+        self.fault = first_wrong(self.names.heads(), &self.starts).or(self.fault);
+        match self.fault {
+            Some(_) => self.made.leave_case(),
+            None => {
+                let starts = self.starts.as_slice();
+                self.made.end_case(alloc, self.names.heads(), starts)?;
+            }
+        }
+        self.starts.clear();
+        Ok(())
+    }
+}

@@ -1,0 +1,151 @@
+-- The results of the test cases that were made of a script are those of the script.
+use Rattle.std.proofs.Common.{ℕ, zero, suc, ◌≡◌, ◌∙◌, ◌-◌, ◌⊎◌, inl, inr, List, [], ◌∷◌, Option, None, Some, All, length, map, take, arith, refl, sym, ap, subst}
+use Rattle.std.proofs.lemmas.List.{Elements.All-cons, Elements.All-nil, Elements.All-tail, length-map}
+use Rattle.std.specs.{Io.KnownBytes.Appends, List.AllZip, Vec.vec_len}
+use Rattle.std.specs.Prelude.{slice_get}
+use Rattle.tc_stream.specs.Prelude.{AppendsPrefix}
+use Rattle.tc_rules.specs.Prelude.{Verdict}
+use Rattle.tc_step.specs.Prelude.{ScriptView}
+use Rattle.tc_script.specs.Prelude.{Acts, MakesItsCalls}
+use Rattle.tc_script.proofs.Lemmas.{Reports.report_is_course, Running.run_grown, Spelled.are_called, Spelled.made_of_calls}
+use Rattle.tc_reader.specs.Prelude.{IsCase}
+use Rattle.tc_book.specs.Prelude.{PassState}
+use Rattle.tc_exec.specs.declared.{job.Back.Back, test_case.Case.Case}
+use Rattle.tc_exec.specs.Prelude.{IsCaseReport, IsMadeOf}
+use Rattle.tc_exec.proofs.Lemmas.Logs.{logs_by}
+use Rattle.tc_report.specs.declared.{fault.OutFault.OutFault, live_form.LiveForm.LiveForm, results.CampaignEnd.CampaignEnd, results.Finished.Finished, results.Results.Results}
+use Rattle.tc_campaign.specs.Prelude.{Outline, HasNames, outline_of, AreFinished, IsCalled, IsEnding, IsOfCase, IsRefusal as RefusesCase, IsRunTo}
+use Rattle.tc_campaign.specs.Inside.{IsReported}
+use Rattle.tc_report.specs.Prelude.{LeavesPrefix, IsMet}
+use Rattle.tc_rules.specs.declared.refusal.CaseError.{CaseError}
+use Rattle.tc_command.specs.declared.task.RunOptions.{RunOptions}
+use Rattle.tc_answer.specs.Prelude.{run_fault_line, IsPrintedRefusal, Streams, CaseView, scripts_of}
+use Rattle.tc_answer.specs.{Inside.IsCaseOf, Inside.names_of, declared.outcome.Outcome.Outcome}
+use Rattle.tc_run.specs.{Inside.worker_limit, Output.live_form, Output.of_output, Output.results_in_form, Run.IsLeft, Run.IsRun, Run.IsScripted, Run.IsUnwrittenRun, Run.RunsCases, Run.script_outline}
+
+count : (c : CaseView) (k : Case ScriptView) → IsCaseOf c k → vec_len k.jobs ≡ length c.1
+count c k is = omega (arith, ap length is.jobs, length-map c.1 (λ b. b.1))
+
+has_names : (c : CaseView) (k : Case ScriptView) → IsCaseOf c k → HasNames k
+has_names c k is = omega (arith, count c k is, ap length is.names, length-map c.1 (λ b. b.0))
+
+same_outline : (c : CaseView) (k : Case ScriptView) → IsCaseOf c k → outline_of k ≡ script_outline c
+same_outline c k is =
+    ap (λ n. let o : Outline = record { name = n; names = k.names.items; jobs = vec_len k.jobs } in o) is.name
+    ∙ ap (λ ns. let o : Outline = record { name = c.0; names = ns; jobs = vec_len k.jobs } in o) is.names
+    ∙ ap (λ n. let o : Outline = record { name = c.0; names = names_of c.1; jobs = n } in o) (count c k is)
+
+pub even : (cs : List CaseView) (ks : List (Case ScriptView)) → AllZip IsCaseOf cs ks → All HasNames ks
+even [] [] each = All-nil HasNames
+even [] (k ∷ ks) each = absurd each
+even (c ∷ cs) [] each = absurd each
+even (c ∷ cs) (k ∷ ks) each = All-cons HasNames k ks (has_names c k each.0) (even cs ks each.1)
+
+outlines : (cs : List CaseView) (ks : List (Case ScriptView)) → AllZip IsCaseOf cs ks → map outline_of ks ≡ map script_outline cs
+outlines [] [] each = refl
+outlines [] (k ∷ ks) each = absurd each
+outlines (c ∷ cs) [] each = absurd each
+outlines (c ∷ cs) (k ∷ ks) each = ap (λ o. o ∷ map outline_of ks) (same_outline c k each.0) ∙ ap (λ os. script_outline c ∷ os) (outlines cs ks each.1)
+
+same_names : (cs : List CaseView) (ks : List (Case ScriptView)) → AllZip IsCaseOf cs ks → map (λ k. (outline_of k).name) ks ≡ map (λ c. (script_outline c).name) cs
+same_names [] [] each = refl
+same_names [] (k ∷ ks) each = absurd each
+same_names (c ∷ cs) [] each = absurd each
+same_names (c ∷ cs) (k ∷ ks) each = rw (each.0.name, same_names cs ks each.1) refl
+
+-- a script hands back the pass of its own run
+own : (s : ScriptView) (p : PassState) (k : Back) → MakesItsCalls s p k → k.pass.run ≡ p.run
+own s p k is = ap (λ q. q.run) (run_grown s.steps p k.pass k.ending is.calls).1
+
+of_script : (c : CaseView) (k : Case ScriptView) (f : Finished) → IsCase c.1 → IsCaseOf c k → IsReported (script_outline c) f → IsCalled Acts k f → IsScripted c f
+of_script c k f lawful is report called =
+    let made : IsMadeOf Acts (scripts_of c.1) f.report = subst (λ js. IsMadeOf Acts js f.report) is.jobs called.1 in
+    let calls : IsMadeOf MakesItsCalls (scripts_of c.1) f.report = made_of_calls c.1 f.report lawful report.one_history report.behaviours made in
+    let as_many : IsCaseReport (length (scripts_of c.1)) f.report = subst (λ n. IsCaseReport n f.report) (sym (length-map c.1 (λ b. b.1))) report in (
+      are_called c.1 f.report lawful report.one_history report.behaviours made,
+      calls,
+      logs_by MakesItsCalls own f.report (scripts_of c.1) report.one_history (report.behaviours ∙ sym (length-map c.1 (λ b. b.1))) calls,
+      report_is_course (scripts_of c.1) f.report (record { report = as_many; made = calls }),
+    )
+
+scripted : (n : ℕ) (cs : List CaseView) (ks : List (Case ScriptView)) (fs : List Finished) → All (λ c. IsCase c.1) cs → AllZip IsCaseOf cs ks
+    → AllZip IsReported (take n (map script_outline cs)) fs → AllZip (IsCalled Acts) (take n ks) fs → AllZip IsScripted (take n cs) fs
+scripted zero cs ks [] lawful each reports called = tt
+scripted zero cs ks (f ∷ fs) lawful each reports called = absurd called
+scripted (suc n) [] [] [] lawful each reports called = tt
+scripted (suc n) [] [] (f ∷ fs) lawful each reports called = absurd called
+scripted (suc n) [] (k ∷ ks) fs lawful each reports called = absurd each
+scripted (suc n) (c ∷ cs) [] fs lawful each reports called = absurd each
+scripted (suc n) (c ∷ cs) (k ∷ ks) [] lawful each reports called = absurd called
+scripted (suc n) (c ∷ cs) (k ∷ ks) (f ∷ fs) lawful each reports called =
+    (of_script c k f (lawful 0 c (omega arith)) each.0 reports.0 called.0, scripted n cs ks fs (All-tail (λ c. IsCase c.1) c cs lawful) each.1 reports.1 called.1)
+
+module _ (cs : List CaseView) (ks : List (Case ScriptView)) (stop_on : Option Verdict) (threads : ℕ) (lawful : All (λ c. IsCase c.1) cs) (each : AllZip IsCaseOf cs ks) where
+  same : map outline_of ks ≡ map script_outline cs
+  same = outlines cs ks each
+
+  -- the finished test cases are those of the script
+  finished : (fs : List Finished) → AreFinished outline_of (IsCalled Acts) ks stop_on threads fs → AreFinished script_outline IsScripted cs stop_on threads fs
+  finished fs are =
+      let reports : AllZip IsReported (take (length fs) (map script_outline cs)) fs = subst (λ os. AllZip IsReported (take (length fs) os) fs) same are.reports in
+      record {
+        names = subst (λ os. AllZip IsOfCase (take (length fs) os) fs) same are.names;
+        better = are.better;
+        reports = reports;
+        calls = scripted (length fs) cs ks fs lawful each reports are.calls;
+        named = are.named;
+        threads_are = are.threads_are;
+        behaviours = are.behaviours;
+      }
+
+  -- and so are they if the campaign ended
+  results : (fs : List Finished) (ending : CampaignEnd) → IsRunTo outline_of (IsCalled Acts) ks stop_on threads fs ending
+      → IsRunTo script_outline IsScripted cs stop_on threads fs ending
+  results fs ending are = record {
+    each = finished fs are.each;
+    last = subst (λ os. IsEnding (λ f. IsMet stop_on f.report.verdict) (λ why c. RefusesCase threads why c ⊎ ((fs ≡ []) × (why ≡ CaseError.NoMemory)))
+        (slice_get fs (length fs - 1)) (slice_get os (length fs)) ending) same are.last;
+  }
+
+module _ (o : RunOptions) (Are : List CaseView → Type 0) (cs : List CaseView) (ks : List (Case ScriptView)) (chosen : Are cs) (lawful : All (λ c. IsCase c.1) cs)
+    (each : AllZip IsCaseOf cs ks) where
+  -- a run of the test cases that were made of a script is a run of that script
+  pub run_done : (streams : Streams) (outcome : Outcome) → IsRun outline_of (IsCalled Acts) ks o streams outcome
+      → RunsCases script_outline IsScripted Are o streams outcome
+  run_done streams outcome run = record {
+    asked_for = cs;
+    chosen = chosen;
+    run = inl (record {
+      results = run.results;
+      right = results cs ks o.stop_on worker_limit lawful each run.results.finished run.results.ending run.right;
+      status = run.status;
+      written = subst (λ ns. Appends streams.before streams.after (results_in_form o.form ns run.results)) (same_names cs ks each) run.written;
+      told = run.told;
+    });
+  }
+
+  left_of : (live : Option LiveForm) (s : Streams) (r : Results) (fault : OutFault) → IsLeft outline_of (IsCalled Acts) ks o live s r fault
+      → IsLeft script_outline IsScripted cs o live s r fault
+  left_of None s r fault left = (
+    results cs ks o.stop_on worker_limit lawful each r.finished r.ending left.0,
+    subst (λ ns. LeavesPrefix s.before s.after (results_in_form o.form ns r) fault) (same_names cs ks each) left.1,
+  )
+  left_of (Some form) s r fault left = (
+    finished cs ks o.stop_on worker_limit lawful each r.finished left.0,
+    subst (λ ns. AppendsPrefix s.before s.after (results_in_form o.form ns r)) (same_names cs ks each) left.1,
+  )
+
+  -- and so is one whose results were not written whole
+  pub run_left : (streams : Streams) (fault : OutFault) (told : Option (List ℕ)) (outcome : Outcome) → IsUnwrittenRun outline_of (IsCalled Acts) ks o streams fault
+      → IsPrintedRefusal streams.told told (run_fault_line (of_output fault)) outcome
+      → RunsCases script_outline IsScripted Are o (record streams { told = told }) outcome
+  run_left streams fault told outcome run refusal = record {
+    asked_for = cs;
+    chosen = chosen;
+    run = inr (record {
+      fault = fault;
+      between = streams.told;
+      run = record { results = run.results; left = left_of (live_form o.live o.form) streams run.results fault run.left; told = run.told };
+      refusal = refusal;
+    });
+  }

@@ -1,0 +1,175 @@
+-- What comes of a campaign that was run.
+use Rattle.std.proofs.Common.{ℕ, ◌≡◌, ◌∙◌, [], ◌∷◌, Bool, true, false, subst, ap, List, Option, Some, None, Result, Ok, Err, IfErr, map, refl, sym}
+use Rattle.std.specs.{Borrow.GName, Io.KnownBytes.Appends, Io.KnownBytes.Keeps}
+use Rattle.std.specs.Prelude.{IfNone, IfSome, IsErrAnd, unwrap_or}
+use Rattle.tc_rules.specs.Prelude.{Verdict}
+use Rattle.tc_rules.specs.declared.refusal.CaseError.{CaseError}
+use Rattle.tc_stream.specs.Prelude.{AppendsPrefix}
+use Rattle.tc_book.specs.Prelude.{PassState}
+use Rattle.tc_exec.specs.declared.{job.Back.Back, test_case.Case.Case}
+use Rattle.tc_report.specs.{Inside.form_text, declared.fault.OutFault.OutFault, declared.live.LiveWriter.LiveWriter, declared.live_form.LiveForm.LiveForm, declared.results.CampaignEnd.CampaignEnd, declared.results.Finished.Finished, declared.results.Results.Results}
+use Rattle.tc_report.specs.Prelude.{abort_text, closing_text, opening_text, LeavesPrefix, IsToldBy, ending_status, results_status, tally_of_cases}
+use Rattle.tc_report.proofs.Lemmas.{Pieces.IsAt, Pieces.Takes, Pieces.all_at, Pieces.all_written, Pieces.begun, Pieces.case_left, Pieces.closing_left, Pieces.ended_at, Pieces.opening_left, Pieces.status_at, Telling.nothing_of}
+use Rattle.tc_answer.specs.Prelude.{case_name, Streams, IsTold}
+use Rattle.tc_campaign.specs.Prelude.{outline_of, AreFinished, IsCalled, IsRunTo}
+use Rattle.tc_campaign.specs.Inside.{IsUnrun}
+use Rattle.tc_campaign.proofs.Lemmas.Keeping.{none_finished, unrun_run}
+use Rattle.tc_command.specs.declared.task.{Form.Form, RunOptions.RunOptions}
+use Rattle.tc_answer.specs.declared.{fault.RunFault.RunFault, outcome.Outcome.Outcome}
+use Rattle.tc_answer.proofs.Lemmas.Giving.{keeps_same}
+use Rattle.tc_run.specs.{Inside.AreGiven, Inside.first_fault, Inside.worker_limit, Output.live_form, Output.results_in_form, Run.IsLeft, Run.IsRun, Run.IsUnwrittenRun, Run.results_text}
+
+-- the text in a form that is written live is that of the form that was asked for
+live_text : (live : Bool) (form : Form) (found : LiveForm) (names : List (List ℕ)) (r : Results) → live_form live form ≡ Some found
+    → form_text found r ≡ results_in_form form names r
+live_text true Form.Text found names r is = sym (ap (λ o. form_text (unwrap_or o LiveForm.Text) r) is)
+live_text true Form.Csv found names r is = sym (ap (λ o. form_text (unwrap_or o LiveForm.Text) r) is)
+live_text true Form.History found names r is = sym (ap (λ o. form_text (unwrap_or o LiveForm.Text) r) is)
+live_text true Form.Evidence found names r is = sym (ap (λ o. form_text (unwrap_or o LiveForm.Text) r) is)
+live_text true (Form.Junit suite) found names r is = absurd (cc is)
+live_text false form found names r is = absurd (cc is)
+
+-- what is printed after the test cases, and what comes of both
+abbrev pub EndsTold : Option (List ℕ) → Option (List ℕ) → CampaignEnd → Result (Unit {0}) OutFault → Result (Unit {0}) RunFault → Type 0
+EndsTold between told ending telling answer =
+    (line : Result (Unit {0}) RunFault) × IsTold between told (abort_text ending) line × (answer ≡ first_fault telling line)
+
+-- if no test case was finished, nothing is printed
+pub untold : (tells : Bool) (start : Option (List ℕ)) (finished : List Finished) → finished ≡ []
+    → IsToldBy tells start start finished (Ok tt)
+untold tells start finished none = subst (λ fs. IsToldBy tells start start fs (Ok tt)) (sym none) (nothing_of tells start)
+
+-- the ending of a campaign that runs none of these test cases because memory ran out
+abbrev unrun_ending : {B : Type 0} → List (Case B) → CampaignEnd
+unrun_ending [] = CampaignEnd.Complete
+unrun_ending (k ∷ ks) = CampaignEnd.Aborted k.name CaseError.NoMemory
+
+is_unrun : {B : Type 0} (ks : List (Case B)) → IsUnrun (map outline_of ks) (unrun_ending ks)
+is_unrun [] = refl
+is_unrun (k ∷ ks) = refl
+
+-- which writer a live writer writes to
+abbrev pub name_of : {W : Type 0} → LiveWriter W → GName
+name_of l = l.writer.ghost_name
+
+-- if a live writer has done nothing, its writer holds what it held
+pub writes_nothing : {W A : Type 0} (contents : W → Option (List ℕ)) (ending : Option A) (before after : LiveWriter W) → IfNone ending (after ≡ before)
+    → IfNone ending (contents after.writer.now ≡ contents before.writer.now)
+writes_nothing contents None before after same = ap (λ (l : LiveWriter _). contents l.writer.now) same
+writes_nothing contents (Some ending) before after same = tt
+
+module _ {B : Type 0} (outcome : B → PassState → Back → Type 0) (cases : List (Case B)) (options : RunOptions) where
+  -- the results of a run were given, and what is due on standard error was printed
+  pub whole_done : (streams : Streams) (between : Option (List ℕ)) (r : Results) (telling : Result (Unit {0}) OutFault) (ended : Outcome)
+      → IsRunTo outline_of (IsCalled outcome) cases options.stop_on worker_limit r.finished r.ending
+      → IsToldBy options.progress streams.untold between r.finished telling
+      → ended.status ≡ results_status r → Appends streams.before streams.after (results_text outline_of cases options r)
+      → EndsTold between streams.told r.ending telling ended.told → IsRun outline_of (IsCalled outcome) cases options streams ended
+  whole_done streams between r telling ended run told status written line = record {
+    results = r;
+    right = run;
+    status = status;
+    written = written;
+    told = record { between = between; telling = telling; cases_told = told; line = line.0; line_told = line.1; first = line.2 };
+  }
+
+  -- the results of a run were not written whole
+  pub whole_left : (streams : Streams) (r : Results) (telling : Result (Unit {0}) OutFault) (fault : OutFault) (answer : Result Outcome OutFault)
+      → IsErrAnd answer (λ f. f ≡ fault) → live_form options.live options.form ≡ None
+      → IsRunTo outline_of (IsCalled outcome) cases options.stop_on worker_limit r.finished r.ending
+      → IsToldBy options.progress streams.untold streams.told r.finished telling
+      → LeavesPrefix streams.before streams.after (results_text outline_of cases options r) fault
+      → IfErr answer (IsUnwrittenRun outline_of (IsCalled outcome) cases options streams)
+  whole_left streams r telling fault (Ok ended) what is run told left = absurd what
+  whole_left streams r telling fault (Err f) what is run told left = record {
+    results = r;
+    left = subst (λ live. IsLeft outline_of (IsCalled outcome) cases options live streams r f) (sym is)
+        (run, subst (LeavesPrefix streams.before streams.after (results_text outline_of cases options r)) (sym what) left);
+    told = (telling, told);
+  }
+
+  module _ (streams : Streams) (form : LiveForm) (same : live_form options.live options.form ≡ Some form) where
+    -- a run that was not written whole as its test cases finished left a prefix
+    cut_up : (r : Results) (telling : Result (Unit {0}) OutFault) (fault : OutFault)
+        → AreFinished outline_of (IsCalled outcome) cases options.stop_on worker_limit r.finished
+        → IsToldBy options.progress streams.untold streams.told r.finished telling
+        → AppendsPrefix streams.before streams.after (form_text form r) → IsUnwrittenRun outline_of (IsCalled outcome) cases options streams fault
+    cut_up r telling fault each told left = record {
+      results = r;
+      left = subst (λ live. IsLeft outline_of (IsCalled outcome) cases options live streams r fault) (sym same)
+          (each, subst (AppendsPrefix streams.before streams.after) (live_text options.live options.form form (map case_name cases) r same) left);
+      told = (telling, told);
+    }
+
+    -- what is before the test cases was not written whole, and nothing was printed
+    pub at_opening : (fault : OutFault) → streams.told ≡ streams.untold → LeavesPrefix streams.before streams.after (opening_text form) fault
+        → IsUnwrittenRun outline_of (IsCalled outcome) cases options streams fault
+    at_opening fault nothing left =
+        cut_up (record { finished = []; ending = CampaignEnd.Complete }) (Ok tt) fault (none_finished outcome cases options.stop_on worker_limit)
+        (subst (λ t. IsToldBy options.progress streams.untold t [] (Ok tt)) (sym nothing) (nothing_of options.progress streams.untold))
+        (opening_left form streams.before streams.after fault CampaignEnd.Complete left)
+
+    module _ {W : Type 0} (contents : W → Option (List ℕ)) (before after : LiveWriter W)
+        (form_is : before.form ≡ form) (opening : Appends streams.before (contents before.writer.now) (opening_text form))
+        (tally : before.tally ≡ tally_of_cases []) (worst : before.worst ≡ Verdict.None)
+        (finished : List Finished) (answer : Option CampaignEnd) (given : AreGiven outcome (Takes contents) cases options before after finished answer) where
+      first : IsAt contents form streams.before [] before
+      first = begun contents form streams.before before form_is opening tally worst
+
+      -- the writer is the same one
+      pub named_still : name_of after ≡ name_of before
+      named_still = go answer given
+        where
+          go : (a : Option CampaignEnd) → AreGiven outcome (Takes contents) cases options before after finished a → name_of after ≡ name_of before
+          go (Some ending) given = (all_at contents form streams.before [] finished before after first given.1).1
+          go None given = (ended_at contents form streams.before finished before after first given.1).1
+
+      -- a test case, or what follows all, was not written whole
+      pub live_left : (telling : Result (Unit {0}) OutFault) (fault : OutFault)
+          → IsToldBy options.progress streams.untold streams.told finished telling
+          → IfNone answer (streams.after ≡ (contents after.writer.now))
+          → IfSome answer (λ e. LeavesPrefix (contents after.writer.now) streams.after (closing_text after.form after.tally e) fault)
+          → IsUnwrittenRun outline_of (IsCalled outcome) cases options streams fault
+      live_left telling fault told cut part = go answer given cut part
+        where
+          go : (a : Option CampaignEnd) → AreGiven outcome (Takes contents) cases options before after finished a
+              → IfNone a (streams.after ≡ (contents after.writer.now))
+              → IfSome a (λ e. LeavesPrefix (contents after.writer.now) streams.after (closing_text after.form after.tally e) fault)
+              → IsUnwrittenRun outline_of (IsCalled outcome) cases options streams fault
+          go (Some ending) given cut part =
+              cut_up (record { finished = finished; ending = ending }) telling fault given.0.each told
+              (closing_left contents form streams.before before after first finished ending given.1 streams.after fault part)
+          go None given cut part =
+              cut_up (record { finished = finished; ending = CampaignEnd.Complete }) telling fault given.0 told
+              (subst (λ now. AppendsPrefix streams.before now (form_text form (record { finished = finished; ending = CampaignEnd.Complete }))) (sym cut)
+              (case_left contents form streams.before before after first finished CampaignEnd.Complete given.1))
+
+      -- all was written, and what is due on standard error was printed
+      pub live_done : (between : Option (List ℕ)) (telling : Result (Unit {0}) OutFault) (ending : CampaignEnd) (ended : Outcome)
+          → IsToldBy options.progress streams.untold between finished telling → answer ≡ Some ending
+          → Appends (contents after.writer.now) streams.after (closing_text after.form after.tally ending)
+          → ended.status ≡ ending_status ending after.worst
+          → EndsTold between streams.told ending telling ended.told → IsRun outline_of (IsCalled outcome) cases options streams ended
+      live_done between telling ending ended told is out status line =
+          let had : AreGiven outcome (Takes contents) cases options before after finished (Some ending) =
+          subst (AreGiven outcome (Takes contents) cases options before after finished) is given in
+          let r : Results = record { finished = finished; ending = ending } in
+          whole_done streams between r telling ended had.0 told
+          (status ∙ status_at contents form streams.before before after first finished ending had.1)
+          (subst (Appends streams.before streams.after) (live_text options.live options.form form (map case_name cases) r same)
+          (all_written contents form streams.before before after first finished ending had.1 streams.after out)) line
+
+  -- nothing was run or written, since memory ran out
+  pub unrun_left : (streams : Streams) → streams.after ≡ streams.before → streams.told ≡ streams.untold
+      → IsUnwrittenRun outline_of (IsCalled outcome) cases options streams OutFault.NoMemory
+  unrun_left streams unwritten untold = go (live_form options.live options.form) refl
+    where
+      keeps : Keeps streams.before streams.after
+      keeps = subst (Keeps streams.before) (sym unwritten) (keeps_same streams.before)
+
+      go : (live : Option LiveForm) → live_form options.live options.form ≡ live → IsUnwrittenRun outline_of (IsCalled outcome) cases options streams OutFault.NoMemory
+      go None is =
+          whole_left streams (record { finished = []; ending = unrun_ending cases }) (Ok tt) OutFault.NoMemory (Err OutFault.NoMemory) refl is
+          (unrun_run outcome [] (unrun_ending cases) refl cases options.stop_on worker_limit (is_unrun cases))
+          (subst (λ t. IsToldBy options.progress streams.untold t [] (Ok tt)) (sym untold) (nothing_of options.progress streams.untold)) keeps
+      go (Some form) is = at_opening streams form is OutFault.NoMemory untold keeps

@@ -1,0 +1,34 @@
+-- What `run` writes.
+use Rattle.std.specs.Prelude.{ℕ, ◌≡◌, Bool, true, false, List, Option, Some, None, map}
+use Rattle.tc_report.specs.declared.{fault.OutFault.OutFault, live_form.LiveForm.LiveForm, results.Results.Results}
+use Rattle.tc_blocks.specs.declared.header.Kind.{Kind}
+use Rattle.tc_report.specs.Prelude.{blocks_text, csv_of, report_text, LeavesPrefix, junit_of, case_summary, results_summaries}
+use Rattle.tc_command.specs.declared.{command.TheConstants.VERSION, task.Form.Form}
+use Rattle.tc_answer.specs.declared.fault.RunFault.{RunFault}
+
+-- the form in which test cases are written as they finish, if it is asked for that they are; a JUnit report has none,
+-- since its head counts all of them
+abbrev pub live_form : Bool → Form → Option LiveForm
+live_form false form = None
+live_form true Form.Text = Some LiveForm.Text
+live_form true Form.Csv = Some LiveForm.Csv
+live_form true Form.History = Some LiveForm.History
+live_form true Form.Evidence = Some LiveForm.Evidence
+live_form true (Form.Junit suite) = None
+
+-- the text of the results of test cases with these names in this form
+abbrev pub results_in_form : Form → List (List ℕ) → Results → List ℕ
+results_in_form Form.Text names r = report_text r
+results_in_form Form.Csv names r = csv_of (map case_summary r.finished)
+results_in_form Form.History names r = blocks_text Kind.History2 r
+results_in_form Form.Evidence names r = blocks_text Kind.Evidence r
+results_in_form (Form.Junit suite) names r = junit_of VERSION.now suite (results_summaries names r)
+
+-- the fault for an output that was not written whole
+abbrev pub of_output : OutFault → RunFault
+of_output OutFault.NoMemory = RunFault.NoMemory
+of_output OutFault.Write = RunFault.Write
+
+-- why a text was not written whole: without memory nothing was, if the writer failed a prefix; there is no other fault
+abbrev pub LeavesUnwritten : Option (List ℕ) → Option (List ℕ) → List ℕ → RunFault → Type 0
+LeavesUnwritten before after text fault = (why : OutFault) × (fault ≡ of_output why) × LeavesPrefix before after text why

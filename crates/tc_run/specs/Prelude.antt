@@ -1,0 +1,3 @@
+-- What other crates cite of these definitions.
+pub use Rattle.tc_run.specs.Output.{LeavesUnwritten, of_output, results_in_form}
+pub use Rattle.tc_run.specs.Run.{IsRun, IsUnwrittenRun, RunsCases, IsScripted, script_outline}

@@ -1,0 +1,84 @@
+-- The run of a campaign, what is written of it, and what the reports of its test cases say of their scripts.
+use Rattle.std.specs.Prelude.{ℕ, ◌≡◌, Bool, List, Option, Some, None, Result, map, ◌⊎◌, length}
+use Rattle.std.specs.{Io.KnownBytes.Appends, Result.result_and, Result.result_map_both}
+use Rattle.tc_stream.specs.Prelude.{AppendsPrefix}
+use Rattle.tc_campaign.specs.Prelude.{Outline, AreFinished, IsRunTo}
+use Rattle.tc_report.specs.declared.{fault.OutFault.OutFault, live_form.LiveForm.LiveForm, results.Finished.Finished, results.Results.Results}
+use Rattle.tc_report.specs.Prelude.{abort_text, LeavesPrefix, IsToldBy, results_status}
+use Rattle.tc_command.specs.declared.task.RunOptions.{RunOptions}
+use Rattle.tc_answer.specs.declared.{fault.RunFault.RunFault, outcome.Outcome.Outcome}
+use Rattle.tc_entry.specs.declared.limits.TheConstants.{BEHAVIOURS}
+use Rattle.tc_answer.specs.Prelude.{Streams, IsTold, run_fault_line, IsPrintedRefusal, CaseView, scripts_of}
+use Rattle.tc_exec.specs.Prelude.{AreCalled, IsMadeOf, AreLogsBy}
+use Rattle.tc_script.specs.Prelude.{MakesItsCalls}
+use Rattle.tc_course.specs.Prelude.{IsWitness}
+use Rattle.tc_run.specs.Output.{of_output, live_form, results_in_form}
+
+-- by this answer, which has the first fault, a run has printed what is due of its test cases as they finish, and after it the
+-- line for a campaign that was aborted
+pub record TellsRun (progress : Bool) (r : Results) (untold told : Option (List ℕ)) (answer : Result (Unit {0}) RunFault) : Type 0 where
+  pub between : Option (List ℕ)
+  pub telling : Result (Unit {0}) OutFault
+  pub cases_told : IsToldBy progress untold between r.finished telling
+  pub line : Result (Unit {0}) RunFault
+  pub line_told : IsTold between told (abort_text r.ending) line
+  pub first : answer ≡ result_and (result_map_both (λ x. x) of_output telling) line
+
+-- the text of the results of these cases, in the form asked for
+abbrev pub results_text : {C : Type 0} → (C → Outline) → List C → RunOptions → Results → List ℕ
+results_text outline cases options r = results_in_form options.form (map (λ c. (outline c).name) cases) r
+
+module _ {C : Type 0} (outline : C → Outline) (called : C → Finished → Type 0) (cases : List C) (options : RunOptions) where
+  -- these cases were run under these options, and the results were given
+  pub record IsRun (streams : Streams) (outcome : Outcome) : Type 0 where
+    pub results : Results
+    pub right : IsRunTo outline called cases options.stop_on BEHAVIOURS results.finished results.ending
+    -- the outcome has their status
+    pub status : outcome.status ≡ results_status results
+    -- their text was written in the form asked for
+    pub written : Appends streams.before streams.after (results_text outline cases options results)
+    -- what is due on standard error was printed, as the outcome says
+    pub told : TellsRun options.progress results streams.untold streams.told outcome.told
+
+  -- by this fault the text of the results was not written whole: at the end, or as the test cases finished. Then a
+  -- prefix of it is out, and the fault may have ended the campaign.
+  abbrev pub IsLeft : Option LiveForm → Streams → Results → OutFault → Type 0
+  IsLeft None s r fault =
+      IsRunTo outline called cases options.stop_on BEHAVIOURS r.finished r.ending
+      × LeavesPrefix s.before s.after (results_text outline cases options r) fault
+  IsLeft (Some form) s r fault =
+      AreFinished outline called cases options.stop_on BEHAVIOURS r.finished × AppendsPrefix s.before s.after (results_text outline cases options r)
+
+  -- these cases were run under these options, and the text of the results was not written whole; what is due of them was
+  -- printed, or not all of it
+  pub record IsUnwrittenRun (streams : Streams) (fault : OutFault) : Type 0 where
+    pub results : Results
+    pub left : IsLeft (live_form options.live options.form) streams results fault
+    pub told : (telling : Result (Unit {0}) OutFault) × IsToldBy options.progress streams.untold streams.told results.finished telling
+
+module _ {C : Type 0} (outline : C → Outline) (called : C → Finished → Type 0) (AreToBeRun : List C → Type 0) (o : RunOptions) (streams : Streams) (outcome : Outcome) where
+  -- the results of these test cases were not written whole, and that is printed after what was printed of them
+  pub record LeavesCases (cases : List C) : Type 0 where
+    pub fault : OutFault
+    pub between : Option (List ℕ)
+    pub run : IsUnwrittenRun outline called cases o (record streams { told = between }) fault
+    pub refusal : IsPrintedRefusal between streams.told (run_fault_line (of_output fault)) outcome
+
+  -- The test cases that are asked for were run, as it is asked for. Their right results were written, and their status
+  -- and the line of an aborted campaign are those of the outcome; or the results were not written whole.
+  pub record RunsCases : Type 0 where
+    pub asked_for : List C
+    pub chosen : AreToBeRun asked_for
+    pub run : IsRun outline called asked_for o streams outcome ⊎ LeavesCases asked_for
+
+-- the outline of a test case: each behaviour is one job
+abbrev pub script_outline : CaseView → Outline
+script_outline c = record { name = c.0; names = map (λ b. b.0) c.1; jobs = length c.1 }
+
+-- each behaviour of which the run was started got as many arguments as its script has parameters, and made the calls of
+-- its steps with a new pass of that run. The report is made of what these passes have logged, and each of its logs is
+-- that of the script of its run. Its history is a complete course of the scripts, with the verdict of the report.
+abbrev pub IsScripted : CaseView → Finished → Type 0
+IsScripted c f =
+    AreCalled MakesItsCalls (scripts_of c.1) f.report × IsMadeOf MakesItsCalls (scripts_of c.1) f.report × AreLogsBy MakesItsCalls (scripts_of c.1) f.report
+    × IsWitness (scripts_of c.1) f.report.history f.report.verdict

@@ -1,3 +1,0 @@
--- The lemmas that other crates cite.
-pub mod Reports
-pub mod Spelled

@@ -1,4 +1,0 @@
--- The lemmas of this crate.
-pub mod Giving
-pub mod Lemmas
-pub mod Logging

@@ -1,5 +1,0 @@
-use Rattle.tc_scripted.proofs.Lemmas.Reports.{report_is_found}
-use Rattle.tc_scripted.proofs.laws.report_is_found.Goals as goal
-
-pub returns : goal.returns
-returns c = report_is_found

@@ -1,0 +1,320 @@
+"""The page in a browser, as one who tries it: what it shows is what the built program answers."""
+import json
+import os
+import random
+import re
+import time
+from typing import List, Tuple
+
+from beside import TOP, Context, program_answer, texts
+from browser import Browser
+from harness import hold, same
+from histories import legal_case
+from shown import LOOKS, fits
+from sizes import many_behaviours
+from table import VERDICTS
+
+FAULTY = "testcase t\nbehaviour main\n  setverdct pass\nend\nend\n"
+PASSES = [["t", ["pass"], "complete"]]
+NOTED = "testcase t\nbehaviour main\n  setverdict pass\nend\nend\n"
+FAULT, PRINTED, CASES = "$('#fault pre').textContent", "$('#rows pre').textContent", "$$('.cases tbody tr').length"
+
+
+def tangled(cases: int, count: int, steps: int) -> str:
+    """Test cases whose behaviours halt one another, so that a search takes seconds for each."""
+    rng, lines = random.Random(0), []
+    calls = ("kill a", "stop b", "setverdict fail", "setverdict pass", "running a", "alive b", "wait done a", "setverdict inconc")
+    for case in range(cases):
+        lines += [f"testcase t{case}", "behaviour main", *(f"create p{at} alive" for at in range(count))]
+        lines += [f"start p{at} w{at} p{(at + 1) % count} p{(at + 3) % count}" for at in range(count)] + ["wait done any", "end"]
+        for at in range(count):
+            lines += [f"behaviour w{at} a b", *(rng.choice(calls) for _ in range(steps)), "end"]
+        lines.append("end")
+    return "\n".join([*lines, ""])
+
+
+def answered(page: Browser) -> None:
+    page.until("state.later === null && state.answered === state.turn")
+
+
+def opened(context: Context, page: Browser, look: Tuple[int, int, bool] = LOOKS[0], after: str = "") -> None:
+    """Opens the page again, with this at the end of its address, and waits for its first answer."""
+    page.open(context.page, *look, after=after)
+    answered(page)
+
+
+def put(page: Browser, text: str, states: str = "") -> None:
+    """Puts a text into the editor, as a paste does, with a limit of states."""
+    page.js(f"$('#states').value = '{states}'; $('#text').value = {json.dumps(text)}; $('#text').dispatchEvent(new Event('input'))")
+
+
+def give(page: Browser, text: str, states: str = "") -> None:
+    """Puts a text into the editor, and waits until it is answered."""
+    put(page, text, states), answered(page)
+
+
+def choose(page: Browser, name: str) -> str:
+    """Chooses an example, and returns its text."""
+    page.js(f"$('#example').value = {json.dumps(name)}; $('#example').dispatchEvent(new Event('change'))"), answered(page)
+    return page.js("$('#text').value")
+
+
+def explained(context: Context, data: bytes) -> str:
+    """What the program prints with --explain of a text that it refuses, by what the text begins with."""
+    words = ("check",) if data.startswith(b"h") else ("replay",) if data.startswith(b"b") else ("run",)
+    return program_answer(context, (*words, "--explain"), data)[2].decode().rstrip()
+
+
+def checked(context: Context, text: str) -> str:
+    return program_answer(context, ("check",), text.encode())[1].decode().strip()
+
+
+def explored(context: Context, text: str, *words: str) -> Tuple[List[list], str]:
+    """Each test case by the program's own answer, and all that it prints of them."""
+    output = program_answer(context, ("explore", "--details", *words), text.encode())[1].decode()
+    rows = [line.split() for line in output.splitlines() if not line.startswith(" ")]
+    return [[row[0], [it for it in row[1:] if it in VERDICTS], " ".join(it for it in row[1:] if it not in VERDICTS)] for row in rows], output
+
+
+def witnesses(context: Context, text: str, *words: str) -> List[List[str]]:
+    """The entries of each witness, as the program writes them."""
+    written = program_answer(context, ("explore", "--history", *words), text.encode())[1].decode()
+    return [block.split("\n")[1:-1] for block in re.split(r"(?m)^end \w+\n", written)[:-1]]
+
+
+def each_witness(context: Context, page: Browser, text: str, *words: str) -> int:
+    """Opens each witness, and holds its entries, its verdict, its end and the words next to it to the program's."""
+    rows, details = explored(context, text, *words)
+    number, wanted = 0, witnesses(context, text, *words)
+    same(sum(len(verdicts) for _, verdicts, _ in rows), len(wanted))
+    for name, verdicts, _ in rows:
+        for verdict in verdicts:
+            page.go(f"#/{number}")
+            page.holds([name, verdict], "[$('h2').textContent, app.panes[0].chart.game.status]")
+            page.holds(wanted[number], "app.panes[0].chart.game.list.map(entry => entry.text)")
+            hold(f"verdict {verdict}" in page.js("(app.panes[0].chart.picture(''))"), name)
+            number += 1
+    stuck = [line[9:] for line in details.splitlines() if line.startswith("  stuck: ")]
+    shown = [it for at in range(number) for it in (page.go(f"#/{at}"), page.js("$$('#why li').map(one => one.textContent)"))[1]]
+    hold(all(it in shown for it in stuck), f"{stuck} are not all shown")
+    return number
+
+
+def every_example_in_each_look(context: Context, page: Browser) -> str:
+    """Scripts, histories and moves, in both themes and widths."""
+    count, drawn = 0, 0
+    for look in LOOKS:
+        opened(context, page, look)
+        for name in page.js("[...$('#example').options].map(one => one.textContent)"):
+            text, count = choose(page, name), count + 1
+            fits(page, look[2])
+            if name.endswith(".history"):
+                page.holds(checked(context, text), PRINTED)
+            elif name.endswith(".moves"):
+                page.holds(program_answer(context, ("replay",), text.encode())[1].decode(), "$('#main pre').textContent")
+            else:
+                page.holds(explored(context, text)[0], "looking.chips()")
+                drawn += each_witness(context, page, text)
+            fits(page, look[2])
+    hold(count >= 4 * 18 and drawn >= 4 * 18, (count, drawn))
+    return f"{count} examples, {drawn} witnesses"
+
+
+def two_verdicts_side_by_side(context: Context, page: Browser) -> str:
+    """A race is shown at once: two charts up to where they part; each verdict leads to its own, and back."""
+    opened(context, page)
+    page.holds(["none", "fail"], "app.panes.map(pane => pane.chart.game.status)")
+    page.holds("alike for 2 entries", "$('#main .bar span').textContent")
+    page.holds(2, "$$('.rows .part').length")
+    page.click("#rows a:nth-of-type(2)")
+    page.holds(["#/1", "fail"], "[location.hash, ...app.panes.map(pane => pane.chart.game.status)]")
+    page.click("#rows td:last-child a")
+    page.holds("#/0/1", "location.hash")
+    page.js("history.back()"), page.until("location.hash === '#/1'")
+    page.click("#why summary")
+    hold("none and fail: alike for 2 entries" in page.js("$('#why pre').innerText"), "the details are not shown")
+    page.click("#main .bar a")
+    page.holds(2, CASES)
+    race = page.js("$('#text').value").split("\n", 1)[1]
+    both = race + race.replace("testcase t", "testcase u").replace("setverdict fail", "setverdict pass")
+    give(page, both)
+    page.holds(explored(context, both)[0], "looking.chips()")
+    page.holds([["#/0", "#/1", "#/0/1"], ["#/2", "#/3", "#/2/3"]], "$$('#rows tr').map(row => [...row.querySelectorAll('a')].map(link => link.hash))")
+    count = each_witness(context, page, both)
+    # if no test case has two verdicts, one that can get stuck is shown
+    give(page, NOTED + choose(page, "a circle of waits"))
+    page.holds("t_circle", "$('h2').textContent")
+    return f"2 charts, {count} witnesses"
+
+
+def a_fault_is_marked_while_typing(context: Context, page: Browser) -> str:
+    """Its line, its letters and all that --explain prints; the nearest word is put there by a button."""
+    opened(context, page)
+    page.js("$('#text').value = ''; $('#text').focus()")
+    page.type(FAULTY), answered(page)
+    page.holds(explained(context, FAULTY.encode()), FAULT)
+    line, letters = page.js("[$('#mark'), $('#letters')].map(one => (r => [r.x, r.y, r.width, r.height])(one.getBoundingClientRect()))")
+    left, top, letter = page.js("(r => [r.x, r.y, $('#letters').getBoundingClientRect().width / 9])($('#text').getBoundingClientRect())")
+    hold(abs(line[1] - top - 8 - 2 * 19) < 1 and abs(letters[0] - left - 8 - 2 * letter) < 1 and 60 < letters[2] < 90, (line, letters, left, top))
+    hold(page.js("$('#rows').classList.contains('stale') && $('#text').getAttribute('aria-invalid') === 'true'"), "what was found before looks new")
+    page.click("#there")
+    page.holds("setverdct", "$('#text').value.slice($('#text').selectionStart, $('#text').selectionEnd)")
+    page.click("#nearest"), answered(page)
+    page.holds([NOTED, PASSES, ""], "[$('#text').value, looking.chips(), $('#fault').textContent]")
+    texts_with_faults = (" testcase t\nbehaviour main\nend\n", "history 2 t 1\n0 creat -> made 1\nend none\n", "behaviours 3\n0 crate\n", "",
+                         "x\u00e9\n", "testcase t\nbehaviour main\n  setverdict p\u00e4ss\nend\nend\n", "testcase t\t\n")
+    for text in texts_with_faults:
+        give(page, text)
+        page.holds(explained(context, text.encode()), FAULT)
+    return f"{len(texts_with_faults) + 1} faults"
+
+
+def a_history_is_checked_and_drawn(context: Context, page: Browser) -> str:
+    """A legal one, one that is not, many, and one from a file."""
+    opened(context, page)
+    text = texts(".history")[1].decode()
+    give(page, text)
+    page.holds([checked(context, text), "legal"], f"[{PRINTED}, $('#head').textContent.slice(-5)]")
+    wrong = text.replace("setverdict fail -> ok", "setverdict fail -> ended", 1).replace("getverdict -> fail", "getverdict -> pass", 1)
+    hold(wrong != text, "nothing is wrong")
+    give(page, wrong)
+    printed = checked(context, wrong)
+    page.holds(["Not legal", printed, printed.splitlines()[-1]], f"[$('#head').textContent, {PRINTED}, {FAULT}]")
+    hold(page.js("!$('#mark').hidden && app.cases.length > 0"), "it is not marked, or not drawn")
+    for count, more in ((201, "\n.."), (200, ""), (30, "")):
+        many = "".join(legal_case(f"t_{at}", 2, 2) for at in range(count))
+        give(page, many)
+        page.holds([f"{count} histories, each legal", count], f"[$('#head').textContent, {CASES}]")
+        page.holds("\n".join(checked(context, many).splitlines()[:200]) + more, PRINTED)
+    page.js("document.activeElement.blur()")
+    page.holds("t_2", "$('h2').textContent", "j", "j", "Enter")
+    page.choose_files([os.path.join(TOP, "examples", "workers.history")]), answered(page)
+    page.holds(texts(".history")[-1].decode(), "$('#text').value")
+    hold(page.js("app.panes.length + $$('.cases').length") == 1, "nothing is drawn of the file")
+    return "7 texts"
+
+
+def begin_long_search(page: Browser) -> None:
+    """Gives a script whose search takes minutes, and waits until the page says that it searches."""
+    put(page, tangled(20, 10, 10), "1000000")
+    page.until("$('#head').textContent === 'Searching' && !$('#stop').disabled")
+
+
+def a_search_is_told_and_stopped(context: Context, page: Browser) -> str:
+    """The page says that it searches; the button or another text ends the search, and the next one is answered."""
+    opened(context, page)
+    page.js("window.ended = 0; const terminate = Worker.prototype.terminate; Worker.prototype.terminate = function () "
+            "{ window.ended += 1; return terminate.call(this); }; 1")
+    for end in ("button", "text"):
+        begin_long_search(page)
+        hold(re.fullmatch(r"for \d+\.\d s", page.js("$('#took').textContent")), "it does not tell for how long")
+        if end == "button":
+            page.click("#stop")
+            page.holds(["Stopped: nothing is known of the verdicts", 0, 0], "[$('#head').textContent, $$('#rows tr').length, app.cases.length]")
+        began = time.monotonic()
+        give(page, NOTED)
+        hold(time.monotonic() - began < 15, f"{time.monotonic() - began:.0f} seconds: the search before was not ended")
+        page.holds(PASSES, "looking.chips()")
+    long = tangled(4, 9, 9)
+    for end in ("", "$('#stop').click()"):
+        put(page, long)
+        rows, head, links = page.js(f"looking.again(() => {{ {end} }})")
+        same([explored(context, long)[0], 0], [rows, links])
+        answered(page)
+        page.holds([rows, head, True], "[looking.chips(), $('#head').textContent, $('#stop').disabled]")
+        told = r"status [013], in [\d.]+ m?s" + ("; stopped before the witnesses came" if end else "")
+        hold(re.fullmatch(told, page.js("$('#took').textContent")), page.js("$('#took').textContent"))
+        page.holds(0 if end else sum(len(verdicts) for _, verdicts, _ in rows), "app.cases.length")
+    for states in ("1000", ""):
+        give(page, many_behaviours(6).decode(), states)
+        page.holds(explored(context, many_behaviours(6).decode(), *("--states", states) * bool(states))[0], "looking.chips()")
+    hold(page.js("window.ended") >= 3, f"{page.js('window.ended')} workers were ended")
+    return "3 searches ended"
+
+
+def a_link_holds_the_script(context: Context, page: Browser) -> str:
+    """The address of a link shows the same script to another, and leaves nothing to a server."""
+    script = "# 100 % of a+b, #1?\ntestcase t\nbehaviour main\n  setverdict inconc\nend\nend\n"
+    opened(context, page)
+    give(page, script), page.click("#link")
+    page.until("location.hash !== '' && $('#notice').textContent !== ''")
+    address = page.js("location.href")
+    hold("#" in address and page.js("$('#notice').textContent").startswith("The link is "), address)
+    page.holds([["t", ["inconc"], "complete"]], "looking.chips()")
+    opened(context, page, LOOKS[1], address.split("#", 1)[1])
+    page.holds([script, [["t", ["inconc"], "complete"]], address], "[$('#text').value, looking.chips(), location.href]")
+    page.js("$('#text').focus()"), page.key("x"), answered(page)
+    hold("#" not in page.js("location.href"), "another text under the old address")
+    opened(context, page, LOOKS[0], "/99")
+    page.holds("t", "$('#rows b').textContent")
+    return f"{len(address)} letters"
+
+
+def buttons_and_keys(context: Context, page: Browser) -> str:
+    """The words about what is proved, the buttons of a chart, and the keys."""
+    opened(context, page)
+    page.click("#about")
+    words = page.js("$('#proved').innerText")
+    hold(all(word in words for word in ("Not proved:", "build.py", "heap.c", "helpers.c", "WebAssembly", "does not judge", "rattle-kit")), words)
+    fits(page, False)
+    page.holds(False, "$('#proved').open", "Escape")
+    page.click("#about"), page.click("#proved form button")
+    page.holds(False, "$('#proved').open")
+    page.js("$('#text').focus()"), page.with_control("Enter"), answered(page)
+    page.holds("BODY", "document.activeElement.tagName", "Escape")
+    for act in (lambda: page.key("Escape"), lambda: page.click("#main .bar a")):
+        opened(context, page), act()
+        page.holds(2, CASES)
+    page.go("#/1")
+    page.holds(1, "app.pane.chart.chosen", "Home", "j")
+    page.holds("1 setverdict fail -> ok", "$('.state code').textContent", "w")
+    page.click("#mermaid")
+    hold(page.js("$('dialog textarea').value").startswith("sequenceDiagram"), "no diagram")
+    page.key("Escape")
+    page.js("window.saved = new Promise(done => { const make = URL.createObjectURL; URL.createObjectURL = made => { URL.createObjectURL = make; "
+            "done(made.text()); return make(made); }; }), 1")
+    page.click("#save")
+    hold(page.js("window.saved").startswith('<svg xmlns="http://www.w3.org/2000/svg" class="chart"'), "no picture is saved")
+    page.holds("t, ttrun in a page", "document.title")
+    keys_of_cases(page)
+    for text, name in (("# one\n \t# two\n\n" + NOTED, "Explore"), ("# one\n\nhistory 2 t 1\n", "Check"), ("\n\nbehaviours 3\n", "Replay"),
+                       ("evidence 1 t 1\n0 finish -> ok\nend none\n", "Check"), ("# history\nevidences", "Explore"), ("", "Explore")):
+        give(page, text)
+        page.holds([name, name != "Explore"], "[$('#go').textContent, $('#states').disabled]")
+    page.click("#go"), answered(page)
+    return f"{places_by_tab(page)} places by Tab"
+
+
+def keys_of_cases(page: Browser) -> None:
+    """The keys that the words next to a chart name, over the cases of the first example."""
+    page.go("#/0")
+    page.holds("#/1", "location.hash", "]")
+    page.holds("#/0", "location.hash", "]", "[")
+    page.holds("search", "document.activeElement.id", "/")
+    page.type("start")
+    page.holds(True, "app.pane.chart.chosen >= 1", "Enter", "Escape", "Home", "n")
+    page.holds([2, "ttrun in a page"], f"[{CASES}, document.title]", "N", "Escape")
+    page.holds("search", "document.activeElement.id", "/")
+    page.holds("#/1", "location.hash", "Escape", "j", "Enter")
+    page.js("$('#other').value = '0', $('#other').dispatchEvent(new Event('change'))"), page.settle()
+    page.holds(["#/1/0", 2], "[location.hash, $$('.pane').length]")
+    for option in ("questions", "ended", "isFolded"):
+        page.click(f"[data-option={option}]"), page.click(f"[data-option={option}]")
+    page.js("$('#focus').value = '1', $('#focus').dispatchEvent(new Event('change'))"), page.settle()
+    page.holds(1, "app.options.focus")
+    page.key("Escape")
+
+
+def places_by_tab(page: Browser) -> int:
+    """The places that Tab reaches. Nothing was loaded by then."""
+    reached = []
+    for _ in range(14):
+        page.key("Tab")
+        reached.append(page.js("document.activeElement.id || document.activeElement.tagName"))
+    hold(len(set(reached)) >= 6, reached)
+    page.holds([], "performance.getEntriesByType('resource').map(one => one.name).filter(name => !name.startsWith('blob:'))")
+    return len(set(reached))
+
+
+TESTS = (every_example_in_each_look, two_verdicts_side_by_side, a_fault_is_marked_while_typing, a_history_is_checked_and_drawn,
+         a_search_is_told_and_stopped, a_link_holds_the_script, buttons_and_keys)
