@@ -105,6 +105,7 @@ def every_example_in_each_look(context: Context, page: Browser) -> str:
     count, drawn = 0, 0
     for look in LOOKS:
         opened(context, page, look)
+        page.holds(True, "$('#text').clientWidth > .8 * $('.editor').clientWidth")
         for name in page.js("[...$('#example').options].map(one => one.textContent)"):
             text, count = choose(page, name), count + 1
             fits(page, look[2])
