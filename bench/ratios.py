@@ -4,10 +4,10 @@
 usage: bench/ratios.py PROGRAM [--rounds N] [--only WORD] [--instructions] [--write]
 
 PROGRAM is the built ttrun. What both print is compared byte by byte first. A ratio is the median over the rounds of ttrun's processor
-time by its twin's, and its spread is what lies between the quarters of the rounds. `bench/ratios.txt` has the ratio and the
-spread of each row in an earlier run. A ratio that is above it by more than the spread fails, and then the status is 1. With --write
-the rows are written into the file, and none fails. With --instructions the ratios are of instructions, which valgrind counts in one
-round; nothing is compared with the file.
+time by its twin's, and its spread is what lies between the quarters of the rounds. Next to it are the ratio by the clock and, with
+--instructions, that of the instructions that valgrind counts in one round. `bench/ratios.txt` has the ratio of processor time and
+the spread of each row in an earlier run. A ratio that is above it by more than the spread fails, and then the status is 1. With
+--write the rows are written into the file, and none fails.
 """
 import argparse
 import os
@@ -43,6 +43,7 @@ ROWS: Dict[str, Row] = {
 
 class Spent(NamedTuple):
     milliseconds: float
+    clock: float
     mebibytes: float
 
 
@@ -54,6 +55,9 @@ class Sides(NamedTuple):
 
     def ratios(self) -> List[float]:
         return [our.milliseconds / their.milliseconds for our, their in zip(self.ours, self.theirs)]
+
+    def by_clock(self) -> float:
+        return statistics.median(our.clock / their.clock for our, their in zip(self.ours, self.theirs))
 
 
 def built(source: str, work: str) -> str:
@@ -76,19 +80,18 @@ def output_of(words: Sequence[str], path: str) -> bytes:
         return subprocess.run(list(words), stdin=given, stdout=subprocess.PIPE, check=False).stdout
 
 
-def count_once(words: Sequence[str], path: str) -> Spent:
-    """Millions of instructions, without the peak memory."""
+def instructions(words: Sequence[str], path: str) -> int:
     command = ["valgrind", "--tool=callgrind", "--callgrind-out-file=/dev/null", *words]
     with open(path, "rb") as given:
         ran = subprocess.run(command, stdin=given, stdout=subprocess.DEVNULL, stderr=subprocess.PIPE, check=False)
-    return Spent(float(re.search(rb"Collected : (\d+)", ran.stderr)[1]) / 1e6, 0)
+    return int(re.search(rb"Collected : (\d+)", ran.stderr)[1])
 
 
 def timed(measure: str, rounds: int, ours: Sequence[str], theirs: Sequence[str], path: str) -> Sides:
     """Both programs in turn, so that other work meets both."""
     ran = subprocess.run([measure, str(rounds), path, *ours, "--", *theirs], stdout=subprocess.PIPE, check=True, text=True)
     lines = [[float(it) for it in line.split()] for line in ran.stdout.splitlines()]
-    return Sides([Spent(*it[:2]) for it in lines], [Spent(*it[2:]) for it in lines])
+    return Sides([Spent(*it[:3]) for it in lines], [Spent(*it[3:]) for it in lines])
 
 
 def spread_of(ratios: List[float]) -> float:
@@ -111,13 +114,14 @@ def write_landed(found: Dict[str, Tuple[float, float]]) -> None:
         file.writelines(f"{name}\t{ratio:.3f}\t{spread:.3f}\n" for name, (ratio, spread) in found.items())
 
 
-def cells(sides: Sides, ratio: float, spread: float) -> List[str]:
+def cells(sides: Sides, ratio: float, spread: float, counted: str) -> List[str]:
     medians = [f"{statistics.median(it.milliseconds for it in side):.2f}" for side in sides]
-    return [*medians, f"{ratio:.2f}", f"{spread:.2f}", *(f"{max(it.mebibytes for it in side):.1f}" for side in sides)]
+    peaks = [f"{max(it.mebibytes for it in side):.1f}" for side in sides]
+    return [*medians, f"{ratio:.2f}", f"{spread:.2f}", f"{sides.by_clock():.2f}", counted, *peaks]
 
 
 def read_words() -> argparse.Namespace:
-    parser = argparse.ArgumentParser(description="ttrun next to its twins, as ratios of processor time")
+    parser = argparse.ArgumentParser(description="ttrun next to its twins, as ratios")
     parser.add_argument("program")
     parser.add_argument("--rounds", type=int, default=15)
     parser.add_argument("--only", default="")
@@ -137,12 +141,11 @@ def judged(name: str, ratio: float, spread: float, before: Dict[str, Tuple[float
 
 def main() -> int:
     asked = read_words()
-    unit = "million instructions" if asked.instructions else "ms"
-    before = {} if asked.instructions or not os.path.exists(LANDED) else landed()
+    before = landed() if os.path.exists(LANDED) else {}
     found: Dict[str, Tuple[float, float]] = {}
     failed = 0
-    print(f"| input | ttrun, {unit} | twin, {unit} | ratio | spread | ttrun, MiB | twin, MiB | earlier |")
-    print("|---|---|---|---|---|---|---|---|")
+    print("| input | ttrun, ms | twin, ms | ratio | spread | by the clock | instructions | ttrun, MiB | twin, MiB | earlier |")
+    print("|---|---|---|---|---|---|---|---|---|---|")
     with tempfile.TemporaryDirectory() as work:
         measure = built("measure.rs", work)
         for name, row in ROWS.items():
@@ -152,15 +155,13 @@ def main() -> int:
             if output_of(ours, path) != output_of(theirs, path):
                 print(f"ratios: {name}: the twin prints something else", file=sys.stderr)
                 return 1
-            if asked.instructions:
-                sides = Sides([count_once(ours, path)], [count_once(theirs, path)])
-            else:
-                sides = timed(measure, asked.rounds, ours, theirs, path)
+            sides = timed(measure, asked.rounds, ours, theirs, path)
+            counted = f"{instructions(ours, path) / instructions(theirs, path):.2f}" if asked.instructions else ""
             ratio, spread = statistics.median(sides.ratios()), spread_of(sides.ratios())
             found[name] = (ratio, spread)
             told, slower = judged(name, ratio, spread, before)
             failed += slower and not asked.write
-            print(f"| {name} | {' | '.join(cells(sides, ratio, spread))} | {told} |", flush=True)
+            print(f"| {name} | {' | '.join(cells(sides, ratio, spread, counted))} | {told} |", flush=True)
     if asked.write:
         write_landed({**before, **found})
     return 1 if failed else 0

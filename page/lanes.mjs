@@ -41,17 +41,20 @@ function noteWait(lane, entry, at) {
 }
 // The case of a summary: its entries and remarks in one list, and `places`, the indices of the entries in it. A change at an
 // entry holds after it, and a change at -1 from the beginning. `overAt` is the entry that ended the case, `part` the first one
-// that differs from another case, `on` of an entry the component of its run. `who`, `which` and `ran` give names.
+// that differs from another case, `on` of an entry the component of its run, `at` its place. If a run asks for its verdict
+// again and gets the same, `asked` is where it began to ask. `who`, `which` and `ran` give names.
 export function openCase(text, summary) {
-  const table = new Table(), list = [], places = [], lanes = new Map(), { names } = summary;
+  const table = new Table(), list = [], places = [], lanes = new Map(), lasts = new Map(), { names } = summary;
   const who = number => nameOf(number, lanes.get(number)?.name), which = run => named(run, names.get(run));
   const ran = number => [...lanes.get(number).runs].filter(run => names.has(run)).map(run => `run ${which(run)}`).join(", ");
   const game = { ...summary, list, places, lanes, overAt: null, part: -1, who, which, ran };
   note(lanes, table.slot(0), -1, null);
   readBlock(new Lines(text, summary.from, summary.line - 1), entry => {
-    const at = list.push(entry) - 1, wasOver = table.isOver, on = table.runs.get(entry.run);
-    entry.on = lanes.has(on) ? on : null;
+    const at = list.push(entry) - 1, wasOver = table.isOver, on = table.runs.get(entry.run), last = lasts.get(entry.run);
+    Object.assign(entry, { on: lanes.has(on) ? on : null, at, asked: at });
     if (entry.said) return;
+    if (entry.verb === "getverdict" && last?.verb === "getverdict" && last.reply === entry.reply) entry.asked = last.asked;
+    lasts.set(entry.run, entry);
     places.push(at);
     if (entry.on !== null) noteWait(lanes.get(on), entry, at);
     for (const slot of table.take(entry)) note(lanes, slot, at, entry.verb);

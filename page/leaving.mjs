@@ -6,7 +6,8 @@ const MOST_DRAWN = 20000, MOST_TOLD = 2000;  // rows
 export function fileOf(chart) {
   const rules = [...document.styleSheets[0].cssRules], light = rules[0].style;
   const plain = rule => rule.cssText.replace(/var\((--[\w-]+)\)/g, (_, name) => light.getPropertyValue(name).trim());
-  return chart.picture(`<style>${rules.filter(rule => rule.selectorText?.includes("chart")).map(plain).join("\n")}</style>`);
+  const style = `<style>${rules.filter(rule => rule.selectorText?.includes("chart")).map(plain).join("\n")}</style>`;
+  return chart.picture(style, `test case ${chart.game.name}`);
 }
 function isShort({ rows }, what, most) {
   if (rows.length > most) alert(`${what} would have ${rows.length} rows of at most ${most}: fold, hide, or choose a component.`);

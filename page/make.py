@@ -25,7 +25,7 @@ DEFINED = re.compile(r"(?m)^(?:export )?(?:async )?(?:function|class|const|let) 
 
 def source(name: str) -> str:
     (path,) = [path for path in (os.path.join(TOP, folder, name) for folder in FOLDERS) if os.path.exists(path)]
-    with open(path, encoding="ascii") as file:
+    with open(path, encoding="utf-8") as file:
         return file.read()
 
 
@@ -69,9 +69,13 @@ def filled(frame: str, parts: Dict[str, str]) -> str:
     return re.sub(r"\{\{(\w+)\}\}", lambda found: parts[found[1]], text)
 
 
+def version() -> str:
+    return re.search(r'VERSION: &str = "([^"]*)"', source("../crates/tc_command/src/command.rt"))[1]
+
+
 def page() -> str:
     parts = {"style": style("page.css"), "script": script("main")}
-    return filled("page.html", {**parts, "policy": policy(parts["style"], parts["script"])})
+    return filled("page.html", {**parts, "policy": policy(parts["style"], parts["script"]), "version": version()})
 
 
 def constant(name: str, says: str, text: str) -> str:
@@ -89,18 +93,10 @@ def made() -> Dict[str, str]:
             f"{CRATE}/src/tail.rt": constant("TAIL", "What a page has after the histories.", tail)}
 
 
-def is_made(path: str, text: str) -> bool:
-    """Whether a file has this text."""
-    try:
-        with open(os.path.join(TOP, path), encoding="ascii") as file:
-            return file.read() == text
-    except (OSError, UnicodeDecodeError):
-        return False
-
-
 def differing() -> List[str]:
     """The files that are not what the sources make, each with what to do."""
-    return [f"{path} is not what the sources of the page make: python3 page/make.py" for path, text in made().items() if not is_made(path, text)]
+    read = lambda path: open(path, encoding="ascii", errors="replace").read() if os.path.exists(path) else ""
+    return [f"{path} is not what the sources of the page make: python3 page/make.py" for path, text in made().items() if read(os.path.join(TOP, path)) != text]
 
 
 def main() -> int:

@@ -10,10 +10,19 @@ const isAbout = (entry, component) => entry.on === component || entry.target ===
 export const decidingOf = game => game.overall >= 2 ? game.list[game.why.index] : null;
 export const isDeciding = (game, row) => game.overall >= 2 && row.first <= game.why.index && game.why.index <= row.last;
 // Whether an entry is shown. The entry that ends the case and the one that made its verdict always are.
-export function filterOf(game, { focus, questions, ended, remarks }) {
+// A run that asks for its verdict over and over, as a bench does in a sleep, shows the first of these if repeats are folded.
+export function filterOf(game, { focus, questions, ended, remarks, isFolded }, unfolded) {
   const always = [game.list[game.overAt], decidingOf(game)];
-  return entry => always.includes(entry) || ((focus === null || isAbout(entry, focus)) &&
+  const isAgain = ({ asked, at }) => isFolded && asked !== at && !unfolded.has(asked) && !(asked < game.part && game.part <= at);
+  return entry => always.includes(entry) || ((focus === null || isAbout(entry, focus)) && !isAgain(entry) &&
     (questions || !isQuiet(entry)) && (ended || entry.reply !== "ended") && (remarks || !entry.said));
+}
+// Notes in each row how often its run asked for its verdict, from there on to its next other call.
+export function countAsked(list, isShown, rows) {
+  const times = new Map();
+  for (const entry of list)
+    if (entry.asked !== entry.at && !isShown(entry)) times.set(entry.asked, (times.get(entry.asked) ?? 1) + 1);
+  for (const row of rows) row.asked = row.times === 1 ? times.get(row.first) ?? 1 : 1;
 }
 // The rows of the entries that are shown. If a run makes the same one to four entries at least three times in a row, they
 // share one row. No row goes past the entry `part`.

@@ -2,6 +2,16 @@
 import { VERDICTS } from "./reading.mjs";
 import { lastAt, nameOf, quoted } from "./lanes.mjs";
 import { isQuestion } from "./rows.mjs";
+const MEANINGS = { "no-component": "a component that the call names does not exist", "not-main": "only run 0 may say any or all",
+  "start-main": "the main component is never started", "already-running": "another run is running on the component",
+  "not-startable": "the component is killed", "too-many": "there are as many components as a test case may have",
+  "no-behaviour": "there is no such run to start", stuck: "no run can continue" };
+// What a dynamic error means, by docs/rules.md.
+export function meaningOf({ list, which }, { error, started, at }) {
+  const wasStarted = list.slice(0, at).some(entry => entry.started === started && entry.reply === "ok");
+  const isAgain = error === "no-behaviour" && started !== null && wasStarted;
+  return isAgain ? `run ${which(started)} was started before: a behaviour is started at most once` : MEANINGS[error];
+}
 // An arrow between two life lines, a create, an arrow to all other components, a box on the caller's life line, or a note
 // next to it. An entry without a rule is a box with all its words.
 export function shapeOf({ lanes, who, which }, entry, index) {
@@ -41,9 +51,9 @@ export function shapeOf({ lanes, who, which }, entry, index) {
   if (verb === "finish" && isCarriedOut) return shape("note", `finish run ${which(run)}`);
   return isQuestion(entry) ? shape("note", `${words} \u2192 ${reply}`, "dim small") : shape("box", `${words} \u2192 ${reply}`);
 }
-export function shapeOfRow(game, { seen, size, times }) {
-  const shapes = seen.map(index => shapeOf(game, game.list[index], index));
+export function shapeOfRow(game, { seen, size, times, asked = 1 }) {
+  const shapes = seen.map(index => shapeOf(game, game.list[index], index)), repeats = size === 1 ? Math.max(times, asked) : 1;
+  if (repeats > 1) return { ...shapes[0], label: `${shapes[0].label}  \u00d7${repeats}` };
   if (times === 1) return shapes[0];
-  if (size === 1) return { ...shapes[0], label: `${shapes[0].label}  \u00d7${times}` };
   return { ...shapes[0], form: "box", label: `${times} times: ${shapes.map(shape => shape.label).join(" / ")}`, look: "kept" };
 }

@@ -10,7 +10,7 @@ import tempfile
 
 sys.dont_write_bytecode = True
 TOP = os.path.dirname(os.path.dirname(os.path.abspath(__file__)))
-sys.path += [os.path.join(TOP, "tests", "page")]
+sys.path += [os.path.join(TOP, "tests"), os.path.join(TOP, "tests", "page")]
 
 import make
 from browser import Chromium
@@ -21,22 +21,16 @@ from histories import EXAMPLES, KINDS
 SHOTS = (("table", "", (1000, 500)), ("case", "t_supervised", (1080, 660)), ("compare", "t_race", (1000, 640)))
 
 
-def main() -> int:
-    path = Chromium.find()
-    if path is None:
-        print("there is no Chromium", file=sys.stderr)
-        return 3
+def main() -> None:
     text = "".join(EXAMPLES.values()) + KINDS.split("history 2 t_kinds")[0]
-    with tempfile.TemporaryDirectory(prefix="page-shots-") as room, Chromium(path) as browser:
-        page = write(os.path.join(room, "page.html"), make.page().replace(make.MARK, make.MARK + text))
+    with tempfile.TemporaryDirectory(prefix="page-shots-") as room, Chromium(Chromium.find() or sys.exit("there is no Chromium")) as browser:
+        page = write(os.path.join(room, "nightly.html"), make.page().replace(make.MARK, make.MARK + text))
         for name, case, (width, height) in SHOTS:
             browser.open(page, width, height)
-            browser.js(f"goTo(...app.cases.filter(one => one.name === '{case}').map(one => one.id))")
+            browser.js(f"goTo(...app.cases.filter(one => one.name === '{case}'))")
             browser.settle()
             picture = browser.call("Page.captureScreenshot", format="png", optimizeForSpeed=False)["data"]
             write(os.path.join(TOP, "docs", f"page-{name}.png"), base64.b64decode(picture))
-    return 0
 
 
-if __name__ == "__main__":
-    sys.exit(main())
+main()

@@ -3,17 +3,24 @@ import { $, app, counted, on, when } from "./app.mjs";
 import { MOST_BYTES } from "./reading.mjs";
 import { readHistories } from "./cases.mjs";
 import { escaped } from "./drawing.mjs";
-export function addSource(name, text) {
-  const source = { name, text, ...readHistories(text) };
+// The date and time of a file, as its place on the earth has it.
+const dated = time => new Date(time - new Date(time).getTimezoneOffset() * 60000).toISOString().slice(0, 16).replace("T", " ");
+export function addSource(name, text, time = null) {
+  const source = { name, text, date: time === null ? "" : dated(time), ...readHistories(text) }, met = new Map();
+  for (const one of app.cases) met.set(one.name, (met.get(one.name) ?? 0) + 1);
   app.sources.push(source);
-  for (const summary of source.cases) app.cases.push({ ...summary, source, id: app.cases.length });
+  for (const summary of source.cases) {
+    const nth = (met.get(summary.name) ?? 0) + 1;
+    met.set(summary.name, nth);
+    app.cases.push({ ...summary, source, id: app.cases.length, address: summary.name + when(nth > 1, `.${nth}`) });
+  }
 }
 // Files are shown next to what is open, so that two nights can be compared. Each byte is read as one character, so a byte
 // that is not ASCII is refused as `check` refuses it.
 async function openFiles(files) {
   for (const file of [...files]) {
     const bytes = await file.slice(0, MOST_BYTES + 1).arrayBuffer().catch(() => alert(`${file.name} cannot be read.`));
-    if (bytes) addSource(file.name, new TextDecoder("windows-1252").decode(bytes));
+    if (bytes) addSource(file.name, new TextDecoder("windows-1252").decode(bytes), file.lastModified);
   }
   if (location.hash.length > 1) location.hash = ""; else app.show();
 }
@@ -31,7 +38,7 @@ export function showStart() {
     <div class="drop">Drop files here, of histories or evidence, or open them. More are shown beside them, to be compared.</div>
     <textarea id="paste" aria-label="histories" spellcheck="false"
       placeholder="Or paste histories:\n\nhistory 2 t_pumps 4\n0 create alive named inlet_pump -> made 1\n..."></textarea>
-    <div><button id="read">Show</button></div></div>`;
+    <div><button id="read" title="shows the pasted text">Show</button></div></div>`;
   on($("#read"), "click", () => { addSource("pasted text", $("#paste").value); app.show(); });
 }
 const inHex = letter => `\\x${letter.charCodeAt().toString(16).padStart(2, "0")}`;

@@ -1,7 +1,7 @@
 // The view: the chart of one case, or the charts of two side by side, which scroll together.
 import { $, $$, app, chip, counted, goTo, on, when } from "./app.mjs";
 import { alike } from "./cases.mjs";
-import { Chart, GUTTER, HEAD, ROW } from "./chart.mjs";
+import { Chart, HEAD, ROW } from "./chart.mjs";
 import { decidingOf } from "./rows.mjs";
 import { escaped } from "./drawing.mjs";
 import { openCase } from "./lanes.mjs";
@@ -24,7 +24,9 @@ function caseFrame(cases, games, part) {
   const pane = shown => `<section class="pane">${when(two, `<h3>${state(shown)} ${place(shown, true)}</h3>`)}
     <div class="scroll" tabindex="0" role="group" aria-label="chart"><svg class="chart heads" height="${HEAD}"></svg>
     <div class="space"><svg class="chart rows" role="listbox" aria-label="entries"></svg></div></div></section>`;
+  const button = (id, words, title) => `<button id="${id}" title="${title}">${words}</button>`;
   return `${faults()}<div class="bar"><a href="#">All test cases</a><h2>${one.name}</h2>${told}
+    ${button("more", "Show\u2026", "what is shown, and what can be saved")}<div class="more">
     <input id="search" type="search" size="18" placeholder="entry or name  ( / )" aria-label="search for an entry">
     <select id="focus" aria-label="component">${option("", "all components")}
     ${[...new Map(games.flatMap(namesOf))].map(name => option(...name)).join("")}</select>
@@ -32,14 +34,14 @@ function caseFrame(cases, games, part) {
     ${when(games.some(game => game.list.length > game.places.length), box("remarks", "remarks"))}
     ${when(others.length, `<select id="other" aria-label="compare with">${option("", "compare with\u2026")}
     ${others.map(choice).join("")}</select>`)}
-    ${when(!two, '<span class="push"></span><button id="save">SVG</button><button id="mermaid">Mermaid</button>')}</div>
+    ${when(!two, `<span class="push"></span>${button("save", "SVG", "saves this chart as a picture")}
+    ${button("mermaid", "Mermaid", "shows the text of this chart for Mermaid")}`)}</div></div>
     <div class="case ${when(two, "two")}">${cases.map(pane).join("")}<aside class="state"></aside></div>`;
 }
 export function showCases(cases) {
   const games = cases.map(shown => openCase(shown.source.text, shown)), [one, two] = cases, part = two ? alike(...games) : -1;
   for (const game of games) game.part = two ? game.places[part] ?? game.list.length : -1;
   [app.options.focus, app.last] = [null, one.id];
-  document.title = `${one.name}, ttrun histories`;
   $("#main").innerHTML = caseFrame(cases, games, part);
   app.panes = $$(".pane").map((element, place) => makePane(games[place], element));
   for (const box of $$("[data-option]")) on(box, "change", () => {
@@ -49,7 +51,8 @@ export function showCases(cases) {
   });
   on($("#search"), "keydown", event => { if (event.key === "Enter") { find(event.shiftKey ? -1 : 1); event.preventDefault(); } });
   on($("#focus"), "change", ({ target }) => focusOn(target.value === "" ? null : Number(target.value)));
-  if ($("#other")) on($("#other"), "change", ({ target }) => goTo(...[one.id, target.value].filter(id => id !== "")));
+  if ($("#other")) on($("#other"), "change", ({ target }) => goTo(...[one, app.cases[target.value]].filter(Boolean)));
+  on($("#more"), "click", ({ target }) => target.closest(".bar").classList.toggle("opened"));
   if (!two) { on($("#save"), "click", saveChart); on($("#mermaid"), "click", showMermaid); }
   for (const pane of [...app.panes].reverse()) {
     const { chart } = pane, first = two ? chart.game.part : chart.game.list.indexOf(decidingOf(chart.game));
@@ -114,13 +117,13 @@ export function choose(pane, place) {
   draw(pane);
   const y = chart.chosen * ROW, x = chart.xs.get(chart.game.list[chart.rows[chart.chosen]?.first]?.on) ?? 0;
   if (y < top + ROW || y > top + room - 2 * ROW) scroll.scrollTop = Math.max(0, y - room / 3) / scale;
-  if (x < left + GUTTER + 20 || x > left + scroll.clientWidth - 40) scroll.scrollLeft = x - scroll.clientWidth / 2;
+  if (x < left + chart.gutter + 20 || x > left + scroll.clientWidth - 40) scroll.scrollLeft = x - scroll.clientWidth / 2;
   draw(pane);
   showStates();
 }
 export function unfold({ chart }) {
   const row = chart.rows[chart.chosen];
-  if (row?.times > 1) { chart.unfolded.add(row.first); layOutAgain(); }
+  if (row?.times > 1 || row?.asked > 1) { chart.unfolded.add(row.first); layOutAgain(); }
 }
 // The next row with the word: in an entry, or in the name of a component or behaviour of it.
 export function find(step) {

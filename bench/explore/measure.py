@@ -1,5 +1,6 @@
 #!/usr/bin/env python3
-"""Times `explore` on generated test cases, of which three in ten race, and counts how their lines end: measure.py PROGRAM.
+"""Times `explore` on generated test cases, of which three in ten race, and on one whose orders all differ. Counts how their
+lines end: measure.py PROGRAM.
 
 The cases are the same at every run.
 """
@@ -11,6 +12,7 @@ import sys
 import time
 
 SIZES = ((4, 10, 40), (8, 10, 40), (16, 10, 40), (32, 8, 20), (64, 8, 10))
+WIDE = (20, 20)
 LONGEST = 60
 ENDINGS = ("complete", "undecided")
 
@@ -46,6 +48,17 @@ def testcase(chance, name, count, steps):
     return "\n".join(lines + ["end"]) + "\n"
 
 
+def wide(count, steps):
+    """A test case whose behaviours create components, so that no two orders lead to one state, and are stopped at some time."""
+    lines = ["testcase t", "behaviour b0"]
+    for at in range(1, count):
+        lines += [f"create p{at}", f"start p{at} b{at}"]
+    lines += ["setverdict pass", "stop all", "end"]
+    for at in range(1, count):
+        lines += [f"behaviour b{at}", *(f"create q{it}" for it in range(steps - 1)), f"setverdict {'fail' if at == 1 else 'pass'}", "end"]
+    return "\n".join(lines + ["end"]) + "\n"
+
+
 def ending(line):
     return next((it for it in ENDINGS if f" {it}" in line), "no line")
 
@@ -55,12 +68,10 @@ def processor_seconds():
     return used.ru_utime + used.ru_stime
 
 
-def measure(program, count, steps, cases):
+def measure(program, texts):
     """The seconds that each of these test cases took, how many took longer than is waited for, and how many lines end how."""
-    chance = random.Random(f"{count} {steps}")
     seconds, unended, told = [], 0, {}
-    for at in range(cases):
-        text = testcase(chance, f"t{at}", count, steps)
+    for text in texts:
         begun = time.monotonic()
         try:
             ran = subprocess.run([program, "explore"], input=text.encode(), capture_output=True, timeout=LONGEST, check=False)
@@ -73,9 +84,11 @@ def measure(program, count, steps, cases):
 
 
 def main():
-    for count, steps, cases in SIZES:
+    for count, steps, cases in (*SIZES, (*WIDE, 1)):
+        chance = random.Random(f"{count} {steps}")
+        texts = [wide(count, steps)] if cases == 1 else [testcase(chance, f"t{at}", count, steps) for at in range(cases)]
         before = processor_seconds()
-        seconds, unended, told = measure(sys.argv[1], count, steps, cases)
+        seconds, unended, told = measure(sys.argv[1], texts)
         used = processor_seconds() - before
         if seconds:
             ends = ", ".join(f"{told[it]} {it}" for it in (*ENDINGS, "no line") if it in told)

@@ -2,7 +2,7 @@
 import { VERDICTS } from "../reading.mjs";
 import { chip, counted, when } from "../app.mjs";
 import { escaped } from "../drawing.mjs";
-const FIRST = new RegExp(`^(\\w+)((?: (?:${VERDICTS.join("|")}))*) (complete|undecided after \\d+ states)$`);
+const FIRST = new RegExp(`^(\\w+)((?: (?:${VERDICTS.join("|")}))*) (complete|undecided after \\d+ states(?:: limit of (?:states|memory))?)$`);
 // Each test case with its verdicts, how its search ended, the lines below it, and the place of its first witness.
 export function readExplored(output) {
   const rows = [];

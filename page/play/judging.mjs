@@ -1,5 +1,5 @@
 // Judging: a text is asked about, and what the engine answers is shown.
-import { $, app, counted, when } from "../app.mjs";
+import { $, app, casesAt, counted, when } from "../app.mjs";
 import { addSource } from "../sources.mjs";
 import { showTable } from "../list.mjs";
 import { showCases } from "../view.mjs";
@@ -26,7 +26,7 @@ const PARTS = ["#rows", "#why", "#main"];
 const stale = isStale => { for (const part of PARTS) $(part).classList.toggle("stale", isStale); };
 // Leaves what was shown of an older text.
 function forget() {
-  Object.assign(app, { sources: [], cases: [], panes: [], hidden: new Set(), search: "", at: 0, last: 0 });
+  Object.assign(app, { sources: [], cases: [], panes: [], only: new Set(), search: "", at: 0, last: null });
   for (const part of PARTS) $(part).innerHTML = "";
   [state.rows, state.isOld] = [[], false];
   stale(false);
@@ -141,11 +141,10 @@ function show(ids) {
   app.show();
 }
 app.show = () => {
-  const asked = (location.hash.match(/\d+/g) ?? []).slice(0, 2).map(Number), ids = isView() ? asked : state.first;
-  const cases = ids.map(id => app.cases[id]).filter(Boolean);
+  const cases = isView() ? casesAt(location.hash) : state.first.map(id => app.cases[id]).filter(Boolean);
   app.panes = [];
   $("#main").innerHTML = $("#said").textContent = "";
-  markShown($("#rows"), ids);
+  markShown($("#rows"), cases.map(({ id }) => id));
   if (cases.length) showCases(cases); else if (app.cases.length) showTable();
   document.title = `${when(cases.length, `${cases[0]?.name}, `)}${TITLE}`;
   const row = cases.length && state.rows.length ? rowOf(state.rows, cases[0].id) : null;

@@ -93,9 +93,8 @@ def packed(module: bytes) -> str:
 
 def built() -> List[str]:
     """A new engine, its version, and what it is made of."""
-    version = re.search(r'VERSION: &str = "([^"]*)"', read("crates", "tc_command", "src", "command.rt")) or build.fail("it has no version")
     module = build.engine()
-    return [packed(module), version[1], sums(module)]
+    return [packed(module), make.version(), sums(module)]
 
 
 def hold_version(path: str, version: str) -> None:

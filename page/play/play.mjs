@@ -7,7 +7,7 @@ import { listenToEditor } from "./editor.mjs";
 import { chooseExample, fillExamples, notice, pasted, takeFile, takeFirst, takeOwn, typed } from "./given.mjs";
 const WAIT = 250;  // ms after a key
 const STEPS = { j: 1, ArrowDown: 1, k: -1, ArrowUp: -1, PageDown: 15, PageUp: -15, Home: -Infinity, End: Infinity };
-const goToNext = step => { if (app.cases[app.last + step]) goTo(app.last + step); };
+const goToNext = step => { if (app.cases[app.last + step]) goTo(app.cases[app.last + step]); };
 const IN_CASE = { Enter: unfold, n: () => find(1), N: () => find(-1), "[": () => goToNext(-1), "]": () => goToNext(1),
   w: pane => choose(pane, pane.chart.rowAt(pane.chart.game.why?.index ?? -1)) };
 // The text that is there, with what the engine is asked about.
@@ -27,7 +27,7 @@ function press(event) {
   else if (key === "/" && $("#search")) $("#search").focus();
   else if (STEPS[key] && app.panes.length) choose(app.pane, app.pane.chart.chosen + STEPS[key]);
   else if (STEPS[key] && $(".cases")) app.moveTo(app.at + STEPS[key]);
-  else if (key === "Enter" && $(".cases") && app.found.length) goTo(app.found[app.at].id);
+  else if (key === "Enter" && $(".cases") && app.found.length) goTo(...app.found[app.at].opened);
   else if (IN_CASE[key] && app.panes.length) IN_CASE[key](app.pane);
   else return;
   event.preventDefault();

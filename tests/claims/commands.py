@@ -37,7 +37,7 @@ INPUT, PATTERN = re.compile(r"(?:\./ttrun|cat) .*[<|]"), re.compile(r"\b[A-Z]{2,
 OTHERS: Dict[str, Tuple[str, ...]] = {
     "rt": ("--jobs", "--only", "--test", "--minutes", "--fail-alloc"), "git": ("--short",), "sha256sum": ("--check",),
     "tar": ("--strip-components", "--wildcards"), "prlimit": ("--nproc",), "c++": ("--wrap",), "pytest": ("--junit-xml",),
-    "what is gone": ("--chart",)}
+    "sbatch": ("--parsable", "--array", "--time", "--output", "--dependency"), "parallel": ("--sshlogin",), "what is gone": ("--chart",)}
 OPTION = re.compile(r"(?<![\w-])--[a-z][a-z-]*\b")
 FEWEST_OPTIONS = 25
 # The table of lines that a script has where TTCN-3 has others, and how many there are at least.

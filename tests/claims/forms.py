@@ -8,7 +8,7 @@ PARTS = ["Decision", "Reason", "Consequence"]
 KINDS = ("Added", "Changed", "Fixed", "Removed")
 # The heading above the versions, of what no version has yet.
 UNRELEASED = "Unreleased"
-FEWEST_DECISIONS, FEWEST_VERSIONS, FEWEST_WITH_READERS = 35, 13, 12
+FEWEST_DECISIONS, FEWEST_VERSIONS, FEWEST_WITH_READERS = 35, 2, 12
 BOLD = re.compile(r"- \*\*(\w+)\.\*\* \S")
 
 

@@ -9,7 +9,7 @@ from typing import Dict, Iterator, List, Tuple
 
 from room import FAILING, PASSING, RACE, SHELLS, VERDICTS, Room, copy_checkout
 from documents import Block, Document, read
-from harness import TOP, Ran, call, hold, same, tests_of, text_of
+from harness import TOP, Ran, Skipped, call, hold, same, tests_of, text_of, wait_for
 
 README, PIPELINES, BENCHES, GUIDE, LIBRARY = "README.md", "docs/pipelines.md", "docs/benches.md", "docs/guide.md", "docs/library.md"
 # The status of the failing campaign.
@@ -95,7 +95,7 @@ def hold_left(room: Room, names: List[str], cases: List[str], status: int) -> No
         elif last == "run.sums":
             same(0, call(["sha256sum", "--check", "--quiet", "--strict", last], cwd=os.path.dirname(room.path(name))).status, f"{name} does not hold")
             same({os.path.basename(it) for it in names} - {last}, {it.split()[1] for it in room.text(name).splitlines()}, name)
-        hold(os.path.getsize(room.path(name)) > 0, f"{name} is empty")
+        hold(os.path.getsize(room.path(name)) > 0 or name == "part.again.history" and status == 0, f"{name} is empty")
 
 
 def run_all(above: Room, shell: str, script: str, cases: List[str], worst: int) -> int:
@@ -134,6 +134,17 @@ def typed(room: Room, shell: str, where: str, text: str) -> Ran:
     said = re.findall(r"(?m) # (\w+ .*complete)$", text)
     hold(all(it in ran.output.splitlines() for it in said), f"{where}, by {shell}: {said} is wanted: {ran}")
     return ran
+
+
+def run_by_jobs(room: Room, program: str) -> str:
+    """Runs the block that gives the shards to a program, if that is installed, until there is a report."""
+    if not shutil.which(program):
+        raise Skipped(f"there is no {program}")
+    room.write("make-report", step("Shards", "run.html").text)
+    ran = room.shell(SHELLS["github"], next(it.text for it in read(TOP, PIPELINES).blocks() if it.language == "shell" and f"{program} -" in it.text))
+    wait_for(lambda: os.path.exists(room.path("run.xml")) and room.text("run.xml").endswith("</testsuites>\n"), f"{ran}")
+    hold_left(room, ["run.history", "run.html", "run.summary", "run.xml"], list(VERDICTS), WORST)
+    return f"{len(VERDICTS)} test cases"
 
 
 class Blocks(Room):
@@ -202,32 +213,38 @@ class Blocks(Room):
             hold(it.shell(SHELLS["github"], parts[1].text).status != 0, f"{name} was changed, and nobody sees it")
         return "3 changes"
 
-    def evidence_that_was_cut(self) -> str:
-        keep, check = sections()["Evidence"]
-        self.commit()
-        hold(self.shell(SHELLS["github"], keep.text).status == WORST, "it is kept")
-        self.write("evidence/run.evidence", self.text("evidence/run.evidence").partition("evidence 1 t_error ")[0])
-        sums = "(cd evidence && sha256sum campaign.script run.program run.evidence run.log run.status > run.sums)\n"
-        hold(self.shell(SHELLS["github"], sums).status == 0, "new sums")
-        ran = self.shell(SHELLS["github"], check.text)
-        hold(ran.status == 3 and self.text("run.judged").endswith("missing t_error\nmissing t_waits\n"), ran)
-        return "the missing test cases are named"
-
     def commands_in_the_text(self) -> str:
-        """The commands that the text of the pipelines shows: a pipe whose status is that of the last program, and the check of a shard."""
-        found = [it for line in read(TOP, PIPELINES).lines for it in re.findall(r"`([^`]*\| \./ttrun [^`]*)`", line)]
-        hold(len(found) == 2, f"{PIPELINES}: {found}")
-        pipe, check = found
+        """The command that the text of the pipelines shows: a pipe whose status is that of the last program."""
+        (pipe,) = [it for line in read(TOP, PIPELINES).lines for it in re.findall(r"`([^`]*\| \./ttrun [^`]*)`", line)]
         for words, status in ((("bash", "-e"), 0), (("bash", "-eo", "pipefail"), WORST)):
             ran = self.shell(words, pipe)
             hold(ran.status == status and ran.output.count("legal ") == len(VERDICTS), f"{pipe}: {ran}")
-        hold(self.shell(SHELLS["github"], step("Shards", "part.1.history").text).status == 0, "the shards")
-        ran = self.shell(SHELLS["gitlab"], check)
-        hold(ran.status == 0 and [line.split()[1] for line in ran.output.splitlines()] == list(VERDICTS)[::2], f"{check}: {ran}")
-        self.write("part.1.history", self.text("part.1.history").partition("history 2 t_error ")[0])
-        ran = self.shell(SHELLS["gitlab"], check)
-        hold(ran.status == 3 and ran.output.endswith("missing t_error\n"), f"{check}: {ran}")
-        return f"{len(found)} commands"
+        return pipe
+
+    def shards_that_are_torn(self) -> str:
+        """One has a block twice and is torn in another, one was killed, one is empty: the others are reported, and the rest is run again."""
+        shards, report, again = sections()["Shards"]
+        hold(self.shell(SHELLS["github"], shards.text).status == 0, "the shards")
+        torn, killed = (self.text(f"part.{it}.history") for it in (1, 2))
+        self.write("part.1.history", "history 2 t_pass 1\n0 finish -> ok\nend none\n" + torn[:torn.index("stopcase") + 4])
+        self.write("part.2.history", killed[:killed.index("history", 9)]), self.write("part.3.history", "")
+        ran = self.shell(SHELLS["github"], report.text)
+        hold(ran.status == 3 and "torn t_error\n" in ran.errors and "t_fail: fail\n" in ran.output, f"{ran}")
+        hold_junit(self, "run.xml", list(VERDICTS)), same(["t_error", "t_none", "t_waits"], sorted(re.findall(r"(?m)^missing (\w+)$", ran.errors)))
+        hold_left(self, [it for it in report.names if it != "run.xml"], ["t_pass", "t_inconc", "t_fail"], 3)
+        for shell, rest in (("gitlab", "history 2 t_none 1\n0 fini"), ("jenkins", "")):
+            hold(self.shell(SHELLS[shell], again.text).status == 0 and self.shell(SHELLS[shell], report.text).status == WORST, "not all are there")
+            self.write("part.again.history", self.text("part.again.history") + rest)
+        same("inconc fail none error waits none inconc fail error".split(), re.findall(r"(?m)^history 2 t_(\w+)", self.text("part.again.history")))
+        hold_left(self, report.names, list(VERDICTS), WORST)
+        hold(self.shell(SHELLS["gitlab"], shards.text).status == 0 and not os.path.exists(self.path("part.again.history")), "the last night is taken for this one")
+        return "3 shards"
+
+    def a_job_array_of_slurm(self) -> str:
+        return run_by_jobs(self, "sbatch")
+
+    def shards_by_gnu_parallel(self) -> str:
+        return run_by_jobs(self, "parallel")
 
     def blocks_of_the_guide(self) -> str:
         found = list(typed_blocks(GUIDE))

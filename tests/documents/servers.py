@@ -163,7 +163,7 @@ def github_job(server: Server, job: Dict, store: Dict[str, Files], names: Dict[s
                 if fnmatch.fnmatch(name, it["with"]["pattern"]):
                     put(room, files)
         else:
-            ran = server.run(room, filled(it["run"], names))
+            ran = server.run(room, filled(it["run"], names), GITHUB_STEP_SUMMARY=os.path.join(server.folder, "summary"))
             done.output += ran.output + ran.errors
             done.status = done.status or ran.status
     for key, path in saving:
@@ -188,7 +188,9 @@ def github(server: Server, unpack: str = "") -> Tuple[List[int], Optional[Done]]
     ends = [github_job(server, jobs["campaign"], store, {"matrix.shard": it}).status for it in strategy["matrix"]["shard"]]
     if any(ends) and jobs["report"].get("if") != "always()":
         return ends, None
-    return ends, github_job(server, jobs["report"], store, {})
+    done = github_job(server, jobs["report"], store, {})
+    hold(text_of(os.path.join(server.folder, "summary")).startswith(f"    cases {len(VERDICTS)} "), "the summary of the step")
+    return ends, done
 
 
 # A command of Jenkins, and what catches its failure.

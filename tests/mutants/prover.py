@@ -128,6 +128,9 @@ class Crate:
                 verdicts = [(it, self.verdict_on(it, told, unproved)) for it in together]
                 # Goals of a function may not have been tried, as one that it calls is not proved: what is not refused is shown without the others.
                 again = [it for it, (outcome, _) in verdicts if outcome is not Outcome.REFUSED]
+                if len(again) == len(together) > 1:
+                    rounds += [together[::2], together[1::2]]
+                    continue
                 again = again if len(again) < len(together) else []
                 yield from ((it, answer) for it, answer in verdicts if it not in again)
             else:

@@ -54,7 +54,8 @@ class Judge:
 
     def run_test(self, copy: str, folder: str, test: str) -> Tuple[str, str]:
         """Runs a test in a copy: the last line, and why it failed if it did."""
-        words = [os.path.join(copy, folder, "run.py"), "--only", test, *WORDS.get(folder, [])]
+        more = [] if test and folder == "tests/page" else WORDS.get(folder, [])  # a test of the page that is named may be one in a browser
+        words = [os.path.join(copy, folder, "run.py"), "--only", test, *more]
         lines = ran(words + (["--program", self.program] if folder in WITH_PROGRAM else []))
         return lines[-1], next((it.strip() for it in lines if it.startswith("  ")), " ".join(lines[-2:]))
 

@@ -9,8 +9,42 @@ var looking = (() => {
   // The texts of the chart that are not within its width, or lie over the numbers of lines.
   const outside = () => $$(".rows text:not(.gutter)").filter(one => {
     const { x, width } = one.getBBox();
-    return x < GUTTER - 8 || x + width > app.pane.chart.width;
+    return x < app.pane.chart.gutter - 8 || x + width > app.pane.chart.width;
   }).map(textOf);
+  // What is drawn over another thing: words over words or over a box that is not theirs, a button over a button. Of what is
+  // scrolled only what is in sight is there. And words of a chart that are cut at its edge.
+  function overlaps() {
+    const things = [], isLarge = box => box.right - box.left > 1.5 && box.bottom - box.top > 1.5;
+    const common = (one, other) => ({ left: Math.max(one.left, other.left), top: Math.max(one.top, other.top),
+      right: Math.min(one.right, other.right), bottom: Math.min(one.bottom, other.bottom) });
+    const inSight = (element, box) => {
+      for (let at = element; at; at = at.parentElement)
+        if (/auto|scroll|hidden/.test(getComputedStyle(at).overflow)) box = common(box, at.getBoundingClientRect());
+      const rows = element.closest(".rows"), body = element.closest("tbody"), top = rows ? $(".heads", rows.closest(".pane")) : body?.closest(".cases") && $("thead");
+      return top ? common(box, { ...common(box, box), top: top.getBoundingClientRect().bottom }) : box;
+    };
+    const add = (element, box, what, group) => { const seen = inSight(element, box); if (isLarge(seen)) things.push({ element, seen, what, group }); };
+    const walker = document.createTreeWalker(document.body, NodeFilter.SHOW_TEXT), range = document.createRange();
+    for (let text; (text = walker.nextNode());) {
+      const element = text.parentElement;
+      if (!text.data.trim() || element.closest("svg, option, script, style, .unseen, dialog, textarea") || !element.checkVisibility()) continue;
+      range.selectNodeContents(text);
+      for (const box of range.getClientRects()) add(element, box, text.data.trim(), element.closest("button, .chip, .mark") ?? element);
+    }
+    for (const one of $$("button, input, select, .chip, .mark")) if (one.checkVisibility()) add(one, one.getBoundingClientRect(), one.outerHTML.slice(0, 50), one);
+    for (const one of $$("svg.chart text, svg.chart rect.box")) {
+      const { left, top, right, bottom } = one.getBoundingClientRect();
+      add(one, { left, top: top + 2, right, bottom: bottom - 2 }, one.textContent || "a box", one.parentElement.matches("[data-row]") ? one : one.parentElement);
+    }
+    const pairs = $$(".rows text").filter(one => {
+      const { left, right } = one.getBoundingClientRect(), pane = one.closest(".scroll").getBoundingClientRect();
+      return left < pane.left - 1 || right > pane.right + 1;
+    }).map(one => `cut: ${one.textContent}`);
+    things.forEach((one, at) => things.slice(at + 1).forEach(other => {
+      if (one.group !== other.group && isLarge(common(one.seen, other.seen))) pairs.push(`${one.what} / ${other.what}`);
+    }));
+    return [things.length, pairs.slice(0, 9)];
+  }
   // The least contrast of what is written, and where it is.
   function contrast() {
     const light = colour => {
@@ -76,5 +110,5 @@ var looking = (() => {
     Object.defineProperty(event, "clipboardData", { value: held });
     $("#text").dispatchEvent(event);
   }
-  return { rows, titles, chosen, panel, outside, contrast, walk, chips, again, column, drop, paste };
+  return { overlaps, rows, titles, chosen, panel, outside, contrast, walk, chips, again, column, drop, paste };
 })();

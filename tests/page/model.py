@@ -3,16 +3,14 @@ import json
 import random
 import re
 from collections import Counter
-from concurrent.futures import ThreadPoolExecutor
 from dataclasses import dataclass
 from functools import lru_cache
 from typing import Any, Callable, Dict, List, Optional, Set, Tuple
 
 import evidence_texts
-from histories import (EXAMPLES, KINDS, MOST_BYTES, TOP, deciding, entry_of, legal_case, random_block, random_legal, spoilt,
-                       states, tables)
+from histories import EXAMPLES, KINDS, TOP, deciding, entry_of, legal_case, random_block, random_legal, states, tables
 from evidence_texts import evidence_of
-from harness import Ran, call, hold, reached, same
+from harness import Ran, call, hold, same
 from table import VERDICTS, Table
 from texts import Entry
 
@@ -60,16 +58,6 @@ def blocks_of(text: str) -> List[str]:
     return re.findall(r"(?ms)^history .*?\nend \w+\n", text)
 
 
-def it_reads_the_examples(context: Context) -> str:
-    for (name, text), answer in zip(EXAMPLES.items(), ask(context, "games", list(EXAMPLES.values()))):
-        same(None, answer["fault"], name)
-        same(re.findall(r"(?m)^end (\w+)$", text), [it["status"] for it in answer["cases"]], name)
-        hold(all(it["isOver"] and it["told"] == it["overall"] for it in answer["cases"]), name)
-        same(entries_of(text), [line for lines in answer["texts"] for line in lines], name)
-    hold(len(EXAMPLES) >= 5, list(EXAMPLES))
-    return f"{len(EXAMPLES)} texts"
-
-
 def edges() -> List[str]:
     head, end = "history 1 t 1\n", "end none\n"
     texts = ["", "\n", head, head + end, head + "end none", head + end + "\n", head + "\n" + end, "\ufeff" + head + end,
@@ -87,36 +75,6 @@ def edges() -> List[str]:
     texts += [f"{head}{run} finish -> ok\n{end}" for run in ("65535", "65536", "00", "-1", "", "4294967296", "99999999999")]
     texts += [f"history 2 t 1\n0 create {it} -> made 1\n{end}" for it in ("alive named n", "named all", "named " + "n" * 33, "named n alive", "named n_1")]
     return texts
-
-
-def it_tells_faults_as_the_program_does(context: Context) -> str:
-    texts = [*edges(), "x" * (MOST_BYTES + 1)]
-    faults = [it["fault"] for it in ask(context, "faults", texts)]
-    for text, fault in zip(texts, faults):
-        same(told_fault(context, text.encode()), fault, text)
-    refused = len(texts) - faults.count(None)
-    hold(refused >= 50 and len(texts) - refused >= 20, (refused, len(texts)))
-    return f"{len(texts)} texts, {refused} of them refused"
-
-
-def it_reads_spoilt_texts_as_the_program_does(context: Context) -> str:
-    rng, met = random.Random(context.seed), Counter()
-    whole = [it.encode() for it in EXAMPLES.values()] + [it.encode() for it in blocks_of(KINDS)]
-    whole += [random_block(rng, False)[0].encode() for _ in range(40)]
-    texts = whole + [spoilt(rng, whole) for _ in range(2000)]
-    answers = ask(context, "faults", [it.decode("latin-1") for it in texts])
-    with ThreadPoolExecutor(4) as pool:
-        told = list(pool.map(lambda it: checked(context.program, it), texts))
-    for text, answer, ran in zip(texts, answers, told):
-        same(told_fault(context, text), answer["fault"], text)
-        same(evidence_texts.read(text)[1], answer["fault"], text)
-        met[answer["fault"][1] if answer["fault"] else "legal" if ran.status == 0 else "read"] += 1
-        if answer["fault"] is None:
-            legal = re.findall(rb"(?m)^legal (\w+) (\d+) (\w+)$", ran.output)
-            read = [(it["name"].encode(), b"%d" % it["entries"], VERDICTS[it["told"]].encode()) for it in answer["cases"]]
-            hold(legal == read if ran.status == 0 else legal == read[:len(legal)] and len(legal) < len(read), (text, ran))
-            hold(ran.status != 0 or all(it["told"] == it["overall"] for it in answer["cases"]), (text, ran))
-    return reached(met, {**dict.fromkeys(FAULTS, 60), "bad entry": 400, "legal": 20, "read": 150})
 
 
 # Two entries that are folded, the second of which ends a component.
@@ -185,6 +143,7 @@ def activations(diagram: str) -> List[Set[str]]:
 def points_of_a_block(block: str, answer: Dict[str, Any]) -> int:
     """Holds what is said of a legal block to the table, at each of its points; how many these are."""
     case, lines, over, runs, phases, running = answer["cases"][0], entries_of(block), None, {}, [], []
+    same(*answer["asked"][0], lines)
     why, entries = deciding(lines), [entry_of(it) for it in lines]
     names = [it.op.name for it in entries if it.reply.startswith("made ")]
     who = lambda number: f"{number} {''.join(names[number - 1:number])}".rstrip() if number else "mtc"
@@ -223,6 +182,7 @@ def it_shows_each_entry_of_what_can_be_read(context: Context) -> str:
     blocks = [random_block(rng, it % 2 == 0) for it in range(400)]
     for (_, lines), answer in zip(blocks, ask(context, "games", [text for text, _ in blocks])):
         same((None, len(lines), lines), (answer["fault"], answer["cases"][0]["entries"], answer["texts"][0]))
+        same(*answer["asked"][0], lines)
         hold(len(answer["shapes"][0]) == len(lines) and all(it["label"] for it in answer["shapes"][0]), lines)
     return f"{len(blocks)} histories"
 
@@ -239,6 +199,16 @@ def it_tells_where_two_cases_part(context: Context) -> str:
     for told in ask(context, "games", ["".join(evidence_of(rng, it) for it in blocks_of(text)) for _ in range(20)]):
         same(answer["alike"], told["alike"], "evidence")
     return f"{len(answer['texts'])} cases, alike for {sorted(met)} entries"
+
+
+def it_makes_the_table_of_several_files(context: Context) -> str:
+    """A row for each name, with all its verdicts, what changed, what it opens, and the orders of the rows; of one file a row a case."""
+    rng = random.Random(context.seed + 5)
+    nights = [[[(f"t_{rng.randrange(12)}", rng.choice(("unfinished", *VERDICTS))) for _ in range(rng.randrange(1, 9))] for _ in range(files)]
+              for files in [1, 2, 3] * 20]
+    for files, (wanted, found) in zip(nights, ask(context, "nights", list(map(json.dumps, nights)))):
+        same(wanted, found, files)
+    return f"{len(nights)} tables"
 
 
 def it_folds_without_loss(context: Context) -> str:
@@ -285,5 +255,5 @@ def it_writes_mermaid(context: Context) -> str:
     return f"{count} statements"
 
 
-TESTS = (it_reads_the_examples, it_tells_faults_as_the_program_does, it_reads_spoilt_texts_as_the_program_does,
-         it_concludes_as_the_table_does, it_shows_each_entry_of_what_can_be_read, it_tells_where_two_cases_part, it_folds_without_loss, it_writes_mermaid)
+TESTS = (it_concludes_as_the_table_does, it_shows_each_entry_of_what_can_be_read, it_tells_where_two_cases_part,
+         it_makes_the_table_of_several_files, it_folds_without_loss, it_writes_mermaid)

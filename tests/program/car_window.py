@@ -60,6 +60,7 @@ REFUSED: Tuple[Tuple[str, Wanted], ...] = (
                                ("--history --evidence", "history", "evidence"), ("--list --stop-on fail", "list", "stop-on"))),
     *((line, of_words(f"unexpected argument '{line.split()[-1]}' found"))
       for line in ("--failed", "--explain", "--no-explain", "run", "a.script", "help", "--csv run", "--html", "-x")),
+    ("--last", SomeText(("error: unexpected argument '--last' found\n", "tip: a similar argument exists: '--list'\n", "Usage: car_window --list\n"), ("ttrun",))),
     ("--stop-on", SomeText(("a value is required for '--stop-on <VERDICT>'",), ("ttrun",))),
     ("--csv --csv", SomeText(("the argument '--csv' cannot be used multiple times",), ("ttrun",))),
     *((line, as_lines(f"ttrun: {said}")) for said, lines in (

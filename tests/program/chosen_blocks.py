@@ -1,5 +1,5 @@
-"""Histories that are chosen without their script: `check` and `report` with --only and --failed, worked texts, and random ones next to
-a choice made here."""
+"""Histories that are chosen without their script: `check` and `report` with --only, --failed and --last, worked texts, and random ones
+next to a choice made here."""
 import random
 from collections import Counter
 from typing import Iterator, List, Sequence, Tuple
@@ -37,6 +37,14 @@ ROWS: List[Tuple[str, str, str, str, int]] = [
     ("an_illegal_one_before_the_chosen", "--only c", f"{OF_A};{BAD_B};{OF_C}", "line 12: pass, table gives fail", 3),
     ("an_illegal_one_that_says_pass", "--failed", f"{OF_A};{BAD_B};{OF_C}", "line 12: pass, table gives fail", 3),
     ("an_illegal_one_and_a_name_of_none", "--only d", f"{OF_A};{BAD_B};{OF_C}", "line 12: pass, table gives fail", 3),
+    ("the_last_of_a_name", "--last", f"{OF_A};{OF_B};{OF_C};{PASS_B}", f"{LEGAL_A};legal b 6 pass;{LEGAL_C}", 0),
+    ("the_last_of_each_name", "--last", f"{OF_A};{OF_B};{OF_A};{OF_C};{INCONC_B};{OF_A};{PASS_B}", f"{LEGAL_A};legal b 6 pass;{LEGAL_C}", 0),
+    ("the_last_of_a_name_is_asked_for", "--last --only b", f"{PASS_B};{OF_A};{OF_B}", LEGAL_B, 0),
+    ("the_last_of_what_failed", "--last --failed", f"{OF_B};{OF_A};{PASS_B};{ERROR_C}", "legal c 1 error", 0),
+    ("the_last_fails_again", "--failed --last", f"{PASS_B};{OF_A};{OF_B}", LEGAL_B, 0),
+    ("names_that_are_there_once", "--last", EACH, f"{LEGAL_A};{LEGAL_B};{LEGAL_C}", 0),
+    ("an_illegal_one_that_does_not_count", "--last", f"{BAD_B};{OF_A};{OF_B}", f"{LEGAL_B};{LEGAL_A}", 0),
+    ("an_illegal_one_that_counts", "--last", f"{OF_A};{OF_B};{OF_C};{BAD_B}", f"{LEGAL_A};line 26: pass, table gives fail", 3),
     ("no_more_after_an_illegal_one", "--only c --failed", f"{BAD_B};{ERROR_C}", "line 8: pass, table gives fail", 3),
 ]
 
@@ -46,6 +54,8 @@ REFUSED: List[Tuple[str, str, bytes, str]] = [
     ("a_pattern_of_none", "--only a --only d*", text(EACH), ONLY),
     ("a_name_of_none_that_failed", "--only d --failed", text(EACH), ONLY),
     ("a_name_in_capitals", "--only A", text(EACH), ONLY),
+    ("a_bad_text_and_the_last_of_a_name", "--last", text(f"{BAD_B};{OF_B};history 2 b 1;0 create"), "line 18: bad entry"),
+    ("a_name_of_none_that_counts", "--last --only d", text(f"{BAD_B};{OF_B}"), ONLY),
     ("a_bad_text_and_a_name_of_none", "--only d", text(f"{EACH};history 2 d 1;0 create"), "line 20: bad entry"),
     ("a_bad_text_after_an_illegal_one", "--only a", text(f"{OF_A};{BAD_B};history 3"), "line 13: bad first line"),
     ("no_text", "--failed", b"", "line 1: text ends too early"),
@@ -57,16 +67,21 @@ NEAR_TEXT = text(";".join(OF_A.replace(" a ", f" {it} ") for it in ("t_one", "t_
 MANY_TEXT = text(";".join(OF_A.replace(" a ", f" {it} ") for it in (*(f"v{it:03}" for it in range(100)), "the_last")))
 
 
+def counted(blocks: List[Block], last: bool) -> List[Block]:
+    """The last of each name, in the order in which the names come first; or all."""
+    return list({it.name: it for it in blocks}.values()) if last else blocks
+
+
 def chosen_of(blocks: List[Block], only: Sequence[str], failed: bool) -> List[bool]:
     return [(not only or any(takes(it, block.name) for it in only)) and not (failed and block.verdict in ("none", "pass")) for block in blocks]
 
 
-def wanted_of(given: bytes, only: Sequence[str], failed: bool) -> Tuple[Ran, List[reports.Told]]:
+def wanted_of(given: bytes, only: Sequence[str], failed: bool, last: bool) -> Tuple[Ran, List[reports.Told]]:
     """What `check` answers, and what the forms have of the chosen blocks."""
     blocks, refused_as = read_history(given)
     if refused_as is not None:
         return Ran(b"", refused_as.errors, 3), []
-    output = ""
+    blocks, output = counted(blocks, last), ""
     chosen = chosen_of(blocks, only, failed)
     for block, is_chosen in zip(blocks, chosen):
         line, is_legal = judge_block(block)
@@ -91,7 +106,7 @@ def faults_of_worked_texts(program: str, form: str) -> List[str]:
     faults: List[str] = []
     for name, options, given in [(name, options, text(given)) for name, options, given, _, __ in ROWS] + [it[:3] for it in REFUSED[:-1]]:
         words = options.replace("=", " ").split()
-        wanted, told = wanted_of(given, [it for it in words if not it.startswith("--")], "--failed" in words)
+        wanted, told = wanted_of(given, [it for it in words if not it.startswith("--")], "--failed" in words, "--last" in words)
         faults += [f"{name}: {it}" for it in faults_of(program, words, given, wanted, told, form)]
     return faults
 
@@ -115,11 +130,14 @@ def faults_of_random_texts(program: str, seed: int) -> Iterator[str]:
         given = random_text(chance)
         blocks = read_history(given)[0]
         only, failed = choice(chance, sorted({it.name for it in blocks}) or ["t1"]).only, chance.random() < 0.5
-        words = [word for it in only for word in ("--only", it)]
+        last = chance.random() < 0.3
+        words = [word for it in only for word in ("--only", it)] + ["--last"] * last
         words[chance.choice((0, len(words))):0] = ["--failed"] if failed else []
-        wanted, told = wanted_of(given, only, failed)
+        wanted, told = wanted_of(given, only, failed, last)
         faults = faults_of(program, words, given, wanted, told, ("csv", "junit", "summary")[at % 3])
         yield from shown_with(faults, f"the words: {words}", f"the text: {given.decode()}")
+        met["not counted"] += len(blocks) - len(counted(blocks, last))
+        blocks = counted(blocks, last)
         illegal = [it for it in blocks if not judge_block(it)[1]][:1]
         met["names of none"] += wanted == refusal(ONLY)
         met["refused texts"] += bool(wanted.errors) and wanted != refusal(ONLY)
@@ -133,7 +151,7 @@ def faults_of_random_texts(program: str, seed: int) -> Iterator[str]:
             met["both"] += failed and bool(only) and bool(told)
             met["nothing"] += not told
     yield from below(met, {"choices": 200, "left out": 200, "left out of names": 50, "left out of what failed": 15, "both": 25, "nothing": 20,
-                           "names of none": 10, "illegal": 12, "illegal and not chosen": 4, "refused texts": 2})
+                           "names of none": 10, "not counted": 20, "illegal": 12, "illegal and not chosen": 4, "refused texts": 2})
 
 
 def cases() -> Iterator[Case]:

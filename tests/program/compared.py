@@ -22,6 +22,8 @@ OF_A = "history 2 a 1;0 setverdict pass -> ok;0 finish -> ok;end pass"
 OF_B = ("history 2 b 2;0 create -> made 1;0 start 1 1 -> ok;1 setverdict fail -> ok;1 finish -> ok;0 wait done 1 -> matched;"
         "0 finish -> ok;end fail")
 OF_C = "evidence 1 c 1;behaviour 0 m;0 getverdict -> none;0 # nothing was set;0 finish -> ok;end none"
+OF_D = OF_C.replace(" c ", " d ")
+LESS_A = "history 2 a 1;0 finish -> ok;end none"
 LEGAL_A, LEGAL_B, LEGAL_C = "legal a 2 pass", "legal b 6 fail", "legal c 2 none"
 OTHER_ORDER = OF_B.replace("1 finish -> ok;0 wait done 1 -> matched", "0 wait done 1 -> parked;1 finish -> ok;0 wake done 1 -> matched")
 SCRIPT = f"{A};{B};{C}"
@@ -39,8 +41,8 @@ ROWS: List[Tuple[str, str, str, int]] = [
     ("two_in_the_wrong_order", f"{OF_B};{OF_A};{OF_C}", f"{LEGAL_B};{LEGAL_A};{LEGAL_C};out of order a", 3),
     ("all_in_the_wrong_order", f"{OF_C};{OF_B};{OF_A}", f"{LEGAL_C};{LEGAL_B};{LEGAL_A};out of order b;out of order a", 3),
     ("the_last_one_first", f"{OF_C};{OF_A};{OF_B}", f"{LEGAL_C};{LEGAL_A};{LEGAL_B};out of order a;out of order b", 3),
-    ("of_no_test_case", f"{OF_A};{OF_B};{OF_C.replace(' c ', ' d ')}", f"{LEGAL_A};{LEGAL_B};legal d 2 none;unknown d;missing c", 3),
-    ("of_no_test_case_twice", f"{OF_A};{OF_B};{OF_C};{OF_C.replace(' c ', ' d ')};{OF_C.replace(' c ', ' d ')}",
+    ("of_no_test_case", f"{OF_A};{OF_B};{OF_D}", f"{LEGAL_A};{LEGAL_B};legal d 2 none;unknown d;missing c", 3),
+    ("of_no_test_case_twice", f"{OF_A};{OF_B};{OF_C};{OF_D};{OF_D}",
      f"{LEGAL_A};{LEGAL_B};{LEGAL_C};legal d 2 none;legal d 2 none;unknown d;unknown d", 3),
     ("a_step_is_missing", f"history 2 a 1;0 finish -> ok;end none;{OF_B};{OF_C}", f"legal a 1 none;{LEGAL_B};{LEGAL_C};no course a", 3),
     ("the_end_is_missing", f"history 2 a 1;0 setverdict pass -> ok;end pass;{OF_B};{OF_C}", f"legal a 1 pass;{LEGAL_B};{LEGAL_C};no course a", 3),
@@ -77,6 +79,13 @@ CHOSEN: List[Tuple[str, str, str, str, int]] = [
     ("a_block_in_the_order_of_the_names", "--only c --only a", f"{OF_C};{OF_A}", f"{LEGAL_C};{LEGAL_A};out of order a", 3),
     ("a_name_that_is_missing", "--only c --only a", OF_A, f"{LEGAL_A};missing c", 3),
     ("no_course_of_a_chosen_one", "--only a", "history 2 a 1;end none", "legal a 0 none;no course a", 3),
+    ("the_last_of_a_name", "--last", f"{LESS_A};{OF_B};{OF_C};{OF_A}", f"{LEGAL_A};{LEGAL_B};{LEGAL_C}", 0),
+    ("the_last_of_a_name_is_no_course", "--last", f"{OF_A};{OF_B};{OF_C};{LESS_A}", f"legal a 1 none;{LEGAL_B};{LEGAL_C};no course a", 3),
+    ("the_last_of_a_name_is_late", "--last", f"{OF_B};{OF_C};{OF_A};{OF_B}", f"{LEGAL_B};{LEGAL_C};{LEGAL_A};out of order a", 3),
+    ("the_last_of_an_unknown_name", "--last", f"{OF_A};{OF_B};{OF_C};{OF_D};{OF_D}", f"{LEGAL_A};{LEGAL_B};{LEGAL_C};legal d 2 none;unknown d", 3),
+    ("one_that_is_not_legal_before_the_last", "--last", f"{OF_A.replace('end pass', 'end fail')};{OF_B};{OF_C};{OF_A}",
+     f"{LEGAL_A};{LEGAL_B};{LEGAL_C}", 0),
+    ("the_last_of_a_shard", "--last --shard 1/2", f"{LESS_A};{OF_C};{OF_A}", f"{LEGAL_A};{LEGAL_C}", 0),
     ("the_last_shard_of_two_names", "--only a --only c --shard 2/2", OF_C, LEGAL_C, 0),
     ("the_first_shard_of_two_names", "--only a --only c --shard 1/2", OF_C, f"{LEGAL_C};unknown c;missing a", 3),
 ]

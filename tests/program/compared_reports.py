@@ -6,14 +6,13 @@ from typing import Iterator, List, Tuple
 
 import reports
 from case import Case, Judgement, Ran, answer, as_lines, below, faults_in, refusal, refused, shown_with
-from compared import OF_A, OF_B, OF_C, ROWS, SCRIPT, drawn_comparisons, notes_of, refused_texts
+from compared import LESS_A, OF_A, OF_B, OF_C, ROWS, SCRIPT, drawn_comparisons, notes_of, refused_texts
 from rows import ONLY, text
 from script_reader import Campaign, read_script
 from texts import check, read_history
 
 HEADER = "testcase,components,none,pass,inconc,fail,error,verdict"
 A, B, C = "a,1,0,1,0,0,0,pass", "b,2,1,0,0,1,0,fail", "c,1,1,0,0,0,0,none"
-LESS_A = "history 2 a 1;0 finish -> ok;end none"
 OPEN_A = "history 2 a 1;0 setverdict pass -> ok;end pass"
 MISSING = "0,0,0,0,0,0,missing"
 
@@ -26,6 +25,8 @@ TABLES: List[Tuple[str, str, str, str, str, int]] = [
     ("two_are_missing", "", OF_B, f"{B};a,{MISSING};c,{MISSING}", "missing a;missing c", 3),
     ("a_pass_and_two_are_missing", "", OF_A, f"{A};b,{MISSING};c,{MISSING}", "missing b;missing c", 3),
     ("twice", "", f"{OF_A};{OF_A};{OF_B};{OF_C}", f"{A};{A};{B};{C}", "twice a", 3),
+    ("the_last_of_a_name", "--last", f"{LESS_A};{OF_B};{OF_C};{OF_A}", f"{A};{B};{C}", "", 1),
+    ("the_last_of_a_name_and_one_is_missing", "--last", f"{LESS_A};{OF_C};{OF_A}", f"{A};{C};b,{MISSING}", "missing b", 3),
     ("in_the_wrong_order", "", f"{OF_C};{OF_A};{OF_B}", f"{C};{A};{B}", "out of order a;out of order b", 3),
     ("of_no_test_case", "", f"{OF_A};{OF_B};{OF_C.replace(' c ', ' d ')}", f"{A};{B};{C.replace('c', 'd', 1)};c,{MISSING}", "unknown d;missing c", 3),
     ("no_course", "", f"{LESS_A};{OF_B};{OF_C}", f"a,1,1,0,0,0,0,none;{B};{C}", "no course a", 3),

@@ -147,7 +147,7 @@ def held_page(program: str) -> List[str]:
     """No byte of a page of evidence but those of its two parts is `<`; turning U+2039 back gives the text."""
     given = text(f"{WHOLE};evidence 1 u 1;0 # </script><script>alert(1)</script><!--;0 ! {'<' * 200};end none")
     page = answer(program, given, "report", "--html").output
-    head, tail = reports.pages.part_of("head"), reports.pages.part_of("tail")
+    head, tail = reports.pages.page_of(b"\0").split(b"\0")
     inside = page[len(head):len(page) - len(tail)]
     faults = [] if page == head + inside + tail and b"<" not in inside else ["the page has a tag in its text"]
     return faults + difference("the text", given, inside.replace("\u2039".encode(), b"<"))

@@ -1,10 +1,12 @@
 """Runs of what failed: `run --failed` on a script and evidence after it, worked texts and random campaigns next to a choice made here."""
 import random
 from collections import Counter
+from dataclasses import replace
 from typing import Iterator, List, Tuple
 
 from case import Case, Judgement, Ran, as_lines, below, faults_in, refusal, refused, shown_with
-from compared import OF_A, OF_B, OF_C, REFUSED, REFUSED_CHOICES, SCRIPT, drawn_comparisons
+from chosen_blocks import counted
+from compared import OF_A, OF_B, OF_C, REFUSED, REFUSED_CHOICES, SCRIPT, answer, drawn_comparisons
 from rows import ONLY, text
 from texts import Block, judge_block, read_history
 
@@ -30,6 +32,11 @@ LISTS: List[Tuple[str, str, str, str]] = [
     ("not_legal_by_its_verdict", "", f"{OF_A};{OF_B.replace('end fail', 'end pass')};{OF_C}", "b"),
     ("behind_one_that_is_not_legal", "", f"{BAD_A};{PASS_OF_B}", "a;c"),
     ("twice_and_once_legal", "", f"{OF_A};{BAD_A};{OF_C}", "a;b"),
+    ("twice_and_the_last_passed", "--last", f"{FAILED_A};{OF_B};{OF_C};{OF_A}", "b"),
+    ("twice_and_the_last_failed", "--last", f"{OF_A};{PASS_OF_B};{OF_C};{FAILED_A}", "a"),
+    ("twice_and_the_last_is_legal", "--last", f"{BAD_A};{OF_A};{OF_C}", "b"),
+    ("twice_and_the_last_is_not_legal", "--last", f"{OF_A};{OF_C};{PASS_OF_B};{BAD_A}", "a"),
+    ("all_passed_at_last", "--last", f"{FAILED_A};{OF_B};{OF_C};{OF_A};{PASS_OF_B}", ""),
     ("of_some_names", "--only a --only b", OF_A, "b"),
     ("of_a_name_that_passed", "--only a", f"{OF_A};{OF_B}", ""),
     ("of_a_shard", "--shard 1/2", OF_C, "a"),
@@ -68,15 +75,21 @@ def faults_of_random_campaigns(program: str, seed: int) -> Iterator[str]:
             wanted = refused_as
             met["refused"] += 1
         else:
-            names = not_passed([case.name for case in it.taken], read)
+            taken = [case.name for case in it.taken]
+            names = not_passed(taken, read)
             wanted = Ran(as_lines(*names), b"", 0)
+            again = replace(it, behind=it.behind + answer(program, it.script, "run", "--history").output)
+            both, _ = read_history(again.behind)
+            at_last = not_passed(taken, counted(both, True))
+            yield from shown_with(faults_in(Ran(as_lines(*at_last), b"", 0), again.answer(program, "run", "--list", "--failed", "--last")), *again.shown())
+            met["passed at last"] += at_last != not_passed(taken, both)
             met["lists"] += 1
             met["left out"] += len(it.taken) - len(names)
             met["failed"] += sum(any(block.name == name for block in read) for name in names)
             met["illegal"] += sum(not judge_block(block)[1] for block in read)
             met["missing"] += sum(all(block.name != name for block in read) for name in names)
         yield from shown_with(faults_in(wanted, it.answer(program, "run", "--list", "--failed")), *it.shown())
-    yield from below(met, {"lists": 100, "left out": 40, "failed": 40, "illegal": 8, "missing": 8})
+    yield from below(met, {"lists": 100, "left out": 40, "failed": 40, "illegal": 8, "missing": 8, "passed at last": 5})
 
 
 def of_a_long_text() -> Case:

@@ -1,26 +1,17 @@
-"""Pages of histories and evidence, made of the constants of the crate tc_answer, and read by Python's reader of HTML."""
+"""Pages of histories and evidence, made of the page without them, and read by Python's reader of HTML."""
 import os
-import re
 from html.parser import HTMLParser
 from typing import List, Optional, Tuple
 
 TOP = os.path.dirname(os.path.dirname(os.path.dirname(os.path.abspath(__file__))))
-CONSTANT = re.compile(r'pub const \w+: &\[u8\] =\s+b"((?:[^"\\]|\\.)*)";')
-ESCAPES = {"n": "\n"}
+VIEWER, MARK = os.path.join(TOP, "page", "viewer.html"), b'<script type="text/plain" id="history">'
 # What a page has for `<`.
 INSTEAD = "\u2039"
 
 
-def part_of(name: str) -> bytes:
-    """One of the two parts between which a page holds the text."""
-    with open(os.path.join(TOP, "crates", "tc_answer", "src", f"{name}.rt"), encoding="ascii") as file:
-        found = CONSTANT.search(file.read())
-    assert found is not None, name
-    return re.sub(r"\\(.)", lambda it: ESCAPES.get(it[1], it[1]), found[1]).encode()
-
-
 def page_of(text: bytes) -> bytes:
-    return part_of("head") + text.replace(b"<", INSTEAD.encode()) + part_of("tail")
+    with open(VIEWER, "rb") as file:
+        return file.read().replace(MARK, MARK + text.replace(b"<", INSTEAD.encode()))
 
 
 class Reader(HTMLParser):

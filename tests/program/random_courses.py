@@ -17,7 +17,7 @@ CASES = 250
 # A test case with more states than that many in the plain search is left out, and counted.
 MOST = 1500
 OWN_WAITS = ("wait done self", "wait killed self")
-LINE = re.compile(r"\w+(?: (?:none|pass|inconc|fail|error))* (?:complete|undecided after \d+ states)")
+LINE = re.compile(r"\w+(?: (?:none|pass|inconc|fail|error))* (?:complete|undecided after \d+ states: limit of (?:states|memory))")
 
 
 class Racing(ScriptWriter):

@@ -123,6 +123,7 @@ def counted() -> Iterator[Case]:
             ("more_entries_than_steps", waiting(64, 1000), "t,64,0,64,0,0,0,pass\n", 0), ("most_steps", most_steps(), csv_of_verdict("t", "pass"), 0),
             ("a_thousand_components_of_a_script", single(creates), "t,1000,999,0,0,0,1,error\n", 2),
             ("a_component_less", single(creates[1:]), "t,1000,1000,0,0,0,0,none\n", 0),
+            ("as_many_of_alive_type", single([f"{it} alive" for it in creates[1:]]), "t,1000,1000,0,0,0,0,none\n", 0),
             ("a_thousand_test_cases", text(";".join(many[:-1])), "".join(csv_of_verdict(f"t{at}", "none") for at in range(1000)), 0),
             ("a_name_of_32_bytes", PASSING.replace(b"testcase t", b"testcase " + b"n" * 32), csv_of_verdict("n" * 32, "pass"), 0)):
         yield Case(name, ("run", "--csv"), script, (CSV_HEADER + records).encode(), status=status)
@@ -250,9 +251,9 @@ def racing() -> Iterator[Case]:
     creates = ";".join(f"create q{at}" for at in range(7))
     others = ";".join(f"behaviour w{at};{creates};end" for at in range(3))
     starts = ";".join(f"create p{at};start p{at} w{at}" for at in range(3))
-    most = 2_000_000 // (1 + 7 + 3 * 7)
-    yield Case("more_states_than_16_bits_count", ("explore", "--states", "1000000"), text(f"testcase t;behaviour main;{starts};wait done all;end;{others};end"),
-               text(f"t undecided after {most} states"), status=3)
+    most = 70_000
+    yield Case("more_states_than_16_bits_count", ("explore", "--states", str(most)), text(f"testcase t;behaviour main;{starts};wait done all;end;{others};end"),
+               text(f"t none undecided after {most} states: limit of states"), status=3)
 
 
 def unaffordable() -> Iterator[Case]:

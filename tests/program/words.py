@@ -32,11 +32,12 @@ ALL_OPTIONS = ("runs the campaign of a script, and writes its report\n",
                "  --only <NAME>        runs this test case; may be given again, for others\n",
                "  --shard <K/N>        runs the K-th of N shards of the test cases\n",
                "  --failed             leaves out what passed by evidence after the script\n",
+               "  --last               counts only the last history of each name\n",
                "  --explain            " + EXPLAIN, "  --no-explain         " + NO_EXPLAIN,
                "Standard input is a script: ttrun run < FILE. Standard output is the report.\n"
                "With --failed it is a script, and after it histories or evidence of its test\n"
                "cases: cat FILE EVIDENCE | ttrun run --failed runs those that are missing, are\n"
-               "not legal, or have a verdict other than none and pass.\n",
+               "not legal, or have a verdict other than none and pass. With --last only the\nlast of each name counts.\n",
                "VERDICT is none, pass, inconc, fail or error. A * in NAME stands for any\nletters, or none: --only 't_*'."
                " --shard K/N runs every N-th of the chosen test\ncases, from the K-th on. --list takes no form, no --live, no --progress"
                " and no\n--stop-on, and --junit is not taken with --live.\n",
@@ -49,10 +50,11 @@ EXPLORE = ("looks for every overall verdict that a test case can have\n",
            "  --only <NAME>  explores this test case; may be given again, for others\n",
            "  --shard <K/N>  explores the K-th of N shards of the test cases\n",
            "  --failed       leaves out what passed by evidence after the script\n",
+           "  --last         counts only the last history of each name\n",
            "  --explain      " + EXPLAIN, "  --no-explain   " + NO_EXPLAIN,
            "Standard input is a script: ttrun explore < FILE. Standard output is a line\n"
            "for each test case: its name, the verdicts found, and how the search ended.\n"
-           "N is from 1 to 1000000, and 100000 without --states. --only, --shard and\n--failed choose test cases as those of run do.\n",
+           "N is from 1 to 1000000, and 100000 without --states. --only, --shard and\n--failed choose test cases as those of run do, with --last too.\n",
            "Status: 0 if each test case has one verdict, 1 if one has several, 3 if a\nsearch met its limit, or for a refusal.\n")
 REPORT = ("reads histories, and writes them in one of these forms\n",
           "  --csv           writes a table as CSV\n", "  --junit         writes a JUnit suite\n",
@@ -62,24 +64,27 @@ REPORT = ("reads histories, and writes them in one of these forms\n",
           "  --script        reads their script first, and compares them with it\n",
           "  --only <NAME>   chooses this test case; may be given again, for others\n",
           "  --shard <K/N>   awaits the K-th of N shards of the test cases\n",
-          "  --failed        leaves out what has the verdict none or pass\n", "  --explain       " + EXPLAIN,
+          "  --failed        leaves out what has the verdict none or pass\n",
+          "  --last          counts only the last history of each name\n", "  --explain       " + EXPLAIN,
           "  --no-explain    " + NO_EXPLAIN,
           "Standard input is histories or evidence: ttrun report --csv < FILE. Nothing is\n"
           "written to standard output if one of them is not legal. --only and --failed\n"
-          "choose as those of check do, but not for --html. With --script the input is\n"
-          "what check --script reads, and --only and --shard choose as there. Test cases\n"
-          "that are missing come last, and the lines of check --script go to standard\nerror.\n",
+          "choose as those of check do, with --last too, but not for --html. With\n"
+          "--script the input is what check --script reads, and --only and --shard choose\n"
+          "as there. Test cases that are missing come last, and the lines of check\n"
+          "--script go to standard error.\n",
           "Status: 0 for none and pass, 1 for inconc and fail, 2 for error and for a test\n"
           "case that is not over, 3 if a history is not legal, for such a line, or for a\nrefusal.\n")
 CHECK = ("replays histories and evidence, and says which are legal\n",
          "  --script       reads their script first, and compares them with it\n",
          "  --only <NAME>  chooses this test case; may be given again, for others\n",
          "  --shard <K/N>  awaits the K-th of N shards of the test cases\n",
-         "  --failed       leaves out what has the verdict none or pass\n", "  --explain      " + EXPLAIN,
+         "  --failed       leaves out what has the verdict none or pass\n",
+         "  --last         counts only the last history of each name\n", "  --explain      " + EXPLAIN,
          "  --no-explain   " + NO_EXPLAIN,
          "Standard input is histories or evidence: ttrun check < FILE. Standard output\n"
          "has a line for each, and none after the first that is not legal. --only, as\n"
-         "for run, and --failed leave out lines of legal ones.\n"
+         "for run, and --failed leave out lines of legal ones. With --last only the last\nof each name counts.\n"
          "With --script the input is a script, and after it histories or evidence of its\n"
          "test cases: cat FILE EVIDENCE | ttrun check --script. With --only and --shard,\n"
          "as for run, it is as if the script had only these test cases. --failed is not\n"
@@ -126,12 +131,15 @@ one of the arguments '--csv', '--junit', '--html' and '--summary' is needed
     report, report --, report --explain, report --suite a, report --only a, report --failed, report --script --only a
 the argument '--suite' needs '--junit'
     report --csv --suite a, report --suite 7 --summary, run --suite a, run --suite 7 --stop-on no, run --list --suite a
+the argument '--last' needs '--failed'
+    run --last, run --list --last, explore --last, explore --last --only a
 the arguments '--shard', and '--only' with '--html', need '--script'
     check --shard 0/1, check --shard 1/2 --only a --explain, check --failed --shard 0/1, report --html --only a, report --only a --html --shard 1/2,
     report --shard 1/2
 the argument '{twice}' cannot be used multiple times
     run --junit --suite a --suite b, report --summary --summary, check --explain --explain, check --no-explain --no-explain, check --script --script,
-    check --script --shard 1/2 --shard 1/2, check --failed --failed, explore --details --details, explore --locals --locals,
+    check --script --shard 1/2 --shard 1/2, check --failed --failed, check --last --last, explore --details --details,
+    explore --locals --locals,
     explore --history --history, explore --states 1 --states 1, report --csv --csv, report --html --html, report --failed --failed --csv,
     report --junit --junit, run --csv --csv, run --evidence --evidence, run --failed --failed, explore --shard 1/2 --shard 1/2,
     run --history --history, run --junit --junit, run --list --list, run --live --live, run --progress --progress, run --shard 1/2 --shard 1/2,
@@ -176,6 +184,7 @@ csv junit: report --csv --junit, report --explain --csv --junit, report --junit 
 csv html: report --html --csv
 junit html: report --html --junit
 html failed: report --failed --html, report --html --failed --only a
+html last: report --last --html, report --html --script --last
 csv evidence: run --csv --evidence, run --evidence --csv
 csv history: run --csv --history, run --csv --history --junit, run --csv --history --stop-on no, run --csv --live --history, run --history --csv,
     run --history --stop-on pass --csv, run --live --csv --history
@@ -314,6 +323,8 @@ MAKING = LOOSE.replace(b"fail\n", b"fail\ncreate q\n")
 DEAD = text("testcase t;behaviour main;create p alive;start p w;wait done p;setverdict pass;end;behaviour w;wait killed self;end;end")
 DEAD_TOLD = text("t error complete;  error: mtc error, 1 none;  stuck: run 0 on mtc waits for done of 1, where run 1 is;"
                  "  stuck: run 1 on 1 waits for killed of 1, where run 1 is;  not seen: run 0 from step 4 of 4 on: setverdict pass")
+# Half a search prints no step as one that no schedule carries out.
+HALF_TOLD = DEAD_TOLD[: DEAD_TOLD.index(b"  not seen")].replace(b"complete", b"undecided after 1 states: limit of states")
 # The worker sets a verdict before it is killed, or not.
 KILLED = text("testcase t;behaviour main;create p named worker;start p w;setverdict fail;kill p;end;behaviour w;setverdict pass;end;end")
 KILLED_TOLD = b"t fail complete\n  local 1 worker: none or pass\n"
@@ -336,22 +347,22 @@ LONG_TOLD = as_lines(
 
 # Name, options, script, output, status.
 EXPLORED: List[Tuple[str, str, bytes, Wanted, int]] = [
-    ("one_state_decides_nothing", "--states 1", RACE, SomeText(("t undecided",)), 3),
-    ("two_states_are_not_complete", "--states 2", LOOSE, b"t undecided after 2 states\n", 3),
+    ("one_state_decides_nothing", "--states 1", RACE, SomeText(("t none fail undecided",)), 3),
+    ("two_states_are_not_complete", "--states 2", LOOSE, b"t none fail undecided after 2 states: limit of states\n", 3),
     ("three_states_are_complete", "--states 3", LOOSE, b"t none fail complete\n", 1),
-    ("the_worst_verdict_is_found_first", "--states 3", MAKING, b"t fail undecided after 3 states\n", 3),
+    ("the_worst_verdict_is_found_first", "--states 3", MAKING, b"t none fail undecided after 3 states: limit of states\n", 3),
     ("a_race_is_told_complete", "", RACE, b"t none fail complete\n", 1),
     ("steps_behind_a_wait_are_dead", "--details", DEAD, DEAD_TOLD, 0),
     ("a_stopped_component_is_waited_for", "--details", STOPPED, STOPPED_TOLD, 0),
     ("a_long_race_is_cut", "--details", LONG, LONG_TOLD, 1),
     ("no_step_is_dead", "--details", PLAIN, b"t pass complete\n  pass: mtc none, 1 pass\n", 0),
-    ("no_step_is_told_dead_by_half_a_search", "--details --states 1", DEAD, b"t undecided after 1 states\n", 3),
+    ("no_step_is_told_dead_by_half_a_search", "--details --states 1", DEAD, HALF_TOLD, 3),
     ("local_verdicts_that_differ", "--locals", KILLED, KILLED_TOLD, 0),
     ("local_verdicts_before_details", "--locals --details", KILLED, KILLED_TOLD + b"  fail: mtc fail, 1 worker pass\n", 0),
     ("a_component_of_two_names_has_none", "--locals", NAMED_BY_ORDER, text("t fail complete;  local 3: none or fail;  local 4: none or fail"), 0),
     ("no_local_verdict_differs", "--locals", PLAIN, b"t pass complete\n", 0),
     ("local_verdicts_of_half_a_search", "--locals --states 2", KILLED,
-     text("t undecided after 2 states;  local verdicts undecided after 2 states"), 3),
+     text("t fail undecided after 2 states: limit of states;  local verdicts undecided after 2 states"), 3),
     ("only_the_search_for_local_verdicts_ends_early", "--locals --states 3", KILLED,
      text("t fail complete;  local verdicts undecided after 3 states"), 0),
 ]

@@ -197,4 +197,5 @@ def a_report_shows_the_last_entries(place: Place) -> None:
     same(result.report().splitlines()[3:], ["evidence, the last 20 of 54 lines:", *entries[-20:]])
     same(result.report(53).splitlines()[3:], ["evidence, the last 53 of 54 lines:", *entries[1:]])
     same(result.report(54).splitlines()[3:], ["evidence:", *entries])
+    same(result.report(0).splitlines()[3:], ["evidence, the last 0 of 54 lines:"])
     place.reach("lines", len(entries), 54)

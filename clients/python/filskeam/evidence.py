@@ -165,7 +165,7 @@ class Result:
         lines += [f"local {f'{number} {self.names[number]}'.rstrip()}: {verdict}" for number, verdict in self.locals.items()]
         entries = self.evidence.splitlines()
         lines += ["evidence:" if len(entries) <= most else f"evidence, the last {most} of {len(entries)} lines:"]
-        return "\n".join(lines + [f"  {it}" for it in entries[-most:]])
+        return "\n".join(lines + [f"  {it}" for it in entries[max(len(entries) - most, 0):]])
 
 
 class EvidenceFile:

@@ -88,8 +88,8 @@ fn cases<R: Wait + Copy + Send + 'static>(rt: &R, alloc: Global) -> Option<Vec<C
     Some(cases)
 }
 
-/// The run of that many jobs that do nothing, with one worker. It takes memory if it is not refused before. The boxes are made
-/// where they are run, since a function that hands out a boxed closure fails the gate.
+/// The run of that many jobs that do nothing, with one worker. It takes memory if it is not refused before, and then the worker may
+/// be refused too. The boxes are made where they are run, since a function that hands out a boxed closure fails the gate.
 fn run_idle<R: Threads + Wait + Copy + Send + 'static>(
     rt: &R,
     trial: &mut Trial,
@@ -115,6 +115,7 @@ fn run_idle<R: Threads + Wait + Copy + Send + 'static>(
     match run_case(rt, trial.alloc, jobs, 1) {
         Ok(report) => tell_closed(&mut trial.out, &report),
         Err(CaseError::NoMemory) => trial.refuse(true),
+        Err(CaseError::NoThread) if takes => trial.refuse(true),
         Err(why) => {
             // There is room for the text.
             let _ = trial.out.extend_from_slice(why.text().as_bytes());
@@ -337,6 +338,7 @@ pub(crate) fn ask<R: Threads + Wait + Copy + Send + 'static>(rt: &R, trial: &mut
 /// The run of test cases of one behaviour and of two, and of campaigns: of one that has no room for its reports, and of one that is reported.
 pub(crate) fn run<R: Threads + Wait + Copy + Send + 'static>(rt: &R, trial: &mut Trial) {
     run_idle(rt, trial, 1, true);
+    run_idle(rt, trial, 2, true);
     run_both(rt, trial);
     run_kept(rt, trial);
     run_without_room(rt, trial);

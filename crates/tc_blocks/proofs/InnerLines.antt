@@ -3,7 +3,7 @@ use Rattle.std.proofs.Common.{ℕ, ◌≡◌, ◌∙◌, true, false, List, [], 
 use Rattle.tc_rules.specs.Prelude.{Run, Verdict, name_of, Entry, Op, Fault, Reply, fault_name, overall, IsLegal}
 use Rattle.tc_text.specs.declared.short.ShortOp.{ShortOp}
 use Rattle.tc_text.specs.Prelude.{lines_of, EndsMove, EndsLine, op_of, move_text, reply_text, IsReply}
-use Rattle.tc_text.proofs.Lemmas.{LinesOf.NoLf, LinesOf.first_line, LinesOf.line_ended, LinesOf.no_lf-append, LinesOf.same_behind, Plain.move_plain, Plain.number_plain, Plain.some_move}
+use Rattle.tc_text.proofs.Lemmas.{LinesOf.NoLf, LinesOf.first_line, LinesOf.line_ended, LinesOf.no_lf-append, LinesOf.same_behind, LinesOf.move_plain, LinesOf.number_plain, LinesOf.some_move}
 use Rattle.tc_blocks.specs.{HistoryBlock.end_text, HistoryBlock.entry_text, HistoryBlock.outcome_text, HistoryText.IsEntry, HistoryText.IsUnnamed, Laws.RemarksSayNothing, Line.entries_of, Line.entry_in, declared.line.Line.Line}
 
 pub verdict_plain : (v : Verdict) → NoLf (name_of v)

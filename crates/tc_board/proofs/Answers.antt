@@ -1,10 +1,10 @@
 -- What one more answer does to the answers of a hand.
 use Rattle.std.proofs.Common.{◌≡◌, ◌≢◌, ◌⊎◌, ℕ, Bool, true, false, if◌then◌else◌, nat_lt, List, [], ◌∷◌, ◌++◌, map, refl, sym, ap, ◌∙◌, subst, ⊎_elim, arith}
 use Rattle.std.proofs.lemmas.List.{take-append-le, take_at, append-nil}
-use Rattle.tc_entry.specs.Prelude.{UserVerdict, level_of, worse, worst, given, rank_of}
+use Rattle.tc_entry.specs.Prelude.{UserVerdict, level_of, worse, worst, given}
 use Rattle.tc_verdict.proofs.Lemmas.Order.{worst-more}
 use Rattle.tc_board.specs.{Answers.FindsWorst, Answers.NeverShut, Answers.StaysShut, Answers.taken, Answers.worst_answer, declared.answer.Answer.Answer, declared.answer.Answer.TheVariants.Found, declared.answer.Answer.TheVariants.Met, declared.answer.Answer.TheVariants.Shut, declared.answer.Answer.TheVariants.Taken}
-use Rattle.tc_board.proofs.{Lookup.got_end, Numbers.level-given}
+use Rattle.tc_board.proofs.Lookup.{got_end}
 
 taken-end : (answers : List Answer) (x : Answer) → taken (answers ++ x ∷ []) ≡ taken answers ++ taken (x ∷ [])
 taken-end [] x = refl
@@ -40,8 +40,8 @@ worst_of-given : (u : UserVerdict) (answers : List Answer) → (w : UserVerdict)
 worst_of-given u answers = worst_given (u ∷ taken answers)
 
 -- the number in an open word is the rank of the worst
-pub rank_in : (u : UserVerdict) (answers : List Answer) (found : ℕ) → found ≡ level_of (worst_answer u answers) → (w : UserVerdict) × (given w ≡ worst_answer u answers) × (found ≡ rank_of w)
-rank_in u answers found is = let w = worst_of-given u answers in (w.0, w.1, is ∙ (ap level_of (sym w.1) ∙ level-given w.0))
+pub rank_in : (u : UserVerdict) (answers : List Answer) (found : ℕ) → found ≡ level_of (worst_answer u answers) → (w : UserVerdict) × (given w ≡ worst_answer u answers) × (found ≡ level_of (given w))
+rank_in u answers found is = let w = worst_of-given u answers in (w.0, w.1, is ∙ ap level_of (sym w.1))
 
 pub finds-end : (u : UserVerdict) (answers : List Answer) (x : Answer) → FindsWorst u answers → ((v : UserVerdict) → x ≡ Found v → given v ≡ worst_answer u answers) → FindsWorst u (answers ++ x ∷ [])
 finds-end u answers x finds last i v e = ⊎_elim

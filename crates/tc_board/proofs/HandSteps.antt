@@ -4,7 +4,7 @@ use mathlib.Core.Option.{none, some}
 use lib.ListN.{get_elem?}
 use Rattle.atomic_table.specs.Table.{step, keeps, stepped, Allows}
 use Rattle.atomic_table.proofs.Lists.{at_set, set_here}
-use Rattle.tc_entry.specs.Prelude.{UserVerdict, level_of, given, rank_of}
+use Rattle.tc_entry.specs.Prelude.{UserVerdict, level_of, given}
 use Rattle.tc_board.specs.{Answers.worst_answer, Inside.Seats.hand_view, Inside.Seats.list, Inside.Steps.Seated, Inside.Steps.get_answer, Inside.Steps.set_answer, Inside.Steps.was_got, Inside.Steps.was_met, Inside.Steps.was_set, Inside.Table.Holds, Inside.Table.Knows, Inside.Table.Row, Inside.Table.row, Rule.Fits, declared.answer.Answer.Answer, declared.answer.Answer.TheVariants.Found, declared.answer.Answer.TheVariants.Met, declared.answer.Answer.TheVariants.Shut, declared.answer.Answer.TheVariants.Taken, declared.record.Record.Record, declared.record.Record.TheVariants.Closed, declared.record.Record.TheVariants.Open, declared.record.Record.TheVariants.Unbegun, declared.rule.View.View}
 use Rattle.tc_board.proofs.{Answers.finds-end, Answers.never-end, Answers.rank_in, Answers.stays-end, Answers.worst_of-other, Answers.worst_of-taken, Lookup.at_length, Numbers.begun_closed, Numbers.begun_open, Numbers.get_closed, Numbers.get_open, Numbers.max-closed, Numbers.max-worse, Numbers.rank_less, Numbers.set_closed, Numbers.set_open, Numbers.verdict_of-rank, Rows.Board, Rows.hand_knows, Rows.lists_stand, Rows.no_other, Rows.stands_on, Rows.still_knows, Rows.words_fit}
 
@@ -31,19 +31,19 @@ hand_step s id k before after word h at fits =
     }
 
 -- what a setting does to the answers and the word fits the record
-set_fits : (answers : List Answer) (v : UserVerdict) (found : ℕ) → answers ≢ [] → (r : Record) → Fits r answers found → Fits r (answers ++ set_answer v found ∷ []) (max found (rank_of v))
+set_fits : (answers : List Answer) (v : UserVerdict) (found : ℕ) → answers ≢ [] → (r : Record) → Fits r answers found → Fits r (answers ++ set_answer v found ∷ []) (max found (level_of (given v)))
 set_fits answers v found met Unbegun f = absurd (met f.1)
 set_fits answers v found met (Open u) f =
     let w = rank_in u answers found f.0 in
     let less : found < 4 = subst (λ n. n < 4) (sym w.2) (rank_less w.0) in
-    subst (λ x. Fits (Open u) (answers ++ x ∷ []) (max found (rank_of v))) (sym (set_open v found less)) (
-      ap (λ n. max n (rank_of v)) f.0 ∙ (max-worse (worst_answer u answers) v ∙ ap level_of (sym (worst_of-taken u answers v))),
+    subst (λ x. Fits (Open u) (answers ++ x ∷ []) (max found (level_of (given v)))) (sym (set_open v found less)) (
+      ap (λ n. max n (level_of (given v))) f.0 ∙ (max-worse (worst_answer u answers) v ∙ ap level_of (sym (worst_of-taken u answers v))),
       (never-end answers (Taken v) f.1.0 (λ e. cc), finds-end u answers (Taken v) f.1.1 (λ w e. absurd (cc))),
     )
 set_fits answers v found met (Closed u w) f =
-    let is : set_answer v found ≡ Shut = ap (set_answer v) f.0 ∙ set_closed v (rank_of w) in
-    subst (λ x. Fits (Closed u w) (answers ++ x ∷ []) (max found (rank_of v))) (sym is) (
-      ap (λ n. max n (rank_of v)) f.0 ∙ max-closed w v,
+    let is : set_answer v found ≡ Shut = ap (set_answer v) f.0 ∙ set_closed v (level_of (given w)) in
+    subst (λ x. Fits (Closed u w) (answers ++ x ∷ []) (max found (level_of (given v)))) (sym is) (
+      ap (λ n. max n (level_of (given v))) f.0 ∙ max-closed w v,
       (f.1.0 ∙ sym (worst_of-other u answers Shut refl), finds-end u answers Shut f.1.1 (λ w e. absurd (cc)), stays-end answers Shut f.1.2 (inl refl)),
     )
 
@@ -96,13 +96,13 @@ unmet answers found (Open u) f is = let w = rank_in u answers found f.0 in let a
 unmet answers found (Closed u w) f is = let a = f.0 in let b = rank_less w in absurd (omega arith)
 
 sets : (slots id k : ℕ) (answers : List Answer) (v : UserVerdict) → answers ≢ []
-    → Allows Holds slots id (hand_view k answers, []) k (λ n. max n (rank_of v)) (was_set (step slots k (rank_of v) 0 none) (hand_view k answers, []))
+    → Allows Holds slots id (hand_view k answers, []) k (λ n. max n (level_of (given v))) (was_set (step slots k (level_of (given v)) 0 none) (hand_view k answers, []))
 sets slots id k answers v met s h _ at _ =
     let found : ℕ = get_or s.words k 0 in (
       hand_view k (answers ++ set_answer v found ∷ []),
       keeps,
       tt,
-      hand_step s id k answers (answers ++ set_answer v found ∷ []) (max found (rank_of v)) h at (set_fits answers v found met),
+      hand_step s id k answers (answers ++ set_answer v found ∷ []) (max found (level_of (given v))) h at (set_fits answers v found met),
       ap (λ w. (hand_view k (answers ++ set_answer w found ∷ []), [])) (sym (verdict_of-rank v)),
     )
 
@@ -123,7 +123,7 @@ meets slots id k answers s h _ at _ =
     )
 
 -- the same at a seat that has the view of a hand
-pub sets_at : (slots id k n : ℕ) (me : Seated) (answers : List Answer) (v : UserVerdict) → me ≡ (hand_view k answers, []) → n ≡ rank_of v → answers ≢ []
+pub sets_at : (slots id k n : ℕ) (me : Seated) (answers : List Answer) (v : UserVerdict) → me ≡ (hand_view k answers, []) → n ≡ level_of (given v) → answers ≢ []
     → Allows Holds slots id me k (λ x. max x n) (was_set (step slots k n 0 none) me)
 sets_at slots id k n me answers v is rank met = subst (λ (m : Seated × ℕ). Allows Holds slots id m.0 k (λ x. max x m.1) (was_set (step slots k m.1 0 none) m.0)) (λ i. (sym is i, sym rank i)) (sets slots id k answers v met)
 

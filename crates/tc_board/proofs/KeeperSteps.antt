@@ -7,7 +7,7 @@ use native.Mathlib.Decide.{ℕ_discrete}
 use lib.ListN.{get_elem?}
 use Rattle.atomic_table.specs.Table.{step, keeps, stepped, Allows, Joins}
 use Rattle.atomic_table.proofs.Lists.{at_longer, at_set, set_here, set_else, set_again, at_map, at_last}
-use Rattle.tc_entry.specs.Prelude.{UserVerdict, level_of, given, rank_of}
+use Rattle.tc_entry.specs.Prelude.{UserVerdict, level_of, given}
 use Rattle.tc_board.specs.{Answers.worst_answer, Inside.Seats.hand_view, Inside.Seats.keeper_view, Inside.Seats.list, Inside.Seats.spent_view, Inside.Seats.taken_back, Inside.Steps.Counts, Inside.Steps.Seated, Inside.Steps.verdict_of, Inside.Steps.was_closed, Inside.Steps.was_opened, Inside.Steps.was_seen, Inside.Steps.with_record, Inside.Table.Holds, Inside.Table.IsAt, Inside.Table.Knows, Inside.Table.Row, Inside.Table.record_of, Inside.Table.row, Keeper.carried_by, Keeper.carried_in, Rule.AnswersAgree, Rule.Fits, declared.answer.Answer.Answer, declared.answer.AnswerList.AnswerList, declared.record.Record.Record, declared.record.Record.TheVariants.Closed, declared.record.Record.TheVariants.Open, declared.record.Record.TheVariants.Unbegun, declared.rule.View.View}
 use Rattle.tc_board.proofs.{Answers.never-stays, Answers.rank_in, Lookup.at_end, Lookup.at_length, Lookup.at_map_back, Lookup.contained_at, Lookup.elem_got, Numbers.or-closed, Numbers.rank_less, Numbers.verdict_of-rank, Rows.Board, Rows.lists_stand, Rows.never, Rows.no_other, Rows.other_run, Rows.same_records, Rows.stands_on, Rows.stays_at, Rows.still_knows, Rows.words_fit, Rows.words_stay}
 
@@ -63,23 +63,23 @@ held_fits s id k records lists h at p l e is =
     )
 
 opens : (slots id k : ℕ) (records : List Record) (lists : List AnswerList) (u : UserVerdict) → get_elem? records k ≡ some Unbegun
-    → Allows Holds slots id (keeper_view records lists, []) k (λ _. rank_of u) (λ _. was_opened (step slots k (rank_of u) 0 none) (keeper_view records lists, []) (rank_of u))
+    → Allows Holds slots id (keeper_view records lists, []) k (λ _. level_of (given u)) (λ _. was_opened (step slots k (level_of (given u)) 0 none) (keeper_view records lists, []) (level_of (given u)))
 opens slots id k records lists u here s h _ at _ = (
   with_record (keeper_view records lists) k (Open u),
   keeps,
   tt,
-  keeper_step s id k (keeper_view records lists) Unbegun (Open u) (rank_of u) h at refl here (λ answers f. open_empty answers f.1),
+  keeper_step s id k (keeper_view records lists) Unbegun (Open u) (level_of (given u)) h at refl here (λ answers f. open_empty answers f.1),
   ap (λ w. (with_record (keeper_view records lists) k (Open w), [])) (sym (verdict_of-rank u)),
 )
   where
-    rank_alone : (u : UserVerdict) → rank_of u ≡ level_of (worst_answer u [])
+    rank_alone : (u : UserVerdict) → level_of (given u) ≡ level_of (worst_answer u [])
     rank_alone UserVerdict.None = refl
     rank_alone UserVerdict.Pass = refl
     rank_alone UserVerdict.Inconc = refl
     rank_alone UserVerdict.Fail = refl
 
-    open_empty : (answers : List Answer) → answers ≡ [] → Fits (Open u) answers (rank_of u)
-    open_empty answers none_yet = subst (λ l. Fits (Open u) l (rank_of u)) (sym none_yet) (rank_alone u, ((λ i e. cc), (λ i v e. absurd (cc))))
+    open_empty : (answers : List Answer) → answers ≡ [] → Fits (Open u) answers (level_of (given u))
+    open_empty answers none_yet = subst (λ l. Fits (Open u) l (level_of (given u))) (sym none_yet) (rank_alone u, ((λ i e. cc), (λ i v e. absurd (cc))))
 
 -- the verdict that a close finds counts what was taken
 found_counts : (u : UserVerdict) (answers : List Answer) (found : ℕ) → Fits (Open u) answers found → (given (verdict_of found) ≡ worst_answer u answers) × (found < 4)
@@ -91,7 +91,7 @@ close_fits : (u : UserVerdict) (answers : List Answer) (found : ℕ) → Fits (O
 close_fits u answers found f =
     let w = rank_in u answers found f.0 in
     let is : verdict_of found ≡ w.0 = ap verdict_of w.2 ∙ verdict_of-rank w.0 in
-    (ap (λ n. bit_or n 8) w.2 ∙ (or-closed w.0 ∙ ap (λ v. 8 + rank_of v) (sym is)), ((found_counts u answers found f).0, f.1.1, never-stays answers f.1.0))
+    (ap (λ n. bit_or n 8) w.2 ∙ (or-closed w.0 ∙ ap (λ v. 8 + level_of (given v)) (sym is)), ((found_counts u answers found f).0, f.1.1, never-stays answers f.1.0))
 
 closes : (slots id k : ℕ) (records : List Record) (lists : List AnswerList) (u : UserVerdict) → get_elem? records k ≡ some (Open u)
     → Allows Holds slots id (keeper_view records lists, []) k (λ n. bit_or n 8) (was_closed (step slots k 8 0 none) (keeper_view records lists, []))
@@ -166,7 +166,7 @@ takes_back id other k records lists answers s h at apart there =
     }
 
 -- the same at a seat that has the view of the keeper
-pub opens_at : (slots id k n : ℕ) (me : Seated) (records : List Record) (lists : List AnswerList) (u : UserVerdict) → me ≡ (keeper_view records lists, []) → n ≡ rank_of u → get_elem? records k ≡ some Unbegun
+pub opens_at : (slots id k n : ℕ) (me : Seated) (records : List Record) (lists : List AnswerList) (u : UserVerdict) → me ≡ (keeper_view records lists, []) → n ≡ level_of (given u) → get_elem? records k ≡ some Unbegun
     → Allows Holds slots id me k (λ _. n) (λ _. was_opened (step slots k n 0 none) me n)
 opens_at slots id k n me records lists u is rank here = subst (λ (m : Seated × ℕ). Allows Holds slots id m.0 k (λ _. m.1) (λ _. was_opened (step slots k m.1 0 none) m.0 m.1)) (λ i. (sym is i, sym rank i)) (opens slots id k records lists u here)
 

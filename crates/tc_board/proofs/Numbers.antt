@@ -2,24 +2,18 @@
 use Rattle.std.proofs.Common.{◌≡◌, ℕ, zero, suc, ◌+◌, ◌<◌, ◌==◌, if◌then◌else◌, nat_lt, true, false, Some, IfSome, refl, sym, ap, ◌∙◌, arith, max, bit_or}
 use Rattle.std.specs.Prelude.{Option, None as nothing}
 use Rattle.std.proofs.lemmas.Bool.Decides.{nat_tests}
-use Rattle.tc_entry.specs.Prelude.{Verdict, UserVerdict, level_of, worse, given, rank_of}
+use Rattle.tc_entry.specs.Prelude.{Verdict, UserVerdict, level_of, worse, given}
 use Rattle.tc_verdict.specs.declared.user_verdict.UserVerdict.TheVariants.{None, Pass, Inconc, Fail}
 use Rattle.tc_verdict.proofs.Lemmas.Order.{level-worse}
 use Rattle.tc_board.specs.{Hand.answer_to_get, Inside.Steps.get_answer, Inside.Steps.set_answer, Inside.Steps.verdict_of, declared.answer.Answer.TheVariants.Found, declared.answer.Answer.TheVariants.Shut, declared.answer.Answer.TheVariants.Taken}
 
-pub verdict_of-rank : (v : UserVerdict) → verdict_of (rank_of v) ≡ v
+pub verdict_of-rank : (v : UserVerdict) → verdict_of (level_of (given v)) ≡ v
 verdict_of-rank None = refl
 verdict_of-rank Pass = refl
 verdict_of-rank Inconc = refl
 verdict_of-rank Fail = refl
 
-pub level-given : (v : UserVerdict) → level_of (given v) ≡ rank_of v
-level-given None = refl
-level-given Pass = refl
-level-given Inconc = refl
-level-given Fail = refl
-
-pub rank_less : (v : UserVerdict) → rank_of v < 4
+pub rank_less : (v : UserVerdict) → level_of (given v) < 4
 rank_less None = omega arith
 rank_less Pass = omega arith
 rank_less Inconc = omega arith
@@ -29,14 +23,14 @@ larger : (m n : ℕ) → max m n ≡ (if nat_lt m n then n else m)
 larger m n = grind (arith, nat_tests)
 
 -- a setting raises an open word to the place of the worse verdict
-pub max-worse : (w : Verdict) (v : UserVerdict) → max (level_of w) (rank_of v) ≡ level_of (worse w (given v))
-max-worse w v = ap (max (level_of w)) (sym (level-given v)) ∙ (larger (level_of w) (level_of (given v)) ∙ sym (level-worse w (given v)))
+pub max-worse : (w : Verdict) (v : UserVerdict) → max (level_of w) (level_of (given v)) ≡ level_of (worse w (given v))
+max-worse w v = larger (level_of w) (level_of (given v)) ∙ sym (level-worse w (given v))
 
 -- and changes no closed word
-pub max-closed : (v w : UserVerdict) → max (8 + rank_of v) (rank_of w) ≡ 8 + rank_of v
+pub max-closed : (v w : UserVerdict) → max (8 + level_of (given v)) (level_of (given w)) ≡ 8 + level_of (given v)
 max-closed v w = let a = rank_less w in omega arith
 
-pub or-closed : (v : UserVerdict) → bit_or (rank_of v) 8 ≡ 8 + rank_of v
+pub or-closed : (v : UserVerdict) → bit_or (level_of (given v)) 8 ≡ 8 + level_of (given v)
 or-closed None = refl
 or-closed Pass = refl
 or-closed Inconc = refl
@@ -55,35 +49,35 @@ set_closed v n = ap (λ b. if b then Taken v else Shut) (is (nat_lt (8 + n) 8) r
     is : (t : _) → nat_lt (8 + n) 8 ≡ t → t ≡ false
     is t e = grind (arith, nat_tests)
 
-pub get_open : (v : UserVerdict) → get_answer (rank_of v) ≡ Found v
+pub get_open : (v : UserVerdict) → get_answer (level_of (given v)) ≡ Found v
 get_open None = refl
 get_open Pass = refl
 get_open Inconc = refl
 get_open Fail = refl
 
-pub get_closed : (v : UserVerdict) → get_answer (8 + rank_of v) ≡ Shut
+pub get_closed : (v : UserVerdict) → get_answer (8 + level_of (given v)) ≡ Shut
 get_closed None = refl
 get_closed Pass = refl
 get_closed Inconc = refl
 get_closed Fail = refl
 
-pub begun_open : (v : UserVerdict) → (rank_of v == 16) ≡ false
+pub begun_open : (v : UserVerdict) → (level_of (given v) == 16) ≡ false
 begun_open None = refl
 begun_open Pass = refl
 begun_open Inconc = refl
 begun_open Fail = refl
 
-pub begun_closed : (v : UserVerdict) → (8 + rank_of v == 16) ≡ false
+pub begun_closed : (v : UserVerdict) → (8 + level_of (given v) == 16) ≡ false
 begun_closed None = refl
 begun_closed Pass = refl
 begun_closed Inconc = refl
 begun_closed Fail = refl
 
 -- what is read of a number less than 4 is its verdict
-pub read_some : (n : ℕ) (r : Option UserVerdict) → n < 4 → ((v : UserVerdict) → rank_of v ≡ n → r ≡ Some v) → r ≡ Some (verdict_of n)
+pub read_some : (n : ℕ) (r : Option UserVerdict) → n < 4 → ((v : UserVerdict) → level_of (given v) ≡ n → r ≡ Some v) → r ≡ Some (verdict_of n)
 read_some n r less only = only (verdict_of n) (ranked n less)
   where
-    ranked : (n : ℕ) → n < 4 → rank_of (verdict_of n) ≡ n
+    ranked : (n : ℕ) → n < 4 → level_of (given (verdict_of n)) ≡ n
     ranked zero less = refl
     ranked (suc zero) less = refl
     ranked (suc (suc zero)) less = refl
@@ -91,7 +85,7 @@ read_some n r less only = only (verdict_of n) (ranked n less)
     ranked (suc (suc (suc (suc n)))) less = absurd (omega arith)
 
 -- and of any number the answer of a get
-pub read_answer : (n : ℕ) (r : Option UserVerdict) → IfSome r (λ v. rank_of v ≡ n) → ((v : UserVerdict) → rank_of v ≡ n → r ≡ Some v) → answer_to_get r ≡ get_answer n
+pub read_answer : (n : ℕ) (r : Option UserVerdict) → IfSome r (λ v. level_of (given v) ≡ n) → ((v : UserVerdict) → level_of (given v) ≡ n → r ≡ Some v) → answer_to_get r ≡ get_answer n
 read_answer n nothing ranked only = sym (ap (λ b. if b then Found (verdict_of n) else Shut) (is (nat_lt n 4) refl))
   where
     is : (t : _) → nat_lt n 4 ≡ t → t ≡ false

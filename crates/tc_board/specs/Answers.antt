@@ -6,10 +6,8 @@ use Rattle.tc_board.specs.declared.answer.Answer.{Answer, TheVariants.Found, The
 -- the settings that were taken
 abbrev pub taken : List Answer → List UserVerdict
 taken [] = []
-taken (Met ∷ answers) = taken answers
 taken (Taken v ∷ answers) = v ∷ taken answers
-taken (Found v ∷ answers) = taken answers
-taken (Shut ∷ answers) = taken answers
+taken (_ ∷ answers) = taken answers
 
 -- the worst of the carried verdict and of the settings that were taken
 abbrev pub worst_answer : UserVerdict → List Answer → Verdict

@@ -1,13 +1,13 @@
 -- The rule of the board, for each word: how the number in it, the keeper's record and the answers of its hand fit together.
 use Rattle.std.specs.Prelude.{◌≡◌, ℕ, ◌+◌, List, [], ◌≢◌, Some, slice_get}
-use Rattle.tc_entry.specs.Prelude.{level_of, given, rank_of, UserVerdict}
+use Rattle.tc_entry.specs.Prelude.{level_of, given, UserVerdict}
 use Rattle.tc_board.specs.{Answers.FindsWorst, Answers.NeverShut, Answers.StaysShut, Answers.worst_answer, declared.answer.Answer.Answer, declared.answer.Answer.TheVariants.Shut, declared.record.Record.Record, declared.record.Record.TheVariants.Closed, declared.record.Record.TheVariants.Open, declared.record.Record.TheVariants.Unbegun}
 
 -- the number in the word: 16 while it is unbegun, the place of the worst while it is open, and 8 more once it is closed
 abbrev pub word_of : Record → List Answer → ℕ
 word_of Unbegun answers = 16
 word_of (Open carried) answers = level_of (worst_answer carried answers)
-word_of (Closed carried counted) answers = 8 + rank_of counted
+word_of (Closed carried counted) answers = 8 + level_of (given counted)
 
 -- what the answers are, by the record: the verdict of a closed word counts exactly the settings that were taken
 abbrev pub AnswersAgree : Record → List Answer → Type 0

@@ -5,7 +5,7 @@ use Rattle.std.proofs.Math.Seq.{take-suc, get_or-append_seam}
 use Rattle.std.proofs.lemmas.{Bool.cases_eq, Bool.ne_eqb, List.Elements.filter-append, List.append-nil, List.append_cancel_left, List.get_or-set_other, List.get_or-set_same, List.get_or_append_left, List.length-append}
 use Rattle.tc_rules.specs.Prelude.{Entry, log_of, part, is_by}
 use Rattle.tc_rules.specs.declared.run_log.RunLog.{RunLog}
-use Rattle.tc_merge.proofs.Lemmas.Table.{log_or, log_or-none, log_or-last}
+use Rattle.tc_book.proofs.InPlace.{log_or, log_or-none, log_or-last}
 use Rattle.tc_rules.proofs.Lemmas.Differing.{parted}
 use Rattle.tc_book.specs.Passes.{LeftState}
 use Rattle.tc_book.proofs.Lemmas.PartOf.{part_end}

@@ -1,10 +1,10 @@
 -- The answers of a hand, as an entry is added to its log.
 use Rattle.std.proofs.Common.{ℕ, ◌≡◌, ◌≢◌, true, false, List, [], ◌∷◌, ◌++◌, length, All, refl, ap, sym, ◌∙◌, append_assoc}
 use Rattle.std.proofs.lemmas.List.{Elements.All-append, Elements.All-cons, Elements.All-nil, append-nil}
-use Rattle.tc_rules.specs.Prelude.{UserVerdict, given, Entry, Op, Reply, is_verdict_call}
+use Rattle.tc_rules.specs.Prelude.{UserVerdict, Verdict, given, Entry, Op, Reply, is_verdict_call}
 use Rattle.tc_board.specs.declared.answer.Answer.TheVariants.{Met, Found}
-use Rattle.tc_board.specs.Prelude.{HandView}
-use Rattle.tc_book.specs.{Hands.IsHandOf, Hands.IsOneAnswer, Hands.answer_in, Hands.answers_in, Hands.found_by, Inside.Says, Replies.suits}
+use Rattle.tc_board.specs.Prelude.{HandView, taken}
+use Rattle.tc_book.specs.{Hands.IsHandOf, Inside.IsOneAnswer, Hands.answer_in, Hands.answers_in, Hands.found_by, Inside.Says, Inside.Replies.suits, Inside.setting_in, Inside.settings}
 
 answers_end : (log : List Entry) (e : Entry) → answers_in (log ++ e ∷ []) ≡ answers_in log ++ answer_in e.op e.reply
 answers_end [] e = append-nil (answer_in e.op e.reply)
@@ -55,3 +55,17 @@ pub met_then : (hand : HandView) (run : ℕ) (log : List Entry) → IsHandOf han
 met_then hand run log h e = let q : Met ∷ answers_in log ≡ [] = sym h.answers ∙ e in absurd cc
 
 pub ruleset hand_rules = (hand_other, hand_said, hand_same, met_then)
+
+-- the settings of a log that were replied Ok are those that its hand was answered were taken
+pub settings_taken : (log : List Entry) → settings log ≡ taken (answers_in log)
+settings_taken [] = refl
+settings_taken (e ∷ log) = by e.op e.reply (settings_taken log)
+  where
+    by : (op : Op) (r : Reply) → settings log ≡ taken (answers_in log) → setting_in op r ++ settings log ≡ taken (answer_in op r ++ answers_in log)
+    by (Op.SetVerdict v) Reply.Ok more = ap (λ vs. v ∷ vs) more
+    by Op.GetVerdict (Reply.Local Verdict.None) more = more
+    by Op.GetVerdict (Reply.Local Verdict.Pass) more = more
+    by Op.GetVerdict (Reply.Local Verdict.Inconc) more = more
+    by Op.GetVerdict (Reply.Local Verdict.Fail) more = more
+    by Op.GetVerdict (Reply.Local Verdict.Error) more = more
+    by _ _ more = more

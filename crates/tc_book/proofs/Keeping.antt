@@ -1,10 +1,10 @@
 -- Rules for what a book keeps, at the opening and after one more entry: its places are counted, and its replies suit.
-use Rattle.std.proofs.Common.{◌≡◌, ℕ, ◌+◌, ◌*◌, ◌<◌, ◌≤◌, Bool, true, false, List, [], ◌∷◌, length, set, replicate, arith, ◌==◌, ◌&&◌, if◌then◌else◌, Option, Some, None, not, ap, refl, ◌∙◌, sym, ◌++◌, drop, reverse}
+use Rattle.std.proofs.Common.{◌≡◌, ℕ, ◌+◌, ◌*◌, ◌<◌, ◌≤◌, Bool, true, false, List, [], ◌∷◌, length, set, replicate, arith, ◌==◌, ◌&&◌, ◌||◌, if◌then◌else◌, Option, Some, None, not, ap, refl, ◌∙◌, sym, ◌++◌, drop, reverse}
 use Rattle.std.proofs.lemmas.List.{Folds.sum_by-replicate, Sums.sum_by-cons, Sums.sum_by-set, get_or_past, length-replicate, reverse-append}
-use Rattle.tc_rules.specs.Prelude.{Run, Entry, Op, Reply, Fault, holds, is_stuck, fault, answer, answer_unless, plain_answer, is_active, is_verdict_call, UserVerdict, Comp, Case, past_of}
+use Rattle.tc_rules.specs.Prelude.{Run, Entry, Op, Reply, Fault, is_ended, is_fault, is_ok, holds, is_stuck, fault, answer, answer_unless, plain_answer, is_active, is_verdict_call, UserVerdict, Comp, Case, past_of}
 use Rattle.tc_entry.specs.declared.limits.TheConstants.{BEHAVIOURS}
 use Rattle.tc_board.specs.declared.record.Record.{Record}
-use Rattle.tc_book.specs.{Inside.IsKept, Inside.one_if, Inside.size_of, Inside.start_at, Inside.total, OpenCase.no_place, OpenCase.opening_place, OpenCase.places_at, Replies.suits, Words.WordsAgree, Words.carried_to, Words.carried_to_newest, declared.places.Places.Places}
+use Rattle.tc_book.specs.{Inside.IsKept, Inside.one_if, Inside.size_of, Inside.start_at, Inside.total, Inside.no_place, OpenCase.opening_place, OpenCase.places_at, Inside.Replies.suits, Words.WordsAgree, Inside.Words.carried_to, Inside.Words.carried_to_newest, declared.places.Places.Places}
 use Rattle.tc_book.proofs.Lemmas.Starting.{starts_below}
 
 pub one_at_most : (b : Bool) → one_if b ≤ 1
@@ -60,6 +60,20 @@ pub answer_suits : (n : ℕ) (past : List Entry) (b : ℕ) (op : Op) → is_verd
 unfolding answer
 answer_suits n past b op other = by_case (is_active past b) (fault n past b op) op (plain_answer past b op) other (plain_suits past b op other)
 
+finish_replies : (r : Reply) → suits Op.Finish r ≡ true → (is_ok r || is_ended r || is_fault r) ≡ true
+finish_replies Reply.Ok h = refl
+finish_replies Reply.Ended h = refl
+finish_replies (Reply.Fault f) h = refl
+finish_replies (Reply.Made c) h = absurd cc
+finish_replies (Reply.Answer a) h = absurd cc
+finish_replies (Reply.Local v) h = absurd cc
+finish_replies Reply.Matched h = absurd cc
+finish_replies Reply.Parked h = absurd cc
+
+-- which replies a Finish can get
+pub answer_finishes : (n : ℕ) (past : List Entry) (b : ℕ) → (is_ok (answer n past b Op.Finish) || is_ended (answer n past b Op.Finish) || is_fault (answer n past b Op.Finish)) ≡ true
+answer_finishes n past b = finish_replies (answer n past b Op.Finish) (answer_suits n past b Op.Finish refl)
+
 pub past_more : (h : List Entry) (e : Entry) → reverse (h ++ e ∷ []) ≡ e ∷ reverse h
 past_more h e = reverse-append h (e ∷ [])
 
@@ -95,4 +109,4 @@ pub carried_before : (t t' : Case) (words : List Record) (caller : Run) (op : Op
     u ≡ carried_to words (past_of t) op → u ≡ carried_to_newest words (past_of t')
 carried_before t t' words caller op reply u added is = rw (added, reverse-append t.history (entry caller op reply ∷ [])) is
 
-pub ruleset book_rules = (total_opening, total_bound, one_at_most, total_set, no_place_beyond, answer_suits, past_more, starts_below, opening_len)
+pub ruleset book_rules = (total_opening, total_bound, one_at_most, total_set, no_place_beyond, past_more, starts_below, opening_len)

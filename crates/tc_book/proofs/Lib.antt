@@ -3,7 +3,11 @@ pub mod Keeping
 pub mod Waking
 pub mod Lemmas
 pub mod ByRun
-pub mod Merging
+pub mod Length
+pub mod InPlace
+pub mod PartOfMerge
+mod WorkedCases
+pub mod Joining
 pub mod Reporting
 pub mod Handed
 pub mod Wholeness

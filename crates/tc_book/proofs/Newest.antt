@@ -4,7 +4,7 @@ use Rattle.std.proofs.lemmas.{Bool.cases_eq, List.reverse-append}
 use Rattle.tc_rules.specs.Prelude.{Run, UserVerdict, Comp, Entry, Op, Reply, comp_of, halts, start_in, is_active, may_halt, IsLegal}
 use Rattle.tc_rules.proofs.Lemmas.{Going.halted_by_entry, Going.others_halt_nothing, Going.started_by_entry, Sound.starts_fresh}
 use Rattle.tc_board.specs.declared.record.Record.{Record, TheVariants.Open}
-use Rattle.tc_book.specs.{Inside.Words.CanBegin, Inside.Words.WordsLag, Inside.Words.is_open, Inside.Words.with_start, Words.StayClosed, Words.WordsAgree, Words.carried, Words.carried_to, Words.carried_to_newest, Words.is_closed, Words.record_at}
+use Rattle.tc_book.specs.{Inside.Words.CanBegin, Inside.Words.WordsLag, Inside.Words.is_open, Inside.Words.with_start, Words.StayClosed, Words.WordsAgree, Words.carried, Inside.Words.carried_to, Inside.Words.carried_to_newest, Words.is_closed, Words.record_at}
 use Rattle.tc_book.proofs.{Lagging.after_entry, Lagging.can_begin, Lagging.entry, Lagging.same_test, Lagging.start, Settling.all_agree, Settling.at_other, Settling.open_means, Settling.stay_closed}
 
 both : (a h : Bool) → a ≡ true → h ≡ false → (a && not h) ≡ true

@@ -5,9 +5,9 @@ use Rattle.std.proofs.Math.Seq.{get_or-append_seam}
 use Rattle.tc_rules.specs.Prelude.{worst, Comp, Entry, comps, comp_of, first_some, is_over, local, overall, IsLegal, IsAllOver, is_by, is_other, log_of, merge, logged, part, log_if, logs_below, started_on, Kept, StandsFor, IsOneHistory}
 use Rattle.tc_rules.proofs.Lemmas.{Deciding.and_left, Deciding.and_right, Deciding.equal_if, Differing.later_legal, Numbered.numbered, Over.all_over, Standing.stands_legal}
 use Rattle.tc_rules.specs.declared.{closed.Closed.Closed, run_log.RunLog.RunLog}
-use Rattle.tc_merge.specs.OneCase.{is_log_of}
-use Rattle.tc_merge.proofs.Lemmas.{Length.long_by_parts, Table.log_or, Table.log_or-last, Table.log_or-none}
-use Rattle.tc_book.specs.{Closing.all_started, Inside.KnowsParts, Inside.KnowsStarts, Inside.comp_by, Inside.log_on, Inside.logs_from, Inside.start_at}
+use Rattle.tc_book.proofs.Length.{is_log_of}
+use Rattle.tc_book.proofs.{Length.long_by_parts, InPlace.log_or, InPlace.log_or-last, InPlace.log_or-none}
+use Rattle.tc_book.specs.{OneCase.all_started, Inside.KnowsParts, Inside.KnowsStarts, Inside.comp_by, Inside.log_on, Inside.logs_from, Inside.start_at}
 use Rattle.tc_book.proofs.{Lemmas.PartOf.comp_known, Skipping.filter-reverse}
 
 first_none : (o p : Option Comp) → first_some o p ≡ None → o ≡ None

@@ -3,7 +3,7 @@ use Rattle.std.proofs.Common.{ℕ, ◌≡◌, ◌&&◌, not, if◌then◌else◌
 use Rattle.std.proofs.lemmas.List.{reverse-append}
 use Rattle.tc_rules.specs.Prelude.{Run, Entry, Op, Reply, is_ok, first_some, IsLegal, keeps_phases, lets_go_on}
 use Rattle.tc_rules.proofs.Lemmas.Quiet.{quiet_wakes_nobody}
-use Rattle.tc_book.specs.OpenCase.{OpenCase, open_past, reply_to, with_entry, start_of, started_with, starts_with, NobodyWakes}
+use Rattle.tc_book.specs.{OpenCase.OpenCase, OpenCase.open_past, OpenCase.reply_to, OpenCase.with_entry, OpenCase.start_of, OpenCase.started_with, Inside.starts_with, OpenCase.NobodyWakes}
 
 both : (a b : Bool) → a ≡ true → b ≡ true → (a && b) ≡ true
 both true b h k = k

@@ -5,7 +5,7 @@ use Rattle.std.proofs.Math.Seq.{take-suc, take-length}
 use Rattle.std.proofs.lemmas.List.{reverse-append}
 use Rattle.tc_rules.specs.Prelude.{Entry, Kept, StandsFor, TakesIn, IsLegal, comp_of, is_by}
 use Rattle.tc_rules.proofs.Lemmas.{Deciding.and_left, Deciding.and_right, Differing.later_legal, Differing.parted, Standing.legal_for}
-use Rattle.tc_book.specs.{Closing.all_started, Inside.CanFollow, Inside.IsWalk}
+use Rattle.tc_book.specs.{OneCase.all_started, Inside.CanFollow, Inside.IsWalk}
 use Rattle.tc_book.proofs.ByRun.{AreLeft, left_all, left_next, none_left}
 
 -- what is known after this beginning of a history was walked

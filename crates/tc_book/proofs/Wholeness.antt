@@ -4,8 +4,8 @@ use Rattle.std.specs.List.{All}
 use Rattle.std.proofs.lemmas.{Bool.Decides.nat_tests, Bool.cases_lt, Bool.ne_eqb, List.Sums.sum_by-cons}
 use Rattle.tc_rules.specs.Prelude.{Comp, Entry, IsLegal, comp_of, log_of, logged, part}
 use Rattle.tc_rules.specs.declared.run_log.RunLog.{RunLog}
-use Rattle.tc_merge.specs.OneCase.{is_log_of, HaveDistinctRuns}
-use Rattle.tc_merge.proofs.Lemmas.{Kept.others-merge, Length.long_by_parts}
+use Rattle.tc_book.proofs.Length.{is_log_of, HaveDistinctRuns}
+use Rattle.tc_book.proofs.{InPlace.others-merge, Length.long_by_parts}
 use Rattle.tc_book.specs.{Closing.IsFitting, Closing.IsMerged, Closing.IsOneEach, Closing.IsWhole, Closing.is_left_of, Closing.merged, Closing.run_log, Inside.AreLogs, Inside.ArePlaced, Inside.IsJoined, Inside.IsSound, Inside.KnowsStarts, OpenCase.OpenCase, Passes.LeftState}
 use Rattle.tc_book.proofs.{Lemmas.PartOf.comp_known, Reporting.no_others, Skipping.starts_same}
 

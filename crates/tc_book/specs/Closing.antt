@@ -1,23 +1,14 @@
 -- When a case may be closed: what came back is whole, and the close of each word counted the log of its run.
-use Rattle.std.specs.Prelude.{◌≡◌, ◌++◌, List, [], ◌∷◌, map, ℕ, ◌<◌, ◌==◌, ◌&&◌, Bool, true, None, is_some, length, reverse, All, count_by, sum_by}
-use Rattle.tc_rules.specs.Prelude.{worst, given, UserVerdict, Entry, Op, Reply, comp_of, is_over, IsLegal, merge, part}
+use Rattle.std.specs.Prelude.{◌≡◌, List, [], map, ℕ, ◌<◌, ◌==◌, Bool, true, None, length, reverse, All, count_by, sum_by}
+use Rattle.tc_rules.specs.Prelude.{given, Entry, comp_of, is_over, IsLegal, merge, part}
+use Rattle.tc_board.specs.Prelude.{worst_answer}
 use Rattle.tc_board.specs.declared.record.Record.{Record, TheVariants.Closed, TheVariants.Unbegun}
 use Rattle.tc_rules.specs.declared.run_log.RunLog.{RunLog}
-use Rattle.tc_book.specs.{OpenCase.OpenCase, OpenCase.start_of, Passes.LeftState, Words.record_at}
+use Rattle.tc_book.specs.{Hands.answers_in, OneCase.all_started, OpenCase.OpenCase, OpenCase.start_of, Passes.LeftState, Words.record_at}
 
--- the setting of an entry, if it was replied Ok
-abbrev pub setting_in : Op → Reply → List UserVerdict
-setting_in (Op.SetVerdict v) Reply.Ok = v ∷ []
-setting_in _ _ = []
-
--- the settings of a log that were replied Ok
-abbrev pub settings : List Entry → List UserVerdict
-settings [] = []
-settings (e ∷ es) = setting_in e.op e.reply ++ settings es
-
--- the word was closed, and its close counted the carried verdict and exactly the settings of this log that were replied Ok
+-- the word was closed, and its close counted the carried verdict and exactly the settings of this log that were taken
 abbrev pub Counts : Record → List Entry → Type 0
-Counts (Closed carried counted) log = given counted ≡ worst (given carried ∷ map given (settings log))
+Counts (Closed carried counted) log = given counted ≡ worst_answer carried (answers_in log)
 Counts _ log = ⊥
 
 -- this was left of run b
@@ -38,11 +29,6 @@ pub record IsFitting (history : List Entry) (l : LeftState) : Type 0 where
   pub started : 0 < l.run.0 → l.started ≡ start_of (reverse history) l.run.0
   -- the log of a run that was never started is empty
   pub unstarted : comp_of (reverse history) l.run.0 ≡ None → l.log ≡ []
-
--- the caller of each entry was started before it
-abbrev pub all_started : List Entry → Bool
-all_started [] = true
-all_started (e ∷ past) = is_some (comp_of past e.caller.0) && all_started past
 
 -- what came back is whole
 pub record IsWhole (n : ℕ) (history : List Entry) (lefts : List LeftState) : Type 0 where

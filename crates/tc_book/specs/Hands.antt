@@ -26,12 +26,8 @@ abbrev pub answers_in : List Entry → List Answer
 answers_in [] = []
 answers_in (e ∷ log) = answer_in e.op e.reply ++ answers_in log
 
--- an entry of a verdict call is exactly one answer of the hand
-abbrev pub IsOneAnswer : Entry → Type 0
-IsOneAnswer e = is_verdict_call e.op ≡ true → length (answer_in e.op e.reply) ≡ 1
-
 -- a hand of this run, which met its word and then had the answers of this log's verdict entries, one for each of them
 pub record IsHandOf (hand : HandView) (run : ℕ) (log : List Entry) : Type 0 where
   pub of_run : hand.run ≡ run
   pub answers : hand.answers ≡ Met ∷ answers_in log
-  pub each : All IsOneAnswer log
+  pub each : All (λ e. is_verdict_call e.op ≡ true → length (answer_in e.op e.reply) ≡ 1) log

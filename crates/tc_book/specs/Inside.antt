@@ -1,14 +1,16 @@
 -- What only the way a book is kept needs: no public clause names a word of this file.
+pub mod Merging
+pub mod Replies
 pub mod Waiting
 pub mod Words
 use Rattle.std.specs.Prelude.{ℕ, zero, suc, ◌++◌, ◌∷◌, ◌≡◌, ◌+◌, ◌≤◌, ◌<◌, ◌==◌, ◌↔◌, Bool, if◌then◌else◌, option_map, Option, Some, None, List, [], length, map, filter, reverse, sum_by, slice_index_or, All, true, false, ◌||◌, not, is_some}
-use Rattle.std.specs.{Borrow.Bor, Option.option_map_or}
+use Rattle.std.specs.{Borrow.Bor, Option.option_and_then, Option.option_map_or}
 use Rattle.tc_entry.specs.declared.limits.TheConstants.{BEHAVIOURS}
 use Rattle.tc_rules.specs.declared.{awaited.Awaited.Awaited, closed.CloseFault.CloseFault, run_log.RunLog.RunLog}
-use Rattle.tc_rules.specs.Prelude.{Comp, Entry, Op, Reply, IsLegal, answer, comp_of, ends_case, started_on, waiting, part, is_by, is_other, log_of, merge, Run, is_over, is_parked, Kept, StandsFor, Target}
+use Rattle.tc_rules.specs.Prelude.{Comp, Entry, Op, Reply, IsLegal, answer, comp_of, ends_case, started_on, waiting, part, is_by, is_other, is_verdict_call, log_of, merge, Run, UserVerdict, is_over, is_parked, start, Kept, StandsFor, Target}
 use Rattle.tc_board.specs.Prelude.{HandView, answered}
 use Rattle.tc_board.specs.declared.{answer.Answer.Answer, record.Record.Record}
-use Rattle.tc_book.specs.{Closing.IsOneEach, Closing.IsWhole, Closing.all_started, Closing.merged, Closing.run_log, Hands.answer_in, OpenCase.AreOthers, OpenCase.OpenCase, OpenCase.WouldPark, OpenCase.has_leave, OpenCase.has_wake, OpenCase.open_past, OpenCase.reply_to, OpenCase.start_of, Passes.LeftState, Passes.ended_by, Passes.entry_of, Words.WordsAgree, declared.logged_book.Started.Started, declared.places.Places.Places, declared.until.Lack.Lack, declared.until.Until.Until}
+use Rattle.tc_book.specs.{Closing.IsOneEach, Closing.IsWhole, OneCase.all_started, Closing.merged, Closing.run_log, Hands.answer_in, OpenCase.AreOthers, OpenCase.OpenCase, OpenCase.WouldPark, OpenCase.has_leave, OpenCase.has_wake, OpenCase.open_past, OpenCase.reply_to, OpenCase.start_of, Passes.LeftState, Passes.ended_by, Passes.entry_of, Words.WordsAgree, declared.logged_book.Started.Started, declared.places.Places.Places, declared.until.Lack.Lack, declared.until.Until.Until}
 
 -- one if it is so
 abbrev pub one_if : Bool → ℕ
@@ -21,6 +23,18 @@ size_of p = one_if p.leave + one_if p.wake
 -- how many places are kept
 abbrev pub total : List Places → ℕ
 total ps = sum_by size_of ps
+
+-- nothing is kept for a run that does not exist
+abbrev pub no_place : Places
+no_place = record { leave = false; wake = false }
+
+-- an entry of a verdict call is exactly one answer of the hand
+abbrev pub IsOneAnswer : Entry → Type 0
+IsOneAnswer e = is_verdict_call e.op ≡ true → length (answer_in e.op e.reply) ≡ 1
+
+-- the component and the arguments with which this operation starts run b
+abbrev pub starts_with : Op → ℕ → Option (Comp × List Comp)
+starts_with op b = option_and_then (λ s. if s.0.0 == b then Some (s.1, s.2) else None) (start op)
 
 -- what a list of starts has for run b
 abbrev pub start_at : List (Option (Comp × List Comp)) → ℕ → Option (Comp × List Comp)
@@ -200,3 +214,13 @@ pub record IsAwaitedIn (b : OpenCase) (run : Run) (start : Option (Comp × List 
 -- the run's Wake would be parked again, if a place is kept for it
 abbrev pub StaysParked : OpenCase → Run → Bool → Target → Type 0
 StaysParked b run killed target = has_wake b run ≡ true → WouldPark b run killed target
+
+-- the setting of an entry, if it was replied Ok
+abbrev pub setting_in : Op → Reply → List UserVerdict
+setting_in (Op.SetVerdict v) Reply.Ok = v ∷ []
+setting_in _ _ = []
+
+-- the settings of a log that were replied Ok
+abbrev pub settings : List Entry → List UserVerdict
+settings [] = []
+settings (e ∷ es) = setting_in e.op e.reply ++ settings es

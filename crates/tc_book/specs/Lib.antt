@@ -1,10 +1,9 @@
 -- The definitions that the contracts of this crate cite.
-pub mod Replies
 pub mod OpenCase
 pub mod Passes
 pub mod Hands
+pub mod OneCase
 pub mod Closing
-pub mod Fault
 pub mod Inside
 pub mod Words
 pub mod Prelude

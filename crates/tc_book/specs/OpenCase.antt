@@ -1,6 +1,7 @@
 -- What contracts see of a book: the places that it keeps, what each run was started with, and the runs that an entry wakes.
 use Rattle.std.specs.Prelude.{ℕ, ◌≡◌, ◌++◌, ◌∷◌, [], if◌then◌else◌, Bool, true, false, List, reverse, set, slice_index_or, ◌==◌, Option, Some, None}
-use Rattle.tc_rules.specs.Prelude.{Run, Entry, Op, Reply, is_verdict_call, answer, is_parked, Comp, is_ok, first_some, Target, is_over}
+use Rattle.std.specs.Option.{option_and_then, option_or}
+use Rattle.tc_rules.specs.Prelude.{Run, Entry, Op, Reply, is_verdict_call, answer, is_parked, Comp, is_ok, start, Target, is_over}
 use Rattle.tc_board.specs.declared.record.Record.{Record}
 use Rattle.tc_book.specs.declared.places.Places.{Places}
 
@@ -29,17 +30,13 @@ reply_to b run op = answer b.behaviours (open_past b) run.0 op
 abbrev pub with_entry : OpenCase → Run → Op → Reply → List Entry
 with_entry b run op reply = b.history ++ record { caller = run; op = op; reply = reply } ∷ []
 
--- nothing is kept for a run that does not exist
-abbrev pub no_place : Places
-no_place = record { leave = false; wake = false }
-
 -- at the opening each run has a place for its leaving
 abbrev pub opening_place : Places
 opening_place = record { leave = true; wake = false }
 
--- the places that are kept for a run
+-- the places that are kept for a run: none for one that does not exist
 abbrev pub places_at : List Places → Run → Places
-places_at ps run = slice_index_or ps run.0 no_place
+places_at ps run = slice_index_or ps run.0 (record { leave = false; wake = false })
 
 -- a place is kept for the leaving of a run
 abbrev pub has_leave : OpenCase → Run → Bool
@@ -61,19 +58,14 @@ without_wake b run = set b.places run.0 (record (places_at b.places run) { wake 
 abbrev pub without_leave : OpenCase → Run → List Places
 without_leave b run = set b.places run.0 (record (places_at b.places run) { leave = false })
 
--- the component and the arguments with which this operation starts run b
-abbrev pub starts_with : Op → ℕ → Option (Comp × List Comp)
-starts_with (Op.Start c run args) b = if run.0 == b then Some (c, args) else None
-starts_with _ b = None
-
--- the same, if the reply is Ok
+-- the component and the arguments with which a call with this reply starts run b: a Start that was carried out
 abbrev pub started_with : Op → Reply → ℕ → Option (Comp × List Comp)
-started_with op reply b = if is_ok reply then starts_with op b else None
+started_with op reply b = if is_ok reply then option_and_then (λ s. if s.0.0 == b then Some (s.1, s.2) else None) (start op) else None
 
 -- the component and the arguments of the first Start of run b that was replied Ok
 abbrev pub start_of : List Entry → ℕ → Option (Comp × List Comp)
 start_of [] b = None
-start_of (e ∷ past) b = first_some (start_of past b) (started_with e.op e.reply b)
+start_of (e ∷ past) b = option_or (start_of past b) (started_with e.op e.reply b)
 
 -- the run's Wake would be parked again, if it were made now
 abbrev pub WouldPark : OpenCase → Run → Bool → Target → Type 0

@@ -1,7 +1,7 @@
 -- What contracts see of a pass and of what it leaves, and what its calls add to its log.
-use Rattle.std.specs.Prelude.{◌≡◌, ◌++◌, ◌∷◌, [], ◌⊎◌, Bool, true, false, Option, Some, None, MatchOption, List, Result, Ok, Err}
+use Rattle.std.specs.Prelude.{◌≡◌, ◌++◌, ◌∷◌, [], ◌⊎◌, Bool, true, false, Option, Some, None, MatchOption, List, Result, Ok, Err, ℕ, codes}
 use Rattle.std.specs.List.{list_any}
-use Rattle.tc_rules.specs.Prelude.{Run, Comp, Entry, Op, Target, Reply, ends_pass}
+use Rattle.tc_rules.specs.Prelude.{Run, Comp, Entry, Op, Target, Reply, ends_pass, memory_text, fault_name}
 use Rattle.tc_book.specs.declared.halt.Halt.{Halt}
 
 -- a pass: its run, the component and the arguments that the run was started with, and its entries, the oldest first
@@ -54,3 +54,9 @@ Waits killed target p q r =
 pub record IsWait (killed : Bool) (target : Target) (before after : PassState) (result : Result (Unit {0}) Halt) : Type 0 where
   pub ended : has_ended before ≡ true → (after ≡ before) × (result ≡ Err Halt.Ended)
   pub replied : has_ended before ≡ false → MatchOption (reply_of (λ _. Reply.Matched) result) (after ≡ before) (Waits killed target before after)
+
+-- why a call was not answered by its value: in the words of its reply, if there is one
+abbrev pub halt_text : Halt → List ℕ
+halt_text Halt.Ended = codes "ended"
+halt_text (Halt.Fault fault) = codes "error " ++ fault_name fault
+halt_text Halt.NoMemory = memory_text

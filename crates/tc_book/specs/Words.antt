@@ -1,7 +1,8 @@
 -- The words of the verdict board next to a history without verdict entries: what was done with the word of each run.
 -- `past` lists the entries so far, the newest first, and `words` has the record of each run's word, by its number.
 use Rattle.std.specs.Prelude.{ℕ, ◌≡◌, ◌<◌, if◌then◌else◌, Bool, true, false, Option, Some, None, is_some, List, [], ◌∷◌, length, slice_index_or}
-use Rattle.tc_rules.specs.Prelude.{Run, UserVerdict, Comp, Entry, Op, comp_of, started_on, last_run, is_active}
+use Rattle.std.specs.Option.{option_and_then, option_map_or}
+use Rattle.tc_rules.specs.Prelude.{Run, UserVerdict, Comp, Entry, comp_of, started_on, last_run, is_active}
 use Rattle.tc_board.specs.declared.record.Record.{Record, TheVariants.Closed, TheVariants.Open, TheVariants.Unbegun}
 
 -- the word was begun and closed
@@ -20,18 +21,12 @@ record_at words b = slice_index_or words b Unbegun
 
 -- what the close of this run's word gave: none if there is no run
 abbrev pub left_by : List Record → Option Run → UserVerdict
-left_by words (Some run) = closing (record_at words run.0)
-left_by words None = UserVerdict.None
-
--- the last run on this component, if there is one
-abbrev pub last_on : List Entry → Option Comp → Option Run
-last_on past (Some c) = last_run past c.0
-last_on past None = None
+left_by words last = option_map_or (λ run. closing (record_at words run.0)) last UserVerdict.None
 
 -- the run before run b on its component: the last on it as run b was started
 abbrev pub run_before : List Entry → ℕ → Option Run
 run_before [] b = None
-run_before (e ∷ past) b = if is_some (comp_of past b) then run_before past b else last_on past (started_on e b)
+run_before (e ∷ past) b = if is_some (comp_of past b) then run_before past b else option_and_then (λ c. last_run past c.0) (started_on e b)
 
 -- what the component of run b carried as the run was started: what the close of the word of the run before it gave
 abbrev pub carried : List Record → List Entry → ℕ → UserVerdict
@@ -54,13 +49,3 @@ pub record WordsAgree (n : ℕ) (past : List Entry) (words : List Record) : Type
 -- a word that was closed stays as it was
 abbrev pub StayClosed : List Record → List Record → Type 0
 StayClosed before after = (b : ℕ) → is_closed (record_at before b) ≡ true → record_at after b ≡ record_at before b
-
--- what the component carries on which this call would start a run
-abbrev pub carried_to : List Record → List Entry → Op → UserVerdict
-carried_to words past (Op.Start c run args) = left_by words (last_run past c.0)
-carried_to words past _ = UserVerdict.None
-
--- what the component carried on which the newest entry would start a run
-abbrev pub carried_to_newest : List Record → List Entry → UserVerdict
-carried_to_newest words [] = UserVerdict.None
-carried_to_newest words (e ∷ past) = carried_to words past e.op

@@ -5,15 +5,15 @@ ghost use Rattle.tc_entry.specs.declared.limits.TheConstants.{BEHAVIOURS};
 ghost use Rattle.tc_rules.specs.Prelude.{IsLegal, is_verdict_call};
 ghost use Rattle.tc_board.specs.Prelude.{new_keeper};
 ghost use Rattle.tc_rules.specs.History as history;
-ghost use Rattle.tc_book.specs.{Inside.StaysParked, Inside.start_at, OpenCase.AreOthers, OpenCase.has_leave, OpenCase.has_wake, OpenCase.open_past, OpenCase.opening_place, OpenCase.places_after, OpenCase.reply_to, OpenCase.with_entry, OpenCase.without_leave, OpenCase.without_wake, Replies.suits, Words.StayClosed, Words.WordsAgree, Words.record_at};
+ghost use Rattle.tc_book.specs.{Inside.start_at, OpenCase.AreOthers, OpenCase.WouldPark, OpenCase.has_leave, OpenCase.has_wake, OpenCase.open_past, OpenCase.opening_place, OpenCase.places_after, OpenCase.reply_to, OpenCase.with_entry, OpenCase.without_leave, OpenCase.without_wake, Words.StayClosed, Words.WordsAgree, Words.record_at};
 ghost use Rattle.tc_book.specs.OpenCase as cases;
 
 mod closing;
 mod waking;
 
-use crate::Words;
 use crate::places::{Places, places_of, put};
 use crate::starts::{no_starts, note_start, start_of};
+use crate::words::Words;
 use std::alloc::Global;
 use std::marker::Model;
 use std::sync::Arc;
@@ -47,7 +47,7 @@ impl Model for Book {
     ghost invariant = { λ b. IsKept b.table.behaviours (reverse b.table.history) b.starts.items b.places.items b.count b.table.room b.words };
 }
 
-/// A table at the opening, with room for the leaving of each run.
+/// A table at the opening, with room for the leaving of each run, and for a few calls.
 fn table_with_room(alloc: Global, behaviours: u16) -> Result<Table, NoMemory>
     requires some { 1 ≤ behaviours }
     requires few { behaviours ≤ BEHAVIOURS }
@@ -56,7 +56,7 @@ fn table_with_room(alloc: Global, behaviours: u16) -> Result<Table, NoMemory>
     ensures room { IfOk result (λ t. behaviours ≤ t.room) }
 {
     let mut table = Table::new(alloc, behaviours)?;
-    match table.make_room(usize::from(behaviours)) {
+    match table.make_room(usize::from(behaviours) + 8) {
         Ok(()) => Ok(table),
         Err(NoMemory) => Err(NoMemory),
     }
@@ -139,7 +139,6 @@ impl Book {
         requires other { is_verdict_call op ≡ false }
         ensures behaviours { self.new.behaviours ≡ self.old.behaviours }
         ensures reply { IfOk result (λ r. r ≡ reply_to self.old run op) }
-        ensures suits { IfOk result (λ r. suits op r ≡ true) }
         ensures history { IfOk result (λ r. self.new.history ≡ with_entry self.old run op r) }
         ensures places { IfOk result (λ r. self.new.places ≡ places_after self.old run r) }
         ensures closed { OnOk result (StayClosed self.old.words self.new.words) }
@@ -164,11 +163,10 @@ impl Book {
     pub fn wake(&mut self, run: Run, killed: bool, target: Target) -> Option<Reply>
         ensures behaviours { self.new.behaviours ≡ self.old.behaviours }
         ensures none { IfNone result (self.new ≡ self.old) }
-        ensures asleep { IfNone result (StaysParked self.old run killed target) }
+        ensures asleep { IfNone result (has_wake self.old run ≡ true → WouldPark self.old run killed target) }
         ensures kept { OnSome result (IsTrue (has_wake self.old run)) }
         ensures awake { IfSome result (λ r. r ≢ Reply.Parked) }
         ensures reply { IfSome result (λ r. r ≡ reply_to self.old run (Op.Wake killed target)) }
-        ensures suits { IfSome result (λ r. suits (Op.Wake killed target) r ≡ true) }
         ensures history { IfSome result (λ r. self.new.history ≡ with_entry self.old run (Op.Wake killed target) r) }
         ensures places { OnSome result (self.new.places ≡ without_wake self.old run) }
         ensures closed { OnSome result (StayClosed self.old.words self.new.words) }
@@ -201,7 +199,6 @@ impl Book {
         ensures finish { IfSome result (λ f. IfSome f (λ _. IsFalse ended)) }
         ensures reply { IfSome result (λ f. IfSome f (λ r. r ≡ reply_to self.old run Op.Finish)) }
         ensures history { IfSome result (λ f. IfSome f (λ r. self.new.history ≡ with_entry self.old run Op.Finish r)) }
-        ensures suits { IfSome result (λ f. IfSome f (λ r. suits Op.Finish r ≡ true)) }
         ensures closed { OnSome result (StayClosed self.old.words self.new.words) }
     {
         let was = places_of(&self.places, run);

@@ -21,12 +21,12 @@ use tc_entry::Entry;
 use tc_rules::{CloseFault, Closed};
 use tc_verdict::{NoMemory, Run};
 
-/// A log without entries, with a place for one.
+/// A log without entries, with a place for one. It has some more, since most logs have a few entries.
 fn place(alloc: Global) -> Result<Vec<Entry>, NoMemory>
     ensures empty { IfOk result (λ v. v.items ≡ []) }
     ensures room { IfOk result (λ v. vec_len v < vec_capacity v) }
 {
-    Vec::with_capacity(alloc, 1).map_err(|_| NoMemory)
+    Vec::with_capacity(alloc, 8).map_err(|_| NoMemory)
 }
 
 fn another(board: &Arc<Board>) -> Result<Arc<Board>, NoMemory>
@@ -70,7 +70,7 @@ fn tickets_of(
     ensures count { IfOk result (λ v. length v.items + 1 ≡ behaviours) }
     ensures tickets { IfOk result (λ v. (k : ℕ) (d : Run) → k + 1 < behaviours → (slice_index_or v.items k d).0 ≡ k + 1) }
 {
-    let mut tickets = Vec::new(alloc);
+    let mut tickets = Vec::with_capacity(alloc, hands.len())?;
     for k in 1..behaviours {
         let hand = hands.remove(0);
         tickets.push(ticket_of(alloc, shared, board, Run(k), hand)?)?;

@@ -2,9 +2,10 @@
 ghost use Rattle.std.specs.Prelude.{◌≡◌, ◌↔◌, ℕ, ◌<◌, [], None, All, IsTrue, count_by};
 ghost use Rattle.tc_book.specs.{Closing.Agrees, Closing.IsAgreed, Closing.IsOneEach, Closing.is_left_of, Inside.ArePlaced, Inside.IsPlaced};
 
+use crate::counting::counts;
 use crate::left::Left;
 use crate::starts::{comp_of, start_of};
-use crate::{Words, counts};
+use crate::words::Words;
 use tc_board::Record;
 use tc_entry::{Args, Comp, Entry};
 

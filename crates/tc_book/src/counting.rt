@@ -1,7 +1,7 @@
 //! What the close of a word counted, and the log of its run.
 ghost use Rattle.std.specs.Prelude.{◌≡◌, ◌↔◌, IsTrue, map};
 ghost use Rattle.tc_rules.specs.Prelude.{worst, given};
-ghost use Rattle.tc_book.specs.Closing.{Counts, settings};
+ghost use Rattle.tc_book.specs.{Closing.Counts, Inside.settings};
 
 use tc_board::Record;
 use tc_entry::{Entry, Op, Reply};
@@ -30,6 +30,7 @@ fn is_same(a: Verdict, b: Verdict) -> bool
 
 /// Whether the word of a run was closed, and its close counted the carried verdict and exactly the settings of this log that
 /// were replied Ok.
+#[tactic(auto, using(crate::proofs::Handed::settings_taken))]
 pub fn counts(word: Record, log: &[Entry]) -> bool
     ensures { IsTrue result ↔ Counts word log.now }
 {

@@ -1,6 +1,6 @@
 //! Why a call on a pass was not answered by its value.
 ghost use Rattle.std.specs.Prelude.{Some};
-ghost use Rattle.tc_book.specs.Fault.{halt_text};
+ghost use Rattle.tc_book.specs.Passes.{halt_text};
 
 use std::fmt;
 use tc_entry::{Fault, name_of_fault};

@@ -2,14 +2,18 @@
 #![tactic(auto)]
 
 mod book;
+mod by_run;
 mod case;
 mod close;
 mod conditions;
 mod counting;
+mod entries;
 mod halt;
+mod heads;
 pub mod laws;
 mod left;
 mod logged_book;
+mod merging;
 mod parts;
 mod pass;
 mod places;
@@ -33,4 +37,3 @@ pub use shared::{Look, Shared};
 pub use tc_entry::Sequence;
 pub use tc_rules::{CloseFault, Closed, RunLog, ends_pass, locals_of};
 pub use ticket::Ticket;
-pub use words::Words;

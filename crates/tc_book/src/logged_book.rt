@@ -1,10 +1,10 @@
 //! The book under the lock. Whatever is added to its history is added to the log of its caller in the same call.
-ghost use Rattle.std.specs.Prelude.{◌≡◌, ◌≢◌, ◌≤◌, ◌+◌, true, false, IfOk, OnOk, OnErr, IfErr, IfSome, IfNone, OnSome, IsTrue, IsFalse, Some, None, [], Err, All, is_none, not};
-ghost use Rattle.tc_rules.specs.Prelude.{IsLegal, IsOneHistory, is_verdict_call};
+ghost use Rattle.std.specs.Prelude.{◌≡◌, ◌≢◌, ◌≤◌, ◌+◌, ◌||◌, true, false, IfOk, OnOk, OnErr, IfErr, IfSome, IfNone, OnSome, IsTrue, IsFalse, Some, None, [], Err, All, is_none, not};
+ghost use Rattle.tc_rules.specs.Prelude.{IsLegal, IsOneHistory, is_ended, is_fault, is_ok, is_verdict_call};
 ghost use Rattle.tc_board.specs.Prelude.{answered};
 ghost use Rattle.tc_board.specs.declared.answer.Answer.TheVariants.{Met};
 ghost use Rattle.tc_rules.specs.History as history;
-ghost use Rattle.tc_book.specs.{Closing.IsAgreed, Closing.IsMerged, Closing.IsOneEach, Closing.merged, Inside.IsAwaitedIn, Inside.StaysParked, Inside.goes_on, Inside.is_closed, Inside.wakes, Inside.with_own, OpenCase.AreOthers, OpenCase.NobodyWakes, OpenCase.has_leave, OpenCase.has_wake, OpenCase.open_past, OpenCase.places_after, OpenCase.reply_to, OpenCase.with_entry, OpenCase.without_leave, OpenCase.without_wake, Replies.suits};
+ghost use Rattle.tc_book.specs.{Closing.IsAgreed, Closing.IsMerged, Closing.IsOneEach, Closing.merged, Inside.IsAwaitedIn, Inside.StaysParked, Inside.goes_on, Inside.is_closed, Inside.wakes, Inside.with_own, OpenCase.AreOthers, OpenCase.NobodyWakes, OpenCase.has_leave, OpenCase.has_wake, OpenCase.open_past, OpenCase.places_after, OpenCase.reply_to, OpenCase.with_entry, OpenCase.without_leave, OpenCase.without_wake, Inside.Replies.suits};
 ghost use Rattle.tc_book.specs.OpenCase as cases;
 
 pub(crate) mod log;
@@ -102,6 +102,7 @@ impl LoggedBook {
 
     /// Adds a call of the log's run to the history and to the log, with the places for its Wake and the Finish. Returns
     /// its reply, and whom to wake.
+    #[tactic(auto, using(crate::proofs::Keeping::answer_suits))]
     pub(crate) fn call(&mut self, op: Op, log: &mut Log) -> Result<(Reply, WakeUp), NoMemory>
         requires other { is_verdict_call op ≡ false }
         requires going_on { is_closed log.old ≡ false }
@@ -125,6 +126,7 @@ impl LoggedBook {
     }
 
     /// Adds the Wake of the parked wait of the log's run to the history and to the log, unless it would be parked again.
+    #[tactic(auto, using(crate::proofs::Keeping::answer_suits))]
     pub(crate) fn wake(
         &mut self,
         killed: bool,
@@ -153,6 +155,7 @@ impl LoggedBook {
     }
 
     /// Gives up the place of the log's run, and adds its Finish to the history and to the log if the run has not ended.
+    #[tactic(auto, using(crate::proofs::Keeping::answer_finishes))]
     pub(crate) fn leave(&mut self, log: &mut Log) -> Option<(Option<Reply>, WakeUp, GivenUp)>
         requires room { 1 ≤ log.old.room }
         ensures none { IfNone result (self.new.book ≡ self.old.book) }
@@ -167,7 +170,7 @@ impl LoggedBook {
         ensures given_up { IfSome result (λ f. f.2.run ≡ log.old.started.run) }
         ensures quiet { IfSome result (λ f. IfNone f.0 ((self.new.book.history ≡ self.old.book.history) × (log.new ≡ log.old))) }
         ensures reply { IfSome result (λ f. IfSome f.0 (λ r. r ≡ reply_to self.old.book log.old.started.run Op.Finish)) }
-        ensures suits { IfSome result (λ f. IfSome f.0 (λ r. suits Op.Finish r ≡ true)) }
+        ensures finish { IfSome result (λ f. IfSome f.0 (λ r. (is_ok r || is_ended r || is_fault r) ≡ true)) }
         ensures history { IfSome result (λ f. IfSome f.0 (λ r. self.new.book.history ≡ with_entry self.old.book log.old.started.run Op.Finish r)) }
         ensures entries { IfSome result (λ f. IfSome f.0 (λ r. log.new.entries ≡ with_own log.old Op.Finish r)) }
     {

@@ -14,7 +14,7 @@ fn no_parts(alloc: Global, count: u16) -> Result<Vec<Sequence<Entry>>, NoMemory>
     ensures len { IfOk result (λ v. length v.items ≡ count) }
     ensures none { IfOk result (λ v. (b : ℕ) → slice_index_or v.items b [] ≡ []) }
 {
-    let mut parts = Vec::new(alloc);
+    let mut parts = Vec::with_capacity(alloc, usize::from(count))?;
     for _ in 0..count {
         parts.push(Sequence::new(Vec::new(alloc)))?;
     }
@@ -44,7 +44,7 @@ pub(crate) fn rests_of(alloc: Global, parts: &[Sequence<Entry>]) -> Result<Vec<&
     ensures len { IfOk result (λ v. length v.items ≡ length parts.now) }
     ensures each { IfOk result (λ v. (b : ℕ) (d : _) → b < length parts.now → (slice_index_or v.items b d).now ≡ slice_index_or parts.now b []) }
 {
-    let mut rests = Vec::new(alloc);
+    let mut rests = Vec::with_capacity(alloc, parts.len())?;
     for part in parts {
         rests.push(part.as_slice())?;
     }

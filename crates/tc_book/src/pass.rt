@@ -1,7 +1,7 @@
 //! The pass of a started run: what its behaviour calls the case by.
-ghost use Rattle.std.specs.Prelude.{◌≡◌, ◌<◌, ◌≤◌, [], true, false, IfOk, Some, None};
-ghost use Rattle.tc_rules.specs.Prelude.{Reply, is_ok, is_verdict_call};
-ghost use Rattle.tc_book.specs.{Hands.IsHandOf, Inside.Waiting.waiting_places, Inside.is_halt, Passes.IsCall, Passes.IsWait, Passes.has_ended, Passes.reply_of, Passes.with_own_entry, Replies.is_answer, Replies.suits, Replies.suits_plainly};
+ghost use Rattle.std.specs.Prelude.{◌≡◌, ◌<◌, ◌≤◌, ◌||◌, [], true, false, IfOk, Some, None};
+ghost use Rattle.tc_rules.specs.Prelude.{Reply, is_ended, is_fault, is_ok, is_verdict_call};
+ghost use Rattle.tc_book.specs.{Hands.IsHandOf, Inside.Waiting.waiting_places, Inside.is_halt, Passes.IsCall, Passes.IsWait, Passes.has_ended, Passes.reply_of, Passes.with_own_entry, Inside.Replies.is_answer, Inside.Replies.suits_plainly};
 
 use crate::halt::Halt;
 use crate::left::Left;
@@ -293,7 +293,7 @@ impl Pass {
         ensures started { result.started ≡ Some (self.me, self.args) }
         ensures ended { has_ended self ≡ true → result.log ≡ self.log }
         ensures finished { has_ended self ≡ false → (r : Reply)
-            × (result.log ≡ (with_own_entry self Op.Finish r).log) × (suits Op.Finish r ≡ true) }
+            × (result.log ≡ (with_own_entry self Op.Finish r).log) × ((is_ok r || is_ended r || is_fault r) ≡ true) }
     {
         let Pass { shared, mut log } = self;
         let (_, given_up) = shared.leave(rt, &mut log);

@@ -2,7 +2,7 @@
 ghost use Rattle.std.specs.Prelude.{◌≡◌, ◌≤◌, ◌++◌, true, IfOk, OnOk, filter, length, reverse};
 ghost use Rattle.tc_entry.specs.declared.limits.TheConstants.{BEHAVIOURS};
 ghost use Rattle.tc_rules.specs.Prelude.{is_over, StandsFor, is_other, merge, logs_below, IsOneHistory};
-ghost use Rattle.tc_book.specs.{Closing.all_started, Inside.KnowsParts, Inside.KnowsStarts, Inside.log_on, Inside.logs_from};
+ghost use Rattle.tc_book.specs.{OneCase.all_started, Inside.KnowsParts, Inside.KnowsStarts, Inside.log_on, Inside.logs_from};
 
 use crate::starts::comp_of;
 use std::alloc::Global;

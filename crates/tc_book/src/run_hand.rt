@@ -4,7 +4,7 @@ ghost use Rattle.std.specs.Arc.{arc_value};
 ghost use Rattle.tc_board.specs.Prelude.{answered};
 ghost use Rattle.tc_board.specs.declared.answer.Answer.TheVariants.{Met};
 ghost use Rattle.tc_rules.specs.Prelude.{Op};
-ghost use Rattle.tc_book.specs.{Inside.Says, Replies.suits};
+ghost use Rattle.tc_book.specs.{Inside.Says, Inside.Replies.suits};
 
 use std::marker::Model;
 use std::sync::Arc;

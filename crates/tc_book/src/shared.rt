@@ -1,10 +1,10 @@
 //! The lock and the conditions of a case: each entry but those of verdict calls is added in one hold.
-ghost use Rattle.std.specs.Prelude.{◌≡◌, ◌≢◌, ◌≤◌, ◌<◌, ◌+◌, true, false, IfOk, OnOk, OnErr, IfErr, IfSome, IfNone, IsTrue, Err, All, is_none, length};
+ghost use Rattle.std.specs.Prelude.{◌≡◌, ◌≢◌, ◌≤◌, ◌<◌, ◌+◌, ◌||◌, true, false, IfOk, OnOk, OnErr, IfErr, IfSome, IfNone, IsTrue, Err, All, is_none, length};
 ghost use Rattle.std.specs.Sync.Mutex.{mutex_guard_value};
-ghost use Rattle.tc_rules.specs.Prelude.{IsOneHistory, IsLegal, is_verdict_call};
+ghost use Rattle.tc_rules.specs.Prelude.{IsOneHistory, IsLegal, is_ended, is_fault, is_ok, is_verdict_call};
 ghost use Rattle.tc_board.specs.Prelude.{answered};
 ghost use Rattle.tc_board.specs.declared.answer.Answer.TheVariants.{Met};
-ghost use Rattle.tc_book.specs.{Closing.IsAgreed, Closing.IsMerged, Closing.IsOneEach, Closing.IsWhole, Closing.merged, Inside.Waiting.waiting_places, Inside.goes_on, Inside.is_closed, Inside.with_own, OpenCase.AreOthers, OpenCase.has_leave, OpenCase.open_past, Replies.suits};
+ghost use Rattle.tc_book.specs.{Closing.IsAgreed, Closing.IsMerged, Closing.IsOneEach, Closing.IsWhole, Closing.merged, Inside.Waiting.waiting_places, Inside.goes_on, Inside.is_closed, Inside.with_own, OpenCase.AreOthers, OpenCase.has_leave, OpenCase.open_past, Inside.Replies.suits};
 
 use crate::book::Book;
 use crate::conditions::Conditions;
@@ -117,6 +117,8 @@ impl Shared {
         ensures refused { OnErr result (log.new.entries ≡ log.old.entries) }
         ensures refused_room { OnErr result (log.old.room ≤ log.new.room) }
     {
+        // Memory for the log is taken before the lock is, so that no run waits for it.
+        log.make_room()?;
         let mut book = self.held.book.lock(rt);
         let (reply, wake_up) = book.call(op, log)?;
         wake_up.give(&self.held.changed, &book);
@@ -152,7 +154,7 @@ impl Shared {
         ensures started { log.new.started ≡ log.old.started }
         ensures none { is_none result.0 ≡ is_closed log.old }
         ensures quiet { IfNone result.0 (log.new ≡ log.old) }
-        ensures suits { IfSome result.0 (λ r. suits Op.Finish r ≡ true) }
+        ensures finish { IfSome result.0 (λ r. (is_ok r || is_ended r || is_fault r) ≡ true) }
         ensures entries { IfSome result.0 (λ r. log.new.entries ≡ with_own log.old Op.Finish r) }
         ensures given_up { result.1.run ≡ log.old.started.run }
     {

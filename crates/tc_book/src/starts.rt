@@ -13,7 +13,7 @@ pub(crate) fn no_starts(alloc: Global, count: u16) -> Result<Vec<Option<(Comp, A
     ensures len { IfOk result (λ v. length v.items ≡ count) }
     ensures none { IfOk result (λ v. (b : ℕ) → start_at v.items b ≡ None) }
 {
-    let mut starts = Vec::new(alloc);
+    let mut starts = Vec::with_capacity(alloc, usize::from(count))?;
     for _ in 0..count {
         starts.push(None)?;
     }

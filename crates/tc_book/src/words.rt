@@ -104,7 +104,7 @@ impl Words {
     /// What the component carries on which a call would start a run, to be asked before the table plays the call. It is
     /// what the close of the word of the last run on it gave, and none if there is no such run or the call is no Start.
     pub fn carried_to(&self, table: &Table, op: &Op) -> UserVerdict
-        ensures { result ≡ rules.carried_to self.now (past_of table.now) op.now }
+        ensures { result ≡ inside.carried_to self.now (past_of table.now) op.now }
     {
         match op {
             Op::Start { comp, .. } => self.left_by(table.last_run(*comp)),
@@ -116,7 +116,7 @@ impl Words {
     /// run's component carried, and closes the word of each run that it halts. It takes no memory.
     pub fn follow(&mut self, table: &Table, carried: UserVerdict)
         requires agreeing { WordsAgree table.now.behaviours (drop 1 (past_of table.now)) self.old }
-        requires carried { carried ≡ rules.carried_to_newest self.old (past_of table.now) }
+        requires carried { carried ≡ inside.carried_to_newest self.old (past_of table.now) }
         ensures agreeing { WordsAgree table.now.behaviours (past_of table.now) self.new }
         ensures closed { StayClosed self.old self.new }
     {

@@ -5,13 +5,12 @@ use Rattle.std.proofs.lemmas.List.Elements.{All-nil}
 use Rattle.tc_rules.specs.Prelude.{Verdict}
 use Rattle.tc_book.specs.Prelude.{PassState}
 use Rattle.tc_rules.specs.declared.refusal.CaseError.{CaseError}
-use Rattle.tc_exec.specs.Prelude.{IsHandedBack}
 use Rattle.tc_exec.specs.declared.{job.Back.Back, test_case.Case.Case}
 use Rattle.tc_report.specs.declared.results.{CampaignEnd.CampaignEnd, Finished.Finished}
 use Rattle.tc_report.specs.Prelude.{AreTaken}
 use Rattle.tc_report.proofs.Lemmas.Keeping.{taken_more}
 use Rattle.tc_exec.proofs.Lemmas.Taking.{done_more, done_none}
-use Rattle.tc_campaign.specs.{Campaign.IsCalled, Campaign.IsRefusal, Inside.HasThreads, Inside.IsGoing, Inside.IsOf, Inside.IsSoFar, Inside.IsStep, Inside.WasRun, Outline.outline_of, declared.step.Step.Step}
+use Rattle.tc_campaign.specs.{Campaign.AreBack, Campaign.IsCalled, Campaign.IsRefusal, Inside.HasThreads, Inside.IsGoing, Inside.IsOf, Inside.IsSoFar, Inside.IsStep, Inside.WasRun, Outline.outline_of, declared.step.Step.Step}
 use Rattle.tc_campaign.proofs.{Lemmas.Running.done_begin, Lemmas.Running.run_aborted, Lemmas.Running.run_complete, Lemmas.Running.run_cut, Lemmas.Running.run_stopped, Lemmas.Running.so_far_more, Lemmas.Running.so_far_none, Lemmas.Running.threads_more, Places.slice_get-behind}
 
 module _ {B O : Type 0} (outcome : B → PassState → Back → Type 0) (takes : O → Finished → O → Bool → Type 0)
@@ -66,7 +65,7 @@ module _ {B O : Type 0} (outcome : B → PassState → Back → Type 0) (takes :
       torn = λ name is.
           let both : CampaignEnd.Aborted c.name step.0.why ≡ CampaignEnd.Aborted name CaseError.Torn = sym step.0.aborted ∙ is in
           let why : step.0.why ≡ CaseError.Torn = cc in
-          subst (λ o. IfSome o (λ k. IsHandedBack outcome k.jobs.items)) (sym case_next) (step.0.torn why);
+          subst (λ o. IfSome o (AreBack outcome)) (sym case_next) (step.0.torn why);
       given = subst (AreTaken takes going.finished before) (sym step.1) going.taken;
     }
 

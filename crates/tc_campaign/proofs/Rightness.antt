@@ -110,8 +110,8 @@ module _ {B O : Type 0} (outcome : B → PassState → Back → Type 0) (takes :
     run = record {
       each = are_finished (Some ending) was;
       last = ends_so (map outline_of cases) stop_on threads was.finished ending was.run was.why;
+      torn = was.torn;
     };
-    torn = was.torn;
     taken = was.given;
   }
 

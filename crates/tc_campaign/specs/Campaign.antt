@@ -37,10 +37,9 @@ IsRefusal threads CaseError.TooManyBehaviours c = BEHAVIOURS < c.jobs
 IsRefusal threads CaseError.NoThread c = (1 < c.jobs) × (c.jobs ≤ BEHAVIOURS)
 IsRefusal threads why c = IsBehaviours c.jobs × (c.jobs ≤ threads + 1)
 
--- if the campaign was aborted for what the jobs of the next case handed back, each was called, did not run out of
--- memory, and handed it back
-abbrev pub IsTornAt : {B : Type 0} → (B → PassState → Back → Type 0) → Option (Case B) → CampaignEnd → Type 0
-IsTornAt outcome next ending = (name : List ℕ) → ending ≡ CampaignEnd.Aborted name CaseError.Torn → IfSome next (λ c. IsHandedBack outcome c.jobs.items)
+-- each job of this case was called, did not run out of memory, and handed back its pass; or its run was never started
+abbrev pub AreBack : {B : Type 0} → (B → PassState → Back → Type 0) → Case B → Type 0
+AreBack outcome c = IsHandedBack outcome c.jobs.items
 
 module _ {C : Type 0} (outline : C → Outline) (called : C → Finished → Type 0) (cases : List C) (stop_on : Option Verdict) (threads : ℕ) where
   -- these test cases were finished, the first of the list, and none except the last ended the campaign
@@ -58,22 +57,23 @@ module _ {C : Type 0} (outline : C → Outline) (called : C → Finished → Typ
     pub behaviours : All (λ f. IsBehaviours f.report.behaviours) finished
 
   -- these test cases were finished, and the campaign ended so after them
-  pub record EndsSo (Refuses : CaseError → Outline → Type 0) (finished : List Finished) (ending : CampaignEnd) : Type 0 where
+  pub record EndsSo (back : C → Type 0) (Refuses : CaseError → Outline → Type 0) (finished : List Finished) (ending : CampaignEnd) : Type 0 where
     pub each : AreFinished finished
     pub last : IsEnding (λ f. IsMet stop_on f.report.verdict) Refuses
         (slice_get finished (length finished - 1)) (slice_get (map outline cases) (length finished)) ending
+    -- if it was aborted as torn, the jobs of the next case handed back their passes
+    pub torn : (name : List ℕ) → ending ≡ CampaignEnd.Aborted name CaseError.Torn → IfSome (slice_get cases (length finished)) back
 
   -- the same; there may have been no room for its reports, and then none is finished
-  abbrev pub IsRunTo : List Finished → CampaignEnd → Type 0
-  IsRunTo finished = EndsSo (λ why c. IsRefusal threads why c ⊎ ((finished ≡ []) × (why ≡ NoMemory))) finished
+  abbrev pub IsRunTo : (C → Type 0) → List Finished → CampaignEnd → Type 0
+  IsRunTo back finished = EndsSo back (λ why c. IsRefusal threads why c ⊎ ((finished ≡ []) × (why ≡ NoMemory))) finished
 
 module _ {B O : Type 0} (outcome : B → PassState → Back → Type 0) (cases : List (Case B)) (stop_on : Option Verdict) (threads : ℕ)
     (takes : O → Finished → O → Bool → Type 0) (before after : O) where
   -- the campaign was run to this end, and the observer was given each finished test case
   pub record IsObserved (ending : CampaignEnd) : Type 0 where
     pub finished : List Finished
-    pub run : EndsSo outline_of (IsCalled outcome) cases stop_on threads (IsRefusal threads) finished ending
-    pub torn : IsTornAt outcome (slice_get cases (length finished)) ending
+    pub run : EndsSo outline_of (IsCalled outcome) cases stop_on threads (AreBack outcome) (IsRefusal threads) finished ending
     pub taken : AreTaken takes finished before after
 
   -- the campaign was run until the observer ended it, at the last finished test case

@@ -4,12 +4,12 @@ use Rattle.std.specs.List.{AllZip}
 use Rattle.tc_rules.specs.Prelude.{IsBehaviours, Verdict}
 use Rattle.tc_entry.specs.declared.limits.TheConstants.{BEHAVIOURS}
 use Rattle.tc_rules.specs.declared.{closed.Closed.Closed, refusal.CaseError.CaseError}
-use Rattle.tc_exec.specs.Prelude.{IsCaseReport, IsHandedBack}
+use Rattle.tc_exec.specs.Prelude.{IsCaseReport}
 use Rattle.tc_exec.specs.{Inside.AreDone, declared.job.Back.Back, declared.test_case.Case.Case}
 use Rattle.tc_book.specs.Prelude.{PassState}
 use Rattle.tc_report.specs.{Inside.IsEndedAt, declared.results.CampaignEnd.CampaignEnd, declared.results.Finished.Finished}
 use Rattle.tc_report.specs.Prelude.{AreTaken, IsMet}
-use Rattle.tc_campaign.specs.{Campaign.IsCalled, Campaign.IsOfCase, Campaign.IsRefusal, Campaign.IsTornAt, Outline.Outline, Outline.outline_of, declared.step.Step.Step}
+use Rattle.tc_campaign.specs.{Campaign.AreBack, Campaign.IsCalled, Campaign.IsOfCase, Campaign.IsRefusal, Outline.Outline, Outline.outline_of, declared.step.Step.Step}
 
 -- the stopping rule is not met
 abbrev pub IsBetter : Option Verdict → Verdict → Type 0
@@ -52,7 +52,7 @@ pub record IsRefused {B : Type 0} (outcome : B → PassState → Back → Type 0
   pub why : CaseError
   pub aborted : ending ≡ CampaignEnd.Aborted c.name why
   pub cause : IsRefusal threads why (outline_of c)
-  pub torn : why ≡ CaseError.Torn → IsHandedBack outcome c.jobs.items
+  pub torn : why ≡ CaseError.Torn → AreBack outcome c
 
 -- what becomes of a case by the answer to its run
 abbrev pub ended_by : List ℕ → List (List ℕ) → Result Closed CaseError → Result Finished CampaignEnd
@@ -76,6 +76,10 @@ pub data IsRun (cases : List Outline) (stop_on : Option Verdict) : List Finished
       → IsRun cases stop_on (finished ++ f ∷ []) (Some (CampaignEnd.StoppedAfter f.name))
   cut : (finished : List Finished) (f : Finished) (c : Outline) (left : List Outline)
       → IsSoFar cases stop_on (c ∷ left) finished → IsOf c f → IsRun cases stop_on (finished ++ f ∷ []) None
+
+-- if the campaign was aborted as torn, the jobs of the next case handed back their passes
+abbrev pub IsTornAt : {B : Type 0} → (B → PassState → Back → Type 0) → Option (Case B) → CampaignEnd → Type 0
+IsTornAt outcome next ending = (name : List ℕ) → ending ≡ CampaignEnd.Aborted name CaseError.Torn → IfSome next (AreBack outcome)
 
 -- how a campaign ends that runs none of these cases because memory ran out
 abbrev pub IsUnrun : List Outline → CampaignEnd → Type 0

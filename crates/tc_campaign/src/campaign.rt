@@ -2,7 +2,7 @@
 ghost use Rattle.std.specs.Prelude.{◌≡◌, ◌≤◌, [], All, IfOk, IfErr, IfSome, IfNone, Option, length, map, slice_get, ℕ};
 ghost use Rattle.std.specs.Vec.{vec_capacity, vec_len};
 ghost use Rattle.tc_rules.specs.Prelude.{Verdict as AnyVerdict};
-ghost use Rattle.tc_campaign.specs.{Campaign.IsCalled, Campaign.IsCutShort, Campaign.IsObserved, Campaign.IsRunTo, Campaign.IsTornAt, Inside.HasThreads, Inside.IsOf, Inside.IsRefused, Inside.IsStep, Inside.IsUnrun, Inside.WasRun, Inside.ended_by, Outline.HasNames, Outline.outline_of};
+ghost use Rattle.tc_campaign.specs.{Campaign.AreBack, Campaign.IsCalled, Campaign.IsCutShort, Campaign.IsObserved, Campaign.IsRunTo, Inside.HasThreads, Inside.IsOf, Inside.IsRefused, Inside.IsStep, Inside.IsUnrun, Inside.WasRun, Inside.ended_by, Outline.HasNames, Outline.outline_of};
 
 use crate::step::Step;
 use crate::stopping::stop_after;
@@ -147,8 +147,7 @@ fn unrun<B: Callable>(alloc: Global, cases: Vec<Case<B>>) -> Results
 pub fn without_room<B: Callable>(alloc: Global, cases: Vec<Case<B>>) -> Results
     ensures none { result.finished ≡ [] }
     ensures run { (stop_on : Option AnyVerdict) (threads : ℕ)
-        → IsRunTo outline_of (IsCalled B.outcome) cases.items stop_on threads result.finished result.ending }
-    ensures torn { IsTornAt B.outcome (slice_get cases.items (length result.finished)) result.ending }
+        → IsRunTo outline_of (IsCalled B.outcome) cases.items stop_on threads (AreBack B.outcome) result.finished result.ending }
 {
     unrun(alloc, cases)
 }
@@ -165,8 +164,7 @@ fn run_kept<R: Threads + Wait + Copy + Send + 'static, B: Callable>(
     requires names { All HasNames cases.items }
     requires none { kept.finished.items ≡ [] }
     requires room { vec_len cases ≤ vec_capacity kept.finished }
-    ensures run { IsRunTo outline_of (IsCalled B.outcome) cases.items stop_on threads result.finished result.ending }
-    ensures torn { IsTornAt B.outcome (slice_get cases.items (length result.finished)) result.ending }
+    ensures run { IsRunTo outline_of (IsCalled B.outcome) cases.items stop_on threads (AreBack B.outcome) result.finished result.ending }
 {
     let mut kept = kept;
     let ending = run_campaign_with(rt, alloc, cases, stop_on, threads, &mut kept);
@@ -192,8 +190,7 @@ pub fn run_campaign<R: Threads + Wait + Copy + Send + 'static, B: Callable>(
     threads: u16,
 ) -> Results
     requires names { All HasNames cases.items }
-    ensures run { IsRunTo outline_of (IsCalled B.outcome) cases.items stop_on threads result.finished result.ending }
-    ensures torn { IsTornAt B.outcome (slice_get cases.items (length result.finished)) result.ending }
+    ensures run { IsRunTo outline_of (IsCalled B.outcome) cases.items stop_on threads (AreBack B.outcome) result.finished result.ending }
 {
     match Kept::with_room(alloc, cases.len()) {
         Ok(kept) => run_kept(rt, alloc, cases, stop_on, threads, kept),

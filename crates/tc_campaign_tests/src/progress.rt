@@ -84,14 +84,20 @@ fn names(alloc: Global) -> Result<Vec<Name>, Fail> {
     Ok(names)
 }
 
-/// Reports each test case.
+/// Reports each test case, up to one with this verdict.
 fn tell_each<E: Write>(
     alloc: Global,
+    stop_on: Option<Verdict>,
     progress: &mut Progress<'_, Counting, E, Watch>,
 ) -> Result<(), Fail> {
     progress.begin();
     for (text, setting) in CASES {
-        progress.take(finished(alloc, text, setting)?);
+        let case = finished(alloc, text, setting)?;
+        let last = stop_on == Some(case.report.verdict);
+        progress.take(case);
+        if last {
+            break;
+        }
     }
     Ok(())
 }
@@ -116,7 +122,7 @@ fn tell<E: Write>(
         writer,
         &mut failed,
     );
-    tell_each(alloc, &mut progress)?;
+    tell_each(alloc, stop_on, &mut progress)?;
     let told = progress.end();
     Ok((counting.taken, told))
 }
@@ -198,7 +204,7 @@ failed: c inconc: run 0 on component 0: setverdict inconc -> ok
 // After a test case by which the campaign stops none is said to begin.
 #[test]
 fn none_begins_after_the_last(rt: HostRuntime) -> Result<(), Fail> {
-    let told = told_of(rt.alloc(), Some(Verdict::Inconc), &TIMES)?;
+    let told = told_of(rt.alloc(), Some(Verdict::Fail), &TIMES)?;
     let begins = b" ..".as_slice();
     let begun = told.windows(3).filter(|bytes| *bytes == begins).count();
     is(&rt, "how many begin", begun, 2);

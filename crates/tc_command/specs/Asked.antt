@@ -1,5 +1,5 @@
 -- What the arguments ask for.
-use Rattle.std.specs.Prelude.{◌≡◌, Bool, true, false, ◌&&◌, ◌||◌, not, List, [], ◌∷◌, Option, Some, None, Result, Ok, Err, All, IfSome, codes, find, if◌then◌else◌, is_none, option_and_then, unwrap_or}
+use Rattle.std.specs.Prelude.{◌≡◌, Bool, true, false, ◌&&◌, ◌||◌, not, List, [], ◌∷◌, Option, Some, None, Result, Ok, Err, All, IfSome, codes, find, if◌then◌else◌, is_none, map, option_and_then, unwrap_or}
 use Rattle.std.specs.{List.list_any, Str.bytes_eq}
 use Rattle.clap.specs.Words.{HasKind, Row, Text, all_of, first_of, fault_of, matches_of, subcommand_of}
 use Rattle.clap.specs.Kinds.{Kinds, or_else}
@@ -7,7 +7,7 @@ use Rattle.clap.specs.declared.error.kind.ErrorKind.TheVariants.{ArgumentConflic
 use Rattle.clap.specs.declared.parser.matches.ValueSource.{ValueSource}
 use Rattle.clap.specs.declared.parser.matches.ValueSource.TheVariants.{CommandLine}
 use Rattle.tc_entry.specs.Prelude.{IsName, IsPattern}
-use Rattle.tc_command.specs.{Command.IsGood, Command.IsRuleOf, Command.IsShardOf, Command.IsStatesOf, Command.cases_app, Command.ttrun, declared.command.Subcommand.Subcommand, declared.read.Refused.Refused, declared.task.Choice.Choice, declared.task.ExploreOptions.ExploreOptions, declared.task.Form.Form, declared.task.ReportForm.ReportForm, declared.task.RunOptions.RunOptions, declared.task.Task.Task, declared.word.WordFault.WordFault}
+use Rattle.tc_command.specs.{Command.IsGood, Command.IsRuleOf, Command.IsShardOf, Command.IsStatesOf, Command.cases_app, Command.ttrun, declared.command.Subcommand.Subcommand, declared.read.Refused.Refused, declared.read.TheConstants.CHECK_APART, declared.read.TheConstants.EXPLORE_APART, declared.read.TheConstants.OTHERS_APART, declared.read.TheConstants.REPORT_APART, declared.read.TheConstants.RUN_APART, declared.task.Choice.Choice, declared.task.ExploreOptions.ExploreOptions, declared.task.Form.Form, declared.task.ReportForm.ReportForm, declared.task.RunOptions.RunOptions, declared.task.Task.Task, declared.word.WordFault.WordFault}
 
 -- the value comes from the arguments, and is no default
 abbrev pub is_from_words : Option ValueSource → Bool
@@ -36,20 +36,13 @@ abbrev pub command_line_of : Option (Text × List Row) → Subcommand × List Ro
 command_line_of None = (Subcommand.Run, [])
 command_line_of (Some p) = (subcommand_named p.0, p.1)
 
--- options of this subcommand of which each two exclude each other
+-- pairs of options of this subcommand that exclude each other
 abbrev pub apart : Subcommand → List (Text × Text)
-apart Subcommand.Run =
-    (codes "csv", codes "history") ∷ (codes "csv", codes "evidence") ∷ (codes "csv", codes "junit")
-    ∷ (codes "history", codes "evidence") ∷ (codes "history", codes "junit") ∷ (codes "evidence", codes "junit")
-    ∷ (codes "list", codes "csv") ∷ (codes "list", codes "history") ∷ (codes "list", codes "evidence") ∷ (codes "list", codes "junit")
-    ∷ (codes "list", codes "live") ∷ (codes "list", codes "progress") ∷ (codes "list", codes "stop-on") ∷ (codes "junit", codes "live") ∷ []
-apart Subcommand.Check = (codes "script", codes "failed") ∷ []
-apart Subcommand.Explore = (codes "history", codes "details") ∷ (codes "history", codes "locals") ∷ []
-apart Subcommand.Report =
-    (codes "csv", codes "junit") ∷ (codes "csv", codes "html") ∷ (codes "csv", codes "summary")
-    ∷ (codes "junit", codes "html") ∷ (codes "junit", codes "summary") ∷ (codes "html", codes "summary")
-    ∷ (codes "html", codes "failed") ∷ (codes "script", codes "failed") ∷ []
-apart subcommand = []
+apart Subcommand.Run = map (λ p. (p.0.now, p.1.now)) RUN_APART
+apart Subcommand.Explore = map (λ p. (p.0.now, p.1.now)) EXPLORE_APART
+apart Subcommand.Report = map (λ p. (p.0.now, p.1.now)) REPORT_APART
+apart Subcommand.Check = map (λ p. (p.0.now, p.1.now)) CHECK_APART
+apart subcommand = map (λ p. (p.0.now, p.1.now)) OTHERS_APART
 
 -- the form that the options of `run` ask for
 abbrev pub form_of : List Row → Form
@@ -75,16 +68,22 @@ lacks_script rows = (is_given rows (codes "shard") || (is_given rows (codes "onl
 abbrev pub lacks_junit : List Row → Bool
 lacks_junit rows = is_given rows (codes "suite") && not (is_given rows (codes "junit"))
 
--- options are given without one that they need: their script, a form of the report, or the report that a suite is of
+-- only the last blocks count, and nothing is left out by them
+abbrev pub lacks_failed : List Row → Bool
+lacks_failed rows = is_given rows (codes "last") && not (is_given rows (codes "failed"))
+
+-- options are given without one that they need: their script, a form of the report, the report that a suite is of, or --failed
 abbrev pub lacks_option : Subcommand → List Row → Bool
 lacks_option Subcommand.Check rows = lacks_script rows || lacks_junit rows
 lacks_option Subcommand.Report rows = lacks_script rows || (is_none (report_form_of rows) || lacks_junit rows)
+lacks_option Subcommand.Run rows = lacks_junit rows || lacks_failed rows
+lacks_option Subcommand.Explore rows = lacks_junit rows || lacks_failed rows
 lacks_option subcommand rows = lacks_junit rows
 
 -- why options are refused; none if they are taken
 abbrev pub option_faults : Subcommand × List Row → Kinds
 option_faults line =
-    if list_any (λ p. is_given line.1 p.0 && is_given line.1 p.1) ((codes "explain", codes "no-explain") ∷ apart line.0) then ArgumentConflict ∷ []
+    if list_any (λ p. is_given line.1 p.0 && is_given line.1 p.1) (apart line.0) then ArgumentConflict ∷ []
     else (if lacks_option line.0 line.1 then MissingRequiredArgument ∷ [] else [])
 
 -- faults are explained: if that is asked for, and at a terminal unless it is declined
@@ -96,6 +95,7 @@ pub record Chooses (rows : List Row) (c : Choice) : Type 0 where
   pub only : c.only.items ≡ option_values (codes "only") rows
   pub shard : IsShardOf (first_of (codes "shard") rows) c.shard
   pub failed : c.failed ≡ is_given rows (codes "failed")
+  pub last : c.last ≡ is_given rows (codes "last")
 
 -- the options choose these test cases, and ask that faults are explained, or not
 abbrev pub AsksFor : Bool → List Row → Choice → Bool → Type 0

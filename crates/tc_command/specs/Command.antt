@@ -24,7 +24,7 @@ explaining = flag_rule (codes "explain") ∷ flag_rule (codes "no-explain") ∷ 
 
 -- the options of each command that reads histories: their script, which of them, and whether a fault is explained
 abbrev pub choosing : List Rule
-choosing = flag_rule (codes "script") ∷ words_rule (codes "only") ∷ word_rule (codes "shard") ∷ flag_rule (codes "failed") ∷ explaining
+choosing = flag_rule (codes "script") ∷ words_rule (codes "only") ∷ word_rule (codes "shard") ∷ flag_rule (codes "failed") ∷ flag_rule (codes "last") ∷ explaining
 
 -- the options of a run of test cases: its forms, as it finishes, how it is stopped, and which test cases
 abbrev pub run_options : List Rule
@@ -35,13 +35,13 @@ run_options =
 
 -- `run` has these and those of its script: which test cases, and whether a fault is explained
 abbrev pub run : App
-run = fold with_rule (new_app (codes "run")) (run_options ++ flag_rule (codes "failed") ∷ explaining)
+run = fold with_rule (new_app (codes "run")) (run_options ++ flag_rule (codes "failed") ∷ flag_rule (codes "last") ∷ explaining)
 
 -- the options of `explore`
 abbrev pub explore : App
 explore = fold with_rule (new_app (codes "explore")) (
     flag_rule (codes "history") ∷ flag_rule (codes "details") ∷ flag_rule (codes "locals") ∷ word_rule (codes "states")
-    ∷ words_rule (codes "only") ∷ word_rule (codes "shard") ∷ flag_rule (codes "failed") ∷ explaining)
+    ∷ words_rule (codes "only") ∷ word_rule (codes "shard") ∷ flag_rule (codes "failed") ∷ flag_rule (codes "last") ∷ explaining)
 
 -- the options of `report`
 abbrev pub report : App

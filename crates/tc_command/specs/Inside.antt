@@ -5,7 +5,7 @@ use Rattle.clap.specs.Words.{App, Row, Rule, Text, app_of, kind_of, new_app, wit
 use Rattle.clap.specs.declared.builder.command.Command.{Command}
 use Rattle.clap.specs.declared.builder.command.Command.TheViews.{out-Command}
 use Rattle.clap.specs.declared.error.kind.ErrorKind.TheVariants.{ArgumentConflict, MissingRequiredArgument}
-use Rattle.tc_command.specs.{Asked.Asks, Asked.HasBadWord, Asked.is_given, Asked.lacks_script, Asked.option_faults, Asked.report_form_of, Command.check, Command.explore, Command.flag_rule, Command.replay, Command.report, Command.run, Command.word_rule, Command.words_rule, declared.command.OptionRow.OptionRow, declared.command.Subcommand.Subcommand, declared.command.Takes.Takes, declared.read.Refused.Refused, declared.refusal.Refusal.Refusal, declared.task.Task.Task, declared.word.WordFault.WordFault}
+use Rattle.tc_command.specs.{Asked.Asks, Asked.HasBadWord, Asked.is_given, Asked.lacks_failed, Asked.lacks_script, Asked.option_faults, Asked.report_form_of, Command.check, Command.explore, Command.flag_rule, Command.replay, Command.report, Command.run, Command.word_rule, Command.words_rule, declared.command.OptionRow.OptionRow, declared.command.Subcommand.Subcommand, declared.command.Takes.Takes, declared.read.Refused.Refused, declared.refusal.Refusal.Refusal, declared.task.Task.Task, declared.word.WordFault.WordFault}
 
 -- a script may come before histories, and there is none though one is needed
 abbrev pub lacks_script_of : Subcommand → List Row → Bool
@@ -18,12 +18,19 @@ abbrev pub lacks_form : Subcommand → List Row → Bool
 lacks_form Subcommand.Report rows = is_none (report_form_of rows)
 lacks_form subcommand rows = false
 
+-- an option is given to a run without the one that it needs
+abbrev pub lacks_failed_of : Subcommand → List Row → Bool
+lacks_failed_of Subcommand.Run rows = lacks_failed rows
+lacks_failed_of Subcommand.Explore rows = lacks_failed rows
+lacks_failed_of subcommand rows = false
+
 -- options are refused for this reason; if memory runs out, nothing is said about them
 abbrev pub IsRefusedBy : Subcommand × List Row → Refusal → Type 0
 IsRefusedBy line (Refusal.Conflict first second) = option_faults line ≡ ArgumentConflict ∷ []
 IsRefusedBy line Refusal.NoForm = option_faults line ≡ MissingRequiredArgument ∷ []
 IsRefusedBy line Refusal.NoScript = option_faults line ≡ MissingRequiredArgument ∷ []
 IsRefusedBy line Refusal.NoJunit = option_faults line ≡ MissingRequiredArgument ∷ []
+IsRefusedBy line Refusal.NoFailed = option_faults line ≡ MissingRequiredArgument ∷ []
 IsRefusedBy line (Refusal.Word fault) = (option_faults line ≡ []) × HasBadWord line.1 fault
 IsRefusedBy line Refusal.NoMemory = Unit {0}
 
@@ -41,6 +48,7 @@ abbrev pub IsLack : Bool → Refusal → Type 0
 IsLack some Refusal.NoForm = some ≡ true
 IsLack some Refusal.NoScript = some ≡ true
 IsLack some Refusal.NoJunit = some ≡ true
+IsLack some Refusal.NoFailed = some ≡ true
 IsLack some refusal = ⊥
 
 -- a value is refused for this reason, or memory ran out
@@ -65,6 +73,7 @@ IsToldBy (Refusal.Conflict first second) (Refused.Line e) = kind_of e ≡ Argume
 IsToldBy Refusal.NoForm (Refused.Line e) = kind_of e ≡ MissingRequiredArgument
 IsToldBy Refusal.NoScript (Refused.Line e) = kind_of e ≡ MissingRequiredArgument
 IsToldBy Refusal.NoJunit (Refused.Line e) = kind_of e ≡ MissingRequiredArgument
+IsToldBy Refusal.NoFailed (Refused.Line e) = kind_of e ≡ MissingRequiredArgument
 IsToldBy (Refusal.Word fault) (Refused.Word f) = f ≡ fault
 IsToldBy refusal refused = ⊥
 

@@ -32,7 +32,8 @@ const RUN_HELP: (&str, &str) = (
 Standard input is a script: ttrun run < FILE. Standard output is the report.
 With --failed it is a script, and after it histories or evidence of its test
 cases: cat FILE EVIDENCE | ttrun run --failed runs those that are missing, are
-not legal, or have a verdict other than none and pass.
+not legal, or have a verdict other than none and pass. With --last only the
+last of each name counts.
 
 VERDICT is none, pass, inconc, fail or error. A * in NAME stands for any
 letters, or none: --only 't_*'. --shard K/N runs every N-th of the chosen test
@@ -49,7 +50,7 @@ const EXPLORE_HELP: (&str, &str) = (
 Standard input is a script: ttrun explore < FILE. Standard output is a line
 for each test case: its name, the verdicts found, and how the search ended.
 N is from 1 to 1000000, and 100000 without --states. --only, --shard and
---failed choose test cases as those of run do.
+--failed choose test cases as those of run do, with --last too.
 Status: 0 if each test case has one verdict, 1 if one has several, 3 if a
 search met its limit, or for a refusal.",
 );
@@ -60,10 +61,10 @@ const REPORT_HELP: (&str, &str) = (
     "\
 Standard input is histories or evidence: ttrun report --csv < FILE. Nothing is
 written to standard output if one of them is not legal. --only and --failed
-choose as those of check do, but not for --html. With --script the input is
-what check --script reads, and --only and --shard choose as there. Test cases
-that are missing come last, and the lines of check --script go to standard
-error.
+choose as those of check do, with --last too, but not for --html. With
+--script the input is what check --script reads, and --only and --shard choose
+as there. Test cases that are missing come last, and the lines of check
+--script go to standard error.
 Status: 0 for none and pass, 1 for inconc and fail, 2 for error and for a test
 case that is not over, 3 if a history is not legal, for such a line, or for a
 refusal.",
@@ -85,7 +86,8 @@ const CHECK_HELP: (&str, &str) = (
     "\
 Standard input is histories or evidence: ttrun check < FILE. Standard output
 has a line for each, and none after the first that is not legal. --only, as
-for run, and --failed leave out lines of legal ones.
+for run, and --failed leave out lines of legal ones. With --last only the last
+of each name counts.
 With --script the input is a script, and after it histories or evidence of its
 test cases: cat FILE EVIDENCE | ttrun check --script. With --only and --shard,
 as for run, it is as if the script had only these test cases. --failed is not
@@ -171,6 +173,12 @@ const NOT_PASSED: OptionRow = OptionRow(
     "leaves out what has the verdict none or pass",
 );
 
+const LAST: OptionRow = OptionRow(
+    "last",
+    Takes::Nothing,
+    "counts only the last history of each name",
+);
+
 const SUITE: OptionRow = OptionRow(
     "suite",
     Takes::Word("NAME"),
@@ -229,9 +237,9 @@ pub(crate) const RUN_OPTIONS: [OptionRow; 11] = [
 ];
 
 // The options of `run` that are of its script.
-const RUN_SCRIPT_OPTIONS: [OptionRow; 3] = [FAILED, EXPLAIN, NO_EXPLAIN];
+const RUN_SCRIPT_OPTIONS: [OptionRow; 4] = [FAILED, LAST, EXPLAIN, NO_EXPLAIN];
 
-const EXPLORE_OPTIONS: [OptionRow; 9] = [
+const EXPLORE_OPTIONS: [OptionRow; 10] = [
     OptionRow(
         "history",
         Takes::Nothing,
@@ -263,20 +271,22 @@ const EXPLORE_OPTIONS: [OptionRow; 9] = [
         "explores the K-th of N shards of the test cases",
     ),
     FAILED,
+    LAST,
     EXPLAIN,
     NO_EXPLAIN,
 ];
 
-const CHECK_OPTIONS: [OptionRow; 6] = [
+const CHECK_OPTIONS: [OptionRow; 7] = [
     SCRIPT,
     SCRIPT_ONLY,
     SCRIPT_SHARD,
     NOT_PASSED,
+    LAST,
     EXPLAIN,
     NO_EXPLAIN,
 ];
 
-const REPORT_OPTIONS: [OptionRow; 11] = [
+const REPORT_OPTIONS: [OptionRow; 12] = [
     OptionRow("csv", Takes::Nothing, "writes a table as CSV"),
     OptionRow("junit", Takes::Nothing, "writes a JUnit suite"),
     SUITE,
@@ -290,6 +300,7 @@ const REPORT_OPTIONS: [OptionRow; 11] = [
     SCRIPT_ONLY,
     SCRIPT_SHARD,
     NOT_PASSED,
+    LAST,
     EXPLAIN,
     NO_EXPLAIN,
 ];

@@ -3,7 +3,7 @@ ghost use Rattle.std.specs.Prelude.{◌≡◌, ◌&&◌, ◌∷◌, All, IfOk, I
 ghost use Rattle.std.specs.List.{list_any};
 ghost use Rattle.clap.specs.Words.{FailsBy, Row, app_of, fault_of, first_of, found_of, is_simple, is_simple_and_free, rows_of, subcommand_of, subcommand_rows_of};
 ghost use Rattle.tc_entry.specs.Prelude.{IsName, IsPattern};
-ghost use Rattle.tc_command.specs.{Asked.Asks, Asked.AsksRun, Asked.Chooses, Asked.IsReading, Asked.apart as spec_apart, Asked.command_line_of, Asked.form_of, Asked.is_explained, Asked.is_given, Asked.lacks_option, Asked.option_values, Asked.report_form_of, Asked.subcommand_named as spec_named, Command.IsGood, Command.IsShardOf, Command.ttrun, Inside.IsBadWord, Inside.IsClash, Inside.IsLack, Inside.IsRefusedBy, Inside.IsTaken, Inside.IsWordRefused, Inside.gives_both, Inside.lacks_form as spec_lacks_form, Inside.lacks_script_of as spec_lacks, declared.command.Subcommand.TheVariants.Check, declared.command.Subcommand.TheVariants.Explore, declared.command.Subcommand.TheVariants.Report, declared.command.Subcommand.TheVariants.Run, declared.read.Refused.Refused};
+ghost use Rattle.tc_command.specs.{Asked.Asks, Asked.AsksRun, Asked.Chooses, Asked.IsReading, Asked.apart as spec_apart, Asked.command_line_of, Asked.form_of, Asked.is_explained, Asked.is_given, Asked.lacks_option, Asked.option_values, Asked.report_form_of, Asked.subcommand_named as spec_named, Command.IsGood, Command.IsShardOf, Command.ttrun, Inside.IsBadWord, Inside.IsClash, Inside.IsLack, Inside.IsRefusedBy, Inside.IsTaken, Inside.IsWordRefused, Inside.gives_both, Inside.lacks_failed_of as spec_lacks_failed, Inside.lacks_form as spec_lacks_form, Inside.lacks_script_of as spec_lacks, declared.command.Subcommand.TheVariants.Check, declared.command.Subcommand.TheVariants.Explore, declared.command.Subcommand.TheVariants.Report, declared.command.Subcommand.TheVariants.Run, declared.read.Refused.Refused};
 
 use crate::command::{Subcommand, command};
 use crate::refusal::{Refusal, told_of};
@@ -32,47 +32,60 @@ impl From<Error> for Refused {
     }
 }
 
-// Options of which each two exclude each other.
+// Pairs of options that exclude each other, one table for each subcommand; the definition of what is refused has them
+// from here.
+const RUN_APART: [(&str, &str); 15] = [
+    ("explain", "no-explain"),
+    ("csv", "history"),
+    ("csv", "evidence"),
+    ("csv", "junit"),
+    ("history", "evidence"),
+    ("history", "junit"),
+    ("evidence", "junit"),
+    ("list", "csv"),
+    ("list", "history"),
+    ("list", "evidence"),
+    ("list", "junit"),
+    ("list", "live"),
+    ("list", "progress"),
+    ("list", "stop-on"),
+    ("junit", "live"),
+];
+
+const EXPLORE_APART: [(&str, &str); 3] = [
+    ("explain", "no-explain"),
+    ("history", "details"),
+    ("history", "locals"),
+];
+
+const REPORT_APART: [(&str, &str); 10] = [
+    ("explain", "no-explain"),
+    ("csv", "junit"),
+    ("csv", "html"),
+    ("csv", "summary"),
+    ("junit", "html"),
+    ("junit", "summary"),
+    ("html", "summary"),
+    ("html", "failed"),
+    ("html", "last"),
+    ("script", "failed"),
+];
+
+const CHECK_APART: [(&str, &str); 2] = [("explain", "no-explain"), ("script", "failed")];
+
+const OTHERS_APART: [(&str, &str); 1] = [("explain", "no-explain")];
+
+// The pairs of this subcommand.
 fn apart(subcommand: Subcommand) -> &'static [(&'static str, &'static str)]
     ensures { (rows : List Row) → list_any (gives_both rows) result.now
-        ≡ list_any (λ p. is_given rows p.0 && is_given rows p.1) ((codes "explain", codes "no-explain") ∷ spec_apart subcommand) }
+        ≡ list_any (λ p. is_given rows p.0 && is_given rows p.1) (spec_apart subcommand) }
 {
     match subcommand {
-        Subcommand::Run => &[
-            ("explain", "no-explain"),
-            ("csv", "history"),
-            ("csv", "evidence"),
-            ("csv", "junit"),
-            ("history", "evidence"),
-            ("history", "junit"),
-            ("evidence", "junit"),
-            ("list", "csv"),
-            ("list", "history"),
-            ("list", "evidence"),
-            ("list", "junit"),
-            ("list", "live"),
-            ("list", "progress"),
-            ("list", "stop-on"),
-            ("junit", "live"),
-        ],
-        Subcommand::Explore => &[
-            ("explain", "no-explain"),
-            ("history", "details"),
-            ("history", "locals"),
-        ],
-        Subcommand::Report => &[
-            ("explain", "no-explain"),
-            ("csv", "junit"),
-            ("csv", "html"),
-            ("csv", "summary"),
-            ("junit", "html"),
-            ("junit", "summary"),
-            ("html", "summary"),
-            ("html", "failed"),
-            ("script", "failed"),
-        ],
-        Subcommand::Check => &[("explain", "no-explain"), ("script", "failed")],
-        Subcommand::Replay | Subcommand::Serve => &[("explain", "no-explain")],
+        Subcommand::Run => &RUN_APART,
+        Subcommand::Explore => &EXPLORE_APART,
+        Subcommand::Report => &REPORT_APART,
+        Subcommand::Check => &CHECK_APART,
+        Subcommand::Replay | Subcommand::Serve => &OTHERS_APART,
     }
 }
 
@@ -190,6 +203,7 @@ fn choice(alloc: Global, options: &ArgMatches<'_>) -> Result<Choice, Refusal>
         only,
         shard,
         failed: has_option(options, "failed"),
+        last: has_option(options, "last"),
     })
 }
 
@@ -331,6 +345,18 @@ fn lacks_form(subcommand: Subcommand, options: &ArgMatches<'_>) -> bool
     }
 }
 
+// Whether an option is given to a run without the one that it needs.
+fn lacks_failed(subcommand: Subcommand, options: &ArgMatches<'_>) -> bool
+    ensures { result ≡ spec_lacks_failed subcommand (rows_of (found_of options.now)) }
+{
+    match subcommand {
+        Subcommand::Run | Subcommand::Explore => {
+            has_option(options, "last") && !has_option(options, "failed")
+        }
+        _ => false,
+    }
+}
+
 // Refuses options without one that they need.
 #[tactic(auto, using(crate::proofs::Options::lacks_rules))]
 fn refuse_lack(subcommand: Subcommand, options: &ArgMatches<'_>) -> Result<(), Refusal>
@@ -345,6 +371,9 @@ fn refuse_lack(subcommand: Subcommand, options: &ArgMatches<'_>) -> Result<(), R
     }
     if has_option(options, "suite") && !has_option(options, "junit") {
         return Err(Refusal::NoJunit);
+    }
+    if lacks_failed(subcommand, options) {
+        return Err(Refusal::NoFailed);
     }
     Ok(())
 }
@@ -403,6 +432,7 @@ fn task(alloc: Global, matches: &ArgMatches<'_>, at_terminal: bool) -> Result<Ta
                 only: Vec::new(alloc),
                 shard: None,
                 failed: false,
+                last: false,
             },
             explains: at_terminal,
         })),

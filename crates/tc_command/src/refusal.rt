@@ -22,6 +22,8 @@ pub(crate) enum Refusal {
     NoScript,
     /// A suite is named without a JUnit report.
     NoJunit,
+    /// A run is asked for the last blocks without `--failed`.
+    NoFailed,
     /// The value of an option names nothing.
     Word(WordFault),
     /// Memory ran out.
@@ -95,6 +97,10 @@ pub(crate) fn told_by(
         Refusal::NoJunit => Ok(Refused::Line(lack_error(
             command,
             "the argument '--suite' needs '--junit'",
+        )?)),
+        Refusal::NoFailed => Ok(Refused::Line(lack_error(
+            command,
+            "the argument '--last' needs '--failed'",
         )?)),
         Refusal::Word(fault) => Ok(Refused::Word(fault)),
         Refusal::NoMemory => Err(AllocError),

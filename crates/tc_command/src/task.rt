@@ -40,6 +40,8 @@ pub struct Choice {
     /// Whether the text has histories or evidence after the script, and of the test cases those are left out that it
     /// shows to have passed. Of histories without a script, those with the verdict none or pass are left out.
     pub failed: bool,
+    /// Whether of the blocks of one name only the last counts.
+    pub last: bool,
 }
 
 /// How a campaign is run.

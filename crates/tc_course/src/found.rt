@@ -7,13 +7,22 @@ use crate::witness::Witness;
 use tc_entry::{Name, Sequence};
 use tc_verdict::Verdict;
 
+/// A limit of a search.
+#[derive(Clone, Copy, PartialEq, Eq, Debug)]
+pub enum Limit {
+    /// On the states that it looks at.
+    States,
+    /// On the memory in which they are kept.
+    Memory,
+}
+
 /// How a search ended.
 #[derive(Clone, Copy, PartialEq, Eq, Debug)]
 pub enum Ending {
     /// No verdict is missed: each complete course of the test case ends with one that was found.
     Complete,
-    /// The search met its limit.
-    Undecided,
+    /// The search met this limit.
+    Undecided(Limit),
 }
 
 /// What a search has found.

@@ -13,7 +13,7 @@ mod witness;
 pub use course::{Course, steps_of};
 pub use entries::has_gone_on;
 pub use following::is_course;
-pub use found::{Ending, Explored, Locals, is_found, level};
+pub use found::{Ending, Explored, Limit, Locals, is_found, level};
 pub use next::next_call;
 pub use standing::Standing;
 pub use witness::Witness;

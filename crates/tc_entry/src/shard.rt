@@ -1,6 +1,6 @@
 //! The shards of a campaign.
-ghost use Rattle.std.specs.Prelude.{◌≡◌, ◌+◌, IfSome, IfNone};
-ghost use Rattle.tc_entry.specs.Shard.{HasNoShard, IsShard, has_place};
+ghost use Rattle.std.specs.Prelude.{◌≡◌, ◌<◌, ◌+◌, ◌⊎◌, IfSome, IfNone};
+ghost use Rattle.tc_entry.specs.Shard.{IsShard, has_place};
 
 use std::marker::Model;
 
@@ -28,7 +28,7 @@ impl Shard {
     /// The shard of this number, which counts from 1, of that many; none if no shard has it.
     pub fn new(number: u32, of: u32) -> Option<Shard>
         ensures some { IfSome result (λ s. IsShard s × (number ≡ s.place + 1) × (of ≡ s.shards)) }
-        ensures none { IfNone result (HasNoShard number of) }
+        ensures none { IfNone result ((number ≡ 0) ⊎ (of < number)) }
     {
         if number < 1 || of < number {
             return None;

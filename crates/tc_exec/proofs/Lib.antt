@@ -1,6 +1,5 @@
 -- The lemmas of this crate.
 pub mod Lists
 pub mod Gates
-pub mod Leaving
 pub mod Lemmas
 pub mod Reporting

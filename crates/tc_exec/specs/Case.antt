@@ -3,7 +3,8 @@ use Rattle.std.specs.Prelude.{ℕ, ◌≡◌, ◌≢◌, ◌<◌, ◌⊎◌, Som
 use Rattle.tc_rules.specs.Prelude.{Comp, Entry, comp_of, IsOneHistory}
 use Rattle.tc_rules.specs.declared.{closed.Closed.Closed, run_log.RunLog.RunLog}
 use Rattle.tc_book.specs.Prelude.{IsOneEach, IsWhole, PassState, LeftState, start_of}
-use Rattle.tc_exec.specs.{Workers.IsLeftBy, Workers.WasCalledFor, declared.job.Back.Back, declared.job.Ending.Ending}
+use Rattle.tc_exec.specs.Workers.{IsLeftBy, WasCalledFor, WasCalled, WasStarted}
+use Rattle.tc_exec.specs.declared.{job.Back.Back, job.Ending.Ending}
 
 -- a Start of this log's run, on the log's component, was replied Ok in the history
 abbrev pub WasStartedIn : List Entry → RunLog → Type 0
@@ -48,3 +49,16 @@ pub record IsMadeOf {B : Type 0} (outcome : B → PassState → Back → Type 0)
 abbrev pub IsOutOfMemory : {B : Type 0} → (B → PassState → Back → Type 0) → List B → Type 0
 IsOutOfMemory outcome jobs =
     ((k : ℕ) × (k < length jobs) × ((b : _) → WasCalledFor (record { 0 = k }) (λ p back. outcome (slice_index_or jobs k b) p back × (back.ending ≡ Ending.Starved)))) ⊎ ((h : IsHandedBack outcome jobs) × IsOneEach (length jobs) h.lefts)
+
+-- The log is that of a pass of its run, which was new when the behaviour was called with it, on the component and with
+-- the arguments of the run's Start. The behaviour did not run out of memory. The log is what the pass that it handed
+-- back has logged, and then a Finish if that pass had not ended.
+pub record IsLogBy (outcome : PassState → Back → Type 0) (history : List Entry) (l : RunLog) : Type 0 where
+  pub left : LeftState
+  pub made : WasStarted l.run (λ p. WasCalled (outcome p) (record { left = left; ending = Ending.Returned }))
+  pub entries : l.entries ≡ left.log
+  pub started : 0 < l.run.0 → left.started ≡ start_of (reverse history) l.run.0
+
+-- each log is that of the behaviour of its run
+abbrev pub AreLogsBy : {B : Type 0} → (B → PassState → Back → Type 0) → List B → Closed → Type 0
+AreLogsBy outcome behaviours c = (b : _) → All (λ l. IsLogBy (outcome (slice_index_or behaviours l.run.0 b)) c.history l) c.logs

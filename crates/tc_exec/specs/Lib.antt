@@ -3,7 +3,6 @@ pub mod Ending
 pub mod Gates
 pub mod Workers
 pub mod Case
-pub mod Logs
 pub mod Inside
 pub mod Prelude
 pub use Rattle.tc_rules.specs.Prelude as OfRules

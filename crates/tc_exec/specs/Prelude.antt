@@ -1,4 +1,3 @@
 -- What other crates cite of these definitions.
-pub use Rattle.tc_exec.specs.Case.{AreCalled, IsCaseReport, IsHandedBack, IsMadeOf}
-pub use Rattle.tc_exec.specs.Logs.{AreLogsBy, IsLogBy}
+pub use Rattle.tc_exec.specs.Case.{AreCalled, AreLogsBy, IsCaseReport, IsHandedBack, IsLogBy, IsMadeOf}
 pub use Rattle.tc_exec.specs.Workers.{HasLeft, IsLeftBy, WasCalled, WasStarted, opening_pass}

@@ -35,7 +35,7 @@ pub(crate) fn act<R: Wait, B: Callable>(rt: &R, behaviour: B, pass: Pass) -> Han
 }
 
 /// Leaves a pass with which no behaviour is called.
-#[tactic(auto, using(crate::proofs::Leaving::has_left))]
+#[tactic(auto, using(crate::proofs::Lemmas::Calls::has_left))]
 pub(crate) fn pass_by<R: Wait>(rt: &R, pass: Pass) -> Handed
     ensures { HasLeft pass result.left }
 {

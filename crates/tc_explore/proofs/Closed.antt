@@ -1,12 +1,12 @@
 -- When what comes after a state is seen, or its verdict is found.
-use Rattle.std.proofs.Common.{ℕ, ◌≡◌, ◌+◌, ◌<◌, ◌≤◌, true, false, Some, List, ◌∷◌, ◌++◌, length, reverse, refl, ap, sym, subst, ◌∙◌, arith, length-append}
+use Rattle.std.proofs.Common.{Bool, ℕ, ◌≡◌, ◌+◌, ◌-◌, ◌<◌, ◌≤◌, true, false, Some, List, ◌∷◌, ◌++◌, length, reverse, refl, ap, sym, subst, ◌∙◌, arith, length-append}
 use Rattle.std.proofs.lemmas.List.{append_assoc}
 use Rattle.tc_rules.specs.Prelude.{Run, Entry, Op, Reply, is_fault, Case, past_of, is_over, overall, answer, Verdict, level_of}
 use Rattle.tc_step.specs.Prelude.{ScriptView}
 use Rattle.tc_course.specs.declared.witness.Witness.{Witness}
 use Rattle.tc_course.specs.Prelude.{is_found, goes_on, turn, IsTurn, IsCourse, entry_made, IsOn, CannotGo}
 use Rattle.tc_course.proofs.Lemmas.{below_more}
-use Rattle.tc_explore.specs.{Inside.Seen.AreStill, Inside.Seen.IsAfter, Inside.Seen.IsCalm, Inside.Seen.IsFull, Inside.Seen.IsLonger, Inside.Seen.IsRunClosed, Inside.Seen.IsSeen, Inside.Seen.IsState, Inside.Seen.IsStillAt, Inside.Seen.StandsOn, Inside.Simulation.GoesOn, Inside.Simulation.IsClosedFor, Inside.Simulation.IsCovered, Inside.Simulation.IsWithin, Inside.Simulation.is_spent, declared.search.Met.Met}
+use Rattle.tc_explore.specs.{Inside.Seen.AreHeld, Inside.Seen.AreStill, Inside.Seen.IsAfter, Inside.Seen.IsCalm, Inside.Seen.IsFull, Inside.Seen.IsHeldAt, Inside.Seen.IsLonger, Inside.Seen.IsRunClosed, Inside.Seen.IsSeen, Inside.Seen.IsState, Inside.Seen.IsStillAt, Inside.Seen.StandsOn, Inside.Seen.run_at, Inside.Simulation.GoesOn, Inside.Simulation.IsClosedFor, Inside.Simulation.IsCovered, Inside.Simulation.IsWithin, Inside.Simulation.is_spent, declared.search.Met.Met}
 use Rattle.tc_explore.proofs.Seeing.{closed_for_longer, covered_by}
 
 -- what a copy of a course has called, it has called
@@ -72,15 +72,31 @@ same_entry scripts q e d h k own =
     same_run : (x y : Run) → x.0 ≡ y.0 → x ≡ y
     same_run x y h = ap (λ (m : ℕ). record { 0 = m }) h
 
-pub run_cannot : {aim : Verdict} (scripts : List ScriptView) (states : List Case) (found : List Witness) (q : List Entry) (b : ℕ) → CannotGo scripts q b → IsRunClosed aim scripts states found q b
-run_cannot scripts states found q b cannot = λ e own t on. absurd (cannot e own t)
+pub held_cannot : (scripts : List ScriptView) (q : List Entry) (b : ℕ) → CannotGo scripts q b → IsHeldAt scripts q b
+held_cannot scripts q b cannot = λ e own t. absurd (cannot e own t)
 
-pub run_parked : {aim : Verdict} (scripts : List ScriptView) (states : List Case) (found : List Witness) (n : ℕ) (q : List Entry) (run : Run) (op : Op) → IsTurn scripts q (entry_made n q run op) → goes_on (answer n q run.0 op) ≡ false →
-    IsRunClosed aim scripts states found q run.0
-run_parked scripts states found n q run op t off = λ e own h on.
-    let same : e ≡ entry_made n q run op = same_entry scripts q e (entry_made n q run op) h t own in
-    let was : goes_on e.reply ≡ goes_on (answer n q run.0 op) = ap (λ (x : Entry). goes_on x.reply) same in
-    absurd cc
+pub held_parked : (scripts : List ScriptView) (n : ℕ) (q : List Entry) (run : Run) (op : Op) → IsTurn scripts q (entry_made n q run op) → goes_on (answer n q run.0 op) ≡ false → IsHeldAt scripts q run.0
+held_parked scripts n q run op t off = λ e own h. ap (λ (x : Entry). goes_on x.reply) (same_entry scripts q e (entry_made n q run op) h t own) ∙ off
+
+pub ruleset held_rules = (held_cannot, held_parked)
+
+-- every run has its place
+pub all_held : (scripts : List ScriptView) (q : List Entry) (highest : Bool) (n m : ℕ) → length scripts ≡ n → n ≤ m → ((k : ℕ) → k < m → IsHeldAt scripts q (run_at highest n k)) → AreHeld scripts q
+all_held scripts q false n m size whole held b near = held b (omega (arith, size, whole, near))
+all_held scripts q true n m size whole held b near =
+    let there : n - 1 - (n - 1 - b) ≡ b = omega (arith, size, near) in
+    subst (IsHeldAt scripts q) there (held (n - 1 - b) (omega (arith, size, whole, near)))
+
+pub one_more_held : (scripts : List ScriptView) (q : List Entry) (highest : Bool) (n m : ℕ) → ((k : ℕ) → k < m → IsHeldAt scripts q (run_at highest n k)) → IsHeldAt scripts q (run_at highest n m) →
+    (k : ℕ) → k < m + 1 → IsHeldAt scripts q (run_at highest n k)
+one_more_held scripts q highest n m held last = below_more (λ k. IsHeldAt scripts q (run_at highest n k)) m held last
+
+-- the next call of a run that does not continue
+pub run_held : {aim : Verdict} (scripts : List ScriptView) (states : List Case) (found : List Witness) (q : List Entry) (b : ℕ) → IsHeldAt scripts q b → IsRunClosed aim scripts states found q b
+run_held scripts states found q b held = λ e own t on. let off : goes_on e.reply ≡ false = held e own t in absurd cc
+
+pub still_held : (scripts : List ScriptView) (q : List Entry) (b : ℕ) → IsHeldAt scripts q b → IsStillAt scripts q b
+still_held scripts q b held = λ e own t on. let off : goes_on e.reply ≡ false = held e own t in absurd cc
 
 -- in a state a call that continues is an error, or changes something
 pub run_closed : {aim : Verdict} (scripts : List ScriptView) (states : List Case) (found : List Witness) (n : ℕ) (q : List Entry) (run : Run) (op : Op) → IsCalm scripts q → run.0 < length scripts → IsTurn scripts q (entry_made n q run op) →
@@ -93,16 +109,7 @@ run_closed {aim} scripts states found n q run op calm near t goes after = λ e o
 pub goes_on_by : (scripts : List ScriptView) (n : ℕ) (q : List Entry) (run : Run) (op : Op) → IsTurn scripts q (entry_made n q run op) → goes_on (answer n q run.0 op) ≡ true → is_fault (answer n q run.0 op) ≡ false → GoesOn scripts q
 goes_on_by scripts n q run op t on plain = record { entry = entry_made n q run op; turn = t; on = on; no_fault = plain }
 
--- the next call of a run that does not continue, and that of one that is an error
-pub still_cannot : (scripts : List ScriptView) (q : List Entry) (b : ℕ) → CannotGo scripts q b → IsStillAt scripts q b
-still_cannot scripts q b cannot = λ e own t on. absurd (cannot e own t)
-
-pub still_parked : (scripts : List ScriptView) (n : ℕ) (q : List Entry) (run : Run) (op : Op) → IsTurn scripts q (entry_made n q run op) → goes_on (answer n q run.0 op) ≡ false → IsStillAt scripts q run.0
-still_parked scripts n q run op t off = λ e own h on.
-    let same : e ≡ entry_made n q run op = same_entry scripts q e (entry_made n q run op) h t own in
-    let was : goes_on e.reply ≡ goes_on (answer n q run.0 op) = ap (λ (x : Entry). goes_on x.reply) same in
-    absurd cc
-
+-- the next call of one that is an error
 pub still_fault : (scripts : List ScriptView) (n : ℕ) (q : List Entry) (run : Run) (op : Op) → IsTurn scripts q (entry_made n q run op) → is_fault (answer n q run.0 op) ≡ true → IsStillAt scripts q run.0
 still_fault scripts n q run op t fault = λ e own h on.
     let same : e ≡ entry_made n q run op = same_entry scripts q e (entry_made n q run op) h t own in
@@ -111,7 +118,7 @@ still_fault scripts n q run op t fault = λ e own h on.
 pub calm_state : {aim : Verdict} (scripts : List ScriptView) (t : Case) → IsState aim scripts t → IsCalm scripts (past_of t)
 calm_state scripts t s = s.calm
 
-pub ruleset run_rules = (run_cannot, run_parked, run_closed, goes_on_by, still_cannot, still_parked, still_fault, calm_state)
+pub ruleset run_rules = (run_held, run_closed, goes_on_by, still_held, still_fault, calm_state)
 
 -- ---- all runs
 

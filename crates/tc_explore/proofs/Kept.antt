@@ -7,8 +7,8 @@ use Rattle.tc_rules.specs.Prelude.{Case, past_of, Entry, Verdict}
 use Rattle.tc_rules.proofs.Lemmas.Deciding.{equal_if, self_equal}
 use Rattle.tc_course.specs.Prelude.{carried_on, IsOn, IsCourse}
 use Rattle.tc_course.specs.declared.witness.Witness.{Witness}
-use Rattle.tc_explore.specs.{Found.AreAllMet, Found.AreCourses, Found.AreCovered, Found.AreReached, Found.Covers, Inside.Seen.AreKept, Inside.Seen.AreKeyed, Inside.Seen.IsCountedTo, Inside.Seen.IsLonger, Inside.Seen.IsNoLess, Inside.Seen.IsState, Inside.Seen.IsWith, Inside.Seen.Reaches, Inside.Twins.key_of, declared.findings.Findings.Findings, declared.search.Met.Met}
-use Rattle.tc_explore.proofs.Keys.{AreApart, keys_apart}
+use Rattle.tc_explore.specs.{Found.AreAllMet, Found.AreCourses, Found.AreCovered, Found.AreReached, Found.Covers, Inside.Seen.AreKept, Inside.Seen.AreKeyed, Inside.Seen.IsCountedTo, Inside.Seen.IsLonger, Inside.Seen.IsNoLess, Inside.Seen.IsSameCase, Inside.Seen.IsState, Inside.Seen.IsWith, Inside.Seen.Reaches, Inside.Twins.key_of, declared.findings.Findings.Findings, declared.search.Met.Met}
+use Rattle.tc_explore.proofs.{Keeping.state_same, Keys.AreApart, Keys.keys_apart}
 
 -- nothing was called at the opening
 pub reached_none : (scripts : List ScriptView) → AreReached scripts (replicate (length scripts) 0)
@@ -116,9 +116,12 @@ pub ruleset counting_rules = (counted_none, counted_more, counted_all)
 
 -- ---- states
 
+pub with_one : (before after : List Case) (t u : Case) → u.behaviours ≡ t.behaviours → u.history ≡ t.history → after ≡ before ++ u ∷ [] → IsWith before t after
+with_one before after t u behaviours entries is = inr (u, record { behaviours = behaviours; entries = entries }, is)
+
 pub longer_with : (before after : List Case) (t : Case) → IsWith before t after → IsLonger before after
 longer_with before after t (inl same) = ([], same ∙ sym (append-nil before))
-longer_with before after t (inr more) = (t ∷ [], more)
+longer_with before after t (inr more) = (more.0 ∷ [], more.2)
 
 pub keyed_none : (scripts : List ScriptView) (met : Met) → met.states.items ≡ [] → met.keys.keys ≡ [] → AreKeyed scripts met
 keyed_none scripts met none no_key = rw (none, no_key) refl
@@ -144,9 +147,9 @@ kept_more {aim} scripts met f g more kept = record {
   counted = All-weaker (λ t. Covers f.reached.items (past_of t)) (λ t. Covers g.reached.items (past_of t)) (λ t. covers_more f.reached.items g.reached.items (past_of t) more) met.states.items kept.counted;
 }
 
-pub all_with : (P : Case → Type 0) (before after : List Case) (t : Case) → IsWith before t after → All P before → P t → All P after
-all_with P before after t (inl same) all one = All-same P after before same all
-all_with P before after t (inr more) all one = All-same P after (before ++ t ∷ []) more (All-push P before t all one)
+pub all_with : (P : Case → Type 0) (before after : List Case) (t : Case) → ((u : Case) → IsSameCase t u → P t → P u) → IsWith before t after → All P before → P t → All P after
+all_with P before after t keeps (inl same) all one = All-same P after before same all
+all_with P before after t keeps (inr more) all one = All-same P after (before ++ more.0 ∷ []) more.2 (All-push P before more.0 all (keeps more.0 more.1 one))
 
 -- one state more, that is counted
 pub kept_with : {aim : Verdict} (scripts : List ScriptView) (met after : Met) (f g : Findings) (t : Case) → AreKept aim scripts met f → IsNoLess f.reached.items g.reached.items → IsState aim scripts t → Covers g.reached.items (past_of t) →
@@ -155,9 +158,9 @@ kept_with {aim} scripts met after f g t kept more state covers with keyed limit 
     let now = kept_more scripts met f g more kept in
     record {
       few = omega (arith, limit, within);
-      each = all_with (λ u. IsState aim scripts u) met.states.items after.states.items t with now.each state;
+      each = all_with (λ u. IsState aim scripts u) met.states.items after.states.items t (λ u same. state_same scripts t u same.behaviours same.entries) with now.each state;
       keyed = keyed;
-      counted = all_with (λ u. Covers g.reached.items (past_of u)) met.states.items after.states.items t with now.counted covers;
+      counted = all_with (λ u. Covers g.reached.items (past_of u)) met.states.items after.states.items t (λ u same. subst (λ h. Covers g.reached.items (reverse h)) (sym same.entries)) with now.counted covers;
     }
 
 pub kept_keyed : {aim : Verdict} (scripts : List ScriptView) (met : Met) (found : Findings) → AreKept aim scripts met found → AreKeyed scripts met
@@ -166,7 +169,7 @@ kept_keyed scripts met found kept = kept.keyed
 pub kept_states : {aim : Verdict} (scripts : List ScriptView) (met : Met) (found : Findings) → AreKept aim scripts met found → All (λ t. IsState aim scripts t) met.states.items
 kept_states scripts met found kept = kept.each
 
-pub ruleset kept_rules = (kept_none, kept_more, kept_states, kept_keyed, longer_with, covered_more, no_less_self, no_less_then)
+pub ruleset kept_rules = (with_one, kept_none, kept_more, kept_states, kept_keyed, longer_with, covered_more, no_less_self, no_less_then)
 
 -- ---- what is told
 

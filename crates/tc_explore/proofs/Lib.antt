@@ -16,6 +16,7 @@ pub mod Keys
 pub mod LastCalls
 pub mod Parking
 pub mod Kept
+pub mod Played
 pub mod Room
 pub mod Closed
 pub mod States

@@ -196,7 +196,7 @@ pub going_with : (scripts : List ScriptView) (met after : Met) (t : Case) → Ar
     length after.states.items ≤ met.limit → AreGoing scripts after
 going_with scripts met after t a state with keyed limit within = record {
   few = omega (arith, limit, within);
-  each = all_with (IsGoing scripts) met.states.items after.states.items t with a.each state;
+  each = all_with (IsGoing scripts) met.states.items after.states.items t (λ u same. going_same scripts t u same.behaviours same.entries) with a.each state;
   keyed = keyed;
 }
 

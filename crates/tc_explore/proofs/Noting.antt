@@ -26,6 +26,10 @@ found_at (w ∷ ws) (suc i) d v near is =
     let rest : is_found ws v ≡ true = found_at ws i d v (omega arith) is in
     ap (λ t. (level_of w.verdict == level_of v) || t) rest ∙ or_yes (level_of w.verdict == level_of v)
 
+pub some_found : (found : List Witness) (v : Verdict) → is_found found v ≡ true → 1 ≤ length found
+some_found [] v is = absurd cc
+some_found (w ∷ ws) v is = omega arith
+
 -- one more, whose verdict is new
 once_more : (found : List Witness) (w : Witness) → IsOnce found → is_found found w.verdict ≡ false → IsOnce (found ++ w ∷ [])
 once_more found w once new = λ i j d near_i near_j same. by_places i j d near_i near_j same (nat_lt i (length found)) refl (nat_lt j (length found)) refl

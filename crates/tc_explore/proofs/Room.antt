@@ -3,7 +3,7 @@ use Rattle.std.proofs.Common.{ℕ, ◌≡◌, ◌+◌, ◌*◌, ◌/◌, ◌<◌
 use Rattle.std.proofs.Math.Nat.{le-div_iff_mul-le, div-le_self}
 use Rattle.std.proofs.lemmas.List.{take_more}
 use Rattle.tc_step.specs.Prelude.{ScriptView}
-use Rattle.tc_explore.specs.Found.{room_of}
+use Rattle.tc_explore.specs.Limits.{room_of}
 
 room_last : (xs : List ScriptView) (x : ScriptView) → room_of (xs ++ x ∷ []) ≡ room_of xs + length x.steps
 room_last [] x = refl

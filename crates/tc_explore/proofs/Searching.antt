@@ -1,11 +1,11 @@
 -- What one more quiet call of a search represents.
-use Rattle.std.proofs.Common.{ℕ, ◌≡◌, ◌==◌, inl, inr, true, false, None, Some, List, [], ◌∷◌, ◌++◌, length, refl, ap, sym, subst, ◌∙◌, append_assoc, if◌then◌else◌, Bool}
-use Rattle.tc_rules.specs.Prelude.{Run, Comp, Entry, Op, Phase, phase, phase_if_any, is_ended, is_fault, Case, past_of, comp_of, is_alive_type, exists, overall, answer, Verdict, Target, Group, Reply}
+use Rattle.std.proofs.Common.{ℕ, ◌≡◌, ◌==◌, ◌&&◌, ◌||◌, not, nat_lt, Option, inl, inr, true, false, None, Some, List, [], ◌∷◌, ◌++◌, length, refl, ap, sym, subst, ◌∙◌, append_assoc, if◌then◌else◌, Bool}
+use Rattle.tc_rules.specs.Prelude.{Run, Comp, Entry, Op, Phase, phase, phase_if_any, is_ended, is_fault, Case, past_of, comp_of, is_alive_type, is_comp, exists, overall, answer, Verdict, Target, Group, Reply}
 use Rattle.tc_step.specs.Prelude.{ScriptView}
-use Rattle.tc_rules.proofs.Lemmas.Sound.{plain_if}
+use Rattle.tc_rules.proofs.Lemmas.{Deciding.equal_if, Sound.plain_if}
 use Rattle.tc_course.specs.Prelude.{stand, IsTurn, IsCourse, turn, entry_made, IsOn}
 use Rattle.tc_course.proofs.Lemmas.{course_legal, stand_own, stand_comp}
-use Rattle.tc_explore.specs.Inside.{Seen.StandsOn, Simulation.IsAlike, Simulation.IsBarredNow, Simulation.IsEnd, Simulation.IsFelled, Simulation.IsFelling, Simulation.IsFollowed, Simulation.IsFor, Simulation.IsQuietAt, Simulation.IsSilent, Simulation.IsWakeOf, Simulation.is_barred, Simulation.is_late, Simulation.is_met, Simulation.is_quiet, Simulation.is_spent}
+use Rattle.tc_explore.specs.Inside.{Seen.StandsOn, Simulation.IsAlike, Simulation.IsBarredNow, Simulation.IsEnd, Simulation.IsFelled, Simulation.IsFelling, Simulation.IsFollowed, Simulation.IsFor, Simulation.IsQuietAt, Simulation.IsSilent, Simulation.IsWakeOf, Simulation.bars_next, Simulation.is_end, Simulation.is_felled, Simulation.is_felling, Simulation.is_late, Simulation.is_met, Simulation.is_quiet, Simulation.is_silent, Simulation.is_spent}
 use Rattle.tc_explore.proofs.{Alike.alike_unchanged, Alike.fault_alike, Felling.lead_felling, Felling.next_of, Late.alike_late, Late.halt_not_ending, Late.late_for, Late.late_halts, Late.late_reply, Late.met_for, Late.met_reply, Late.other_than_gone, Leaving.Ends, Leaving.lead_end, Leaving.running_on, Places.Spent, Places.ahead, Places.how_spent, Places.keeps_quiet, Places.not_ending, Places.quiet_no_wake, Places.quiet_sets_no_wake, Places.spent_late, Places.spent_met, Places.spent_quiet, Simulation.followed_later, Simulation.lead, Simulation.quiet_made, Simulation.some_if, Simulation.unchanged_quiet, Simulation.unchanged_wait}
 
 -- a call that is no error, and asks a question or sets a verdict that is no worse than this one
@@ -116,47 +116,79 @@ lead_call {aim} scripts t u run op on turn plain goes h is =
     by_call p cp f (inr (inr (inl quiet))) = lead_quiet aim scripts p (past_of t) (entry_made t.behaviours (past_of t) run op) cp (turn, on.course) plain goes quiet f
     by_call p cp f (inr (inl end)) = lead_finish scripts p (past_of t) (entry_made t.behaviours (past_of t) run op) (turn, on.course) plain goes end f
 
-pub silent_spent : (aim : Verdict) (scripts : List ScriptView) (q : List Entry) (b : ℕ) (op : Op) → is_spent q op ≡ true → IsSilent aim scripts q b op
-silent_spent aim scripts q b op h = inl h
+-- ---- what the search finds of a call
 
-pub silent_end : (aim : Verdict) (scripts : List ScriptView) (q : List Entry) (b : ℕ) (op : Op) → IsEnd q b op → IsSilent aim scripts q b op
-silent_end aim scripts q b op h = inr (inl h)
+both_if : (a b : Bool) → (a && b) ≡ true → (a ≡ true) × (b ≡ true)
+both_if true b h = (refl, h)
+both_if false b h = absurd cc
 
-pub silent_quiet : (aim : Verdict) (scripts : List ScriptView) (q : List Entry) (b : ℕ) (op : Op) → is_quiet aim op ≡ true → IsSilent aim scripts q b op
-silent_quiet aim scripts q b op h = inr (inr (inl h))
+not_if : (a : Bool) → not a ≡ true → a ≡ false
+not_if false h = refl
+not_if true h = absurd cc
 
-pub silent_felling : (aim : Verdict) (scripts : List ScriptView) (q : List Entry) (b : ℕ) (op : Op) → IsFelling aim scripts q b op → IsSilent aim scripts q b op
-silent_felling aim scripts q b op h = inr (inr (inr h))
+end_if : (q : List Entry) (b : ℕ) (on : Option Comp) (op : Op) → (stand q b).comp ≡ on → is_end q b on op ≡ true → IsEnd q b op
+end_if q b (Some c) Op.Finish on h =
+    let both = both_if (not (b == 0)) (not (is_alive_type q c.0)) h in
+    record { finish = refl; not_main = not_if (b == 0) both.0; comp = c; on = on; ordinary = not_if (is_alive_type q c.0) both.1 }
+end_if q b (Some c) op on h = absurd cc
+end_if q b None op on h = absurd cc
 
-pub barred_now : (aim : Verdict) (scripts : List ScriptView) (q : List Entry) (b : ℕ) (op : Op) → turn scripts q b ≡ Some op → is_barred aim op ≡ true → IsBarredNow aim scripts q b
-barred_now aim scripts q b op turns bars = record { op = op; turns = turns; bars = bars }
+barred_if : (aim : Verdict) (scripts : List ScriptView) (q : List Entry) (b : ℕ) (o : Option Op) → turn scripts q b ≡ o → bars_next aim o ≡ true → IsBarredNow aim scripts q b
+barred_if aim scripts q b (Some op) turns h = record { op = op; turns = turns; bars = h }
+barred_if aim scripts q b None turns h = absurd cc
 
 phase_there : (t : Bool) (x y : Phase) → (if t then Some x else None) ≡ Some y → x ≡ y
 phase_there true x y h = cc
 phase_there false x y h = absurd cc
 
-pub felled_of : (aim : Verdict) (scripts : List ScriptView) (q : List Entry) (b : ℕ) (comp on : Comp) (run : Run) → phase_if_any q comp.0 ≡ Some (Phase.Running run) → (stand q run.0).comp ≡ Some on → on.0 ≡ comp.0 →
-    (comp.0 == 0) ≡ false → (run.0 == 0) ≡ false → (b == run.0) ≡ false → is_alive_type q comp.0 ≡ false → IsBarredNow aim scripts q run.0 → IsFelled aim scripts q b comp
+on_if : (o : Option Comp) (c : Comp) → is_comp o c.0 ≡ true → o ≡ Some c
+on_if (Some d) c h = ap (λ (m : ℕ). Some (record { 0 = m })) (equal_if d.0 c.0 h)
+on_if None c h = absurd cc
+
+felled_if : (aim : Verdict) (scripts : List ScriptView) (q : List Entry) (b : ℕ) (comp : Comp) (at : Option Phase) → phase_if_any q comp.0 ≡ at → is_felled aim scripts q b comp at ≡ true → IsFelled aim scripts q b comp
 unfolding phase_if_any
-felled_of aim scripts q b comp on run running at same not_main not_main_run other ordinary barred = record {
-  not_main = not_main;
-  run = run;
-  running = phase_there (exists q comp.0) (phase q comp.0) (Phase.Running run) running;
-  on = at ∙ ap (λ (m : ℕ). Some (record { 0 = m })) same;
-  other = other;
-  not_main_run = not_main_run;
-  ordinary = ordinary;
-  barred = barred;
-}
+felled_if aim scripts q b comp (Some (Phase.Running run)) there h =
+    let both = both_if (nat_lt run.0 (length scripts) && (not (comp.0 == 0) && (not (run.0 == 0) && not (b == run.0)))) _ h in
+    let front = both_if (nat_lt run.0 (length scripts)) _ both.0 in
+    let comps = both_if (not (comp.0 == 0)) _ front.1 in
+    let runs = both_if (not (run.0 == 0)) (not (b == run.0)) comps.1 in
+    let back = both_if (is_comp (stand q run.0).comp comp.0) _ both.1 in
+    let last = both_if (not (is_alive_type q comp.0)) (bars_next aim (turn scripts q run.0)) back.1 in
+    record {
+      not_main = not_if (comp.0 == 0) comps.0;
+      run = run;
+      running = phase_there (exists q comp.0) (phase q comp.0) (Phase.Running run) there;
+      on = on_if (stand q run.0).comp comp back.0;
+      other = not_if (b == run.0) runs.1;
+      not_main_run = not_if (run.0 == 0) runs.0;
+      ordinary = not_if (is_alive_type q comp.0) last.0;
+      barred = barred_if aim scripts q run.0 (turn scripts q run.0) refl last.1;
+    }
+felled_if aim scripts q b comp at there h = absurd cc
 
-pub felling_stop : (aim : Verdict) (scripts : List ScriptView) (q : List Entry) (b : ℕ) (op : Op) (comp : Comp) → op ≡ Op.Stop (Group.One comp) → IsFelled aim scripts q b comp → IsFelling aim scripts q b op
-felling_stop aim scripts q b op comp is felled = record { comp = comp; halts_it = inl is; felled = felled }
+felling_if : (aim : Verdict) (scripts : List ScriptView) (q : List Entry) (b : ℕ) (op : Op) → is_felling aim scripts q b op ≡ true → IsFelling aim scripts q b op
+felling_if aim scripts q b (Op.Stop (Group.One comp)) h = record { comp = comp; halts_it = inl refl; felled = felled_if aim scripts q b comp (phase_if_any q comp.0) refl h }
+felling_if aim scripts q b (Op.Kill (Group.One comp)) h = record { comp = comp; halts_it = inr refl; felled = felled_if aim scripts q b comp (phase_if_any q comp.0) refl h }
+felling_if aim scripts q b op h = absurd cc
 
-pub felling_kill : (aim : Verdict) (scripts : List ScriptView) (q : List Entry) (b : ℕ) (op : Op) (comp : Comp) → op ≡ Op.Kill (Group.One comp) → IsFelled aim scripts q b comp → IsFelling aim scripts q b op
-felling_kill aim scripts q b op comp is felled = record { comp = comp; halts_it = inr is; felled = felled }
+pub silent_if : (aim : Verdict) (scripts : List ScriptView) (q : List Entry) (b : ℕ) (op : Op) → is_silent aim scripts q b op ≡ true → IsSilent aim scripts q b op
+silent_if aim scripts q b op h = by_tests (is_spent q op) refl (is_end q b (stand q b).comp op) refl (is_quiet aim op) refl h
+  where
+    by_tests : (s : Bool) → is_spent q op ≡ s → (e : Bool) → is_end q b (stand q b).comp op ≡ e → (u : Bool) → is_quiet aim op ≡ u → (s || (e || (u || is_felling aim scripts q b op))) ≡ true → IsSilent aim scripts q b op
+    by_tests true spent e end u quiet h = inl spent
+    by_tests false spent true end u quiet h = inr (inl (end_if q b (stand q b).comp op refl end))
+    by_tests false spent false end true quiet h = inr (inr (inl quiet))
+    by_tests false spent false end false quiet h = inr (inr (inr (felling_if aim scripts q b op h)))
 
-pub end_of : (q : List Entry) (b : ℕ) (op : Op) (c : Comp) → op ≡ Op.Finish → (b == 0) ≡ false → (stand q b).comp ≡ Some c → is_alive_type q c.0 ≡ false → IsEnd q b op
-end_of q b op c finish not_main on ordinary = record { finish = finish; not_main = not_main; comp = c; on = on; ordinary = ordinary }
+-- what can be seen changes something
+pub loud_spent : (aim : Verdict) (scripts : List ScriptView) (q : List Entry) (b : ℕ) (op : Op) → is_silent aim scripts q b op ≡ false → is_spent q op ≡ false
+loud_spent aim scripts q b op h = first (is_spent q op) _ h
+  where
+    first : (s r : Bool) → (s || r) ≡ false → s ≡ false
+    first false r h = refl
+    first true r h = absurd cc
+
+pub ruleset silent_rules = (silent_if, loud_spent)
 
 -- a quiet call and then more
 pub stands_then : {aim : Verdict} (scripts : List ScriptView) (t u v : Case) → StandsOn aim scripts t u → StandsOn aim scripts u v → StandsOn aim scripts t v
@@ -172,7 +204,3 @@ pub stands_self : {aim : Verdict} (scripts : List ScriptView) (t : Case) → Sta
 stands_self scripts t = record { further = ([], refl); stands = λ p cp f. f }
 
 pub ruleset searching_rules = (stands_then, stands_self)
-
-pub ruleset silent_rules = (silent_spent, silent_end, silent_quiet, silent_felling, end_of)
-
-pub ruleset felling_rules = (barred_now, felled_of, felling_stop, felling_kill)

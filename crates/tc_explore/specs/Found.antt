@@ -1,6 +1,5 @@
--- What is found of a test case, the overall and local verdicts of its complete courses, and how many states a search
--- looks at.
-use Rattle.std.specs.Prelude.{ℕ, ◌≡◌, ◌<◌, ◌≤◌, List, length, reverse, slice_index_or, All, ◌+◌, ◌*◌, ◌/◌, min, [], ◌∷◌, Bool, true, Some}
+-- What is found of a test case, the overall and local verdicts of its complete courses.
+use Rattle.std.specs.Prelude.{ℕ, ◌≡◌, ◌<◌, ◌≤◌, List, length, reverse, slice_index_or, All, Bool, true, Some}
 use Rattle.std.specs.List.{AllPairs}
 use Rattle.tc_rules.specs.Prelude.{level_of, Entry, Verdict, local_if_any}
 use Rattle.tc_step.specs.Prelude.{ScriptView}
@@ -40,21 +39,6 @@ pub record AreAllMet (scripts : List ScriptView) (reached : List ℕ) (states : 
   pub courses : List (List Entry)
   pub are : AreCourses scripts states courses
   pub counted : All (Covers reached) courses
-
--- what there is room for in a state: one more than the steps of the scripts together
-abbrev pub room_of : List ScriptView → ℕ
-room_of [] = 1
-room_of (script ∷ scripts) = room_of scripts + length script.steps
-
--- what a state counts for by the limit of a search: one, and one more for each 2,000 that its behaviours times its room
--- have. Each move copies a state, and a larger one takes longer.
-abbrev pub weight_of : List ScriptView → ℕ
-weight_of scripts = length scripts * room_of scripts / 2000 + 1
-
--- how many states a search looks at, at most: the limit counts each for its weight, and memory is to hold what all have
--- room for together
-abbrev pub most_states : List ScriptView → ℕ → ℕ
-most_states scripts limit = min (limit / weight_of scripts) (2000000 / room_of scripts)
 
 -- at the end of some complete course component c has this local verdict
 abbrev pub GivesLocal : List ScriptView → ℕ → Verdict → Type 0

@@ -1,4 +1,5 @@
 -- What a search has to show: which histories represent others, and when what comes after them is seen.
 pub mod Simulation
 pub mod Seen
+pub mod Played
 pub mod Twins

@@ -1,5 +1,6 @@
 -- The definitions that the contracts of this crate cite.
 pub mod Found
+pub mod Limits
 pub mod Inside
 pub mod Prelude
 pub use Rattle.tc_rules.specs.Prelude as OfRules

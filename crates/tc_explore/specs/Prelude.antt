@@ -1,2 +1,3 @@
 -- What other crates cite of these definitions.
-pub use Rattle.tc_explore.specs.Found.{AreAllMet, AreFromBest, AreReached, HasCourses, most_states, AllLocalsFound, AreLocals}
+pub use Rattle.tc_explore.specs.Found.{AreAllMet, AreFromBest, AreReached, HasCourses, AllLocalsFound, AreLocals}
+pub use Rattle.tc_explore.specs.Limits.{IsAtLimit, most_states}

@@ -1,12 +1,12 @@
 //! The searches for the verdicts of a test case, each up to a better verdict than the last.
-ghost use Rattle.std.specs.Prelude.{◌≡◌, ◌≤◌, true, false, IfOk, length};
+ghost use Rattle.std.specs.Prelude.{◌≡◌, ◌≤◌, false, IfOk, OnOk, length};
 ghost use Rattle.tc_entry.specs.declared.limits.TheConstants.{BEHAVIOURS};
-ghost use Rattle.tc_course.specs.Prelude.{AllFound};
-ghost use Rattle.tc_explore.specs.{Found.AreAllMet, Found.AreFromBest, Inside.Seen.IsNoted};
+ghost use Rattle.tc_explore.specs.{Found.AreFromBest, Inside.Seen.IsNoted, Inside.Seen.IsSearched};
 ghost use Rattle.tc_explore.specs.Inside.Seen as seen;
 
 use crate::findings::{Findings, order};
 use crate::search::{Extent, search_all};
+use crate::straight::note_straight;
 use std::alloc::Global;
 use tc_course::{Witness, is_found, level};
 use tc_step::Script;
@@ -51,11 +51,7 @@ fn search_by_aims(
     requires some { 1 ≤ length scripts.now }
     requires few { length scripts.now ≤ BEHAVIOURS }
     requires found { IsNoted scripts.now found.old }
-    ensures found { IfOk result (λ e. IsNoted scripts.now found.new) }
-    ensures met { IfOk result (λ e. AreAllMet scripts.now found.new.reached.items e.states) }
-    ensures complete { IfOk result (λ e. e.is_whole ≡ true → AllFound scripts.now found.new.witnesses.items) }
-    ensures within { IfOk result (λ e. e.states ≤ limit) }
-    ensures full { IfOk result (λ e. e.is_whole ≡ false → e.states ≡ limit) }
+    ensures { IfOk result (IsSearched scripts.now limit found.new) }
 {
     let mut aim = Verdict::Error;
     let mut states = 0;
@@ -80,8 +76,29 @@ fn search_by_aims(
     }
 }
 
+// Looks for all verdicts by such searches, and at their limit for those of some schedules that are played to their ends.
+fn search_or_play(
+    alloc: Global,
+    scripts: &[Script],
+    limit: usize,
+    found: &mut Findings,
+) -> Result<Extent, NoMemory>
+    requires some { 1 ≤ length scripts.now }
+    requires few { length scripts.now ≤ BEHAVIOURS }
+    requires found { IsNoted scripts.now found.old }
+    ensures searched { IfOk result (IsSearched scripts.now limit found.new) }
+    ensures told { IfOk result (λ e. e.is_whole ≡ false → 1 ≤ length found.new.witnesses.items) }
+{
+    let extent = search_by_aims(alloc, scripts, limit, found)?;
+    if extent.is_whole {
+        return Ok(extent);
+    }
+    note_straight(alloc, scripts, found)?;
+    Ok(extent)
+}
+
 /// Looks for the verdicts of all complete courses by searches that keep that many states at most each, and returns the most
-/// that one kept. The witnesses that are found are in the order of their verdicts.
+/// that one kept. At their limit one verdict at least is found. The witnesses are in the order of their verdicts.
 pub(crate) fn search_verdicts(
     alloc: Global,
     scripts: &[Script],
@@ -91,14 +108,11 @@ pub(crate) fn search_verdicts(
     requires some { 1 ≤ length scripts.now }
     requires few { length scripts.now ≤ BEHAVIOURS }
     requires found { IsNoted scripts.now found.old }
-    ensures found { IfOk result (λ e. IsNoted scripts.now found.new) }
-    ensures ordered { IfOk result (λ e. AreFromBest found.new.witnesses.items) }
-    ensures met { IfOk result (λ e. AreAllMet scripts.now found.new.reached.items e.states) }
-    ensures complete { IfOk result (λ e. e.is_whole ≡ true → AllFound scripts.now found.new.witnesses.items) }
-    ensures within { IfOk result (λ e. e.states ≤ limit) }
-    ensures full { IfOk result (λ e. e.is_whole ≡ false → e.states ≡ limit) }
+    ensures searched { IfOk result (IsSearched scripts.now limit found.new) }
+    ensures ordered { OnOk result (AreFromBest found.new.witnesses.items) }
+    ensures told { IfOk result (λ e. e.is_whole ≡ false → 1 ≤ length found.new.witnesses.items) }
 {
-    let extent = search_by_aims(alloc, scripts, limit, found)?;
+    let extent = search_or_play(alloc, scripts, limit, found)?;
     order(&mut found.witnesses);
     Ok(extent)
 }

@@ -6,8 +6,9 @@ ghost use Rattle.tc_rules.specs.Prelude.{past_of};
 ghost use Rattle.tc_course.specs.Prelude.{IsOn};
 ghost use Rattle.tc_entry.specs.Reply as reply;
 ghost use Rattle.tc_rules.specs.Answers as answers;
+ghost use Rattle.tc_rules.specs.Phases as phases;
 ghost use Rattle.tc_course.specs.Course as courses;
-ghost use Rattle.tc_explore.specs.Inside.{Seen.IsCalm, Seen.IsCalmAfter, Seen.IsLoudAt, Seen.IsOpen, Seen.IsState, Seen.StandsOn, Simulation.IsWithin};
+ghost use Rattle.tc_explore.specs.Inside.{Seen.IsCalm, Seen.IsCalmAfter, Seen.IsLoudAt, Seen.IsSeenBy, Seen.IsOpen, Seen.IsState, Seen.StandsOn, Simulation.IsWithin};
 ghost use Rattle.tc_explore.specs.Inside.Simulation as moves;
 
 use tc_course::{Course, has_gone_on, level, next_call};
@@ -66,11 +67,11 @@ fn is_gone(phase: Option<Phase>) -> bool
 }
 
 // Whether a call ends a run, but the main one, on a component that nothing can start again.
-#[tactic(auto, using(crate::proofs::Searching::silent_rules))]
 fn is_end(course: &Course, run: Run, op: &Op) -> bool
-    ensures { IsTrue result → moves.IsEnd (past_of course.now) run.0 op.now }
+    requires within { run.0 < course.now.behaviours }
+    ensures { result ≡ moves.is_end (past_of course.now) run.0 (courses.stand (past_of course.now) run.0).comp op.now }
 {
-    match (op, course.comp_of(run)) {
+    match (op, course.known(run).comp()) {
         (Op::Finish, Some(comp)) => run.0 != 0 && !course.is_alive_type(comp.0),
         _ => false,
     }
@@ -87,14 +88,10 @@ fn is_barred(aim: Verdict, op: &Op) -> bool
 }
 
 // Whether what a run calls next sets a verdict worse than this one.
-#[tactic(auto, using(crate::proofs::Searching::felling_rules))]
 fn is_run_barred(aim: Verdict, course: &Course, scripts: &[Script], run: Run) -> bool
-    requires on { IsOn scripts.now course.now }
-    ensures { IsTrue result → moves.IsBarredNow aim scripts.now (past_of course.now) run.0 }
+    requires within { run.0 < course.now.behaviours }
+    ensures { result ≡ moves.bars_next aim (courses.turn scripts.now (past_of course.now) run.0) }
 {
-    if usize::from(run.0) >= scripts.len() {
-        return false;
-    }
     match course.turn(scripts, run) {
         Some(op) => is_barred(aim, &op),
         None => false,
@@ -102,54 +99,65 @@ fn is_run_barred(aim: Verdict, course: &Course, scripts: &[Script], run: Run) ->
 }
 
 // Whether another run is barred on a component that nothing can start again.
-#[tactic(auto, using(crate::proofs::Searching::felling_rules))]
 fn is_felled(aim: Verdict, course: &Course, scripts: &[Script], run: Run, comp: Comp) -> bool
     requires on { IsOn scripts.now course.now }
-    ensures { IsTrue result → moves.IsFelled aim scripts.now (past_of course.now) run.0 comp }
+    ensures { result ≡ moves.is_felled aim scripts.now (past_of course.now) run.0 comp (phases.phase_if_any (past_of course.now) comp.0) }
 {
     let Some(Phase::Running(other)) = course.phase_of(comp) else {
         return false;
     };
-    if comp.0 == 0 || other.0 == 0 || run.0 == other.0 || course.is_alive_type(comp.0) {
+    if usize::from(other.0) >= scripts.len() || comp.0 == 0 || other.0 == 0 || run.0 == other.0 {
         return false;
     }
-    match course.comp_of(other) {
-        Some(on) => on.0 == comp.0 && is_run_barred(aim, course, scripts, other),
+    match course.known(other).comp() {
+        Some(on) => {
+            on.0 == comp.0
+                && !course.is_alive_type(comp.0)
+                && is_run_barred(aim, course, scripts, other)
+        }
         None => false,
     }
 }
 
 // Whether a call stops or kills such a component.
-#[tactic(auto, using(crate::proofs::Searching::felling_rules))]
 fn is_felling(aim: Verdict, course: &Course, scripts: &[Script], run: Run, op: &Op) -> bool
     requires on { IsOn scripts.now course.now }
-    ensures { IsTrue result → moves.IsFelling aim scripts.now (past_of course.now) run.0 op.now }
+    ensures { result ≡ moves.is_felling aim scripts.now (past_of course.now) run.0 op.now }
 {
     match op {
-        Op::Stop(Group::One(comp)) => is_felled(aim, course, scripts, run, *comp),
-        Op::Kill(Group::One(comp)) => is_felled(aim, course, scripts, run, *comp),
+        Op::Stop(Group::One(comp)) | Op::Kill(Group::One(comp)) => {
+            is_felled(aim, course, scripts, run, *comp)
+        }
         _ => false,
     }
 }
 
 // Whether nobody can see that a call was made: it changes nothing, is an end, sets a verdict up to this one, or stops
-// what could only set a worse one. It is no error.
+// what could only set a worse one.
+fn is_unseen(aim: Verdict, course: &Course, scripts: &[Script], run: Run, op: &Op) -> bool
+    requires within { run.0 < course.now.behaviours }
+    requires on { IsOn scripts.now course.now }
+    ensures { result ≡ moves.is_silent aim scripts.now (past_of course.now) run.0 op.now }
+{
+    is_spent(course, op)
+        || is_end(course, run, op)
+        || is_quiet_now(op, aim)
+        || is_felling(aim, course, scripts, run, op)
+}
+
+// Whether so it is of a call that is no error, and after which its caller continues.
 #[tactic(auto, using(crate::proofs::Searching::silent_rules))]
 fn is_silent(aim: Verdict, course: &Course, scripts: &[Script], run: Run, op: &Op) -> bool
+    requires within { run.0 < course.now.behaviours }
     requires on { IsOn scripts.now course.now }
     ensures plain { IsTrue result → reply.is_fault (answers.answer course.now.behaviours (past_of course.now) run.0 op.now) ≡ false }
     ensures going { IsTrue result → courses.goes_on (answers.answer course.now.behaviours (past_of course.now) run.0 op.now) ≡ true }
     ensures silent { IsTrue result → moves.IsSilent aim scripts.now (past_of course.now) run.0 op.now }
     ensures calm { result ≡ false → IsLoudAt course.now.behaviours (past_of course.now) run.0 op.now }
+    ensures loud { result ≡ false → IsSeenBy aim scripts.now course.now run.0 op.now }
 {
     let reply = course.would(run, op);
-    if reply.is_fault() || !has_gone_on(reply) {
-        return false;
-    }
-    is_spent(course, op)
-        || is_end(course, run, op)
-        || is_quiet_now(op, aim)
-        || is_felling(aim, course, scripts, run, op)
+    !reply.is_fault() && has_gone_on(reply) && is_unseen(aim, course, scripts, run, op)
 }
 
 // A course, and whether it is longer than it was.

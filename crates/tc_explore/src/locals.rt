@@ -2,14 +2,15 @@
 ghost use Rattle.std.specs.Prelude.{◌≡◌, ◌≤◌, IfOk, length};
 ghost use Rattle.tc_entry.specs.declared.limits.TheConstants.{BEHAVIOURS};
 ghost use Rattle.tc_course.specs.declared.found.Ending.TheVariants.{Complete, Undecided};
-ghost use Rattle.tc_explore.specs.Found.{HasCourses, AllLocalsFound, AreLocals};
-ghost use Rattle.tc_explore.specs.Found as limits;
+ghost use Rattle.tc_course.specs.declared.found.Limit.{Limit as MetLimit};
+ghost use Rattle.tc_explore.specs.{Found.AllLocalsFound, Found.AreLocals, Found.HasCourses, Limits.IsAtLimit};
+ghost use Rattle.tc_explore.specs.Limits as limits;
 
-use crate::explored::most_states;
+use crate::limits::{ending_of, most_of};
 use crate::marks::Marks;
 use crate::search_locals::search_locals;
 use std::alloc::Global;
-use tc_course::{Ending, Locals};
+use tc_course::{Ending, Limit, Locals};
 use tc_entry::Sequence;
 use tc_step::Script;
 use tc_verdict::NoMemory;
@@ -38,18 +39,14 @@ pub fn explore_locals(alloc: Global, scripts: &[Script], limit: usize) -> Result
     ensures complete { IfOk result (λ l. l.ending ≡ Complete → AllLocalsFound scripts.now l.found) }
     ensures met { IfOk result (λ l. HasCourses scripts.now l.states) }
     ensures most { IfOk result (λ l. l.states ≤ limits.most_states scripts.now limit) }
-    ensures undecided { IfOk result (λ l. l.ending ≡ Undecided → 1 ≤ length scripts.now → l.states ≡ limits.most_states scripts.now limit) }
+    ensures undecided { IfOk result (λ l. (m : MetLimit) → l.ending ≡ Undecided m → 1 ≤ length scripts.now → IsAtLimit scripts.now limit l.states m) }
 {
     let mut marks = Marks::new(alloc);
     if scripts.is_empty() {
-        return Ok(locals_of(marks, 0, Ending::Undecided));
+        return Ok(locals_of(marks, 0, Ending::Undecided(Limit::States)));
     }
-    let most = most_states(scripts, limit).ok_or(NoMemory)?;
-    let extent = search_locals(alloc, scripts, most, &mut marks)?;
-    let ending = if extent.is_whole {
-        Ending::Complete
-    } else {
-        Ending::Undecided
-    };
+    let most = most_of(scripts, limit).ok_or(NoMemory)?;
+    let extent = search_locals(alloc, scripts, most.states, &mut marks)?;
+    let ending = ending_of(extent.is_whole, most.limit);
     Ok(locals_of(marks, extent.states, ending))
 }

@@ -8,21 +8,23 @@ ghost use Rattle.tc_verdict.specs.declared.verdict.Verdict.TheVariants.{Error};
 ghost use Rattle.tc_explore.specs.{Found.AreAllMet, Inside.Seen.AllTold, Inside.Seen.AreClosed, Inside.Seen.AreHeld, Inside.Seen.AreKept, Inside.Seen.AreKeyed, Inside.Seen.AreRunsClosed, Inside.Seen.AreStill, Inside.Seen.IsCallClosed, Inside.Seen.IsFull, Inside.Seen.IsLonger, Inside.Seen.IsNoLess, Inside.Seen.IsNoted, Inside.Seen.IsOpen, Inside.Seen.IsRunClosed, Inside.Seen.IsSeen, Inside.Seen.IsState, Inside.Seen.IsStillAt, Inside.Seen.IsWith, Inside.Simulation.IsClosed};
 ghost use Rattle.tc_explore.specs.Inside.Simulation as moves;
 
+use crate::calls::Kept;
 use crate::calm::calmed;
 use crate::findings::{Findings, reach};
 use crate::noted::{note, with_stuck};
 use crate::state_keys::state_key;
+use crate::straight::call_on;
 use indexmap::IndexSet;
 use std::alloc::Global;
-use tc_course::{Course, has_gone_on, is_found, level, next_call};
+use tc_course::{Course, is_found, level};
 use tc_entry::Op;
 use tc_step::Script;
 use tc_verdict::{NoMemory, Run, Verdict};
 
 /// The states that were met, by a course each, at most that many; and the key of each.
 #[derive(Drop)]
-pub(crate) struct Met {
-    pub(crate) states: Vec<Course>,
+pub(crate) struct Met<'a> {
+    pub(crate) states: Vec<Kept<'a>>,
     pub(crate) keys: IndexSet<Vec<u64>>,
     pub(crate) limit: usize,
 }
@@ -47,13 +49,13 @@ pub(crate) fn extent_of(states: usize, is_placed: bool, is_closed: bool) -> Exte
 
 // Takes in the state of a course, and returns whether it is among those that are seen: it is, unless as many as the
 // limit are met. No two of them have one key.
-#[tactic(auto, using(crate::proofs::Seeing::seeing_rules, crate::proofs::Keeping::keeping_rules))]
-fn place(
+#[tactic(auto, using(crate::proofs::Seeing::seeing_rules, crate::proofs::Keeping::keeping_rules, crate::proofs::Kept::with_one))]
+fn place<'a>(
     aim: Verdict,
     alloc: Global,
-    scripts: &[Script],
+    scripts: &'a [Script],
     course: Course,
-    met: &mut Met,
+    met: &mut Met<'a>,
 ) -> Result<bool, NoMemory>
     requires some { 1 ≤ length scripts.now }
     requires few { length scripts.now ≤ BEHAVIOURS }
@@ -75,7 +77,8 @@ fn place(
         return Ok(false);
     }
     met.keys.insert(key)?;
-    met.states.push(course)?;
+    let kept = Kept::of(alloc, scripts, &course)?;
+    met.states.push(kept)?;
     Ok(true)
 }
 
@@ -98,14 +101,14 @@ pub(crate) fn with_call(
 
 // Makes a call, and returns whether what it leads to is seen, its verdict is found, or is worse than is looked for.
 #[tactic(auto, using(crate::proofs::Closed::closed_rules, crate::proofs::Seeing::seeing_rules, crate::proofs::Keeping::keeping_rules, crate::proofs::Keeping::open_next, crate::proofs::Kept::kept_rules))]
-fn after_call(
+fn after_call<'a>(
     aim: Verdict,
     alloc: Global,
-    scripts: &[Script],
+    scripts: &'a [Script],
     course: &Course,
     run: Run,
     op: Op,
-    met: &mut Met,
+    met: &mut Met<'a>,
     found: &mut Findings,
 ) -> Result<bool, NoMemory>
     requires some { 1 ≤ length scripts.now }
@@ -147,13 +150,13 @@ struct Tried {
 
 // Makes the next call of a run.
 #[tactic(auto, using(crate::proofs::Closed::run_rules, crate::proofs::Seeing::seeing_rules, crate::proofs::Keeping::keeping_rules, crate::proofs::Kept::no_less_self))]
-fn try_run(
+fn try_run<'a>(
     aim: Verdict,
     alloc: Global,
-    scripts: &[Script],
+    scripts: &'a [Script],
     course: &Course,
     run: Run,
-    met: &mut Met,
+    met: &mut Met<'a>,
     found: &mut Findings,
 ) -> Result<Tried, NoMemory>
     requires few { length scripts.now ≤ BEHAVIOURS }
@@ -173,19 +176,13 @@ fn try_run(
     ensures goes_on { IfOk result (λ t. t.goes_on ≡ true → moves.GoesOn scripts.now (past_of course.now)) }
     ensures still { IfOk result (λ t. t.goes_on ≡ false → IsStillAt scripts.now (past_of course.now) run.0) }
 {
-    let Some(op) = next_call(course, scripts, run) else {
+    let Some(op) = call_on(course, scripts, run) else {
         return Ok(Tried {
             is_closed: true,
             goes_on: false,
         });
     };
     let reply = course.would(run, &op);
-    if !has_gone_on(reply) {
-        return Ok(Tried {
-            is_closed: true,
-            goes_on: false,
-        });
-    }
     let is_closed = after_call(aim, alloc, scripts, course, run, op, met, found)?;
     Ok(Tried {
         is_closed,
@@ -195,12 +192,12 @@ fn try_run(
 
 // Makes the next call of each run.
 #[tactic(auto, using(crate::proofs::Closed::runs_rules, crate::proofs::Seeing::seeing_rules, crate::proofs::Kept::no_less_self))]
-fn try_runs(
+fn try_runs<'a>(
     aim: Verdict,
     alloc: Global,
-    scripts: &[Script],
+    scripts: &'a [Script],
     course: &Course,
-    met: &mut Met,
+    met: &mut Met<'a>,
     found: &mut Findings,
 ) -> Result<Tried, NoMemory>
     requires few { length scripts.now ≤ BEHAVIOURS }
@@ -231,12 +228,12 @@ fn try_runs(
 // Looks at the state of a course: makes the next call of each run, or ends the case if none continues and error is looked
 // for. It returns whether what comes after the state is seen, or found. It is, unless as many states as the limit are met.
 #[tactic(auto, using(crate::proofs::States::state_rules, crate::proofs::Closed::runs_rules, crate::proofs::Seeing::seeing_rules, crate::proofs::Keeping::keeping_rules, crate::proofs::Parking::held_if, crate::proofs::Kept::kept_rules))]
-fn expand_course(
+fn expand_course<'a>(
     aim: Verdict,
     alloc: Global,
-    scripts: &[Script],
+    scripts: &'a [Script],
     course: &Course,
-    met: &mut Met,
+    met: &mut Met<'a>,
     found: &mut Findings,
 ) -> Result<bool, NoMemory>
     requires some { 1 ≤ length scripts.now }
@@ -277,11 +274,11 @@ fn expand_course(
 
 // Looks at all states, and returns whether what comes after each is seen, or found.
 #[tactic(auto, using(crate::proofs::States::loop_rules, crate::proofs::Closed::longer_then, crate::proofs::Seeing::seeing_rules, crate::proofs::Keeping::keeping_rules, crate::proofs::Kept::kept_rules))]
-fn expand_all(
+fn expand_all<'a>(
     aim: Verdict,
     alloc: Global,
-    scripts: &[Script],
-    met: &mut Met,
+    scripts: &'a [Script],
+    met: &mut Met<'a>,
     found: &mut Findings,
 ) -> Result<bool, NoMemory>
     requires some { 1 ≤ length scripts.now }
@@ -303,7 +300,7 @@ fn expand_all(
         if at >= met.states.len() {
             return Ok(is_closed);
         }
-        let course = met.states[at].copied(alloc)?;
+        let course = met.states[at].course(alloc)?;
         let is_one_closed = expand_course(aim, alloc, scripts, &course, met, found)?;
         is_closed = is_closed && is_one_closed;
     }

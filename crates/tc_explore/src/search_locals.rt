@@ -5,6 +5,7 @@ ghost use Rattle.tc_rules.specs.Prelude.{past_of};
 ghost use Rattle.tc_course.specs.Prelude.{entry_made, IsNext};
 ghost use Rattle.tc_explore.specs.{Found.AllLocalsFound, Found.AreLocals, Found.HasCourses, Inside.Seen.IsFull, Inside.Seen.IsLonger, Inside.Seen.IsWith, Inside.Twins.AreGoing, Inside.Twins.AreLocalsClosed, Inside.Twins.AreLocalsRuns, Inside.Twins.HasTwinKeys, Inside.Twins.IsGoing, Inside.Twins.IsLocalsAfter, Inside.Twins.IsLocalsRun, Inside.Twins.IsMore, Inside.Twins.IsTwinSeen};
 
+use crate::calls::Kept;
 use crate::marks::Marks;
 use crate::search::{Extent, Met, extent_of, with_call};
 use crate::state_keys::state_key_with_locals;
@@ -17,8 +18,13 @@ use tc_verdict::{NoMemory, Run};
 
 // Takes in the state of a course, and returns whether it is among those that are seen: it is, unless as many as the
 // limit are met. No two of them have one key.
-#[tactic(auto, using(crate::proofs::Seeing::seeing_rules, crate::proofs::LocalsClosed::call_rules))]
-fn place(alloc: Global, scripts: &[Script], course: Course, met: &mut Met) -> Result<bool, NoMemory>
+#[tactic(auto, using(crate::proofs::Seeing::seeing_rules, crate::proofs::LocalsClosed::call_rules, crate::proofs::Kept::with_one))]
+fn place<'a>(
+    alloc: Global,
+    scripts: &'a [Script],
+    course: Course,
+    met: &mut Met<'a>,
+) -> Result<bool, NoMemory>
     requires some { 1 ≤ length scripts.now }
     requires few { length scripts.now ≤ BEHAVIOURS }
     requires state { IsGoing scripts.now course }
@@ -39,19 +45,20 @@ fn place(alloc: Global, scripts: &[Script], course: Course, met: &mut Met) -> Re
         return Ok(false);
     }
     met.keys.insert(key)?;
-    met.states.push(course)?;
+    let kept = Kept::of(alloc, scripts, &course)?;
+    met.states.push(kept)?;
     Ok(true)
 }
 
 // Makes a call, and returns whether what it leads to is seen, or its local verdicts are found.
 #[tactic(auto, using(crate::proofs::Closed::closed_rules, crate::proofs::Seeing::seeing_rules, crate::proofs::LocalsClosed::call_rules))]
-fn after_call(
+fn after_call<'a>(
     alloc: Global,
-    scripts: &[Script],
+    scripts: &'a [Script],
     course: &Course,
     run: Run,
     op: Op,
-    met: &mut Met,
+    met: &mut Met<'a>,
     marks: &mut Marks,
 ) -> Result<bool, NoMemory>
     requires some { 1 ≤ length scripts.now }
@@ -80,12 +87,12 @@ fn after_call(
 
 // Makes the next call of a run, if it continues.
 #[tactic(auto, using(crate::proofs::Seeing::seeing_rules, crate::proofs::LocalsClosed::run_rules))]
-fn try_run(
+fn try_run<'a>(
     alloc: Global,
-    scripts: &[Script],
+    scripts: &'a [Script],
     course: &Course,
     run: Run,
-    met: &mut Met,
+    met: &mut Met<'a>,
     marks: &mut Marks,
 ) -> Result<bool, NoMemory>
     requires few { length scripts.now ≤ BEHAVIOURS }
@@ -114,11 +121,11 @@ fn try_run(
 
 // Makes the next call of each run.
 #[tactic(auto, using(crate::proofs::Seeing::seeing_rules, crate::proofs::LocalsClosed::runs_rules))]
-fn try_runs(
+fn try_runs<'a>(
     alloc: Global,
-    scripts: &[Script],
+    scripts: &'a [Script],
     course: &Course,
-    met: &mut Met,
+    met: &mut Met<'a>,
     marks: &mut Marks,
 ) -> Result<bool, NoMemory>
     requires few { length scripts.now ≤ BEHAVIOURS }
@@ -144,10 +151,10 @@ fn try_runs(
 
 // Looks at all states, and returns whether what comes after each is seen, or found.
 #[tactic(auto, using(crate::proofs::Seeing::seeing_rules, crate::proofs::LocalsClosed::runs_rules))]
-fn expand_all(
+fn expand_all<'a>(
     alloc: Global,
-    scripts: &[Script],
-    met: &mut Met,
+    scripts: &'a [Script],
+    met: &mut Met<'a>,
     marks: &mut Marks,
 ) -> Result<bool, NoMemory>
     requires few { length scripts.now ≤ BEHAVIOURS }
@@ -166,7 +173,7 @@ fn expand_all(
         if at >= met.states.len() {
             return Ok(is_closed);
         }
-        let course = met.states[at].copied(alloc)?;
+        let course = met.states[at].course(alloc)?;
         let is_one_closed = try_runs(alloc, scripts, &course, met, marks)?;
         is_closed = is_closed && is_one_closed;
     }

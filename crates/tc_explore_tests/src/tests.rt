@@ -14,7 +14,7 @@ use std::alloc::Global;
 use std::process::Abort;
 use std::test::Fail;
 use tc_entry::{Entry, Name, Op, Reply};
-use tc_explore::{Ending, Explored, Locals, Witness, explore, explore_locals};
+use tc_explore::{Ending, Explored, Limit, Locals, Witness, explore, explore_locals};
 use tc_explored::{append_line, append_locals, append_witnesses, explored_status};
 use tc_rules::{CheckFault, replay_check};
 use tc_step::{GroupPlace, Place, Places, Script, Status, Step, TargetPlace};
@@ -365,9 +365,9 @@ fn end_within<R: Abort>(
 fn a_search_ends_at_its_limit(rt: HostRuntime) -> Result<(), Fail> {
     let scripts = race(&rt, rt.alloc())?;
     let rows = [
-        (0, Ending::Undecided, Some(0)),
-        (1, Ending::Undecided, Some(1)),
-        (2, Ending::Undecided, Some(2)),
+        (0, Ending::Undecided(Limit::States), Some(0)),
+        (1, Ending::Undecided(Limit::States), Some(1)),
+        (2, Ending::Undecided(Limit::States), Some(2)),
         (3, Ending::Complete, Some(3)),
     ];
     end_within(&rt, rt.alloc(), scripts.as_slice(), rows.as_slice())
@@ -390,9 +390,9 @@ fn a_large_test_case_has_fewer_states(rt: HostRuntime) -> Result<(), Fail> {
         add_long(&rt, rt.alloc(), &mut scripts)?;
     }
     let rows = [
-        (24, Ending::Undecided, Some(0)),
-        (25, Ending::Undecided, Some(1)),
-        (74, Ending::Undecided, Some(2)),
+        (24, Ending::Undecided(Limit::States), Some(0)),
+        (25, Ending::Undecided(Limit::States), Some(1)),
+        (74, Ending::Undecided(Limit::States), Some(2)),
         (75, Ending::Complete, Some(3)),
     ];
     end_within(&rt, rt.alloc(), scripts.as_slice(), rows.as_slice())
@@ -481,31 +481,113 @@ fn a_state_that_is_met_again_is_known(rt: HostRuntime) -> Result<(), Fail> {
 #[test]
 fn without_behaviours_nothing_is_decided(rt: HostRuntime) -> Result<(), Fail> {
     let explored = search(&rt, rt.alloc(), &[], MANY)?;
-    is(&rt, "the ending", explored.ending, Ending::Undecided);
+    is(
+        &rt,
+        "the ending",
+        explored.ending,
+        Ending::Undecided(Limit::States),
+    );
     is(&rt, "the number of states", explored.states, 0);
     let found = explored.found.as_slice();
     holds(&rt, "no verdict is found", found.is_empty());
     Ok(())
 }
 
-// How a search of two behaviours within this limit ends, and how many states it prints.
-fn searched<R: Abort>(rt: &R, alloc: Global, limit: usize) -> Result<(Ending, usize), Fail> {
-    let scripts = race(rt, alloc)?;
-    let explored = search(rt, alloc, scripts.as_slice(), limit)?;
-    Ok((explored.ending, explored.states))
+// How many states a search looks at that comes to its end. It does so within that many, and not within one less.
+fn completed<R: Abort>(rt: &R, alloc: Global, scripts: &[Script]) -> Result<usize, Fail> {
+    let explored = search(rt, alloc, scripts, MANY)?;
+    is(rt, "ending", explored.ending, Ending::Complete);
+    let states = explored.states;
+    ends_within(rt, alloc, scripts, states, (Ending::Complete, Some(states)))?;
+    let below = search(rt, alloc, scripts, states.saturating_sub(1))?;
+    holds(rt, "below", below.ending != Ending::Complete);
+    Ok(states)
 }
 
-// A search that comes to its end does so with as many states as it prints, and not with one less.
+// A main behaviour that starts one on the first component and, with that as its argument, one on the second. The first sets
+// fail, and the other stops it, or the first itself does.
+fn add_stopped<R: Abort>(
+    rt: &R,
+    alloc: Global,
+    scripts: &mut Vec<Script>,
+    by_itself: bool,
+) -> Result<(), Fail> {
+    let steps = vec![in alloc;
+        create(false),
+        create(false),
+        start(P, 1),
+        start_with_first(rt),
+        wait(TargetPlace::All),
+    ]?;
+    scripts.push(script(rt, steps))?;
+    let stop = Step::Stop(GroupPlace::One(if by_itself { Place::Own } else { P }));
+    let fail = Step::SetVerdict(UserVerdict::Fail);
+    let (first, other) = if by_itself {
+        (vec![in alloc; fail, stop]?, vec![in alloc; create(false)]?)
+    } else {
+        (
+            vec![in alloc; create(false), fail]?,
+            vec![in alloc; stop, create(false)]?,
+        )
+    };
+    scripts.push(script(rt, first))?;
+    Ok(scripts.push(script_of(rt, 1, other))?)
+}
+
+// A main behaviour that sets verdicts while another creates components.
+fn add_setting_between<R: Abort>(
+    rt: &R,
+    alloc: Global,
+    scripts: &mut Vec<Script>,
+) -> Result<(), Fail> {
+    let steps = vec![in alloc;
+        create(false),
+        start(P, 1),
+        Step::SetVerdict(UserVerdict::Pass),
+        create(false),
+        Step::SetVerdict(UserVerdict::Inconc),
+        wait(TargetPlace::All),
+    ]?;
+    scripts.push(script(rt, steps))?;
+    let others = vec![in alloc; create(false), create(false)]?;
+    Ok(scripts.push(script(rt, others))?)
+}
+
 #[test]
 fn a_complete_search_tells_its_states(rt: HostRuntime) -> Result<(), Fail> {
     let alloc = rt.alloc();
-    let (ending, states) = searched(&rt, alloc, MANY)?;
-    is(&rt, "ending", ending, Ending::Complete);
-    holds(&rt, "1 <= states", 1 <= states);
-    let (within, _) = searched(&rt, alloc, states)?;
-    is(&rt, "within", within, Ending::Complete);
-    let (below, _) = searched(&rt, alloc, states.saturating_sub(1))?;
-    holds(&rt, "below", below != Ending::Complete);
+    let states = completed(&rt, alloc, race(&rt, alloc)?.as_slice())?;
+    is(&rt, "the states of a race", states, 3);
+    Ok(())
+}
+
+#[test]
+fn states_where_another_is_stopped(rt: HostRuntime) -> Result<(), Fail> {
+    let alloc = rt.alloc();
+    let mut scripts = Vec::new(alloc);
+    add_stopped(&rt, alloc, &mut scripts, false)?;
+    let states = completed(&rt, alloc, scripts.as_slice())?;
+    is(&rt, "the states", states, 12);
+    Ok(())
+}
+
+#[test]
+fn states_where_one_stops_itself(rt: HostRuntime) -> Result<(), Fail> {
+    let alloc = rt.alloc();
+    let mut scripts = Vec::new(alloc);
+    add_stopped(&rt, alloc, &mut scripts, true)?;
+    let states = completed(&rt, alloc, scripts.as_slice())?;
+    holds(&rt, "some states", states > 3);
+    Ok(())
+}
+
+#[test]
+fn states_where_the_main_behaviour_sets_verdicts(rt: HostRuntime) -> Result<(), Fail> {
+    let alloc = rt.alloc();
+    let mut scripts = Vec::new(alloc);
+    add_setting_between(&rt, alloc, &mut scripts)?;
+    let states = completed(&rt, alloc, scripts.as_slice())?;
+    holds(&rt, "some states", states > 3);
     Ok(())
 }
 
@@ -541,8 +623,16 @@ fn race_is_told<R: Abort>(rt: &R, alloc: Global) -> Result<(), Fail> {
     let race = race(rt, alloc)?;
     let rows = [
         (MANY, "t none fail complete\n", 1),
-        (2, "t undecided after 2 states\n", 3),
-        (0, "t undecided after 0 states\n", 3),
+        (
+            2,
+            "t none fail undecided after 2 states: limit of states\n",
+            3,
+        ),
+        (
+            0,
+            "t none fail undecided after 0 states: limit of states\n",
+            3,
+        ),
     ];
     for (limit, line, status) in rows {
         tells(rt, alloc, race.as_slice(), limit, (line, status))?;
@@ -550,13 +640,14 @@ fn race_is_told<R: Abort>(rt: &R, alloc: Global) -> Result<(), Fail> {
     Ok(())
 }
 
-// The worst verdict is found first: the worker sets fail, and the search comes to its limit before it makes a component.
+// The worst verdict is found first: the worker sets fail, and the search comes to its limit before it makes a component. At the
+// limit two schedules are played to their ends: in the first the main behaviour ends at once.
 fn worst_is_told<R: Abort>(rt: &R, alloc: Global) -> Result<(), Fail> {
     let mut scripts = Vec::new(alloc);
     add_leading(rt, alloc, &mut scripts, Step::GetVerdict)?;
     let steps = vec![in alloc; Step::SetVerdict(UserVerdict::Fail), create(false)]?;
     scripts.push(script(rt, steps))?;
-    let told = ("t fail undecided after 3 states\n", 3);
+    let told = ("t none fail undecided after 3 states: limit of states\n", 3);
     tells(rt, alloc, scripts.as_slice(), 3, told)
 }
 

@@ -4,7 +4,7 @@ use Rattle.std.specs.{Fmt.decimal, List.flat_map, List.range_with_len, Option.op
 use Rattle.tc_rules.specs.Prelude.{Verdict, name_of}
 use Rattle.tc_blocks.specs.Prelude.{history_text}
 use Rattle.tc_course.specs.Prelude.{is_found, is_local}
-use Rattle.tc_course.specs.declared.found.{Ending.Ending, Explored.Explored, Locals.Locals}
+use Rattle.tc_course.specs.declared.found.{Ending.Ending, Explored.Explored, Limit.Limit, Locals.Locals}
 use Rattle.tc_text.specs.Prelude.{shown_line}
 
 -- the verdicts of which this holds, from the best to the worst
@@ -14,7 +14,7 @@ verdicts_where holds = filter holds (Verdict.None ∷ Verdict.Pass ∷ Verdict.I
 -- the first if the search came to its end, and the other if it met its limit
 abbrev pub if_complete : {A : Type 0} → Ending → A → A → A
 if_complete Ending.Complete first other = first
-if_complete Ending.Undecided first other = other
+if_complete (Ending.Undecided limit) first other = other
 
 -- the status of a test case by the number of verdicts: 0 for one, 1 for more; 3 if none was found, or the search met its limit
 abbrev pub explored_status : Explored → ℕ
@@ -22,9 +22,15 @@ explored_status e =
     let count = length (verdicts_where (is_found e.found)) in
     if_complete e.ending (if count == 1 then 0 else if nat_lt 1 count then 1 else 3) 3
 
--- how the search ended, and, if something may be missed, how many states it looked at
+-- the limit that a search met
+abbrev pub limit_words : Limit → List ℕ
+limit_words Limit.States = codes " states: limit of states"
+limit_words Limit.Memory = codes " states: limit of memory"
+
+-- how the search ended, and, if something may be missed, after how many states and at which limit
 abbrev pub ending_words : Ending → ℕ → List ℕ
-ending_words ending states = if_complete ending (codes " complete") (codes " undecided after " ++ (decimal states ++ codes " states"))
+ending_words Ending.Complete states = codes " complete"
+ending_words (Ending.Undecided limit) states = codes " undecided after " ++ (decimal states ++ limit_words limit)
 
 -- the line of a test case of this name: the verdicts that were found, and how the search ended
 abbrev pub explored_line : List ℕ → Explored → List ℕ

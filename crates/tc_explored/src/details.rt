@@ -76,6 +76,6 @@ pub fn append_details(
     append_all_waits(alloc, out, behaviours, found)?;
     match explored.ending {
         Ending::Complete => append_unseen(alloc, out, scripts, explored.reached.as_slice()),
-        Ending::Undecided => Ok(()),
+        Ending::Undecided(_) => Ok(()),
     }
 }

@@ -6,7 +6,7 @@ ghost use Rattle.tc_explored.specs.Line as line;
 
 use crate::verdicts::Verdicts;
 use tc_blocks::write_block;
-use tc_course::{Ending, Explored, Witness, is_found};
+use tc_course::{Ending, Explored, Limit, Witness, is_found};
 use tc_entry::Name;
 use tc_text::{append_number, append_text};
 use tc_verdict::{NoMemory, Verdict};
@@ -25,16 +25,26 @@ fn verdicts_of(found: &[Witness]) -> Verdicts
     }
 }
 
+// The limit that a search met.
+fn limit_words(limit: Limit) -> &'static str
+    ensures { result.now ≡ line.limit_words limit }
+{
+    match limit {
+        Limit::States => " states: limit of states",
+        Limit::Memory => " states: limit of memory",
+    }
+}
+
 // Appends how the search ended; if memory runs out, a part of it.
 fn append_ending(out: &mut Vec<u8>, ending: Ending, states: usize) -> Result<(), NoMemory>
     ensures { OnOk result (out.new.items ≡ out.old.items ++ line.ending_words ending states) }
 {
     match ending {
         Ending::Complete => append_text(out, " complete"),
-        Ending::Undecided => {
+        Ending::Undecided(limit) => {
             append_text(out, " undecided after ")?;
             append_number(out, states as u64)?;
-            append_text(out, " states")
+            append_text(out, limit_words(limit))
         }
     }
 }
@@ -58,7 +68,7 @@ pub fn explored_status(explored: &Explored) -> u8
 {
     match explored.ending {
         Ending::Complete => count_status(verdicts_of(explored.found.as_slice()).count()),
-        Ending::Undecided => 3,
+        Ending::Undecided(_) => 3,
     }
 }
 

@@ -115,7 +115,7 @@ fn append_undecided(alloc: Global, out: &mut Vec<u8>, locals: &Locals) -> Result
 {
     match locals.ending {
         Ending::Complete => Ok(()),
-        Ending::Undecided => {
+        Ending::Undecided(_) => {
             let mut text = Vec::new(alloc);
             append_text(&mut text, " local verdicts undecided after ")?;
             append_number(&mut text, locals.states as u64)?;

@@ -11,13 +11,9 @@ use Rattle.tc_command.specs.declared.task.Choice.{Choice}
 use Rattle.tc_answer.specs.{Inside.AreReady, Inside.IsCaseOf, declared.fault.RunFault.RunFault}
 use Rattle.tc_answer.proofs.Lemmas.Chosen.{or_left, or_right}
 use Rattle.tc_judge.specs.{Check.RefusesHistory, Compared.AreJudged, Compared.RefusesAgainst, Compared.has_block_named, Compared.has_later, Compared.missing, Compared.note, Compared.place_in, Inside.AddsIfMissing, Inside.AreComparable, Inside.AreMissing, Inside.AreMissingTo, Inside.IsJudgedBlock, Inside.IsWholeOfBlock, Inside.Judges, Inside.SaysNext, Inside.StandsBeside, declared.compare.Comparing.Comparing, declared.compare.Wrong.Wrong, declared.judged.Judged.Judged, declared.kept.Whole.Whole}
-use Rattle.tc_judge.proofs.Lemmas.Few.{few_jobs}
+use Rattle.tc_judge.proofs.{Counting.found_below, Counting.same_word, Lemmas.few_jobs}
 
 -- ---- names
-
-same : (a b : Word) → is_text a b ≡ true → a ≡ b
-unfolding is_text
-same a b e = (bytes_decides a b).0 e
 
 alike : (a b : Word) → a ≡ b → is_text a b ≡ true
 unfolding is_text
@@ -27,20 +23,12 @@ or_true : (a : Bool) → (a || true) ≡ true
 or_true true = refl
 or_true false = refl
 
-found_below : {X : Type 0} (p : X → Bool) (xs : List X) → list_any p xs ≡ true → position_or_len p xs < length xs
-found_below p [] e = absurd cc
-found_below p (x ∷ xs) e = by (p x) (found_below p xs) e
-  where
-    by : (b : Bool) → (list_any p xs ≡ true → position_or_len p xs < length xs) → (b || list_any p xs) ≡ true → cond (not b) (1 + position_or_len p xs) 0 < suc (length xs)
-    by true low e = omega arith
-    by false low e = let less = low e in omega (arith, less)
-
 -- ---- test cases by name
 
 named_at : (cases : CampaignView) (p : ℕ) (n d : Word) → p < length (map (λ c. c.0) cases) → is_text n (get_or (map (λ c. c.0) cases) p d) ≡ true →
     (c : CaseView) × (slice_get cases p ≡ Some c) × (n ≡ c.0)
 named_at [] p n d lt e = absurd (omega arith)
-named_at (c ∷ cs) zero n d lt e = (c, refl, same n c.0 e)
+named_at (c ∷ cs) zero n d lt e = (c, refl, same_word n c.0 e)
 named_at (c ∷ cs) (suc p) n d lt e = named_at cs p n d (omega arith) e
 
 -- the test case at the place of a name has that name
@@ -65,7 +53,7 @@ unplaced cases n q c none at = by (is_text c.0 n) refl
     by : (b : Bool) → is_text c.0 n ≡ b → b ≡ false
     by false k = refl
     by true k =
-        let below = found_below (is_text n) (map (λ t. t.0) cases) (among_at cases n q c at (sym (same c.0 n k))) in
+        let below = found_below (is_text n) (map (λ t. t.0) cases) (among_at cases n q c at (sym (same_word c.0 n k))) in
         let test : nat_lt (position_or_len (is_text n) (map (λ t. t.0) cases)) (length (map (λ t. t.0) cases)) ≡ true = grind (arith, nat_tests) in
         let is : Some (position_or_len (is_text n) (map (λ t. t.0) cases)) ≡ None = rw test at none in
         absurd cc
@@ -100,7 +88,7 @@ named_as cases n p q c distinct e at =
     by is true true k l = refl
     by is false false k l = refl
     by is true false k l =
-        let here : q ≡ p = once cases q p c is.0 distinct at is.1 (same c.0 n k ∙ is.2) in
+        let here : q ≡ p = once cases q p c is.0 distinct at is.1 (same_word c.0 n k ∙ is.2) in
         let yes : (q == p) ≡ true = grind (arith, nat_tests) in
         absurd cc
     by is false true k l =
@@ -125,7 +113,7 @@ met_late cases (b ∷ bs) n p q e met less = by (λ m. met_late cases bs n p q e
     by : (has_block_named bs n ≡ true → has_later cases bs q ≡ true) → (t : Bool) → is_text n b.header.name ≡ t → (t || has_block_named bs n) ≡ true
         → (is_before q (place_in cases b.header.name) || has_later cases bs q) ≡ true
     by more true k m =
-        let here : place_in cases b.header.name ≡ Some p = ap (place_in cases) (sym (same n b.header.name k)) ∙ e in
+        let here : place_in cases b.header.name ≡ Some p = ap (place_in cases) (sym (same_word n b.header.name k)) ∙ e in
         let test : nat_lt q p ≡ true = grind (arith, nat_tests) in
         rw (here, test) refl
     by more false k m = ap (λ x. is_before q (place_in cases b.header.name) || x) (more m) ∙ or_true (is_before q (place_in cases b.header.name))
@@ -167,7 +155,7 @@ beside_twice cases before b c p e was s = (met, record { names = s.names; ready 
     met = let is = placed cases b.header.name p e in ap (has_block_named before) is.2 ∙ (sym (s.met p is.0 is.1) ∙ was)
 
     by_name : (q : ℕ) (t : CaseView) → slice_get cases q ≡ Some t → (x : Bool) → is_text t.0 b.header.name ≡ x → slice_index_or c.met.items q false ≡ (is_text t.0 b.header.name || has_block_named before t.0)
-    by_name q t at true k = s.met q t at ∙ (ap (has_block_named before) (same t.0 b.header.name k) ∙ (met ∙ rw k refl))
+    by_name q t at true k = s.met q t at ∙ (ap (has_block_named before) (same_word t.0 b.header.name k) ∙ (met ∙ rw k refl))
     by_name q t at false k = s.met q t at ∙ rw k refl
 
     by_place : (q : ℕ) (x : Bool) → nat_lt q p ≡ x → (is_before q (place_in cases b.header.name) || has_later cases before q) ≡ nat_lt (q + 1) c.next
@@ -252,7 +240,7 @@ apart (x ∷ xs) n ys h = by (apart xs n ys (or_right (among x (xs ++ n ∷ ys))
 
     by : list_any (is_text n) xs ≡ false → (t : Bool) → is_text n x ≡ t → (t || list_any (is_text n) xs) ≡ false
     by rest false k = rest
-    by rest true k = let known = among_last x n xs ys (same n x k) in absurd cc
+    by rest true k = let known = among_last x n xs ys (same_word n x k) in absurd cc
 
 -- the name of the next test case is none of those so far
 new_name : (ready : List (Case ScriptView)) (i : ℕ) (k : Case ScriptView) (keys : List Word) → AreComparable ready → i < length ready → get_or ready i k ≡ k
@@ -387,14 +375,14 @@ pub ruleset refusing_rules = (script_refused, blocks_refused, comparable)
 
 -- ---- what is said of blocks
 
-pub says_none : (c : Comparing) (j : Judged Whole) (out : List ℕ) (after : Comparing) → Judges c j None after → SaysNext c j out after out
-says_none c j out after judges cases before b is distinct s said =
+pub says_none : {S : Type 0} (says : Block → S → Type 0) (c : Comparing) (j : Judged (Whole S)) (out : List ℕ) (after : Comparing) → Judges says c j None after → SaysNext says c j out after out
+says_none says c j out after judges cases before b is distinct s said =
     let so = judges cases before b is distinct s in
     (so.0, subst (AreJudged cases (b ∷ before)) (append-nil out) (AreJudged.more before out b None said so.1))
 
-pub says_wrong : (c : Comparing) (j : Judged Whole) (out : List ℕ) (after : Comparing) (wrong : Wrong) (new : List ℕ) → Judges c j (Some wrong) after →
-    new ≡ out ++ note j.name wrong → SaysNext c j out after new
-says_wrong c j out after wrong new judges noted cases before b is distinct s said =
+pub says_wrong : {S : Type 0} (says : Block → S → Type 0) (c : Comparing) (j : Judged (Whole S)) (out : List ℕ) (after : Comparing) (wrong : Wrong) (new : List ℕ) → Judges says c j (Some wrong) after →
+    new ≡ out ++ note j.name wrong → SaysNext says c j out after new
+says_wrong says c j out after wrong new judges noted cases before b is distinct s said =
     let so = judges cases before b is distinct s in
     (so.0, subst (AreJudged cases (b ∷ before)) (sym (noted ∙ ap (λ n. out ++ note n wrong) is.name)) (AreJudged.more before out b (Some wrong) said so.1))
 
@@ -403,28 +391,28 @@ pub ruleset saying_rules = (says_none, says_wrong)
 -- ---- one block after the other
 
 -- these test cases and the first of these judged blocks, that many, are compared so
-abbrev pub ComparedTo : List (Case ScriptView) → List (Judged Whole) → ℕ → Comparing → List ℕ → Type 0
-ComparedTo ready js i c out =
-    (cases : CampaignView) (blocks : List Block) → AllZip IsCaseOf cases ready → AllZip (IsJudgedBlock IsWholeOfBlock) blocks js
+abbrev pub ComparedTo : {S : Type 0} → (Block → S → Type 0) → List (Case ScriptView) → List (Judged (Whole S)) → ℕ → Comparing → List ℕ → Type 0
+ComparedTo says ready js i c out =
+    (cases : CampaignView) (blocks : List Block) → AllZip IsCaseOf cases ready → AllZip (IsJudgedBlock (IsWholeOfBlock says)) blocks js
     → StandsBeside cases (reverse (take i blocks)) c × AreJudged cases (reverse (take i blocks)) out
 
-block_at : (bs : List Block) (js : List (Judged Whole)) (i : ℕ) (j : Judged Whole) → AllZip (IsJudgedBlock IsWholeOfBlock) bs js → i < length js → get_or js i j ≡ j
-    → (b : Block) × IsJudgedBlock IsWholeOfBlock b j × (take (i + 1) bs ≡ take i bs ++ b ∷ [])
-block_at [] [] i j each within item = absurd (omega (arith, within))
-block_at [] (k ∷ js) i j each within item = absurd each
-block_at (b ∷ bs) [] i j each within item = absurd each
-block_at (b ∷ bs) (k ∷ js) zero j each within item = let is : k ≡ j = item in (b, subst (IsJudgedBlock IsWholeOfBlock b) is each.0, refl)
-block_at (b ∷ bs) (k ∷ js) (suc i) j each within item =
-    let rest = block_at bs js i j each.1 (omega (arith, within)) item in
+block_at : {K : Type 0} (keeps : Block → K → Type 0) (bs : List Block) (js : List (Judged K)) (i : ℕ) (j : Judged K) → AllZip (IsJudgedBlock keeps) bs js → i < length js → get_or js i j ≡ j
+    → (b : Block) × IsJudgedBlock keeps b j × (take (i + 1) bs ≡ take i bs ++ b ∷ [])
+block_at keeps [] [] i j each within item = absurd (omega (arith, within))
+block_at keeps [] (k ∷ js) i j each within item = absurd each
+block_at keeps (b ∷ bs) [] i j each within item = absurd each
+block_at keeps (b ∷ bs) (k ∷ js) zero j each within item = let is : k ≡ j = item in (b, subst (IsJudgedBlock keeps b) is each.0, refl)
+block_at keeps (b ∷ bs) (k ∷ js) (suc i) j each within item =
+    let rest = block_at keeps bs js i j each.1 (omega (arith, within)) item in
     let on : suc i + 1 ≡ suc (i + 1) = omega arith in
     (rest.0, rest.1, ap (λ n. take n (b ∷ bs)) on ∙ ap (λ l. b ∷ l) rest.2)
 
 -- one block more
-pub compared_more : (ready : List (Case ScriptView)) (js : List (Judged Whole)) (i : ℕ) (j : Judged Whole) (c after : Comparing) (out new : List ℕ) → AreComparable ready
-    → i < length js → get_or js i j ≡ j → ComparedTo ready js i c out → SaysNext c j out after new → ComparedTo ready js (i + 1) after new
-compared_more ready js i j c after out new are within item so says cases blocks each judged =
-    let at = block_at blocks js i j judged within item in
+pub compared_more : {S : Type 0} (says : Block → S → Type 0) (ready : List (Case ScriptView)) (js : List (Judged (Whole S))) (i : ℕ) (j : Judged (Whole S)) (c after : Comparing) (out new : List ℕ) → AreComparable ready
+    → i < length js → get_or js i j ≡ j → ComparedTo says ready js i c out → SaysNext says c j out after new → ComparedTo says ready js (i + 1) after new
+compared_more says ready js i j c after out new are within item so next cases blocks each judged =
+    let at = block_at (IsWholeOfBlock says) blocks js i j judged within item in
     let more : reverse (take (i + 1) blocks) ≡ at.0 ∷ reverse (take i blocks) = ap reverse at.2 ∙ reverse-append (take i blocks) (at.0 ∷ []) in
     let before = so cases blocks each judged in
-    let both = says cases (reverse (take i blocks)) at.0 at.1 (names_differ cases ready each are) before.0 before.1 in
+    let both = next cases (reverse (take i blocks)) at.0 at.1 (names_differ cases ready each are) before.0 before.1 in
     (subst (λ l. StandsBeside cases l after) (sym more) both.0, subst (λ l. AreJudged cases l new) (sym more) both.1)

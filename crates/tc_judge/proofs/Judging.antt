@@ -1,5 +1,5 @@
 -- Judged blocks: what `check` and `report` make of them.
-use Rattle.std.proofs.Common.{ℕ, ◌≡◌, ◌∙◌, ◌&&◌, ◌||◌, ◌==◌, cond, not, Bool, true, false, Option, Some, None, List, [], ◌∷◌, ◌++◌, if◌then◌else◌, filter, length, map, reverse, refl, ap, ap₂, sym, subst}
+use Rattle.std.proofs.Common.{ℕ, ◌≡◌, ◌∙◌, ◌&&◌, ◌||◌, ◌==◌, cond, not, Bool, true, false, Option, Some, None, List, [], ◌∷◌, ◌++◌, if◌then◌else◌, filter, length, map, reverse, refl, ap, ap₂, sym, subst, codes}
 use Rattle.std.proofs.lemmas.List.Elements.{All-cons, All-head, All-nil, All-tail}
 use Rattle.std.specs.List.{AllZip, list_any}
 use Rattle.std.specs.Prelude.{is_some, Ok}
@@ -13,8 +13,14 @@ use Rattle.tc_report.specs.declared.{results.CaseEnd.CaseEnd, summary.Summary.Su
 use Rattle.tc_rules.specs.Prelude.{Entry, StandsFor, Verdict, matches, name_of}
 use Rattle.tc_text.specs.Prelude.{reply_text}
 use Rattle.tc_reader.specs.Prelude.{Word}
-use Rattle.tc_judge.specs.{Check.AreAllLegal, Check.Checks, Check.IsChecked, Check.IsIllegalLine, Check.IsLegalBlock, Check.IsMadeOfBlocks, Check.IsSilent, Check.NameBlocks, Check.RefusesBlocks, Check.disagreeing_line, Inside.AreJudgedIn, Inside.IsFirstIllegal, Inside.IsJudgedBlock, Inside.IsJudgement, Inside.IsPlayed, Inside.IsPlayedTo, Inside.IsSummaryOf, Inside.IsTextFor, Inside.IsWholeOfBlock, Inside.Reports, Inside.block_name, Inside.first_illegal, Inside.illegal_line, Inside.is_picked, Inside.judged_name, Inside.judges_legal, Inside.line_of_judgement, Inside.picked_by, Inside.printed, Inside.recorded, Inside.recorded_in, Inside.summary_by, Picking.is_chosen, Report.AnswersCases, Report.IsForm, Report.IsReport, Report.summaries_of, declared.judged.Judged.Judged, declared.kept.Whole.Whole, declared.playing.Difference.Difference, declared.playing.Judgement.Judgement, declared.playing.Playing.Playing}
-use Rattle.tc_judge.proofs.{Faults.other_made, Lemmas.Answering.answer_of, Lemmas.Legal.block_line, Lemmas.Legal.none_illegal, Lemmas.Playing.entries_last, Lemmas.Playing.no_difference}
+use Rattle.tc_judge.specs.{Check.AreAllLegal, Check.Checks, Check.IsChecked, Check.IsIllegalLine, Check.IsLegalBlock, Check.IsMadeOfBlocks, Check.IsSilent, Check.NameBlocks, Check.RefusesBlocks, Check.disagreeing_line, Inside.AreJudgedIn, Inside.IsFirstIllegal, Inside.IsJudgedBlock, Inside.IsJudgement, Inside.IsPlayed, Inside.IsPlayedTo, Inside.IsSummaryOf, Inside.IsTextFor, Inside.IsWholeOfBlock, Inside.Reports, Inside.block_name, Inside.first_illegal, Inside.illegal_line, Inside.is_picked, Inside.judged_name, Inside.judges_legal, Inside.line_of_judgement, Inside.picked_by, Inside.printed, Inside.recorded, Inside.recorded_in, Inside.summary_by, Check.counting, Check.is_chosen, Report.AnswersCases, Report.IsForm, Report.IsReport, Report.summaries_of, declared.judged.Judged.Judged, declared.kept.Whole.Whole, declared.playing.Difference.Difference, declared.playing.Judgement.Judgement, declared.playing.Playing.Playing, Inside.gives_text, Inside.made_line}
+use Rattle.tc_judge.proofs.{Lemmas.answer_of, Lemmas.block_line, Lemmas.none_illegal, Lemmas.entries_last, Lemmas.no_difference}
+use Rattle.tc_answer.proofs.Lemmas.Chosen.{at_place}
+
+-- the line of another reply or verdict is made so
+pub other_made : (line : ℕ) (given table : List ℕ) → made_line line given table ≡ disagreeing_line line given table
+unfolding gives_text disagreeing_line
+other_made line given table = at_place line (given ++ (codes ", table gives " ++ (table ++ (10 ∷ []))))
 
 -- ---- what is recorded
 
@@ -90,35 +96,44 @@ module _ {K : Type 0} (keeps : Block → K → Type 0) where
   same_names (pattern ∷ only) bs js each = ap₂ (λ x y. x && y) (any_named (matches pattern) bs js each) (same_names only bs js each)
 
   -- if all blocks are legal, the patterns name blocks
-  pub names_found : (choice : Choice) (only : List Word) (text : List ℕ) (js : List (Judged K)) → only ≡ choice.only.items → AreJudgedIn keeps text js
-      → (is_some (first_illegal js) || have_names judged_name only js) ≡ true → NameBlocks choice.only.items text
-  names_found choice only text js same are found = subst (λ o. NameBlocks o text) same (λ all is legal. by all is legal (first_illegal js) (first_found all js (are.holds all is)) found)
+  pub names_found : (choice : Choice) (only : List Word) (text : List ℕ) (js : List (Judged K)) → only ≡ choice.only.items → AreJudgedIn keeps choice.last text js
+      → (is_some (first_illegal js) || have_names judged_name only js) ≡ true → NameBlocks choice.last choice.only.items text
+  names_found choice only text js same are found =
+      subst (λ o. NameBlocks choice.last o text) same (λ all is. by (counting choice.last all) (are.holds all is) (first_illegal js) (first_found (counting choice.last all) js (are.holds all is)) found)
     where
-      by : (all : List Block) → AreEvidence text all → AreAllLegal all → (o : Option Judgement) → IsFirstIllegal all o
-          → (is_some o || have_names judged_name only js) ≡ true → have_names block_name only all ≡ true
-      by all is legal None so has = sym (same_names only all js (are.holds all is)) ∙ has
-      by all is legal (Some k) so has = absurd (none_illegal all (illegal_line k) legal so)
+      by : (bs : List Block) → AllZip (IsJudgedBlock keeps) bs js → (o : Option Judgement) → IsFirstIllegal bs o
+          → (is_some o || have_names judged_name only js) ≡ true → AreAllLegal bs → have_names block_name only bs ≡ true
+      by bs each None so has legal = sym (same_names only bs js each) ∙ has
+      by bs each (Some k) so has legal = absurd (none_illegal bs (illegal_line k) legal so)
 
   -- or one of them names none
-  pub names_lacking : (choice : Choice) (only : List Word) (text : List ℕ) (js : List (Judged K)) → only ≡ choice.only.items → AreJudgedIn keeps text js
-      → (is_some (first_illegal js) || have_names judged_name only js) ≡ false → RefusesBlocks choice.only.items text RunFault.Only
+  pub names_lacking : (choice : Choice) (only : List Word) (text : List ℕ) (js : List (Judged K)) → only ≡ choice.only.items → AreJudgedIn keeps choice.last text js
+      → (is_some (first_illegal js) || have_names judged_name only js) ≡ false → RefusesBlocks choice.last choice.only.items text RunFault.Only
   names_lacking choice only text js same are lack =
-      subst (λ o. RefusesBlocks o text RunFault.Only) same (by (first_illegal js) (first_found are.blocks js (are.holds are.blocks are.evidence)) lack)
+      subst (λ o. RefusesBlocks choice.last o text RunFault.Only) same (by (first_illegal js) (first_found bs js each) lack)
     where
-      by : (o : Option Judgement) → IsFirstIllegal are.blocks o → (is_some o || have_names judged_name only js) ≡ false → RefusesBlocks only text RunFault.Only
-      by None so has = (are.blocks, are.evidence, so, sym (same_names only are.blocks js (are.holds are.blocks are.evidence)) ∙ has)
+      bs : List Block
+      bs = counting choice.last are.blocks
+
+      each : AllZip (IsJudgedBlock keeps) bs js
+      each = are.holds are.blocks are.evidence
+
+      by : (o : Option Judgement) → IsFirstIllegal bs o → (is_some o || have_names judged_name only js) ≡ false → RefusesBlocks choice.last only text RunFault.Only
+      by None so has = (are.blocks, are.evidence, so, sym (same_names only bs js each) ∙ has)
       by (Some k) so has = absurd cc
 
   -- ---- what `check` makes of them
 
-  pub all_checked : (picks : Word → Verdict → Bool) (text out : List ℕ) (status : ℕ) (js : List (Judged K)) → AreJudgedIn keeps text js
-      → out ≡ printed picks js → status ≡ (if is_some (first_illegal js) then 3 else 0) → IsChecked (picked_by picks) text out status
-  all_checked picks text out status js are lines status_is = record {
+  pub all_checked : (last : Bool) (picks : Word → Verdict → Bool) (text out : List ℕ) (status : ℕ) (js : List (Judged K)) → AreJudgedIn keeps last text js
+      → out ≡ printed picks js → status ≡ (if is_some (first_illegal js) then 3 else 0) → IsChecked last (picked_by picks) text out status
+  all_checked last picks text out status js are lines status_is = record {
     legal = not (is_some (first_illegal js));
     checks = record {
       blocks = are.blocks;
       evidence = are.evidence;
-      holds = λ all is. subst (λ l. Checks (picked_by picks) all l (not (is_some (first_illegal js)))) (sym lines) (lines_checked picks all js (are.holds all is));
+      holds = λ all is.
+          let bs = counting last all in
+          subst (λ l. Checks (picked_by picks) bs l (not (is_some (first_illegal js)))) (sym lines) (lines_checked picks bs js (are.holds all is));
     };
     status_is = by (is_some (first_illegal js)) status_is;
   }
@@ -127,11 +142,12 @@ module _ {K : Type 0} (keeps : Block → K → Type 0) where
       by true is = is
       by false is = is
 
-  pub blocks_checked : (choice : Choice) (only : List Word) (text out : List ℕ) (status : ℕ) (js : List (Judged K)) → only ≡ choice.only.items → AreJudgedIn keeps text js
+  pub blocks_checked : (choice : Choice) (only : List Word) (text out : List ℕ) (status : ℕ) (js : List (Judged K)) → only ≡ choice.only.items → AreJudgedIn keeps choice.last text js
       → (is_some (first_illegal js) || have_names judged_name only js) ≡ true → out ≡ printed (is_picked only choice.failed) js
-      → status ≡ (if is_some (first_illegal js) then 3 else 0) → IsMadeOfBlocks choice text (IsSilent (IsChecked (is_chosen choice) text)) (Ok (answer_of out [] status))
+      → status ≡ (if is_some (first_illegal js) then 3 else 0)
+      → IsMadeOfBlocks choice text (IsSilent (IsChecked choice.last (is_chosen choice) text)) (Ok (answer_of out [] status))
   blocks_checked choice only text out status js same are found lines status_is = (
-    (all_checked (is_picked choice.only.items choice.failed) text out status js are (lines ∙ ap (λ o. printed (is_picked o choice.failed) js) same) status_is, refl),
+    (all_checked choice.last (is_picked choice.only.items choice.failed) text out status js are (lines ∙ ap (λ o. printed (is_picked o choice.failed) js) same) status_is, refl),
     names_found choice only text js same are found,
   )
 
@@ -174,16 +190,16 @@ picked_reports picks bs js o each first = (subst (IsFirstIllegal bs) (sym first)
         one false is rest = rest
 
 -- all blocks, next to a script
-pub all_reports : (bs : List Block) (js : List (Judged Whole)) (o : Option Judgement) → AllZip (IsJudgedBlock IsWholeOfBlock) bs js
-    → o ≡ first_illegal js → Reports bs bs (map (summary_by (λ w. w.summary)) js) o
-all_reports bs js o each first = (subst (IsFirstIllegal bs) (sym first) (first_found IsWholeOfBlock bs js each), by bs js each)
+pub all_reports : (bs : List Block) (js : List (Judged (Whole Summary))) (o : Option Judgement) → AllZip (IsJudgedBlock (IsWholeOfBlock IsSummaryOf)) bs js
+    → o ≡ first_illegal js → Reports bs bs (map (summary_by (λ w. w.said)) js) o
+all_reports bs js o each first = (subst (IsFirstIllegal bs) (sym first) (first_found (IsWholeOfBlock IsSummaryOf) bs js each), by bs js each)
   where
-    by : (bs : List Block) (js : List (Judged Whole)) → AllZip (IsJudgedBlock IsWholeOfBlock) bs js → AreAllLegal bs → map (summary_by (λ w. w.summary)) js ≡ map summary_at bs
+    by : (bs : List Block) (js : List (Judged (Whole Summary))) → AllZip (IsJudgedBlock (IsWholeOfBlock IsSummaryOf)) bs js → AreAllLegal bs → map (summary_by (λ w. w.said)) js ≡ map summary_at bs
     by [] [] each legal = refl
     by [] (j ∷ js) each legal = absurd each
     by (b ∷ bs) [] each legal = absurd each
     by (b ∷ bs) (j ∷ js) each legal =
-        ap₂ (λ (s : Summary) (l : List Summary). s ∷ l) (each.0.kept.summary (All-head IsLegalBlock b bs legal)) (by bs js each.1 (All-tail IsLegalBlock b bs legal))
+        ap₂ (λ (s : Summary) (l : List Summary). s ∷ l) (each.0.kept.said (All-head IsLegalBlock b bs legal)) (by bs js each.1 (All-tail IsLegalBlock b bs legal))
 
 -- an answer for test cases
 pub answer_made : (form : ReportForm) (text notes lent : List ℕ) (ss : List Summary) (out told : List ℕ) (worst status : ℕ) → IsForm form text ss out → told ≡ notes → lent ≡ notes

@@ -1,6 +1,6 @@
 -- The lemmas of this crate.
 pub mod Lemmas
-pub mod Faults
+pub mod Counting
 pub mod Judging
 pub mod Beside
 pub mod Passing

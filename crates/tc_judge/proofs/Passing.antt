@@ -1,7 +1,7 @@
 -- Test cases that have passed, by the names that blocks have.
 use Rattle.std.proofs.Common.{ℕ, ◌≡◌, ◌∙◌, ◌&&◌, ◌||◌, ◌↔◌, not, All, Bool, true, false, List, [], ◌∷◌, ◌++◌, if◌then◌else◌, filter, ap, ap₂, refl, sym, subst}
 use Rattle.std.proofs.lemmas.List.{Elements.All-cons, Elements.All-head, Elements.All-nil, Elements.All-tail, Folds.list_any-append}
-use Rattle.std.specs.{Cmp.Lexicographic.bytes_decides, List.AllZip, List.list_any}
+use Rattle.std.specs.List.{AllZip, list_any}
 use Rattle.tc_exec.specs.declared.test_case.Case.{Case}
 use Rattle.tc_command.specs.declared.task.Choice.{Choice}
 use Rattle.tc_blocks.specs.declared.block.Block.{Block}
@@ -10,14 +10,10 @@ use Rattle.tc_step.specs.Prelude.{ScriptView}
 use Rattle.tc_answer.specs.Prelude.{AreChosen, blocks_part, script_part, CaseView}
 use Rattle.tc_answer.specs.Inside.{AreReady, AreReadyAs, IsCaseOf, script_name}
 use Rattle.tc_answer.proofs.Lemmas.Chosen.{all_filtered, distinct_filtered, or_left, or_right, zip_with}
-use Rattle.tc_judge.specs.{Inside.AreJudgedIn, Inside.AreReadyToRun, Inside.HasSeen, Inside.IsJudgedBlock, Inside.IsJudgement, Inside.KeepsNothing, Inside.fails, Inside.judges_legal, Inside.passes, Inside.shows_passed, Passed.AreUnpassed, Passed.HasPassed, Passed.ShowsPassed, Picking.is_passing, declared.judged.Judged.Judged, declared.kept.Nothing.Nothing, declared.passed.Seen.Seen, declared.playing.Judgement.Judgement}
-use Rattle.tc_judge.proofs.{Judging.any_named, Lemmas.Playing.no_difference}
+use Rattle.tc_judge.specs.{Inside.AreJudgedIn, Inside.AreReadyToRun, Inside.HasSeen, Inside.IsJudgedBlock, Inside.IsJudgement, Inside.KeepsNothing, Inside.fails, Inside.judges_legal, Inside.passes, Inside.shows_passed, Inside.with_failed, Compared.AreUnpassed, Compared.HasPassed, Compared.ShowsPassed, Check.counting, Check.is_passing, declared.judged.Judged.Judged, declared.kept.Nothing.Nothing, declared.passed.Seen.Seen, declared.playing.Judgement.Judgement}
+use Rattle.tc_judge.proofs.{Counting.same_word, Judging.any_named, Lemmas.no_difference}
 
 -- ---- names
-
-same_word : (a b : Word) → is_text a b ≡ true → a ≡ b
-unfolding is_text
-same_word a b e = (bytes_decides a b).0 e
 
 and_false : (a : Bool) → (a && false) ≡ false
 and_false true = refl
@@ -60,7 +56,7 @@ met_added n test js j ns ms added so =
 
 -- one block more
 pub seen_more : (js : List (Judged Nothing)) (j : Judged Nothing) (s t : Seen) → t.names.keys ≡ add j.name s.names.keys
-    → t.failed.keys ≡ (if passes j then s.failed.keys else add j.name s.failed.keys) → HasSeen js s → HasSeen (js ++ j ∷ []) t
+    → t.failed.keys ≡ with_failed s.failed.keys j → HasSeen js s → HasSeen (js ++ j ∷ []) t
 seen_more js j s t names failed seen n = (
   met_added n (λ x. is_text n x.name) js j s.names.keys t.names.keys (ap (among n) names ∙ among_added n j.name s.names.keys) (seen n).0,
   met_added n (fails n) js j s.failed.keys t.failed.keys (ap (among n) failed ∙ by (passes j)) (seen n).1,
@@ -147,7 +143,7 @@ zip_filtered passed (c ∷ cs) (k ∷ ks) each =
 
 -- of the chosen test cases of a script those that have not passed are ready to be run
 pub ready_unpassed : (choice : Choice) (text : List ℕ) (ks rs : List (Case ScriptView)) (js : List (Judged Nothing)) (s : Seen) → AreReady choice (script_part text) ks
-    → AreJudgedIn KeepsNothing (blocks_part text) js → HasSeen js s → rs ≡ filter (λ k. not (shows_passed s k.name)) ks
+    → AreJudgedIn KeepsNothing choice.last (blocks_part text) js → HasSeen js s → rs ≡ filter (λ k. not (shows_passed s k.name)) ks
     → AreReadyAs (AreUnpassed choice text) rs
 ready_unpassed choice text ks rs js s are judged seen left =
     let test : CaseView → Bool = λ c. not (shows_passed s (script_name c)) in
@@ -160,7 +156,7 @@ ready_unpassed choice text ks rs js s are judged seen left =
         passed = record {
           blocks = judged.blocks;
           evidence = judged.evidence;
-          holds = λ all so. passed_by_names all js s (judged.holds all so) seen;
+          holds = λ all so. passed_by_names (counting choice.last all) js s (judged.holds all so) seen;
         };
         are = refl;
       };

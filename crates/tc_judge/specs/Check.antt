@@ -1,5 +1,5 @@
 -- What `check` prints for histories and evidence, and of them the chosen.
-use Rattle.std.specs.Prelude.{ℕ, ◌≡◌, ◌≢◌, ◌⊎◌, ◌+◌, All, Bool, true, false, if◌then◌else◌, List, [], ◌∷◌, ◌++◌, length, reverse, codes, MatchResult, Option, Result, Err}
+use Rattle.std.specs.Prelude.{ℕ, ◌≡◌, ◌≢◌, ◌⊎◌, ◌+◌, All, Bool, true, false, if◌then◌else◌, List, [], ◌∷◌, ◌++◌, length, reverse, codes, MatchResult, Option, Result, Err, ◌==◌, ◌&&◌, fold, not}
 use Rattle.std.specs.Fmt.{decimal}
 use Rattle.tc_rules.specs.Prelude.{Verdict, name_of, Entry, Reply, answer}
 use Rattle.tc_text.specs.Prelude.{reply_text}
@@ -7,8 +7,36 @@ use Rattle.tc_blocks.specs.declared.{block.Block.Block, line.Line.Line}
 use Rattle.tc_blocks.specs.Prelude.{entries_of, LinesAreLegal, overall_of, AreEvidence, HoldsOfBlocks, IsFault, IsHeader}
 use Rattle.tc_command.specs.declared.task.Choice.{Choice}
 use Rattle.tc_stream.specs.Prelude.{IsRead}
-use Rattle.tc_answer.specs.Prelude.{have_names, IsUnread, RefusesText}
+use Rattle.tc_answer.specs.Prelude.{have_names, IsUnread, RefusesText, is_asked}
 use Rattle.tc_answer.specs.declared.{fault.RunFault.RunFault, reply.Answer.Answer}
+use Rattle.tc_report.specs.Prelude.{verdict_status}
+use Rattle.tc_reader.specs.Prelude.{is_text, Word}
+
+-- the others with this one: in the place of the one of its name, or at the end if there is none
+abbrev pub put : {X : Type 0} → (X → Word) → List X → X → List X
+put name [] x = x ∷ []
+put name (y ∷ ys) x = if is_text (name x) (name y) then x ∷ ys else y ∷ put name ys x
+
+-- those that count: all; or of each name the last, in the place of the first of that name
+abbrev pub that_count : {X : Type 0} → (X → Word) → Bool → List X → List X
+that_count name last xs = if last then fold (put name) [] xs else xs
+
+-- the blocks that count, all or the last of each name
+abbrev pub counting : Bool → List Block → List Block
+counting = that_count (λ b. b.header.name)
+
+-- a verdict is none or pass
+abbrev pub is_passing : Verdict → Bool
+is_passing v = verdict_status v == 0
+
+-- The block is chosen: a pattern matches its name, if there is one; and if only what failed is asked for, its verdict is neither
+-- none nor pass. A shard is of a script, and leaves out no block.
+abbrev pub is_chosen : Choice → Block → Bool
+is_chosen choice b = is_asked choice.only.items b.header.name && not (choice.failed && is_passing b.verdict)
+
+-- the choice leaves out no block
+abbrev pub ChoosesEach : Choice → Type 0
+ChoosesEach choice = (choice.only.items ≡ []) × (choice.failed ≡ false) × (choice.last ≡ false)
 
 -- the line of a legal block: its name, how many entries it has, its verdict
 abbrev pub legal_line : List ℕ → ℕ → Verdict → List ℕ
@@ -43,11 +71,11 @@ pub data Checks (is_chosen : Block → Bool) : List Block → List ℕ → Bool 
       → Checks is_chosen rest out legal → Checks is_chosen (b ∷ rest) ((if is_chosen b then line else []) ++ out) legal
   stops : (b : Block) (rest : List Block) (line : List ℕ) → IsIllegalLine b line → Checks is_chosen (b ∷ rest) line false
 
--- This output says which of the chosen blocks of the text are legal, and which is the first of all that is not. The status
--- is 0 if all are, otherwise 3.
-pub record IsChecked (is_chosen : Block → Bool) (text out : List ℕ) (status : ℕ) : Type 0 where
+-- Of the blocks of the text that count, this output says which of the chosen are legal, and which is the first of all that
+-- is not. The status is 0 if all are, otherwise 3.
+pub record IsChecked (last : Bool) (is_chosen : Block → Bool) (text out : List ℕ) (status : ℕ) : Type 0 where
   pub legal : Bool
-  pub checks : HoldsOfBlocks text (λ all. Checks is_chosen all out legal)
+  pub checks : HoldsOfBlocks text (λ all. Checks is_chosen (counting last all) out legal)
   pub status_is : status ≡ (if legal then 0 else 3)
 
 -- a text is refused as one of histories and evidence, and is none of any
@@ -58,23 +86,26 @@ RefusesHistory text = RefusesText (λ fault. IsFault IsHeader text fault × ((bl
 abbrev pub AreAllLegal : List Block → Type 0
 AreAllLegal = All IsLegalBlock
 
--- each of these patterns matches the name of a block of the text, if all its blocks are legal
-abbrev pub NameBlocks : List (List ℕ) → List ℕ → Type 0
-NameBlocks only text = (all : List Block) → AreEvidence text all → AreAllLegal all → have_names (λ b. b.header.name) only all ≡ true
+-- each of these patterns matches the name of a block of the text, if all its blocks that count are legal
+abbrev pub NameBlocks : Bool → List (List ℕ) → List ℕ → Type 0
+NameBlocks last only text =
+    (all : List Block) → AreEvidence text all → AreAllLegal (counting last all) → have_names (λ b. b.header.name) only (counting last all) ≡ true
 
--- the text is refused as one of histories and evidence; or all its blocks are legal, and some pattern matches the name of none
-abbrev pub RefusesBlocks : List (List ℕ) → List ℕ → RunFault → Type 0
-RefusesBlocks only text RunFault.Only = (all : List Block) × AreEvidence text all × AreAllLegal all × (have_names (λ b. b.header.name) only all ≡ false)
-RefusesBlocks only text fault = RefusesHistory text fault
+-- the text is refused as one of histories and evidence; or all its blocks that count are legal, and some pattern matches the
+-- name of none
+abbrev pub RefusesBlocks : Bool → List (List ℕ) → List ℕ → RunFault → Type 0
+RefusesBlocks last only text RunFault.Only =
+    (all : List Block) × AreEvidence text all × AreAllLegal (counting last all) × (have_names (λ b. b.header.name) only (counting last all) ≡ false)
+RefusesBlocks last only text fault = RefusesHistory text fault
 
 -- an answer of which nothing is printed, with such an output and status
 abbrev pub IsSilent : (List ℕ → ℕ → Type 0) → Answer → Type 0
 IsSilent Is a = Is a.out a.status × (a.told ≡ [])
 
--- The answer is so, and if all blocks are legal, each pattern of the choice matches the name of one. Otherwise the text is
+-- The answer is so, and if all blocks that count are legal, each pattern of the choice matches the name of one. Otherwise the text is
 -- refused, and after its blocks are judged a pattern.
 abbrev pub IsMadeOfBlocks : Choice → List ℕ → (Answer → Type 0) → Result Answer RunFault → Type 0
-IsMadeOfBlocks choice text Is made = MatchResult made (λ a. Is a × NameBlocks choice.only.items text) (RefusesBlocks choice.only.items text)
+IsMadeOfBlocks choice text Is made = MatchResult made (λ a. Is a × NameBlocks choice.last choice.only.items text) (RefusesBlocks choice.last choice.only.items text)
 
 -- the input was read, and this is made of its text; or it was not, and the fault says why
 abbrev pub IsMadeOfInput : ℕ → Option (List ℕ) → (List ℕ → Result Answer RunFault → Type 0) → Result Answer RunFault → Type 0

@@ -1,5 +1,5 @@
 -- Histories and evidence after their script in one text, and what of them is no course of its test cases.
-use Rattle.std.specs.Prelude.{ℕ, ◌≡◌, ◌==◌, ◌≤◌, nat_lt, Bool, true, false, if◌then◌else◌, Option, Some, None, not, List, [], ◌∷◌, ◌++◌, codes, filter, length, map, position, reverse, slice_get}
+use Rattle.std.specs.Prelude.{ℕ, ◌≡◌, ◌==◌, ◌≤◌, nat_lt, Bool, true, false, if◌then◌else◌, Option, Some, None, not, List, [], ◌∷◌, ◌++◌, codes, filter, length, map, position, reverse, slice_get, ◌↔◌, All}
 use Rattle.std.specs.{List.flat_map, List.list_any, Option.option_map_or}
 use Rattle.tc_command.specs.declared.task.{Choice.Choice, ReportForm.ReportForm}
 use Rattle.tc_answer.specs.declared.{fault.RunFault.RunFault, reply.Answer.Answer}
@@ -9,7 +9,7 @@ use Rattle.tc_course.specs.Prelude.{IsWitness}
 use Rattle.tc_step.specs.Prelude.{ScriptView}
 use Rattle.tc_reader.specs.Prelude.{is_text, CampaignView, Word}
 use Rattle.tc_answer.specs.Prelude.{AreChosen, RefusesChoice, CaseView, scripts_of, script_part, blocks_part}
-use Rattle.tc_judge.specs.{Check.IsChecked, Check.RefusesHistory, Report.IsReport, declared.compare.Wrong.Wrong}
+use Rattle.tc_judge.specs.{Check.IsChecked, Check.RefusesHistory, Check.counting, Report.IsReport, declared.compare.Wrong.Wrong, Check.IsLegalBlock, Check.is_passing}
 
 -- the place of the test case of this name in the script
 abbrev pub place_in : CampaignView → Word → Option ℕ
@@ -71,16 +71,16 @@ pub record IsCompared (cases : CampaignView) (blocks : List Block) (out : List �
 
 -- ---- a whole text
 
--- The text is a script, and histories and evidence after it. What `check` prints for the blocks is printed, and then what is
+-- The text is a script, and histories and evidence after it. What `check` prints for the blocks that count is printed, and then what is
 -- wrong with them as courses of the chosen test cases. The status is that of `check` if nothing is wrong, otherwise 3.
 pub record IsCheckedAgainst (choice : Choice) (text out : List ℕ) (status : ℕ) : Type 0 where
   pub cases : CampaignView
   pub chosen : AreChosen choice (script_part text) cases
   pub lines : List ℕ
   pub checked : ℕ
-  pub are_checked : IsChecked (λ b. true) (blocks_part text) lines checked
+  pub are_checked : IsChecked choice.last (λ b. true) (blocks_part text) lines checked
   pub notes : List ℕ
-  pub compared : (blocks : List Block) → AreEvidence (blocks_part text) blocks → IsCompared cases blocks notes
+  pub compared : (blocks : List Block) → AreEvidence (blocks_part text) blocks → IsCompared cases (counting choice.last blocks) notes
   pub out_is : out ≡ lines ++ notes
   pub status_is : status ≡ (if length notes == 0 then checked else 3)
 
@@ -91,11 +91,40 @@ RefusesAgainst choice text (RunFault.Text fault) =
     ((cases : CampaignView) × AreChosen choice (script_part text) cases) × RefusesHistory (blocks_part text) (RunFault.Text fault)
 RefusesAgainst choice text fault = RefusesChoice choice (script_part text) fault
 
--- The text is a script, and histories and evidence after it. Their test cases are reported, and after them the chosen ones that
--- are missing; what is wrong goes to standard error.
+-- The text is a script, and histories and evidence after it. The test cases of those that count are reported, and after them
+-- the chosen ones that are missing; what is wrong goes to standard error.
 pub record IsReportedAgainst (form : ReportForm) (choice : Choice) (text : List ℕ) (a : Answer) : Type 0 where
   pub cases : CampaignView
   pub chosen : AreChosen choice (script_part text) cases
   pub notes : List ℕ
   pub made : HoldsOfBlocks (blocks_part text) (λ all.
-      IsCompared cases all notes × IsReport form (blocks_part text) all all (missing (reverse all) cases) notes a)
+      let blocks = counting choice.last all in
+      IsCompared cases blocks notes × IsReport form (blocks_part text) blocks blocks (missing (reverse blocks) cases) notes a)
+
+-- ---- the test cases that the blocks show to have passed
+
+-- the block shows its test case to have passed: it is legal, and its verdict is none or pass
+abbrev pub ShowsPassed : Block → Type 0
+ShowsPassed b = IsLegalBlock b × (is_passing b.verdict ≡ true)
+
+-- a block has this name, and each block of this name shows its test case to have passed
+pub record HasPassed (blocks : List Block) (name : Word) : Type 0 where
+  pub some : has_block_named blocks name ≡ true
+  pub each : All (λ b. is_text name b.header.name ≡ true → ShowsPassed b) blocks
+
+-- the text is a script, and histories and evidence after it; these are the chosen test cases of the script but those that
+-- have passed by the blocks that count
+pub record AreUnpassed (choice : Choice) (text : List ℕ) (cases : CampaignView) : Type 0 where
+  pub all : CampaignView
+  pub chosen : AreChosen choice (script_part text) all
+  pub has_passed : Word → Bool
+  pub passed : HoldsOfBlocks (blocks_part text) (λ all. (name : Word) → (has_passed name ≡ true) ↔ HasPassed (counting choice.last all) name)
+  pub are : cases ≡ filter (λ c. not (has_passed c.0)) all
+
+-- these are the test cases that a run is asked for: the chosen ones, without those that have passed if it is asked for
+abbrev pub AreToRun : Choice → List ℕ → CampaignView → Type 0
+AreToRun choice = elim choice.failed [ true ↦ AreUnpassed choice | false ↦ AreChosen choice ]
+
+-- the text is refused, which then has histories and evidence after its script
+abbrev pub RefusesRun : Choice → List ℕ → RunFault → Type 0
+RefusesRun choice = elim choice.failed [ true ↦ RefusesAgainst choice | false ↦ RefusesChoice choice ]

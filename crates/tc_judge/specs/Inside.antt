@@ -5,7 +5,7 @@ use Rattle.tc_entry.specs.declared.limits.TheConstants.{BEHAVIOURS}
 use Rattle.tc_rules.specs.Prelude.{Verdict, Entry, Kept, StandsFor, answer, name_of, Reply}
 use Rattle.tc_text.specs.Prelude.{reply_text}
 use Rattle.tc_step.specs.Prelude.{ScriptView}
-use Rattle.tc_reader.specs.Prelude.{is_text, Word, among, has_twice, CampaignView}
+use Rattle.tc_reader.specs.Prelude.{is_text, Word, add, among, has_twice, CampaignView}
 use Rattle.tc_blocks.specs.Prelude.{entries_of, entry_in, HoldsOfBlocks, LinesAreLegal, history_of, overall_of}
 use Rattle.tc_blocks.specs.declared.{block.Block.Block, header.Header.Header, line.Line.Line as BlockLine}
 use Rattle.tc_report.specs.Prelude.{block_summary}
@@ -14,7 +14,7 @@ use Rattle.tc_exec.specs.declared.test_case.Case.{Case}
 use Rattle.tc_command.specs.declared.task.{Choice.Choice, ReportForm.ReportForm}
 use Rattle.tc_answer.specs.Prelude.{is_asked, CaseView}
 use Rattle.tc_answer.specs.Inside.{AreReadyAs, place_text, IsCaseOf}
-use Rattle.tc_judge.specs.{Check.AreAllLegal, Check.Checks, Check.IsLegalBlock, Check.legal_line, Compared.AreJudged, Compared.IsCompared, Compared.IsJudged, Compared.has_block_named, Compared.has_later, Compared.missing, Passed.AreToRun, Picking.is_passing, declared.compare.Comparing.Comparing, declared.compare.Comparison.Comparison, declared.compare.Wrong.Wrong, declared.judged.Judged.Judged, declared.judged.Recorded.Recorded, declared.kept.Nothing.Nothing, declared.kept.Whole.Whole, declared.passed.Seen.Seen, declared.playing.Difference.Difference, declared.playing.Judgement.Judgement, declared.playing.Playing.Playing}
+use Rattle.tc_judge.specs.{Check.AreAllLegal, Check.Checks, Check.IsLegalBlock, Check.legal_line, Compared.AreJudged, Compared.IsCompared, Compared.IsJudged, Compared.has_block_named, Compared.has_later, Compared.missing, Compared.AreToRun, Check.counting, Check.is_passing, Check.put, declared.compare.Comparing.Comparing, declared.compare.Comparison.Comparison, declared.compare.Wrong.Wrong, declared.judged.Judged.Judged, declared.judged.Recorded.Recorded, declared.kept.Nothing.Nothing, declared.kept.Whole.Whole, declared.passed.Seen.Seen, declared.playing.Difference.Difference, declared.playing.Judgement.Judgement, declared.playing.Playing.Playing}
 
 -- the name of a block
 abbrev pub block_name : Block → Word
@@ -107,9 +107,9 @@ KeepsNothing b kept = Unit {0}
 abbrev pub IsSummaryOf : Block → Summary → Type 0
 IsSummaryOf b s = IsLegalBlock b → s ≡ block_summary (history_of b)
 
--- and what is kept of it next to a script
-pub record IsWholeOfBlock (b : Block) (w : Whole) : Type 0 where
-  pub summary : IsSummaryOf b w.summary
+-- and what is kept of it next to a script: what is said of it, and its entries
+pub record IsWholeOfBlock {S : Type 0} (says : Block → S → Type 0) (b : Block) (w : Whole S) : Type 0 where
+  pub said : says b w.said
   pub behaviours : w.behaviours ≡ b.header.behaviours
   pub entries : w.entries.items ≡ entries_of b.lines
 
@@ -120,13 +120,17 @@ pub record IsJudgedBlock {K : Type 0} (keeps : Block → K → Type 0) (b : Bloc
   pub judgement : IsJudgement b j.judgement
   pub kept : keeps b j.kept
 
--- the text is that of histories and evidence, and whatever blocks it is of, they were judged so
-abbrev pub AreJudgedIn : {K : Type 0} → (Block → K → Type 0) → List ℕ → List (Judged K) → Type 0
-AreJudgedIn {K} keeps text js = HoldsOfBlocks text (λ all. AllZip (IsJudgedBlock keeps) all js)
+-- the text is that of histories and evidence, and whatever blocks it is of, those that count were judged so
+abbrev pub AreJudgedIn : {K : Type 0} → (Block → K → Type 0) → Bool → List ℕ → List (Judged K) → Type 0
+AreJudgedIn {K} keeps last text js = HoldsOfBlocks text (λ all. AllZip (IsJudgedBlock keeps) (counting last all) js)
 
 -- the name of a judged block
 abbrev pub judged_name : {K : Type 0} → Judged K → Word
 judged_name j = j.name
+
+-- of these judged blocks, and one more put to them, these are the names and the blocks
+abbrev pub PutsNext : {K : Type 0} → List (Judged K) → Judged K → List Word → List (Judged K) → Type 0
+PutsNext old j names new = (names ≡ map judged_name new) × (length names ≡ length new) × (new ≡ put judged_name old j)
 
 -- the judgement of the first block that is not legal
 abbrev pub first_illegal : {K : Type 0} → List (Judged K) → Option Judgement
@@ -179,6 +183,10 @@ passes j = judges_legal j.judgement && is_passing j.verdict
 abbrev pub fails : Word → Judged Nothing → Bool
 fails name j = not (passes j) && is_text name j.name
 
+-- the names of the blocks that do not show it, with one block more
+abbrev pub with_failed : List Word → Judged Nothing → List Word
+with_failed ns j = if passes j then ns else add j.name ns
+
 -- these are the names that the blocks have, and those of the blocks that do not show their test cases to have passed
 abbrev pub HasSeen : List (Judged Nothing) → Seen → Type 0
 HasSeen js s = (name : Word) → (among name s.names.keys ≡ list_any (λ j. is_text name j.name) js) × (among name s.failed.keys ≡ list_any (fails name) js)
@@ -216,15 +224,15 @@ pub record StandsBeside (cases : CampaignView) (before : List Block) (c : Compar
   pub next : (p : ℕ) → has_later cases before p ≡ nat_lt (p + 1) c.next
 
 -- a block was taken in after those before it, and this is wrong with it, if something is
-abbrev pub Judges : Comparing → Judged Whole → Option Wrong → Comparing → Type 0
-Judges c j wrong after =
-    (cases : CampaignView) (before : List Block) (b : Block) → IsJudgedBlock IsWholeOfBlock b j → has_twice (map (λ t. t.0) cases) ≡ false
+abbrev pub Judges : {S : Type 0} → (Block → S → Type 0) → Comparing → Judged (Whole S) → Option Wrong → Comparing → Type 0
+Judges says c j wrong after =
+    (cases : CampaignView) (before : List Block) (b : Block) → IsJudgedBlock (IsWholeOfBlock says) b j → has_twice (map (λ t. t.0) cases) ≡ false
     → StandsBeside cases before c → StandsBeside cases (b ∷ before) after × IsJudged cases before b wrong
 
 -- the same, and what is wrong with it is said after what is said of those before it
-abbrev pub SaysNext : Comparing → Judged Whole → List ℕ → Comparing → List ℕ → Type 0
-SaysNext c j out after new =
-    (cases : CampaignView) (before : List Block) (b : Block) → IsJudgedBlock IsWholeOfBlock b j → has_twice (map (λ t. t.0) cases) ≡ false
+abbrev pub SaysNext : {S : Type 0} → (Block → S → Type 0) → Comparing → Judged (Whole S) → List ℕ → Comparing → List ℕ → Type 0
+SaysNext says c j out after new =
+    (cases : CampaignView) (before : List Block) (b : Block) → IsJudgedBlock (IsWholeOfBlock says) b j → has_twice (map (λ t. t.0) cases) ≡ false
     → StandsBeside cases before c → AreJudged cases before out → StandsBeside cases (b ∷ before) after × AreJudged cases (b ∷ before) new
 
 -- the test case at this place was added, if no block has its name

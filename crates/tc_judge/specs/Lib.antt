@@ -1,9 +1,7 @@
 -- The definitions that the contracts of this crate cite.
 pub mod Check
-pub mod Picking
 pub mod Report
 pub mod Compared
-pub mod Passed
 pub mod Inside
 pub mod Prelude
 pub use Rattle.tc_stream.specs.Prelude as OfStream

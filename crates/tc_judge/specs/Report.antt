@@ -5,16 +5,16 @@ use Rattle.tc_blocks.specs.Prelude.{HoldsOfBlocks, history_of}
 use Rattle.tc_blocks.specs.declared.block.Block.{Block}
 use Rattle.tc_answer.specs.Prelude.{page_of}
 use Rattle.tc_report.specs.declared.{results.CaseEnd.CaseEnd, summary.Summary.Summary}
-use Rattle.tc_report.specs.Prelude.{csv_of, junit_of, verdict_status, worst_of, bare_summary, block_summary, IsSummary}
+use Rattle.tc_report.specs.Prelude.{csv_of, junit_of, verdict_status, worst_of, bare_summary, block_summary, summary_text}
 use Rattle.tc_answer.specs.declared.reply.Answer.{Answer}
-use Rattle.tc_judge.specs.Check.{AreAllLegal, Checks}
+use Rattle.tc_judge.specs.{Check.AreAllLegal, Check.Checks, Check.counting}
 
 -- this is the form of blocks by their text and the summaries of their test cases
 abbrev pub IsForm : ReportForm → List ℕ → List Summary → List ℕ → Type 0
 IsForm ReportForm.Csv text ss out = out ≡ csv_of ss
 IsForm (ReportForm.Junit suite) text ss out = out ≡ junit_of VERSION.now suite ss
 IsForm ReportForm.Html text ss out = out ≡ page_of text
-IsForm ReportForm.Summary text ss out = IsSummary ss out
+IsForm ReportForm.Summary text ss out = out ≡ summary_text ss
 
 -- this is answered for test cases, with these lines for standard error: their form, and their status, or 3 if there is a line
 abbrev pub AnswersCases : ReportForm → List ℕ → List ℕ → List Summary → Answer → Type 0
@@ -35,6 +35,6 @@ pub data IsReport (form : ReportForm) (text : List ℕ) (blocks chosen : List Bl
   legal : AreAllLegal blocks → AnswersCases form text notes (summaries_of chosen missing) a → IsReport form text blocks chosen missing notes a
   illegal : (line : List ℕ) → Checks (λ b. false) blocks line false → a ≡ unreported line → IsReport form text blocks chosen missing notes a
 
--- this is answered for the chosen blocks of the text
-abbrev pub IsReported : ReportForm → (Block → Bool) → List ℕ → Answer → Type 0
-IsReported form is_chosen text a = HoldsOfBlocks text (λ all. IsReport form text all (filter is_chosen all) [] [] a)
+-- this is answered for the blocks of the text that count and are chosen
+abbrev pub IsReported : ReportForm → Bool → (Block → Bool) → List ℕ → Answer → Type 0
+IsReported form last is_chosen text a = HoldsOfBlocks text (λ all. IsReport form text (counting last all) (filter is_chosen (counting last all)) [] [] a)

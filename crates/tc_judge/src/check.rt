@@ -1,12 +1,11 @@
 //! The subcommand `check`.
 ghost use Rattle.std.specs.Prelude.{◌≡◌, List, ℕ, if◌then◌else◌, is_some};
 ghost use Rattle.tc_answer.specs.declared.limits.TheConstants.{HISTORY_LIMIT};
-ghost use Rattle.tc_judge.specs.{Check.IsChecked, Check.IsMadeOfBlocks, Check.IsMadeOfInput, Check.IsSilent, Inside.AreJudgedIn, Inside.first_illegal as spec_first, Picking.is_chosen};
+ghost use Rattle.tc_judge.specs.{Check.IsChecked, Check.IsMadeOfBlocks, Check.IsMadeOfInput, Check.IsSilent, Inside.AreJudgedIn, Inside.first_illegal as spec_first, Check.is_chosen};
 
 use crate::judged::{Judged, first_illegal, judge_input, judge_text};
 use crate::kept::{Keeps, Nothing};
-use crate::lines::printed_lines;
-use crate::picked::name_blocks;
+use crate::lines::{name_blocks, printed_lines};
 use std::alloc::Global;
 use std::io::Read;
 use tc_answer::{Answer, REFUSED, RunFault};
@@ -29,8 +28,8 @@ fn checked<K: Keeps + Drop>(
     choice: &Choice,
     blocks: &[Judged<K>],
 ) -> Result<Answer, RunFault>
-    ensures { (text : List ℕ) → AreJudgedIn K.keeps text blocks.now
-        → IsMadeOfBlocks choice.now text (IsSilent (IsChecked (is_chosen choice.now) text)) result }
+    ensures { (text : List ℕ) → AreJudgedIn K.keeps choice.now.last text blocks.now
+        → IsMadeOfBlocks choice.now text (IsSilent (IsChecked choice.now.last (is_chosen choice.now) text)) result }
 {
     let only = choice.only.as_slice();
     if !name_blocks(only, blocks) {
@@ -40,12 +39,12 @@ fn checked<K: Keeps + Drop>(
     Ok(Answer::silent(alloc, out, checked_status(blocks)))
 }
 
-/// What `check` makes of a text of histories and evidence: which of the chosen blocks are legal, up to the first of all that
-/// is not, and the status 0 if all are, otherwise 3. If all are, each pattern has to match the name of one.
+/// What `check` makes of the blocks of a text that count: which of the chosen are legal, up to the first of all that is not,
+/// and the status 0 if all are, otherwise 3. If all are, each pattern has to match the name of one.
 pub fn check_text(alloc: Global, choice: &Choice, text: &[u8]) -> Result<Answer, RunFault>
-    ensures { IsMadeOfBlocks choice.now text.now (IsSilent (IsChecked (is_chosen choice.now) text.now)) result }
+    ensures { IsMadeOfBlocks choice.now text.now (IsSilent (IsChecked choice.now.last (is_chosen choice.now) text.now)) result }
 {
-    let blocks = judge_text::<Nothing>(alloc, text)?;
+    let blocks = judge_text::<Nothing>(alloc, choice.last, text)?;
     checked(alloc, choice, blocks.as_slice())
 }
 
@@ -56,8 +55,8 @@ pub fn check_input<R: Read>(
     reader: &mut R,
 ) -> Result<Answer, RunFault>
     ensures { IsMadeOfInput HISTORY_LIMIT (R.remaining reader.old)
-        (λ text made. IsMadeOfBlocks choice.now text (IsSilent (IsChecked (is_chosen choice.now) text)) made) result }
+        (λ text made. IsMadeOfBlocks choice.now text (IsSilent (IsChecked choice.now.last (is_chosen choice.now) text)) made) result }
 {
-    let blocks = judge_input::<R, Nothing>(alloc, reader)?;
+    let blocks = judge_input::<R, Nothing>(alloc, choice.last, reader)?;
     checked(alloc, choice, blocks.as_slice())
 }

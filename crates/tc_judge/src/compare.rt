@@ -10,7 +10,7 @@ ghost use Rattle.tc_judge.specs.{Compared.IsCheckedAgainst, Compared.IsCourseOf,
 
 use crate::check::checked_status;
 use crate::judged::{Judged, first_illegal, judge_text};
-use crate::kept::Whole;
+use crate::kept::{Nothing, Says, Whole};
 use crate::lines::printed_lines;
 use crate::passed::add_name;
 use crate::report::{noted_status, report_blocks};
@@ -21,6 +21,7 @@ use tc_command::{Choice, ReportForm};
 use tc_course::is_course;
 use tc_entry::Name;
 use tc_exec::Case;
+use tc_report::Summary;
 use tc_step::Script;
 use tc_text::append_text;
 use tc_verdict::NoMemory;
@@ -66,9 +67,13 @@ fn append_note(out: &mut Vec<u8>, name: &Name, wrong: Wrong) -> Result<(), NoMem
 }
 
 // Whether the block is a complete course of these scripts, with its verdict.
-fn is_course_of(alloc: Global, scripts: &[Script], block: &Judged<Whole>) -> Result<bool, NoMemory>
+fn is_course_of<S: Says + Drop>(
+    alloc: Global,
+    scripts: &[Script],
+    block: &Judged<Whole<S>>,
+) -> Result<bool, NoMemory>
     requires { length scripts.now ≤ BEHAVIOURS }
-    ensures { IfOk result (λ is. (b : Block) → IsJudgedBlock IsWholeOfBlock b block.now → (is ≡ true) ↔ IsCourseOf scripts.now b) }
+    ensures { IfOk result (λ is. (b : Block) → IsJudgedBlock (IsWholeOfBlock S.says) b block.now → (is ≡ true) ↔ IsCourseOf scripts.now b) }
 {
     let Whole {
         behaviours,
@@ -133,10 +138,14 @@ impl Comparing {
     }
 
     // Takes the next block in, and says what is wrong with it, if something is.
-    fn take(&mut self, alloc: Global, block: &Judged<Whole>) -> Result<Option<Wrong>, NoMemory>
+    fn take<S: Says + Drop>(
+        &mut self,
+        alloc: Global,
+        block: &Judged<Whole<S>>,
+    ) -> Result<Option<Wrong>, NoMemory>
         requires { IsWhole self.old }
         ensures whole { OnOk result (IsWhole self.new) }
-        ensures judged { IfOk result (λ wrong. Judges self.old block.now wrong self.new) }
+        ensures judged { IfOk result (λ wrong. Judges S.says self.old block.now wrong self.new) }
     {
         let Some(place) = self.place_of(&block.name) else {
             return Ok(Some(Wrong::Unknown));
@@ -159,15 +168,15 @@ impl Comparing {
     // Takes the next block in, and appends the line that says what is wrong with it, if something is; if memory runs out, a
     // part of it.
     #[tactic(auto, using(crate::proofs::Beside::saying_rules))]
-    fn append_judged(
+    fn append_judged<S: Says + Drop>(
         &mut self,
         alloc: Global,
         out: &mut Vec<u8>,
-        block: &Judged<Whole>,
+        block: &Judged<Whole<S>>,
     ) -> Result<(), NoMemory>
         requires { IsWhole self.old }
         ensures whole { OnOk result (IsWhole self.new) }
-        ensures says { OnOk result (SaysNext self.old block.now out.old.items self.new out.new.items) }
+        ensures says { OnOk result (SaysNext S.says self.old block.now out.old.items self.new out.new.items) }
     {
         if let Some(wrong) = self.take(alloc, block)? {
             append_note(out, &block.name, wrong)?;
@@ -223,14 +232,14 @@ pub(crate) struct Comparison {
 }
 
 /// What is wrong with the blocks as courses of the test cases.
-pub(crate) fn compare(
+pub(crate) fn compare<S: Says + Drop>(
     alloc: Global,
     ready: Vec<Case<Script>>,
-    blocks: &[Judged<Whole>],
+    blocks: &[Judged<Whole<S>>],
 ) -> Result<Comparison, NoMemory>
     requires { AreComparable ready.items }
     ensures { IfOk result (λ r. (cases : CampaignView) (all : List Block) → AllZip IsCaseOf cases ready.items
-        → AllZip (IsJudgedBlock IsWholeOfBlock) all blocks.now → Finds cases all r) }
+        → AllZip (IsJudgedBlock (IsWholeOfBlock S.says)) all blocks.now → Finds cases all r) }
 {
     let mut comparing = Comparing::new(alloc, ready)?;
     let mut notes = Vec::new(alloc);
@@ -265,7 +274,7 @@ pub fn compare_text(alloc: Global, choice: &Choice, text: &[u8]) -> Result<Answe
 {
     let ready = chosen_before(alloc, choice, text)?;
     let (_, rest) = split_script(text);
-    let blocks = judge_text::<Whole>(alloc, rest)?;
+    let blocks = judge_text::<Whole<Nothing>>(alloc, choice.last, rest)?;
     let mut out = printed_lines(alloc, blocks.as_slice(), &[], false)?;
     let Comparison { notes, missing } = compare(alloc, ready, blocks.as_slice())?;
     drop(missing);
@@ -288,7 +297,7 @@ pub fn report_compared(
 {
     let ready = chosen_before(alloc, choice, text)?;
     let (_, rest) = split_script(text);
-    let blocks = judge_text::<Whole>(alloc, rest)?;
+    let blocks = judge_text::<Whole<Summary>>(alloc, choice.last, rest)?;
     let illegal = first_illegal(blocks.as_slice());
     let Comparison { notes, missing } = compare(alloc, ready, blocks.as_slice())?;
     let answer = report_blocks(

@@ -1,13 +1,16 @@
 //! The blocks of a text, each of which is judged: what all that reads histories and evidence is made of.
-ghost use Rattle.std.specs.Prelude.{◌≡◌, ◌++◌, ◌⊎◌, IfOk, IfErr, OnOk};
+ghost use Rattle.std.specs.Prelude.{◌≡◌, ◌<◌, ◌++◌, ◌⊎◌, IfOk, IfErr, IfSome, OnOk, false, length, map, position, true};
 ghost use Rattle.std.specs.List.{AllZip};
 ghost use Rattle.tc_stream.specs.Prelude.{IsRead};
+ghost use Rattle.tc_reader.specs.Prelude.{is_text};
 ghost use Rattle.tc_answer.specs.Prelude.{IsUnread};
 ghost use Rattle.tc_answer.specs.declared.limits.TheConstants.{HISTORY_LIMIT};
-ghost use Rattle.tc_judge.specs.{Check.RefusesHistory, Inside.AreJudgedIn, Inside.IsJudgedBlock, Inside.IsRecorded, Inside.first_illegal as spec_first, Inside.recorded_in};
+ghost use Rattle.tc_judge.specs.{Check.RefusesHistory, Inside.AreJudgedIn, Inside.IsJudgedBlock, Inside.IsRecorded, Inside.PutsNext, Inside.first_illegal as spec_first, Inside.judged_name, Inside.recorded_in, Check.that_count};
 
 use crate::kept::Keeps;
+use crate::passed::add_name;
 use crate::playing::{Judgement, Playing};
+use indexmap::IndexSet;
 use std::alloc::Global;
 use std::io::Read;
 use tc_answer::{HISTORY_LIMIT, RunFault, of_input};
@@ -129,6 +132,61 @@ impl<K: Keeps + Drop> TakesEvidence for Judging<K> {
     }
 }
 
+// The place of the name among these.
+#[tactic(auto, unfolding(tc_reader::specs::Words::is_text))]
+fn place_among(names: &IndexSet<Name>, name: &Name) -> Option<usize>
+    ensures is { result ≡ position (is_text name.now) names.now.keys }
+    ensures within { IfSome result (λ p. p < length names.now.keys) }
+{
+    names.get_index_of(name)
+}
+
+// Puts the block in the place of the one of its name, or at the end. These are the names of the others.
+fn put<K: Drop>(
+    names: &mut IndexSet<Name>,
+    blocks: &mut Vec<Judged<K>>,
+    block: Judged<K>,
+) -> Result<(), NoMemory>
+    requires names { names.old.keys ≡ map judged_name blocks.old.items }
+    requires even { length names.old.keys ≡ length blocks.old.items }
+    ensures { OnOk result (PutsNext blocks.old.items block names.new.keys blocks.new.items) }
+{
+    if let Some(place) = place_among(names, &block.name) {
+        blocks[place] = block;
+        return Ok(());
+    }
+    add_name(names, &block.name)?;
+    blocks.push(block)?;
+    Ok(())
+}
+
+// Of the blocks the last of each name, in the place of the first.
+fn last_of<K: Drop>(alloc: Global, blocks: Vec<Judged<K>>) -> Result<Vec<Judged<K>>, NoMemory>
+    ensures { IfOk result (λ v. v.items ≡ that_count judged_name true blocks.items) }
+{
+    let mut names = IndexSet::new(alloc);
+    let mut last = Vec::new(alloc);
+    for block in blocks {
+        put(&mut names, &mut last, block)?;
+    }
+    Ok(last)
+}
+
+// The blocks that count.
+fn counted<K: Drop>(
+    alloc: Global,
+    last: bool,
+    blocks: Vec<Judged<K>>,
+) -> Result<Vec<Judged<K>>, NoMemory>
+    ensures { IfOk result (λ v. v.items ≡ that_count judged_name last blocks.items) }
+{
+    if last {
+        last_of(alloc, blocks)
+    } else {
+        Ok(blocks)
+    }
+}
+
 // The blocks that were judged.
 fn blocks_of<K: Keeps + Drop>(judging: Judging<K>) -> Vec<Judged<K>>
     ensures { result ≡ judging.blocks }
@@ -137,24 +195,21 @@ fn blocks_of<K: Keeps + Drop>(judging: Judging<K>) -> Vec<Judged<K>>
     blocks
 }
 
-/// The blocks that the text spells, each judged; otherwise the text's first fault, or NoMemory.
-pub(crate) fn judge_text<K: Keeps + Drop>(
-    alloc: Global,
-    text: &[u8],
-) -> Result<Vec<Judged<K>>, RunFault>
-    ensures judged { IfOk result (λ v. AreJudgedIn K.keeps text.now v.items) }
+// All blocks that the text spells, each judged; otherwise the text's first fault, or NoMemory.
+fn judge_all<K: Keeps + Drop>(alloc: Global, text: &[u8]) -> Result<Vec<Judged<K>>, RunFault>
+    ensures judged { IfOk result (λ v. AreJudgedIn K.keeps false text.now v.items) }
     ensures refused { IfErr result (RefusesHistory text.now) }
 {
     let judging: Judging<K> = read_evidence_into(alloc, text)?;
     Ok(blocks_of(judging))
 }
 
-/// The same of the text of an input, of which only a part is in memory at a time; or why the input was not read.
-pub(crate) fn judge_input<R: Read, K: Keeps + Drop>(
+// The same of the text of an input, of which only a part is in memory at a time; or why the input was not read.
+fn judge_all_input<R: Read, K: Keeps + Drop>(
     alloc: Global,
     reader: &mut R,
 ) -> Result<Vec<Judged<K>>, RunFault>
-    ensures judged { IfOk result (λ v. IsRead HISTORY_LIMIT (R.remaining reader.old) (λ text. AreJudgedIn K.keeps text v.items)) }
+    ensures judged { IfOk result (λ v. IsRead HISTORY_LIMIT (R.remaining reader.old) (λ text. AreJudgedIn K.keeps false text v.items)) }
     ensures refused { IfErr result (λ fault. IsUnread HISTORY_LIMIT (R.remaining reader.old) fault
         ⊎ IsRead HISTORY_LIMIT (R.remaining reader.old) (λ text. RefusesHistory text fault)) }
 {
@@ -163,4 +218,32 @@ pub(crate) fn judge_input<R: Read, K: Keeps + Drop>(
         Ok(Err(fault)) => Err(RunFault::from(fault)),
         Err(fault) => Err(of_input(fault)),
     }
+}
+
+/// Of the blocks that the text spells those that count, each judged; otherwise the text's first fault, or NoMemory.
+#[tactic(auto, using(crate::proofs::Counting::counted_judged))]
+pub(crate) fn judge_text<K: Keeps + Drop>(
+    alloc: Global,
+    last: bool,
+    text: &[u8],
+) -> Result<Vec<Judged<K>>, RunFault>
+    ensures judged { IfOk result (λ v. AreJudgedIn K.keeps last text.now v.items) }
+    ensures refused { IfErr result (RefusesHistory text.now) }
+{
+    let blocks = judge_all::<K>(alloc, text)?;
+    Ok(counted(alloc, last, blocks)?)
+}
+
+/// The same of an input, of which only a part is in memory at a time; or why it was not read.
+pub(crate) fn judge_input<R: Read, K: Keeps + Drop>(
+    alloc: Global,
+    last: bool,
+    reader: &mut R,
+) -> Result<Vec<Judged<K>>, RunFault>
+    ensures judged { IfOk result (λ v. IsRead HISTORY_LIMIT (R.remaining reader.old) (λ text. AreJudgedIn K.keeps last text v.items)) }
+    ensures refused { IfErr result (λ fault. IsUnread HISTORY_LIMIT (R.remaining reader.old) fault
+        ⊎ IsRead HISTORY_LIMIT (R.remaining reader.old) (λ text. RefusesHistory text fault)) }
+{
+    let blocks = judge_all_input::<R, K>(alloc, reader)?;
+    Ok(counted(alloc, last, blocks)?)
 }

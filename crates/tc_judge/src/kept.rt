@@ -1,5 +1,6 @@
 //! What is kept of a block that is judged.
 ghost use Rattle.std.specs.Prelude.{◌≡◌, Bool, IfOk, false, true};
+ghost use Rattle.tc_blocks.specs.Prelude.{entries_of};
 ghost use Rattle.tc_blocks.specs.declared.block.Block.{Block};
 ghost use Rattle.tc_report.specs.declared.summary.Summary.{Summary};
 ghost use Rattle.tc_judge.specs.Inside.{IsPlayed, IsSummaryOf, IsWholeOfBlock, KeepsNothing, recorded};
@@ -9,6 +10,17 @@ use std::alloc::Global;
 use tc_entry::NoMemory;
 use tc_report::Summary;
 use tc_rules::Entry;
+
+/// What is said of a block that was played with its entries.
+pub(crate) trait Says: Sized {
+    /// The value is what is said of the block.
+    ghost says: { Block → Self → Type 0 };
+
+    /// What is said of the block.
+    fn say(alloc: Global, playing: &Playing, entries: &[Entry]) -> Result<Self, NoMemory>
+        ensures { IfOk result (λ said. (b : Block) → IsPlayed b.first_line b.header b.lines playing.now
+            → entries.now ≡ entries_of b.lines → says b said) };
+}
 
 /// What is kept of a block besides its name, its verdict and its judgement.
 pub(crate) trait Keeps: Sized {
@@ -39,6 +51,14 @@ pub(crate) trait Summarizes: Sized {
 #[derive(Drop)]
 pub(crate) struct Nothing;
 
+impl Says for Nothing {
+    ghost says = { KeepsNothing };
+
+    fn say(_alloc: Global, _playing: &Playing, _entries: &[Entry]) -> Result<Nothing, NoMemory> {
+        Ok(Nothing)
+    }
+}
+
 impl Keeps for Nothing {
     ghost RECORDS = { false };
 
@@ -52,6 +72,15 @@ impl Keeps for Nothing {
     }
 }
 
+impl Says for Summary {
+    ghost says = { IsSummaryOf };
+
+    fn say(alloc: Global, playing: &Playing, entries: &[Entry]) -> Result<Summary, NoMemory> {
+        let summary = playing.summary(alloc, entries)?;
+        Ok(summary)
+    }
+}
+
 impl Keeps for Summary {
     ghost RECORDS = { true };
 
@@ -60,8 +89,8 @@ impl Keeps for Summary {
     ghost keeps = { IsSummaryOf };
 
     fn keep(alloc: Global, playing: &Playing, entries: Vec<Entry>) -> Result<Summary, NoMemory> {
-        let summary = playing.summary(alloc, entries.as_slice())?;
-        Ok(summary)
+        let said = Summary::say(alloc, playing, entries.as_slice())?;
+        Ok(said)
     }
 }
 
@@ -73,41 +102,37 @@ impl Summarizes for Summary {
     }
 }
 
-/// What the forms say of a block, and its entries.
+/// What is said of a block, and its entries.
 #[derive(Drop)]
-pub(crate) struct Whole {
-    pub(crate) summary: Summary,
+pub(crate) struct Whole<S: Drop> {
+    pub(crate) said: S,
     pub(crate) behaviours: u16,
     pub(crate) entries: Vec<Entry>,
 }
 
-impl Keeps for Whole {
+impl<S: Says + Drop> Keeps for Whole<S> {
     ghost RECORDS = { true };
 
     const RECORDS: bool = true;
 
-    ghost keeps = { IsWholeOfBlock };
+    ghost keeps = { IsWholeOfBlock S.says };
 
-    fn keep(alloc: Global, playing: &Playing, entries: Vec<Entry>) -> Result<Whole, NoMemory> {
-        let summary = playing.summary(alloc, entries.as_slice())?;
+    fn keep(alloc: Global, playing: &Playing, entries: Vec<Entry>) -> Result<Whole<S>, NoMemory> {
+        let said = S::say(alloc, playing, entries.as_slice())?;
         Ok(Whole {
-            summary,
+            said,
             behaviours: playing.behaviours(),
             entries,
         })
     }
 }
 
-impl Summarizes for Whole {
-    ghost summary = { λ w. w.summary };
+impl Summarizes for Whole<Summary> {
+    ghost summary = { λ w. w.said };
 
     fn into_summary(self) -> Summary {
-        let Whole {
-            summary,
-            entries,
-            ..
-        } = self;
+        let Whole { said, entries, .. } = self;
         drop(entries);
-        summary
+        said
     }
 }

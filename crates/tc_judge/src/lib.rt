@@ -7,13 +7,11 @@ mod judged;
 mod kept;
 mod lines;
 mod passed;
-mod picked;
 mod playing;
 mod report;
-mod short;
 
 pub use check::{check_input, check_text};
 pub use compare::{compare_text, report_compared};
 pub use passed::cases_to_run;
+pub use playing::play_short;
 pub use report::{report_input, report_text};
-pub use short::play_short;

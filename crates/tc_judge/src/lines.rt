@@ -1,18 +1,49 @@
-//! The lines that `check` prints.
-ghost use Rattle.std.specs.Prelude.{◌≡◌, ◌++◌, IfOk, OnOk};
+//! Which blocks are picked, and the lines that `check` prints.
+ghost use Rattle.std.specs.Prelude.{◌≡◌, ◌||◌, ◌++◌, IfOk, OnOk, is_some};
+ghost use Rattle.std.specs.List.{list_any};
+ghost use Rattle.tc_answer.specs.Prelude.{have_names};
 ghost use Rattle.tc_text.specs.Prelude.{reply_text};
-ghost use Rattle.tc_rules.specs.Prelude.{name_of};
-ghost use Rattle.tc_judge.specs.{Check.legal_line, Inside.gives_text, Inside.illegal_line, Inside.is_picked as spec_picked, Inside.line_by, Inside.made_line, Inside.printed};
+ghost use Rattle.tc_rules.specs.Prelude.{matches, name_of};
+ghost use Rattle.tc_judge.specs.{Check.legal_line, Inside.first_illegal as spec_first, Inside.gives_text, Inside.illegal_line, Inside.is_picked as spec_picked, Inside.judged_name, Inside.line_by, Inside.made_line, Inside.printed};
 
-use crate::judged::Judged;
-use crate::picked::is_picked;
+use crate::judged::{Judged, first_illegal};
 use crate::playing::Judgement;
 use std::alloc::Global;
-use tc_answer::append_place;
+use tc_answer::{append_place, is_asked};
 use tc_entry::{Name, Pattern};
+use tc_report::verdict_status;
 use tc_rules::{NoMemory, Reply, Verdict};
 use tc_text::{append_number, append_text, write_reply};
 use tc_verdict::name as name_of_verdict;
+
+/// Whether a block of this name and this verdict is picked: its name is asked for, and if only what failed is, its verdict
+/// is neither none nor pass.
+pub(crate) fn is_picked(only: &[Pattern], failed: bool, name: &Name, verdict: Verdict) -> bool
+    ensures { result ≡ spec_picked only.now failed name.now verdict }
+{
+    is_asked(only, name) && !(failed && verdict_status(verdict) == 0)
+}
+
+// Whether the pattern matches the name of a block.
+fn has_block<K: Drop>(blocks: &[Judged<K>], pattern: &Pattern) -> bool
+    ensures { result ≡ list_any (λ j. matches pattern.now (judged_name j)) blocks.now }
+{
+    blocks.iter().any(|block| pattern.matches(&block.name))
+}
+
+// Whether each of the patterns matches the name of a block.
+fn have_all<K: Drop>(blocks: &[Judged<K>], only: &[Pattern]) -> bool
+    ensures { result ≡ have_names judged_name only.now blocks.now }
+{
+    only.iter().all(|pattern| has_block(blocks, pattern))
+}
+
+/// Whether each of the patterns matches the name of a block, or a block is not legal.
+pub(crate) fn name_blocks<K: Drop>(only: &[Pattern], blocks: &[Judged<K>]) -> bool
+    ensures { result ≡ (is_some (spec_first blocks.now) || have_names judged_name only.now blocks.now) }
+{
+    first_illegal(blocks).is_some() || have_all(blocks, only)
+}
 
 // Appends the line of a legal block; if memory runs out, a part of it.
 fn append_legal(

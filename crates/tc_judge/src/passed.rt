@@ -1,8 +1,8 @@
 //! The test cases that a run is asked to run: not those that evidence shows to have passed, if it is given any.
-ghost use Rattle.std.specs.Prelude.{◌≡◌, IfOk, IfErr, OnOk, [], filter, if◌then◌else◌, not};
+ghost use Rattle.std.specs.Prelude.{◌≡◌, IfOk, IfErr, OnOk, [], filter, not};
 ghost use Rattle.tc_reader.specs.Prelude.{add, among};
 ghost use Rattle.tc_answer.specs.Inside.{AreReadyAs};
-ghost use Rattle.tc_judge.specs.{Compared.RefusesAgainst, Inside.AreReadyToRun, Inside.HasSeen, Inside.passes, Inside.shows_passed, Passed.AreUnpassed, Passed.RefusesRun};
+ghost use Rattle.tc_judge.specs.{Compared.RefusesAgainst, Inside.AreReadyToRun, Inside.HasSeen, Inside.passes, Inside.shows_passed, Inside.with_failed, Compared.AreUnpassed, Compared.RefusesRun};
 
 use crate::compare::chosen_before;
 use crate::judged::{Judged, judge_text};
@@ -63,7 +63,7 @@ impl Seen {
     // Takes the next block in.
     fn take(&mut self, block: &Judged<Nothing>) -> Result<(), NoMemory>
         ensures names { OnOk result (self.new.names.keys ≡ add block.now.name self.old.names.keys) }
-        ensures failed { OnOk result (self.new.failed.keys ≡ (if passes block.now then self.old.failed.keys else add block.now.name self.old.failed.keys)) }
+        ensures failed { OnOk result (self.new.failed.keys ≡ with_failed self.old.failed.keys block.now) }
     {
         add_name(&mut self.names, &block.name)?;
         if !shows_pass(block) {
@@ -111,7 +111,7 @@ fn unpassed_cases(
 {
     let ready = chosen_before(alloc, choice, text)?;
     let (_, rest) = split_script(text);
-    let blocks = judge_text::<Nothing>(alloc, rest)?;
+    let blocks = judge_text::<Nothing>(alloc, choice.last, rest)?;
     let seen = seen_of(alloc, blocks.as_slice())?;
     Ok(unpassed(ready, &seen))
 }

@@ -4,12 +4,11 @@ ghost use Rattle.tc_answer.specs.declared.limits.TheConstants.{HISTORY_LIMIT};
 ghost use Rattle.tc_blocks.specs.declared.block.Block.{Block};
 ghost use Rattle.tc_report.specs.Prelude.{bare_summary as bare};
 ghost use Rattle.tc_report.specs.declared.results.CaseEnd.TheVariants.{Missing};
-ghost use Rattle.tc_judge.specs.{Check.IsMadeOfBlocks, Check.IsMadeOfInput, Inside.AreJudgedIn, Inside.IsSummaryOf, Inside.IsTextFor, Inside.Reports, Inside.illegal_line, Inside.is_picked as spec_picked, Inside.summary_by, Picking.is_chosen, Report.AnswersCases, Report.IsForm, Report.IsReport, Report.IsReported, Report.unreported};
+ghost use Rattle.tc_judge.specs.{Check.IsMadeOfBlocks, Check.IsMadeOfInput, Inside.AreJudgedIn, Inside.IsSummaryOf, Inside.IsTextFor, Inside.Reports, Inside.illegal_line, Inside.is_picked as spec_picked, Inside.summary_by, Check.is_chosen, Report.AnswersCases, Report.IsForm, Report.IsReport, Report.IsReported, Report.unreported};
 
 use crate::judged::{Judged, first_illegal, judge_input, judge_text};
 use crate::kept::Summarizes;
-use crate::lines::append_illegal;
-use crate::picked::{is_picked, name_blocks};
+use crate::lines::{append_illegal, is_picked, name_blocks};
 use crate::playing::Judgement;
 use std::alloc::Global;
 use std::io::Read;
@@ -145,8 +144,8 @@ fn reported(
     text: &[u8],
     blocks: Vec<Judged<Summary>>,
 ) -> Result<Answer, RunFault>
-    ensures { (given : List ℕ) → IsTextFor form.now given text.now → AreJudgedIn IsSummaryOf given blocks.items
-        → IsMadeOfBlocks choice.now given (IsReported form.now (is_chosen choice.now) given) result }
+    ensures { (given : List ℕ) → IsTextFor form.now given text.now → AreJudgedIn IsSummaryOf choice.now.last given blocks.items
+        → IsMadeOfBlocks choice.now given (IsReported form.now choice.now.last (is_chosen choice.now) given) result }
 {
     let only = choice.only.as_slice();
     if !name_blocks(only, blocks.as_slice()) {
@@ -166,9 +165,9 @@ pub fn report_text(
     choice: &Choice,
     text: &[u8],
 ) -> Result<Answer, RunFault>
-    ensures { IsMadeOfBlocks choice.now text.now (IsReported form.now (is_chosen choice.now) text.now) result }
+    ensures { IsMadeOfBlocks choice.now text.now (IsReported form.now choice.now.last (is_chosen choice.now) text.now) result }
 {
-    let blocks = judge_text::<Summary>(alloc, text)?;
+    let blocks = judge_text::<Summary>(alloc, choice.last, text)?;
     reported(alloc, form, choice, text, blocks)
 }
 
@@ -181,8 +180,8 @@ pub fn report_input<R: Read>(
 ) -> Result<Answer, RunFault>
     requires { form.now ≢ ReportForm.Html }
     ensures { IsMadeOfInput HISTORY_LIMIT (R.remaining reader.old)
-        (λ text made. IsMadeOfBlocks choice.now text (IsReported form.now (is_chosen choice.now) text) made) result }
+        (λ text made. IsMadeOfBlocks choice.now text (IsReported form.now choice.now.last (is_chosen choice.now) text) made) result }
 {
-    let blocks = judge_input::<R, Summary>(alloc, reader)?;
+    let blocks = judge_input::<R, Summary>(alloc, choice.last, reader)?;
     reported(alloc, form, choice, &[], blocks)
 }

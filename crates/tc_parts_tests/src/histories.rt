@@ -2,8 +2,9 @@
 use crate::checks::{blocks, first, is};
 use std::process::Abort;
 use tc_blocks::{History, write_block};
+use tc_rules::replay_check;
 use tc_text::append_text;
-use tc_verdict::NoMemory;
+use tc_verdict::{NoMemory, Verdict};
 
 /// The operations: each in each of its forms once.
 const OPERATIONS: &str = "\
@@ -104,10 +105,10 @@ fn lines_of_a_written_history(rt: HostRuntime) -> Result<(), NoMemory> {
     is_read_and_written(&rt, &mut out, text.as_slice(), &blocks, 460)
 }
 
-/// Appends a history of more entries than 16 bits count.
+/// Appends a history of more than 100,000 entries.
 fn append_long(out: &mut Vec<u8>) -> Result<(), NoMemory> {
     append_text(out, "history 2 t 1\n")?;
-    for _ in 0..70_000u32 {
+    for _ in 0..110_000u32 {
         append_entry(out, "getverdict", "none")?;
     }
     append_text(out, "end none\n")
@@ -118,6 +119,9 @@ fn lines_of_a_long_history(rt: HostRuntime) -> Result<(), NoMemory> {
     let mut text = Vec::new(rt.alloc());
     append_long(&mut text)?;
     let blocks = blocks(&rt, rt.alloc(), text.as_slice());
+    let entries = first(&rt, &blocks).entries.as_slice();
+    let checked = replay_check(rt.alloc(), 1, entries).ok();
+    is(&rt, "their verdict", checked, Some(Verdict::None));
     let mut out = Vec::new(rt.alloc());
-    is_read_and_written(&rt, &mut out, text.as_slice(), &blocks, 70_000)
+    is_read_and_written(&rt, &mut out, text.as_slice(), &blocks, 110_000)
 }

@@ -3,8 +3,9 @@ use crate::checks::{blocks, first, is};
 use std::alloc::Global;
 use std::process::Abort;
 use tc_blocks::{History, write_block};
+use tc_book::RunLog;
+use tc_book::laws::merge;
 use tc_entry::{Comp, Entry, NoMemory, Run};
-use tc_merge::{RunLog, merge};
 use tc_rules::replay_check;
 
 /// The entries of no verdict call, and then the logs of runs 1, 0 and 2.

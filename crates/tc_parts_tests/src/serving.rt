@@ -323,6 +323,40 @@ fn append_remarked(input: &mut Vec<u8>, remark: &str, count: u32) -> Result<(), 
     append_text(input, "0 finish\nend\n")
 }
 
+/// Remarks of 61 bytes, which fill the first read with the line before them, and of 64 bytes, which fill the second.
+const REMARKS: [(&str, u32); 2] = [
+    (
+        "0 # xxxxxxxxxxxxxxxxxxxxxxxxxxxxxxxxxxxxxxxxxxxxxxxxxxxxxxxx\n",
+        67,
+    ),
+    (
+        "0 # yyyyyyyyyyyyyyyyyyyyyyyyyyyyyyyyyyyyyyyyyyyyyyyyyyyyyyyyyyy\n",
+        64,
+    ),
+];
+
+/// The answers to the second read have as many bytes as the read; they are flushed too.
+#[test]
+fn answers_as_long_as_a_read_are_flushed(rt: HostRuntime) -> Result<(), NoMemory> {
+    let mut input = Vec::new(rt.alloc());
+    append_text(&mut input, "case t 1\n")?;
+    for (remark, count) in REMARKS {
+        append_remarks(&mut input, remark, count)?;
+    }
+    append_text(&mut input, "0 finish\nend\n")?;
+    let mut reader = input.as_slice();
+    let mut writer = FlushedWriter::new(rt.alloc(), NEVER);
+    let mut errors = NarrowWriter::new(rt.alloc(), NEVER, WriteFailure::Full);
+    let ending = serve(rt.alloc(), &mut reader, &mut writer, &mut errors);
+    is(&rt, "the end", ending.outcome.is_ok(), true);
+    let flushes = writer.flushed.as_slice();
+    is(&rt, "the flushes", flushes.len(), 4);
+    let first = flushes.first().copied().unwrap_or(0);
+    let second = flushes.get(1).copied();
+    is(&rt, "the answers", second, first.checked_add(4_096));
+    Ok(())
+}
+
 /// A piece of 4,096 bytes ends inside a line.
 #[test]
 fn pieces_of_lines(rt: HostRuntime) -> Result<(), NoMemory> {

@@ -63,19 +63,23 @@ parts_refused task input made fault s outcome parts is keeps refusal = carried_o
         inl (read.0, read.1, read.2, IsDoneBy.refused fault (subst (IsMade task read.0) is read.3) keeps (run_fault_line fault, told read.0, refusal))
     by (inr unread) = let same : fault ≡ unread.0 = cc in inr (fault, subst (IsUnread (limit_of task) input) (sym same) unread.2, keeps, refusal)
 
+-- what is made of a text that is checked, by the choice
+abbrev MadeBy : List ℕ → Result Answer RunFault → Bool → List (List ℕ) → Bool → Type 0
+MadeBy text made l o f =
+    MatchResult made (λ a. IsSilent (IsChecked l (λ b. is_picked o f (block_name b) b.verdict) text) a × NameBlocks l o text) (RefusesBlocks l o text)
+
 -- what is made of an input for one choice is made for another that chooses the same
 pub made_for : (some choice : Choice) (explains : Bool) (input : Option (List ℕ)) (made : Result Answer RunFault) → some.only.items ≡ choice.only.items → some.failed ≡ choice.failed
-    → IsMadeOfInput HISTORY_LIMIT input (IsMade (Task.Check some explains)) made → IsMadeOfInput HISTORY_LIMIT input (IsMade (Task.Check choice explains)) made
-made_for some choice explains input made only failed (inl read) =
+    → some.last ≡ choice.last → IsMadeOfInput HISTORY_LIMIT input (IsMade (Task.Check some explains)) made → IsMadeOfInput HISTORY_LIMIT input (IsMade (Task.Check choice explains)) made
+made_for some choice explains input made only failed last (inl read) =
     inl (
       read.0,
       read.1,
       read.2,
-      subst (λ f. MatchResult made (λ a. IsSilent (IsChecked (λ b. is_picked choice.only.items f (block_name b) b.verdict) read.0) a × NameBlocks choice.only.items read.0)
-          (RefusesBlocks choice.only.items read.0)) failed
-          (subst (λ o. MatchResult made (λ a. IsSilent (IsChecked (λ b. is_picked o some.failed (block_name b) b.verdict) read.0) a × NameBlocks o read.0) (RefusesBlocks o read.0)) only read.3),
+      subst (λ l. MadeBy read.0 made l choice.only.items choice.failed) last
+          (subst (λ f. MadeBy read.0 made some.last choice.only.items f) failed (subst (λ o. MadeBy read.0 made some.last o some.failed) only read.3)),
     )
-made_for some choice explains input made only failed (inr unread) = inr unread
+made_for some choice explains input made only failed last (inr unread) = inr unread
 
 -- what is made of an input that is checked was written
 pub checked_does : (choice : Choice) (explains : Bool) (input before after : Option (List ℕ)) (a : Answer) (r : Result ℕ RunFault)

@@ -3,7 +3,7 @@ use Rattle.std.proofs.Common.{ℕ, ◌≡◌, All, Bool, false, true, List, Opti
 use Rattle.std.specs.Prelude.{◌≢◌, ◌⊎◌}
 use Rattle.std.specs.Global.{Vec}
 use Rattle.tc_book.specs.Prelude.{PassState}
-use Rattle.tc_campaign.specs.Prelude.{IsCalled, HasNames, outline_of}
+use Rattle.tc_campaign.specs.Prelude.{AreBack, IsCalled, HasNames, outline_of}
 use Rattle.tc_answer.specs.Prelude.{case_name, chosen, have_names, AreChosenOf, run_fault_line, IsPrintedRefusal, Streams}
 use Rattle.tc_exec.specs.declared.{job.Back.Back, test_case.Case.Case}
 use Rattle.tc_command.specs.Prelude.{IsCasesReading, IsReading}
@@ -86,11 +86,11 @@ named_still (Err e) choice ks names are = absurd are.spelled
 module _ {B E : Type 0} (called : B → PassState → Back → Type 0) (made : Result (Vec (Case B)) E) (task : Task) (o : RunOptions) (is : task ≡ Task.Run o)
     (ks : List (Case B)) (are : AreChosenOf case_name (WereMade made) o.choice ks) where
   -- a run of the chosen ones is what a task does that asks for it
-  pub ran : (s : Streams) (outcome : Outcome) → IsRun outline_of (IsCalled called) ks o s outcome → DoesCases called (WereMade made) task s outcome
+  pub ran : (s : Streams) (outcome : Outcome) → IsRun outline_of (IsCalled called) (AreBack called) ks o s outcome → DoesCases called (WereMade made) task s outcome
   ran s outcome run = IsDoneBy.run o is (record { asked_for = ks; chosen = are; run = inl run })
 
   -- and so is one whose results were not written whole
-  pub ran_unwritten : (s : Streams) (fault : OutFault) (told : Option (List ℕ)) (outcome : Outcome) → IsUnwrittenRun outline_of (IsCalled called) ks o s fault
+  pub ran_unwritten : (s : Streams) (fault : OutFault) (told : Option (List ℕ)) (outcome : Outcome) → IsUnwrittenRun outline_of (IsCalled called) (AreBack called) ks o s fault
       → IsPrintedRefusal s.told told (run_fault_line (of_output fault)) outcome → DoesCases called (WereMade made) task (record s { told = told }) outcome
   ran_unwritten s fault told outcome run refusal = IsDoneBy.run o is (record {
     asked_for = ks;

@@ -1,5 +1,5 @@
 -- What `check` and `report` make of what a run wrote.
-use Rattle.std.proofs.Common.{ℕ, ◌≡◌, ◌∙◌, All, Bool, List, [], ◌∷◌, if◌then◌else◌, filter, map, refl, ap, subst}
+use Rattle.std.proofs.Common.{ℕ, ◌≡◌, ◌∙◌, All, Bool, false, List, [], ◌∷◌, if◌then◌else◌, filter, map, refl, ap, subst}
 use Rattle.std.specs.List.{flat_map}
 use Rattle.std.proofs.lemmas.List.{Elements.All-head, Elements.All-tail, append-nil}
 use Rattle.tc_blocks.specs.declared.{block.Block.Block, header.Kind.Kind}
@@ -9,9 +9,9 @@ use Rattle.tc_report.specs.declared.{results.Finished.Finished, results.Results.
 use Rattle.tc_report.specs.Prelude.{block_summary, case_summary, blocks_text}
 use Rattle.tc_report.proofs.Lemmas.Telling.{one_same}
 use Rattle.tc_answer.specs.declared.{fault.RunFault.RunFault, reply.Answer.Answer}
-use Rattle.tc_judge.specs.Prelude.{IsChecked, RefusesBlocks, ChoosesEach, is_chosen, AnswersCases}
+use Rattle.tc_judge.specs.Prelude.{IsChecked, RefusesBlocks, ChoosesEach, counting, is_chosen, AnswersCases}
 use Rattle.tc_judge.specs.{Inside.block_name, Inside.each, Inside.is_picked, Report.IsReport}
-use Rattle.tc_judge.proofs.Lemmas.{Answering.answer_of, Legal.none_illegal}
+use Rattle.tc_judge.proofs.Lemmas.{answer_of, none_illegal}
 use Rattle.tc_program.specs.{Inside.WasRun, Inside.WereRun, Inside.legal_case, WrittenHistories.AreFoundLegal, WrittenHistories.found_legal}
 use Rattle.tc_program.proofs.WrittenHistories.{after, are_right, block_of, blocks_of, evidence_of, said_of_written, same_entries}
 
@@ -25,9 +25,11 @@ filter_each [] = refl
 filter_each (b ∷ bs) = ap (λ l. b ∷ l) (filter_each bs)
 
 -- a choice of each block chooses each
-each_chosen : (P : (Block → Bool) → Type 0) (choice : Choice) → ChoosesEach choice → P (is_chosen choice) → P each
+each_chosen : (P : Bool → (Block → Bool) → Type 0) (choice : Choice) → ChoosesEach choice → P choice.last (is_chosen choice) → P false each
 each_chosen P choice all so =
-    subst (λ f. P (λ b. is_picked [] f (block_name b) b.verdict)) all.1 (subst (λ o. P (λ b. is_picked o choice.failed (block_name b) b.verdict)) all.0 so)
+    subst (λ l. P l each) all.2
+    (subst (λ f. P choice.last (λ b. is_picked [] f (block_name b) b.verdict)) all.1
+    (subst (λ o. P choice.last (λ b. is_picked o choice.failed (block_name b) b.verdict)) all.0 so))
 
 summary_written : (kind : Kind) (line : ℕ) (f : Finished) → WasRun kind f → summary_at (block_of kind line f) ≡ case_summary f
 summary_written kind line f ran =
@@ -41,7 +43,7 @@ summaries_written kind line (f ∷ fs) all =
     ap (λ s. s ∷ map summary_at (blocks_of kind (after kind line f) fs)) first ∙ ap (λ l. case_summary f ∷ l) rest
 
 module _ (kind : Kind) (r : Results) (ran : WereRun kind r) where
-  checked_so : (a : Answer) → IsChecked each (blocks_text kind r) a.out a.status → a.told ≡ [] → a ≡ found_legal r
+  checked_so : (a : Answer) → IsChecked false each (blocks_text kind r) a.out a.status → a.told ≡ [] → a ≡ found_legal r
   checked_so a is told =
       let two = said_of_written kind r a.out is.legal ran (is.checks.holds (blocks_of kind 1 r.finished) (evidence_of kind r ran)) in
       let status_is : a.status ≡ 0 = is.status_is ∙ ap (λ t. if t then 0 else 3) two.1 in
@@ -58,7 +60,7 @@ module _ (kind : Kind) (r : Results) (ran : WereRun kind r) where
   reported_so form a (IsReport.illegal line first is) =
       absurd (none_illegal (blocks_of kind 1 r.finished) line (are_right kind 1 r.finished ran.each) first)
 
-  refused_so : (fault : RunFault) → RefusesBlocks [] (blocks_text kind r) fault → fault ≡ RunFault.NoMemory
+  refused_so : (fault : RunFault) → RefusesBlocks false [] (blocks_text kind r) fault → fault ≡ RunFault.NoMemory
   refused_so (RunFault.Text fault) refused = absurd (refused.1 (blocks_of kind 1 r.finished) (evidence_of kind r ran))
   refused_so RunFault.NoMemory refused = refl
   refused_so RunFault.Only refused = let no = refused.3 in absurd cc
@@ -67,9 +69,9 @@ module _ (kind : Kind) (r : Results) (ran : WereRun kind r) where
   -- what `check` and `report` make of it
   pub found_so : AreFoundLegal (blocks_text kind r) r
   found_so = record {
-    checked_so = λ choice explains a all is. checked_so a (each_chosen (λ t. IsChecked t (blocks_text kind r) a.out a.status) choice all is.0.0) is.0.1;
+    checked_so = λ choice explains a all is. checked_so a (each_chosen (λ l t. IsChecked l t (blocks_text kind r) a.out a.status) choice all is.0.0) is.0.1;
     reported_so = λ form choice explains a all is.
         let blocks = blocks_of kind 1 r.finished in
-        reported_so form a (each_chosen (λ t. IsReport form (blocks_text kind r) blocks (filter t blocks) [] [] a) choice all (is.0.holds blocks (evidence_of kind r ran)));
+        reported_so form a (each_chosen (λ l t. IsReport form (blocks_text kind r) (counting l blocks) (filter t (counting l blocks)) [] [] a) choice all (is.0.holds blocks (evidence_of kind r ran)));
     refused_so = λ fault refused. refused_so fault refused;
   }

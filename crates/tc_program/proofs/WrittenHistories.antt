@@ -13,7 +13,7 @@ use Rattle.tc_campaign.specs.Prelude.{Outline}
 use Rattle.tc_campaign.specs.Inside.{IsReported}
 use Rattle.tc_judge.specs.{Check.AreAllLegal, Check.Checks, Check.IsLegalBlock, Inside.each}
 use Rattle.tc_judge.specs.Prelude.{legal_line}
-use Rattle.tc_judge.proofs.Lemmas.Legal.{block_line, only_legal}
+use Rattle.tc_judge.proofs.Lemmas.{block_line, only_legal}
 use Rattle.tc_program.specs.{Inside.FitsItsTypes, Inside.WasRun, Inside.WereRun, Inside.legal_case, WrittenHistories.AreReported}
 
 -- the block of a finished test case, which begins in this line

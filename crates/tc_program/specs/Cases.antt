@@ -2,7 +2,7 @@
 use Rattle.std.specs.Prelude.{ℕ, ◌≡◌, List, MatchResult, Result, IsOkAnd}
 use Rattle.std.specs.Global.{Vec}
 use Rattle.tc_book.specs.Prelude.{PassState}
-use Rattle.tc_campaign.specs.Prelude.{IsCalled, outline_of}
+use Rattle.tc_campaign.specs.Prelude.{AreBack, IsCalled, outline_of}
 use Rattle.tc_answer.specs.Prelude.{case_name, AreChosenOf, LackName, run_fault_line, IsPrintedRefusal, Streams}
 use Rattle.tc_exec.specs.declared.{job.Back.Back, test_case.Case.Case}
 use Rattle.tc_command.specs.Prelude.{IsCasesReading}
@@ -34,7 +34,7 @@ module _ {B : Type 0} (called : B → PassState → Back → Type 0) (Are : List
   abbrev pub DoesCases : Task → Streams → Outcome → Type 0
   DoesCases task s outcome =
       IsDoneBy task (IsMadeOfCases Are task) (λ fault. IsPrintedRefusal s.untold s.told (run_fault_line fault) outcome)
-      (λ o. RunsCases outline_of (IsCalled called) (AreChosenOf case_name Are o.choice) o s outcome) s outcome
+      (λ o. RunsCases outline_of (IsCalled called) (AreBack called) (AreChosenOf case_name Are o.choice) o s outcome) s outcome
 
   -- the arguments are read as those of a program with test cases of its own; they are a task, which was done, or ask for
   -- none. There is no input.

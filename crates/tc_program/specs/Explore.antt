@@ -3,10 +3,10 @@ use Rattle.std.specs.Prelude.{MatchBool, ℕ, ◌≡◌, ◌==◌, ◌≤◌, if
 use Rattle.std.specs.List.{AllZip, flat_map, list_any}
 use Rattle.tc_command.specs.declared.task.ExploreOptions.{ExploreOptions}
 use Rattle.tc_reader.specs.Prelude.{CampaignView}
-use Rattle.tc_explore.specs.Prelude.{most_states, AreFromBest, AreAllMet, AreReached, HasCourses, AllLocalsFound, AreLocals}
+use Rattle.tc_explore.specs.Prelude.{IsAtLimit, most_states, AreFromBest, AreAllMet, AreReached, HasCourses, AllLocalsFound, AreLocals}
 use Rattle.tc_explored.specs.Prelude.{details as of_details, locals_text, explored_line, explored_status, witnesses_text}
 use Rattle.tc_course.specs.Prelude.{AllFound, AreLegal, AreWitnesses}
-use Rattle.tc_course.specs.declared.found.{Ending.Ending, Explored.Explored, Locals.Locals}
+use Rattle.tc_course.specs.declared.found.{Ending.Ending, Explored.Explored, Limit.Limit, Locals.Locals}
 use Rattle.tc_step.specs.Prelude.{ScriptView}
 use Rattle.tc_judge.specs.Prelude.{AreToRun}
 use Rattle.tc_answer.specs.Prelude.{CaseView, scripts_of}
@@ -21,7 +21,7 @@ pub record TellsLocals (states : ℕ) (scripts : List ScriptView) (before after 
   pub complete : locals.ending ≡ Ending.Complete → AllLocalsFound scripts locals.found
   pub met : HasCourses scripts locals.states
   pub most : locals.states ≤ most_states scripts states
-  pub undecided : locals.ending ≡ Ending.Undecided → 1 ≤ length scripts → locals.states ≡ most_states scripts states
+  pub undecided : (l : Limit) → locals.ending ≡ Ending.Undecided l → 1 ≤ length scripts → IsAtLimit scripts states locals.states l
   pub told : after ≡ before ++ locals_text locals
 
 -- what is printed after the line of a test case: its local verdicts, and its details, if they are asked for
@@ -32,8 +32,8 @@ TellsAfter o scripts e text =
 
 -- A test case was explored, and each verdict that was found has one witness: a complete course of its scripts, which is legal.
 -- If the search says that it is complete, the verdict of each complete course of its scripts was found. If it says that it is
--- undecided, it looked at as many states as it may. Some course of each run carries out as many steps as it reaches. For each
--- state that it looked at there is a course of its own, in which no run carries out more.
+-- undecided, it looked at as many states as it may, and found one verdict at least. Some course of each run carries out as many
+-- steps as it reaches. For each state that it looked at there is a course of its own, in which no run carries out more.
 pub record IsExplored (o : ExploreOptions) (c : CaseView) (e : ExploredCase) : Type 0 where
   pub name : e.name ≡ c.0
   pub behaviours : e.behaviours ≡ length c.1
@@ -44,7 +44,8 @@ pub record IsExplored (o : ExploreOptions) (c : CaseView) (e : ExploredCase) : T
   pub reached : AreReached (scripts_of c.1) e.explored.reached
   pub met : AreAllMet (scripts_of c.1) e.explored.reached e.explored.states
   pub most : e.explored.states ≤ most_states (scripts_of c.1) o.states
-  pub undecided : e.explored.ending ≡ Ending.Undecided → 1 ≤ length (scripts_of c.1) → e.explored.states ≡ most_states (scripts_of c.1) o.states
+  pub undecided : (l : Limit) → e.explored.ending ≡ Ending.Undecided l → 1 ≤ length (scripts_of c.1) → IsAtLimit (scripts_of c.1) o.states e.explored.states l
+  pub told : (l : Limit) → e.explored.ending ≡ Ending.Undecided l → 1 ≤ length (scripts_of c.1) → 1 ≤ length e.explored.found
   pub details_are : TellsAfter o (scripts_of c.1) e.explored e.details
 
 -- what is written of a test case: its line and its details, or the histories of its witnesses

@@ -17,10 +17,10 @@ IsListed {C} name_of AreToBeRun a = (cases : List C) × AreToBeRun cases × (a �
 -- text if memory runs out
 abbrev pub IsMade : Task → List ℕ → Result Answer RunFault → Type 0
 IsMade (Task.Replay e) text made = MatchResult made (IsSilent (Replays text)) (RefusesText (IsListFault text))
-IsMade (Task.Check choice e) text made = IsMadeOfBlocks choice text (IsSilent (IsChecked (is_chosen choice) text)) made
+IsMade (Task.Check choice e) text made = IsMadeOfBlocks choice text (IsSilent (IsChecked choice.last (is_chosen choice) text)) made
 IsMade (Task.Compare None choice e) text made = MatchResult made (IsSilent (IsCheckedAgainst choice text)) (RefusesAgainst choice text)
 IsMade (Task.Compare (Some form) choice e) text made = MatchResult made (IsReportedAgainst form choice text) (RefusesAgainst choice text)
-IsMade (Task.Report form choice e) text made = IsMadeOfBlocks choice text (IsReported form (is_chosen choice) text) made
+IsMade (Task.Report form choice e) text made = IsMadeOfBlocks choice text (IsReported form choice.last (is_chosen choice) text) made
 IsMade (Task.Explore o) text made = MatchResult made (IsSilent (Explores o text)) (RefusesRun o.choice text)
 IsMade (Task.List choice e) text made = MatchResult made (IsListed (λ (c : CaseView). c.0) (AreToRun choice text)) (RefusesRun choice text)
 IsMade (Task.Run o) text made = MatchResult made (λ a. ⊥) (RefusesRun o.choice text)

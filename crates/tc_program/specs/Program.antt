@@ -5,7 +5,7 @@ use Rattle.tc_stream.specs.Prelude.{AppendsPrefix, IsRead}
 use Rattle.tc_command.specs.declared.task.{RunOptions.RunOptions, Task.Task}
 use Rattle.tc_answer.specs.declared.{fault.RunFault.RunFault, outcome.Outcome.Outcome, reply.Answer.Answer}
 use Rattle.tc_answer.specs.Prelude.{run_fault_line, IsUnread, Streams, IsPrintedRefusal, IsTold}
-use Rattle.tc_run.specs.Prelude.{script_outline, IsScripted, RunsCases}
+use Rattle.tc_run.specs.Prelude.{AreScriptsBack, script_outline, IsScripted, RunsCases}
 use Rattle.tc_judge.specs.Prelude.{AreToRun}
 use Rattle.tc_program.specs.{Explained.IsExplained, Limits.limit_of, Made.IsMade, Serve.Serves}
 
@@ -28,7 +28,7 @@ pub data IsDoneBy (task : Task) (Makes : Result Answer RunFault → Type 0) (Ref
 abbrev pub IsDone : Task → List ℕ → Streams → Outcome → Type 0
 IsDone task text s outcome =
     IsDoneBy task (IsMade task text) (λ fault. IsExplained task text fault s.untold s.told outcome)
-    (λ o. RunsCases script_outline IsScripted (AreToRun o.choice text) o s outcome) s outcome
+    (λ o. RunsCases script_outline IsScripted AreScriptsBack (AreToRun o.choice text) o s outcome) s outcome
 
 -- What the program does with a task: it serves the input line by line, or takes it whole. Then the input was read, and its
 -- text is done; or it was not, nothing was written, and why is printed.

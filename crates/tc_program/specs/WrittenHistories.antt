@@ -1,5 +1,5 @@
 -- What `check` says of the histories and the evidence that `run` writes.
-use Rattle.std.specs.Prelude.{ℕ, ◌≡◌, ◌≢◌, Bool, List, [], All, Ok, length, map, take}
+use Rattle.std.specs.Prelude.{ℕ, ◌≡◌, ◌≢◌, Bool, false, List, [], All, Ok, length, map, take}
 use Rattle.std.specs.List.{AllZip, flat_map}
 use Rattle.tc_report.specs.declared.results.Results.{Results}
 use Rattle.tc_rules.specs.Prelude.{IsBehaviours}
@@ -28,4 +28,4 @@ pub record AreFoundLegal (text : List ℕ) (r : Results) : Type 0 where
       → a ≡ found_legal r
   pub reported_so : (form : ReportForm) (choice : Choice) (explains : Bool) (a : Answer) → ChoosesEach choice
       → IsMade (Task.Report form choice explains) text (Ok a) → AnswersCases form text [] (map case_summary r.finished) a
-  pub refused_so : (fault : RunFault) → RefusesBlocks [] text fault → fault ≡ RunFault.NoMemory
+  pub refused_so : (fault : RunFault) → RefusesBlocks false [] text fault → fault ≡ RunFault.NoMemory

@@ -27,6 +27,7 @@ pub fn check<R: Read, W: Write>(
         only: Vec::new(alloc),
         shard: None,
         failed: false,
+        last: false,
     };
     match check_input(alloc, &all, reader) {
         Ok(answer) => write_answer(Ok(answer), writer),

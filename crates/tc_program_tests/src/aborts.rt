@@ -89,6 +89,7 @@ fn options(alloc: Global, live: bool, progress: bool) -> RunOptions {
             only: Vec::new(alloc),
             shard: None,
             failed: false,
+            last: false,
         },
         explains: false,
     }

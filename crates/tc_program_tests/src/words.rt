@@ -55,12 +55,16 @@ ttrun run --csv --explain --live --stop-on fail => run --csv --live --stop-on=fa
 ttrun run --only a* --only *b_* => run --only=a* --only=*b_*
 ttrun run --list --explain => run --list --explain
 ttrun run --failed --explain => run --failed --explain
+ttrun run --last --failed => run --failed --last
+ttrun run --list --failed --last => run --list --failed --last
 ttrun run --no-explain => run
 ttrun check --explain => check --explain
 ttrun check --no-explain => check
 ttrun check --only a --only=b* => check --only=a --only=b*
 ttrun check --failed --explain => check --failed --explain
 ttrun check --failed --only a => check --only=a --failed
+ttrun check --last => check --last
+ttrun check --script --last => check --script --last
 ttrun check --script --explain => check --script --explain
 ttrun check --script => check --script
 ttrun check --shard 2/3 --script --only b --only a => check --script --only=b --only=a --shard=2/3
@@ -72,6 +76,8 @@ ttrun report --junit => report --junit
 ttrun report --junit --suite=A_1 => report --junit --suite=A_1
 ttrun report --summary => report --summary
 ttrun report --failed --summary => report --summary --failed
+ttrun report --last --summary --failed => report --summary --failed --last
+ttrun report --script --last --csv => report --csv --script --last
 ttrun report --only a --csv --failed --only b => report --csv --only=a --only=b --failed
 ttrun report --html --script --only a => report --html --script --only=a
 ttrun report --summary --script --only a => report --summary --script --only=a
@@ -90,6 +96,7 @@ ttrun explore --locals => explore --locals --states=100000
 ttrun explore --locals --states 7 --details => explore --details --locals --states=7
 ttrun explore --explain => explore --states=100000 --explain
 ttrun explore --shard 1/3 --only a --only b* --failed => explore --states=100000 --only=a --only=b* --shard=1/3 --failed
+ttrun explore --last --failed => explore --states=100000 --failed --last
 ttrun explore --states 7 --explain --only a --history => explore --history --states=7 --only=a --explain";
 
 /// The same at a terminal.
@@ -135,7 +142,8 @@ fn append_choice(out: &mut String, choice: &Choice) -> Result<(), Fail> {
         let number = shard.place().saturating_add(1);
         write!(out, " --shard={number}/{}", shard.shards())?;
     }
-    Ok(append_if(out, choice.failed, " --failed")?)
+    append_if(out, choice.failed, " --failed")?;
+    Ok(append_if(out, choice.last, " --last")?)
 }
 
 fn append_suite(out: &mut String, suite: &Option<Name>) -> Result<(), Fail> {

@@ -1,11 +1,14 @@
 -- If the references of a behaviour are bound, each place of its steps is.
-use Rattle.std.proofs.Common.{ℕ, suc, ◌≡◌, ◌∙◌, ◌+◌, ◌<◌, Bool, true, false, Option, Some, None, List, [], ◌∷◌, ◌++◌, length, map, All, nat_eq, refl, sym, ap, arith, rules, cond}
-use Rattle.std.specs.Prelude.{◌||◌, not, if◌then◌else◌}
-use Rattle.std.specs.{Cmp.Lexicographic.bytes_decides, Cmp.Lexicographic.pointwise, List.list_any, List.position_or_len, Option.option_map, Option.option_or}
-use Rattle.std.proofs.lemmas.List.{Elements.All-cons, Folds.list_any-append, length-append}
-use Rattle.tc_step.specs.declared.place.{GroupPlace.GroupPlace, Place.Place, TargetPlace.TargetPlace}
+use Rattle.std.proofs.Common.{ℕ, suc, ◌≡◌, ◌∙◌, ◌+◌, ◌<◌, Bool, true, false, Option, Some, None, List, [], ◌∷◌, ◌++◌, length, map, All, nat_eq, refl, sym, ap, arith, rules, cond, ◌≤◌}
+use Rattle.std.specs.Prelude.{◌||◌, not, if◌then◌else◌, is_some}
+use Rattle.std.specs.{Cmp.Lexicographic.bytes_decides, Cmp.Lexicographic.pointwise, List.list_any, List.position_or_len, Option.option_map, Option.option_or, Map.lookup}
+use Rattle.std.proofs.lemmas.{List.Elements.All-cons, List.Folds.list_any-append, List.length-append, List.length-map, List.map-append}
+use Rattle.tc_step.specs.declared.{place.GroupPlace.GroupPlace, place.Place.Place, place.TargetPlace.TargetPlace}
 use Rattle.tc_step.specs.Prelude.{group_map, target_map, IsBound, AreBound, of_group, of_target}
-use Rattle.tc_reader.specs.{Campaign.place, Campaign.step_of, Campaign.steps, FirstPass.at_next, Names.add, Names.all_of, Names.among, Names.has_twice, Names.index_of, Scope.Head, Scope.bound, Scope.scope_of, SecondPass.is_unbound, SecondPass.misnamed, SecondPass.name_fault, Words.is_text, declared.kind.ScriptKind.ScriptKind, declared.line.Call.Call, declared.line.Line.Line}
+use Rattle.tc_reader.specs.{Campaign.place, Campaign.step_of, Campaign.steps, FirstPass.at_next, Names.add, Names.all_of, Names.among, Names.has_twice, Names.index_of, Scope.Head, Scope.bound, Scope.scope_of, SecondPass.is_unbound, SecondPass.misnamed, SecondPass.name_fault, Words.is_text, Inside.add_head, Inside.head_fault, Inside.names_of, Names.Word, Scope.parameters_of}
+use Rattle.tc_reader.specs.declared.{kind.ScriptKind.ScriptKind, line.Call.Call, line.Line.Line}
+use Rattle.indexmap.specs.IndexMap.{IndexMap, insert_entry}
+use Rattle.indexmap.proofs.CallerLemmas.{insert_entry-new}
 
 pub named_next : (past : List Line) (l : Line) (rest : List Line) → misnamed past (l ∷ rest) ≡ None → (name_fault (scope_of past (l ∷ rest)) l ≡ None) × (misnamed (l ∷ past) rest ≡ None)
 named_next past l rest is = by (name_fault (scope_of past (l ∷ rest)) l) is
@@ -149,3 +152,41 @@ places_bound hs past n ps rest here named =
     let once = neither (among n (scope_of past (Line.Behaviour n ps ∷ rest)).behaviours) (has_twice ps) (no_first _ ScriptKind.Twice _ here).0 in
     let long : length (all_of [] ps) ≡ length ps = all_length [] ps once.1 (new_to_none ps) ∙ omega arith in
     rw (← long) (are_bound hs (Line.Behaviour n ps ∷ past) rest named)
+
+none_is : {X : Type 0} (o : Option X) → is_some o ≡ false → o ≡ None
+none_is (Some x) e = absurd cc
+none_is None e = refl
+
+pub head_added : {S : Type 0} (m : IndexMap (List ℕ) ℕ S) (n key : List ℕ) (k : ℕ) → key ≡ n → is_some (parameters_of n m.entries) ≡ false
+    → insert_entry (pointwise nat_eq) m.entries key k ≡ add_head n k m.entries
+unfolding parameters_of is_text
+head_added m n key k same e = rw (same, e) (insert_entry-new (pointwise nat_eq) m n k (none_is (lookup (pointwise nat_eq n) m.entries) e))
+
+pub there : (n : Word) (hs : List Head) → is_some (parameters_of n hs) ≡ among n (names_of hs)
+unfolding parameters_of among
+there n [] = refl
+there n (h ∷ hs) = by (is_text n h.0) (there n hs)
+  where
+    by : (b : Bool) → is_some (lookup (is_text n) hs) ≡ list_any (is_text n) (names_of hs) → is_some (cond b (Some h.1) (lookup (is_text n) hs)) ≡ (b || list_any (is_text n) (names_of hs))
+    by true e = refl
+    by false e = e
+
+pub add_named : (n : Word) (k : ℕ) (hs : List Head) → names_of (add_head n k hs) ≡ add n (names_of hs)
+add_named n k hs = by (is_some (parameters_of n hs)) (among n (names_of hs)) (there n hs)
+  where
+    by : (b c : Bool) → b ≡ c → names_of (if b then hs else hs ++ (n, k) ∷ []) ≡ (if c then names_of hs else names_of hs ++ n ∷ [])
+    by true true e = refl
+    by false false e = map-append (λ h. h.0) hs ((n, k) ∷ [])
+    by true false e = absurd cc
+    by false true e = absurd cc
+
+pub head_more : (n : Word) (k : ℕ) (hs : List Head) → length (add_head n k hs) ≤ length hs + 1
+head_more n k hs = by (is_some (parameters_of n hs))
+  where
+    by : (b : Bool) → length (if b then hs else hs ++ (n, k) ∷ []) ≤ length hs + 1
+    by true = omega arith
+    by false = grind (arith, length-append hs ((n, k) ∷ []))
+
+pub head_is : (hs gs : List Head) (cs ns : List Word) (n : Word) (ps : List Word)
+    → head_fault hs n ps ≡ name_fault (record { cases = cs; behaviours = names_of hs; bound = ns; heads = gs }) (Line.Behaviour n ps)
+head_is hs gs cs ns n ps = rw (there n hs, length-map hs (λ h. h.0)) refl

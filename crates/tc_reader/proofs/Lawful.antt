@@ -5,8 +5,8 @@ use Rattle.std.specs.{List.list_any, List.position_or_len, Map.lookup, Option.op
 use Rattle.std.proofs.lemmas.{Bool.Decides.nat_tests, List.Elements.All-cons, List.Folds.list_any-append, List.append-nil, List.length-map, List.map-append}
 use Rattle.tc_entry.specs.declared.limits.TheConstants.{BEHAVIOURS}
 use Rattle.tc_step.specs.Prelude.{ScriptView}
-use Rattle.tc_reader.specs.{Campaign.IsCase, Campaign.StartsOne, Campaign.behaviours, Campaign.cases, Campaign.place, Campaign.signatures, Campaign.step_of, Campaign.steps, Inside.AreCases, Inside.add_head, Inside.names_of, Names.Word, Names.add, Names.all_of, Names.among, Names.has_twice, Names.index_of, Scope.Head, Scope.behaviours_before, Scope.cases_before, Scope.heads, Scope.heads_around, Scope.heads_behind, Scope.parameters_of, Scope.with_bound, SecondPass.misnamed, Words.is_text, declared.kind.ScriptKind.ScriptKind, declared.line.Call.Call, declared.line.Line.Line}
-use Rattle.tc_reader.proofs.{Binding.add_new, Binding.differ, Binding.either, Binding.named_next, Binding.neither, Binding.no_fault, Binding.no_first, Heading.there}
+use Rattle.tc_reader.specs.{Campaign.IsCase, Campaign.StartsOne, Campaign.behaviours, Campaign.cases, Campaign.place, Inside.signatures, Campaign.step_of, Campaign.steps, Inside.AreCases, Inside.add_head, Inside.names_of, Names.Word, Names.add, Names.all_of, Names.among, Names.has_twice, Names.index_of, Scope.Head, Scope.behaviours_before, Scope.cases_before, Scope.heads, Scope.heads_around, Scope.heads_with, Scope.parameters_of, Scope.with_bound, SecondPass.misnamed, Words.is_text, declared.kind.ScriptKind.ScriptKind, declared.line.Call.Call, declared.line.Line.Line}
+use Rattle.tc_reader.proofs.Binding.{add_new, differ, either, named_next, neither, no_fault, no_first, there}
 
 -- ---- a behaviour and its place
 
@@ -28,7 +28,7 @@ none_used false true main e = absurd cc
 none_used false false true e = absurd cc
 none_used false false false e = (refl, refl)
 
-heads_are : (gs hs : List Head) (past rest : List Line) → misnamed past rest ≡ None → names_of hs ≡ behaviours_before past → heads_behind hs rest ≡ hs ++ signatures (behaviours gs rest)
+heads_are : (gs hs : List Head) (past rest : List Line) → misnamed past rest ≡ None → names_of hs ≡ behaviours_before past → heads_with hs rest ≡ hs ++ signatures (behaviours gs rest)
 heads_are gs hs past [] named same = sym (append-nil hs)
 heads_are gs hs past (Line.TestCase n ∷ rest) named same = sym (append-nil hs)
 heads_are gs hs past (Line.Skipped ∷ rest) named same = heads_are gs hs (Line.Skipped ∷ past) rest (named_next past Line.Skipped rest named).1 same
@@ -41,7 +41,7 @@ heads_are gs hs past (Line.Behaviour n ps ∷ rest) named same =
     let grown : add_head n (length ps) hs ≡ hs ++ (n, length ps) ∷ [] = rw absent refl in
     let names : names_of (hs ++ (n, length ps) ∷ []) ≡ behaviours_before (Line.Behaviour n ps ∷ past) =
     rw new (map-append (λ h. h.0) hs ((n, length ps) ∷ []) ∙ ap (λ ns. ns ++ n ∷ []) same) in
-    ap (λ xs. heads_behind xs rest) grown ∙ heads_are gs (hs ++ (n, length ps) ∷ []) (Line.Behaviour n ps ∷ past) rest two.1 names ∙ append_assoc hs ((n, length ps) ∷ []) (signatures (behaviours gs rest))
+    ap (λ xs. heads_with xs rest) grown ∙ heads_are gs (hs ++ (n, length ps) ∷ []) (Line.Behaviour n ps ∷ past) rest two.1 names ∙ append_assoc hs ((n, length ps) ∷ []) (signatures (behaviours gs rest))
 
 -- ---- starts
 

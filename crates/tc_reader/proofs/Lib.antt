@@ -1,5 +1,4 @@
 -- The lemmas of this crate.
-pub mod Heading
 pub mod Binding
 pub mod Lawful
 pub mod Placed
@@ -11,3 +10,4 @@ pub mod Naming
 pub mod Skipping
 pub mod Spelled
 pub mod Taking
+pub mod Stepping

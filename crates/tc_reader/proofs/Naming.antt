@@ -25,7 +25,7 @@ is_other : (word text : List ℕ) → is_text word text ≡ false → word ≢ t
 unfolding is_text
 is_other word text e same = let yes : pointwise nat_eq word text ≡ true = (bytes_decides word text).1 same in absurd cc
 
-other_is : (word text : List ℕ) → (word ≢ text) → is_text word text ≡ false
+pub other_is : (word text : List ℕ) → (word ≢ text) → is_text word text ≡ false
 unfolding is_text
 other_is word text differ = by (pointwise nat_eq word text) (bytes_decides word text).0
   where
@@ -49,9 +49,9 @@ unfolding begins_with_letter
 begins_well [] letter some = absurd (omega (arith, some))
 begins_well (b ∷ bs) letter some = (true_is (is_ascii_alphabetic b)).1 letter
 
-pub name_is_told : (word : List ℕ) → is_name word ≡ true → IsName word
+pub name_is_said : (word : List ℕ) → is_name word ≡ true → IsName word
 unfolding is_name
-name_is_told word e =
+name_is_said word e =
     let well = both (begins_with_letter word && list_all is_name_byte word && nat_le (length word) NAME_BYTES) _ e in
     let short = both (begins_with_letter word && list_all is_name_byte word) _ well.0 in
     let allowed = both (begins_with_letter word) _ short.0 in
@@ -84,10 +84,10 @@ name_is_found word is = joined _ _ _ _ (begins_well word is.begins is.is_some) (
     (none_of _ _ _ _ (other_is word (codes "all") is.not_all) (other_is word (codes "any") is.not_any) (other_is word (codes "mtc") is.not_mtc) (other_is word (codes "self") is.not_self))
 
 pub no_name : (word : List ℕ) → (IsName word → ⊥) → is_name word ≡ false
-no_name word missing = by (is_name word) (name_is_told word)
+no_name word missing = by (is_name word) (name_is_said word)
   where
     by : (b : Bool) → (b ≡ true → IsName word) → b ≡ false
     by true f = absurd (missing (f refl))
     by false f = refl
 
-pub ruleset naming_rules = (name_is_told, name_is_found, no_name)
+pub ruleset naming_rules = (name_is_said, name_is_found, no_name)

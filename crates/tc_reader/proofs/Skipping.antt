@@ -5,7 +5,7 @@ use Rattle.std.specs.{List.onto_first, List.slice_split, Option.option_map_or}
 use Rattle.std.proofs.lemmas.{Bool.Decides.nat_tests, List.Elements.All-append, List.Elements.All-cons, List.Elements.All-nil, List.append_assoc}
 use Rattle.tc_entry.specs.declared.limits.TheConstants.{ARGUMENTS, BEHAVIOURS}
 use Rattle.tc_step.specs.declared.limits.TheConstants.{STEPS}
-use Rattle.tc_reader.specs.{FirstPass.argument_count, FirstPass.behaviours_in, FirstPass.cases_in, FirstPass.open_after, FirstPass.opened, FirstPass.passes_limit, FirstPass.placed, FirstPass.steps_in, Inside.HasBefore, Inside.IsIndented, Inside.Skips, Inside.SkipsOne, Inside.counted, Inside.counted_with, Inside.counts_of, Inside.is_newline, Inside.is_some_text, Inside.is_space, Inside.spaces, Line.line_of, Line.line_with, Skipping.BeginsWith, Text.lines, Text.words, declared.counts.Counts.Counts, declared.kind.ScriptKind.ScriptKind, declared.line.Line.Line, declared.open.Open.Open, declared.text.Part.Part}
+use Rattle.tc_reader.specs.{FirstPass.argument_count, FirstPass.behaviours_in, FirstPass.cases_in, FirstPass.open_after, FirstPass.opened, FirstPass.passes_limit, FirstPass.placed, FirstPass.steps_in, Inside.HasBefore, Inside.IsIndented, Inside.Skips, Inside.SkipsOne, Inside.counted, Inside.counted_with, Inside.counts_of, Inside.is_newline, Inside.is_some_text, Inside.is_space, Inside.spaces, Line.line_of, Line.line_with, Inside.BeginsWith, Text.lines, Text.words, declared.counts.Counts.Counts, declared.kind.ScriptKind.ScriptKind, declared.line.Line.Line, declared.open.Open.Open, declared.text.Part.Part}
 use Rattle.tc_reader.proofs.Taking.{HasNoEnd, lines_next}
 
 one_space_more : (n : ℕ) (bytes : List ℕ) → spaces n (32 ∷ bytes) ≡ spaces (suc n) bytes

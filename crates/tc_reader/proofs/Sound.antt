@@ -4,8 +4,8 @@ use Rattle.std.proofs.lemmas.List.Elements.{All-cons}
 use Rattle.tc_entry.specs.declared.limits.TheConstants.{ARGUMENTS, BEHAVIOURS}
 use Rattle.tc_step.specs.declared.limits.TheConstants.{STEPS}
 use Rattle.tc_step.specs.Prelude.{ScriptView}
-use Rattle.tc_reader.specs.{Campaign.behaviours, Campaign.cases, Campaign.steps, FirstPass.behaviours_in, FirstPass.placed, FirstPass.steps_in, Inside.AreCases, Inside.AreScripts, Inside.MakesScript, Inside.add_head, Names.Word, Names.all_of, Scope.Head, Scope.heads, Scope.heads_behind, Scope.with_bound, SecondPass.misnamed, declared.line.Line.Line}
-use Rattle.tc_reader.proofs.{Binding.named_next, Binding.places_bound, Heading.head_more, Placed.AllPlaced, Placed.few_given, Placed.few_more, Placed.within_limits}
+use Rattle.tc_reader.specs.{Campaign.behaviours, Campaign.cases, Campaign.steps, FirstPass.behaviours_in, FirstPass.placed, FirstPass.steps_in, Inside.AreCases, Inside.AreScripts, Inside.MakesScript, Inside.add_head, Names.Word, Names.all_of, Scope.Head, Scope.heads, Scope.heads_with, Scope.with_bound, SecondPass.misnamed, declared.line.Line.Line}
+use Rattle.tc_reader.proofs.{Binding.named_next, Binding.places_bound, Binding.head_more, Placed.AllPlaced, Placed.few_given, Placed.few_more, Placed.within_limits}
 
 -- each line is in its place, and within the limits
 abbrev pub ArePlaced : List Line → List Line → Type 0
@@ -36,7 +36,7 @@ few_steps hs ns past (Line.TestCase n ∷ rest) are few = grind arith
 few_steps hs ns past (Line.Behaviour n ps ∷ rest) are few = grind arith
 few_steps hs ns past (Line.End ∷ rest) are few = grind arith
 
-few_heads : (hs : List Head) (past rest : List Line) → ArePlaced past rest → length hs ≤ behaviours_in past → behaviours_in past ≤ BEHAVIOURS → length (heads_behind hs rest) ≤ BEHAVIOURS
+few_heads : (hs : List Head) (past rest : List Line) → ArePlaced past rest → length hs ≤ behaviours_in past → behaviours_in past ≤ BEHAVIOURS → length (heads_with hs rest) ≤ BEHAVIOURS
 unfolding behaviours_in
 few_heads hs past [] are le few = omega (arith, le, few)
 few_heads hs past (Line.TestCase n ∷ rest) are le few = omega (arith, le, few)

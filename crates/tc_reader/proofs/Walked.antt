@@ -5,8 +5,8 @@ use Rattle.std.specs.{List.list_any, Option.option_map, Option.option_map_or, Op
 use Rattle.std.proofs.lemmas.List.{Elements.All-same, append-nil, map-append}
 use Rattle.tc_step.specs.declared.step.Step.{Step}
 use Rattle.tc_step.specs.Prelude.{ScriptView, of_group, of_target}
-use Rattle.tc_reader.specs.{Campaign.CampaignView, Campaign.behaviours, Campaign.cases, Campaign.step_of, Campaign.steps, FirstPass.at_next, FirstPass.behaviours_in, FirstPass.open_after, FirstPass.opened, FirstPass.placed, Inside.AreCases, Inside.MadeView, Inside.MakeScripts, Inside.MayEnd, Inside.WalkView, Inside.after, Inside.all_filled, Inside.begins, Inside.called as after_call, Inside.case_ended, Inside.case_left, Inside.ended, Inside.fault_at_end, Inside.fault_in, Inside.finished, Inside.first_wrong, Inside.head_fault, Inside.made_step, Inside.names_at, Inside.names_of, Inside.or_fault, Inside.start_kind, Inside.started_of, Inside.with_last, Inside.with_start, Inside.with_step, Names.Word, Names.add, Names.among, Scope.Head, Scope.behaviours_before, Scope.bound, Scope.cases_before, Scope.heads, Scope.heads_around, Scope.heads_behind, Scope.scope_of, Scope.with_bound, SecondPass.is_unbound, SecondPass.misnamed, SecondPass.name_fault, declared.fault.ScriptFault.ScriptFault, declared.kind.ScriptKind.ScriptKind, declared.line.Call.Call, declared.line.Line.Line, declared.open.Open.Open, declared.starts.Start.Start}
-use Rattle.tc_reader.proofs.{Heading.add_named, Heading.head_is, Heading.head_more, Making.all_fill, Making.called, Making.called_in, Placed.AllPlaced, Placed.few_behaviours, Placed.in_behaviour, Placed.not_nothing, Sound.MakesScripts, Sound.are_cases, Sound.are_placed, Sound.onto, Sound.scripts_are}
+use Rattle.tc_reader.specs.{Campaign.CampaignView, Campaign.behaviours, Campaign.cases, Campaign.step_of, Campaign.steps, FirstPass.at_next, FirstPass.behaviours_in, FirstPass.open_after, FirstPass.opened, FirstPass.placed, Inside.AreCases, Inside.MadeView, Inside.MakeScripts, Inside.MayEnd, Inside.WalkView, Inside.after, Inside.all_filled, Inside.begins, Inside.called as after_call, Inside.case_ended, Inside.case_left, Inside.ended, Inside.fault_at_end, Inside.fault_in, Inside.finished, Inside.first_wrong, Inside.head_fault, Inside.made_step, Inside.names_at, Inside.names_of, Inside.or_fault, Inside.start_kind, Inside.started_of, Inside.with_last, Inside.with_start, Inside.with_step, Names.Word, Names.add, Names.among, Scope.Head, Scope.behaviours_before, Scope.bound, Scope.cases_before, Scope.heads, Scope.heads_around, Scope.heads_with, Scope.scope_of, Scope.with_bound, SecondPass.is_unbound, SecondPass.misnamed, SecondPass.name_fault, declared.fault.ScriptFault.ScriptFault, declared.kind.ScriptKind.ScriptKind, declared.line.Call.Call, declared.line.Line.Line, declared.open.Open.Open, declared.starts.Start.Start}
+use Rattle.tc_reader.proofs.{Binding.add_named, Binding.head_is, Binding.head_more, Making.all_fill, Making.called, Making.called_in, Placed.AllPlaced, Placed.few_behaviours, Placed.in_behaviour, Placed.not_nothing, Sound.MakesScripts, Sound.are_cases, Sound.are_placed, Sound.onto, Sound.scripts_are}
 
 -- ---- faults
 
@@ -122,7 +122,7 @@ going_called (Some b) rest = called_in rest ++ called rest
 -- what is made of the test case with this name, whose lines so far are `body`
 pub record IsInCase (w : WalkView) (past : List Line) (n : Word) : Type 0 where
   pub body : List Line
-  pub cases_are : (rest : List Line) → cases (onto past rest) ≡ w.made.done ++ (n, behaviours (heads_behind w.names.heads rest) (onto body rest)) ∷ cases rest
+  pub cases_are : (rest : List Line) → cases (onto past rest) ≡ w.made.done ++ (n, behaviours (heads_with w.names.heads rest) (onto body rest)) ∷ cases rest
   pub drafts_are : (rest : List Line) → behaviours [] (onto body rest) ≡ w.made.drafts ++ going w.made.current w.names.bound rest
   pub starts_are : (rest : List Line) → called (onto body rest) ≡ started_of w.starts ++ going_called w.made.current rest
 
@@ -138,8 +138,8 @@ pub record IsWalked (w : WalkView) (past : List Line) : Type 0 where
   pub bound_now : w.names.bound ≡ bound past
   pub few : length w.names.heads ≤ behaviours_in past
   pub is_open : opened past ≡ Open.Behaviour → is_some w.made.current ≡ true
-  pub heads_are : (opened past ≡ Open.Nothing → ⊥) → (rest : List Line) → heads_around past rest ≡ heads_behind w.names.heads rest
-  pub named : (rest : List Line) → misnamed [] (onto past rest) ≡ option_or (first_wrong (heads_behind w.names.heads rest) w.starts) (option_or w.fault (misnamed past rest))
+  pub heads_are : (opened past ≡ Open.Nothing → ⊥) → (rest : List Line) → heads_around past rest ≡ heads_with w.names.heads rest
+  pub named : (rest : List Line) → misnamed [] (onto past rest) ≡ option_or (first_wrong (heads_with w.names.heads rest) w.starts) (option_or w.fault (misnamed past rest))
   pub made : w.fault ≡ None → IsMade w.made.case w past
 
 pub walked_first : IsWalked begins []
@@ -260,8 +260,8 @@ walked_behaviour n ps w past is at =
       heads_are = λ some rest. is.heads_are (not_nothing past l at refl) (l ∷ rest);
       named = λ rest.
           is.named (l ∷ rest)
-          ∙ ap (λ o. option_or (first_wrong (heads_behind w.names.heads (l ∷ rest)) w.starts) (option_or w.fault (option_or (option_map (at_next past) o) (misnamed (l ∷ past) rest)))) (sym same)
-          ∙ noted (first_wrong (heads_behind w.names.heads (l ∷ rest)) w.starts) w.fault past kind (misnamed (l ∷ past) rest);
+          ∙ ap (λ o. option_or (first_wrong (heads_with w.names.heads (l ∷ rest)) w.starts) (option_or w.fault (option_or (option_map (at_next past) o) (misnamed (l ∷ past) rest)))) (sym same)
+          ∙ noted (first_wrong (heads_with w.names.heads (l ∷ rest)) w.starts) w.fault past kind (misnamed (l ∷ past) rest);
       made = λ none. behaviour_made w.made.case (length past + 1) n ps w past (is.made (none_left w.fault _ none).0);
     }
 
@@ -319,7 +319,7 @@ walked_call call w past is at r same = by r same
     l = Line.Step call
 
     hs : List Line → List Head
-    hs rest = heads_behind w.names.heads rest
+    hs rest = heads_with w.names.heads rest
 
     kind_is : (rest : List Line) → name_fault (scope_of past (l ∷ rest)) l ≡ option_or (fault_of (made_step w.names.bound call)) (start_fault (hs rest) call)
     kind_is rest =
@@ -373,7 +373,7 @@ abbrev done_with : Option Word → WalkView → CampaignView
 done_with c w = with_last w.made.done (option_map (λ n. (n, finished w.names.heads (started_of w.starts) w.made)) c)
 
 case_ends : (c : Option Word) (w : WalkView) (past : List Line) → IsMade c w past
-    → (rest : List Line) → steps [] w.names.bound rest ≡ [] → behaviours [] rest ≡ [] → called_in rest ≡ [] → called rest ≡ [] → heads_behind w.names.heads rest ≡ w.names.heads
+    → (rest : List Line) → steps [] w.names.bound rest ≡ [] → behaviours [] rest ≡ [] → called_in rest ≡ [] → called rest ≡ [] → heads_with w.names.heads rest ≡ w.names.heads
     → cases (onto past rest) ≡ done_with c w ++ cases rest
 case_ends None w past is rest steps_end behaviours_end called_end all_end heads_end = is rest
 case_ends (Some n) w past is rest steps_end behaviours_end called_end all_end heads_end =
@@ -393,7 +393,7 @@ case_ends (Some n) w past is rest steps_end behaviours_end called_end all_end he
     starts_same : called (onto is.body rest) ≡ started_of w.starts
     starts_same = is.starts_are rest ∙ ap (λ ns. started_of w.starts ++ ns) (ends_called w.made.current rest called_end ∙ all_end) ∙ append-nil (started_of w.starts)
 
-    same : behaviours (heads_behind hs rest) (onto is.body rest) ≡ all_filled hs made (started_of w.starts)
+    same : behaviours (heads_with hs rest) (onto is.body rest) ≡ all_filled hs made (started_of w.starts)
     same =
         ap (λ gs. behaviours gs (onto is.body rest)) heads_end ∙ sym (all_fill hs (onto is.body rest))
         ∙ ap (λ bs. all_filled hs bs (called (onto is.body rest))) drafts_same ∙ ap (all_filled hs made) starts_same

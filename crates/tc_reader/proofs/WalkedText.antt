@@ -6,7 +6,7 @@ use Rattle.std.proofs.lemmas.{Bool.Decides.nat_tests, List.append-nil, List.leng
 use Rattle.tc_entry.specs.declared.limits.TheConstants.{ARGUMENTS}
 use Rattle.tc_step.specs.declared.limits.TheConstants.{STEPS}
 use Rattle.tc_entry.specs.Prelude.{UserVerdict}
-use Rattle.tc_reader.specs.{Campaign.CampaignView, Campaign.Reads, Campaign.campaign, Campaign.cases, FirstPass.argument_count, FirstPass.cases_in, FirstPass.ends_well, FirstPass.judged, FirstPass.open_after, FirstPass.opened, FirstPass.parsed, FirstPass.steps_in, Inside.IsCampaign, Inside.IsWithin, Inside.MayTake, Inside.Takes, Inside.WalkView, Inside.after, Inside.begins, Inside.counted, Inside.counted_with, Inside.counts_of, Inside.ended, Inside.fault_at_end, Inside.fault_in, Inside.may_end as text_may_end, Line.are_printable, Line.form, Line.line_of, Line.◌>>=◌, Scope.bound, SecondPass.misnamed, Skipping.BeginsWith, Text.lines as lines_of, Text.words, Words.is_text, Words.keyword, Words.verdict, declared.counts.Counts.Counts, declared.fault.ReadFault.ReadFault, declared.fault.ScriptFault.ScriptFault, declared.kind.ScriptKind.ScriptKind, declared.line.Call.Call, declared.line.Line.Line, declared.open.Open.Open, declared.text.Part.Part}
+use Rattle.tc_reader.specs.{Campaign.CampaignView, Campaign.Reads, Campaign.campaign, Campaign.cases, FirstPass.argument_count, FirstPass.cases_in, FirstPass.ends_well, Inside.judged, FirstPass.open_after, FirstPass.opened, FirstPass.parsed, FirstPass.steps_in, Inside.IsCampaign, Inside.IsWithin, Inside.MayTake, Inside.Takes, Inside.WalkView, Inside.after, Inside.begins, Inside.counted, Inside.counted_with, Inside.counts_of, Inside.ended, Inside.fault_at_end, Inside.fault_in, Inside.may_end as text_may_end, Line.are_printable, Line.form, Line.line_of, Line.◌>>=◌, Scope.bound, SecondPass.misnamed, Inside.BeginsWith, Text.lines as lines_of, Text.words, Words.is_text, Words.keyword, Words.verdict, declared.counts.Counts.Counts, declared.fault.ReadFault.ReadFault, declared.fault.ScriptFault.ScriptFault, declared.kind.ScriptKind.ScriptKind, declared.line.Call.Call, declared.line.Line.Line, declared.open.Open.Open, declared.text.Part.Part}
 use Rattle.tc_reader.proofs.{Lawful.case_names, Lawful.cases_are, Placed.few_names, Skipping.Agrees, Skipping.counted_agrees, Skipping.skipped_agrees, Sound.onto, Taking.few_lines, Walked.IsWalked, Walked.all_cases, Walked.cases_end, Walked.may_end, Walked.named_end, Walked.walked_first, Walked.walked_more, Walked.walked_skipped}
 
 -- what was read of a text: some lines, after which these are left
@@ -190,29 +190,3 @@ read_lawful text w next counts number texts is ends none =
     let named = named_end w is.past is.walked ∙ clean in
     subst IsCampaign (cases_end w is.past is.walked clean ∙ ap (λ v. v.made.done) (sym ends))
     (record { names = case_names [] (onto is.past []) named refl; cases = cases_are [] (onto is.past []) (all_cases w is.past is.walked clean) named })
-
-same : (line text : List ℕ) → is_text line text ≡ true → line ≡ text
-unfolding is_text
-same line text e = (bytes_decides line text).0 e
-
-pub get : (line : List ℕ) → is_text line (codes "getverdict") ≡ true → line_of line ≡ Ok (Line.Step Call.GetVerdict)
-unfolding line_of words is_text keyword verdict are_printable form
-get line e = rw (same line _ e) refl
-
-pub pass : (line : List ℕ) → is_text line (codes "setverdict pass") ≡ true → line_of line ≡ Ok (Line.Step (Call.SetVerdict UserVerdict.Pass))
-unfolding line_of words is_text keyword verdict are_printable form
-pass line e = rw (same line _ e) refl
-
-pub fail : (line : List ℕ) → is_text line (codes "setverdict fail") ≡ true → line_of line ≡ Ok (Line.Step (Call.SetVerdict UserVerdict.Fail))
-unfolding line_of words is_text keyword verdict are_printable form
-fail line e = rw (same line _ e) refl
-
-pub none : (line : List ℕ) → is_text line (codes "setverdict none") ≡ true → line_of line ≡ Ok (Line.Step (Call.SetVerdict UserVerdict.None))
-unfolding line_of words is_text keyword verdict are_printable form
-none line e = rw (same line _ e) refl
-
-pub inconc : (line : List ℕ) → is_text line (codes "setverdict inconc") ≡ true → line_of line ≡ Ok (Line.Step (Call.SetVerdict UserVerdict.Inconc))
-unfolding line_of words is_text keyword verdict are_printable form
-inconc line e = rw (same line _ e) refl
-
-pub ruleset plain_rules = (get, pass, fail, none, inconc)

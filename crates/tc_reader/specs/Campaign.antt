@@ -63,10 +63,6 @@ Reads view (Ok x) said = said ≡ Ok (view x)
 Reads view (Err ReadFault.NoMemory) said = Unit {0}
 Reads view (Err (ReadFault.Script fault)) said = said ≡ Err fault
 
--- the behaviours of a test case: their names, and the numbers of their parameters
-abbrev pub signatures : List (Word × ScriptView) → List Head
-signatures scripts = map (λ b. (b.0, b.1.parameters)) scripts
-
 -- a start is of a run of the test case, with as many arguments as its behaviour has parameters
 abbrev pub StartsOne : List Head → Step → Type 0
 StartsOne hs (Step.Start on run args) = option_map (λ h. h.1) (slice_get hs run.0) ≡ Some (length args)
@@ -77,4 +73,4 @@ pub record IsCase (scripts : List (Word × ScriptView)) : Type 0 where
   pub few : length scripts ≤ BEHAVIOURS
   pub distinct : has_twice (map (λ b. b.0) scripts) ≡ false
   pub main : IfSome (slice_get scripts 0) (λ b. b.1.parameters ≡ 0)
-  pub starts : All (λ b. All (StartsOne (signatures scripts)) b.1.steps) scripts
+  pub starts : All (λ b. All (StartsOne (map (λ s. (s.0, s.1.parameters)) scripts)) b.1.steps) scripts

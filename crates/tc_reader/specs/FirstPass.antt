@@ -81,13 +81,10 @@ ends_well _ count = false
 abbrev pub at_next : List Line → ScriptKind → ScriptFault
 at_next past kind = record { line = length past + 1; kind = kind }
 
--- the next line, or its first fault, BadByte to TooMany, with the number of the line
-abbrev pub judged : List Line → List ℕ → Result Line ScriptFault
-judged past bytes = result_map_both (λ l. l) (at_next past) (line_of bytes >>= placed past)
-
--- the lines of a text, the first ones read already: all of them, or the first fault, BadByte to Cut
+-- The lines of a text, the first ones read already: all of them, or the first fault, BadByte to Cut. A line has its first
+-- fault, BadByte to TooMany, with its number.
 abbrev pub parsed : List Line → List (List ℕ) → Result (List Line) ScriptFault
 parsed past [] = if ends_well (opened past) (cases_in past) then Ok (reverse past) else Err (at_next past ScriptKind.Cut)
 parsed past (bytes ∷ more) = do
-  l ← judged past bytes
+  l ← result_map_both (λ l. l) (at_next past) (line_of bytes >>= placed past)
   parsed (l ∷ past) more

@@ -1,11 +1,19 @@
 -- What the walk over the lines of a script has found so far, and what one more line makes of it; and what else the
 -- functions inside say.
-use Rattle.std.specs.Prelude.{◌+◌, ◌≡◌, ◌||◌, nat_le, nat_lt, Bool, if◌then◌else◌, Result, Ok, Err, List, [], ◌∷◌, ◌++◌, length, ℕ, ◌==◌, ◌&&◌, not, is_some, Option, Some, None, map, ◌≤◌, ◌<◌, false, All, zero, suc, codes}
-use Rattle.std.specs.{List.list_any, Option.option_map, Option.option_map_or, Option.option_or}
+use Rattle.std.specs.Prelude.{◌+◌, ◌≡◌, ◌||◌, nat_le, nat_lt, Bool, if◌then◌else◌, Result, Ok, Err, List, [], ◌∷◌, ◌++◌, length, ℕ, ◌==◌, ◌&&◌, not, is_some, Option, Some, None, map, ◌≤◌, ◌<◌, true, false, All, zero, suc, codes}
+use Rattle.std.specs.{List.list_any, Option.option_map, Option.option_map_or, Option.option_or, Result.result_map_both}
 use Rattle.tc_entry.specs.declared.limits.TheConstants.{ARGUMENTS, BEHAVIOURS}
-use Rattle.tc_step.specs.declared.{limits.TheConstants.STEPS, place.Place.Place, step.Status.Status, step.Step.Step}
+use Rattle.tc_step.specs.declared.{limits.TheConstants.STEPS, place.Place.Place, place.TargetPlace.TargetPlace, step.Status.Status, step.Step.Step}
 use Rattle.tc_step.specs.Prelude.{of_group, of_target, IsScript, ScriptView}
-use Rattle.tc_reader.specs.{Campaign.CampaignView, Campaign.IsCase, Campaign.step_of, Campaign.steps, FirstPass.argument_count, FirstPass.behaviours_in, FirstPass.cases_in, FirstPass.ends_well, FirstPass.open_after, FirstPass.opened, FirstPass.steps_in, Line.line_of, Line.word_name, Line.◌>>=◌, Names.Word, Names.add, Names.all_of, Names.among, Names.has_twice, Names.index_of, Scope.Head, Scope.ScopeView, Scope.heads, Scope.parameters_of, Scope.with_bound, SecondPass.is_unbound, SecondPass.name_fault, Words.is_text, declared.counts.Counts.Counts, declared.fault.ReadFault.ReadFault, declared.fault.ScriptFault.ScriptFault, declared.kind.ScriptKind.ScriptKind, declared.limits.TheConstants.TEST_CASES, declared.line.Call.Call, declared.line.Keyword.Keyword, declared.line.Line.Line, declared.open.Open.Open, declared.starts.Start.Start}
+use Rattle.tc_reader.specs.{Campaign.CampaignView, Campaign.IsCase, Campaign.step_of, Campaign.steps, FirstPass.argument_count, FirstPass.at_next, FirstPass.behaviours_in, FirstPass.cases_in, FirstPass.ends_well, FirstPass.open_after, FirstPass.opened, FirstPass.placed, FirstPass.steps_in, Line.line_of, Line.word_name, Line.◌>>=◌, Names.Word, Names.add, Names.all_of, Names.among, Names.has_twice, Names.index_of, Scope.Head, Scope.ScopeView, Scope.heads, Scope.parameters_of, Scope.with_bound, SecondPass.is_unbound, SecondPass.name_fault, Words.is_text, declared.counts.Counts.Counts, declared.fault.ReadFault.ReadFault, declared.fault.ScriptFault.ScriptFault, declared.kind.ScriptKind.ScriptKind, declared.limits.TheConstants.TEST_CASES, declared.line.Call.Call, declared.line.Keyword.Keyword, declared.line.Line.Line, declared.open.Open.Open, declared.starts.Start.Start, declared.text.Part.Part}
+
+-- the behaviours of a test case: their names, and the numbers of their parameters
+abbrev pub signatures : List (Word × ScriptView) → List Head
+signatures scripts = map (λ s. (s.0, s.1.parameters)) scripts
+
+-- the next line, or its first fault, BadByte to TooMany, with the number of the line
+abbrev pub judged : List Line → List ℕ → Result Line ScriptFault
+judged past bytes = result_map_both (λ l. l) (at_next past) (line_of bytes >>= placed past)
 
 -- what is remembered of these lines
 abbrev pub counts_of : List Line → Counts
@@ -213,6 +221,15 @@ ended w = record {
 abbrev pub or_fault : Option ScriptFault → ℕ → Option ScriptKind → Option ScriptFault
 or_fault fault number kind = option_or fault (option_map (fault_in number) kind)
 
+-- after a call that binds and starts nothing and made this step
+abbrev pub with_made_step : Step → WalkView → WalkView
+with_made_step s w = record {
+  names = w.names;
+  fault = w.fault;
+  starts = w.starts;
+  made = record { done = w.made.done; case = w.made.case; drafts = w.made.drafts; current = option_map (with_step s) w.made.current };
+}
+
 -- after the call in this line, which made a step or has a fault
 abbrev pub called : ℕ → Call → Result Step ScriptKind → WalkView → WalkView
 called number call (Err kind) w = record {
@@ -365,6 +382,27 @@ keyword_text Keyword.Wait = codes "wait"
 keyword_text Keyword.SetVerdict = codes "setverdict"
 keyword_text Keyword.GetVerdict = codes "getverdict"
 
+-- the line is a call that binds and starts nothing, and this is its step where these names are bound
+pub record IsStepOf (ns : List Word) (bytes : List ℕ) (s : Step) : Type 0 where
+  pub call : Call
+  pub is : line_of bytes ≡ Ok (Line.Step call)
+  pub is_made : made_step ns call ≡ Ok s
+  pub gives_none : argument_count call ≡ 0
+  pub binds_none : (names : List Word) → with_bound call names ≡ names
+  pub starts_none : (starts : List Start) (number : ℕ) → with_start starts number call ≡ starts
+
+-- the word names these components where these names are bound
+pub record IsTargetOf (ns : List Word) (word : List ℕ) (t : TargetPlace (Place ℕ)) : Type 0 where
+  pub target : TargetPlace (Place Word)
+  pub is : (s : Status) → line_of (keyword_text (Keyword.Ask s) ++ 32 ∷ word) ≡ Ok (Line.Step (Call.Ask s target))
+  pub is_made : (s : Status) → made_step ns (Call.Ask s target) ≡ Ok (Step.Ask s t)
+
 -- the keyword, if the word is its spelling
 abbrev pub spelled_as : List ℕ → Keyword → Option Keyword
 spelled_as word k = if is_text word (keyword_text k) then Some k else None
+
+-- the lines begin with this part, lines that say nothing or one line, and these are left
+abbrev pub BeginsWith : Part → List (List ℕ) → List (List ℕ) → Type 0
+BeginsWith (Part.Skipped more) ls left =
+    (silent : List (List ℕ)) × (ls ≡ silent ++ left) × (length silent ≡ suc more) × All (λ line. line_of line ≡ Ok Line.Skipped) silent
+BeginsWith (Part.Line line) ls left = ls ≡ line.now ∷ left

@@ -9,7 +9,6 @@ pub mod Text
 pub mod Words
 pub mod ScriptKind
 pub mod Line
-pub mod Skipping
 pub mod Prelude
 pub use Rattle.tc_verdict.specs.Prelude as OfVerdict
 pub use Rattle.tc_entry.specs.Prelude as OfEntry

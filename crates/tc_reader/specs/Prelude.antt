@@ -1,5 +1,6 @@
 -- What other crates cite of these definitions.
-pub use Rattle.tc_reader.specs.Campaign.{CampaignView, IsCase, StartsOne, signatures}
+pub use Rattle.tc_reader.specs.Campaign.{CampaignView, IsCase, StartsOne}
+pub use Rattle.tc_reader.specs.Inside.{signatures}
 unfoldable pub use Rattle.tc_reader.specs.Campaign.{campaign}
 pub use Rattle.tc_reader.specs.ScriptKind.{script_fault_text, script_kind_text}
 pub use Rattle.tc_reader.specs.Names.{Word, add, has_twice}

@@ -1,6 +1,7 @@
 //! What the first pass over a script remembers of the lines before.
 ghost use Rattle.std.specs.Prelude.{◌≡◌};
 ghost use Rattle.tc_reader.specs.FirstPass.{argument_count, open_after as spec_open_after};
+ghost use Rattle.tc_reader.specs.declared.line.{Call.Call, Line.Line};
 
 use crate::limits::TEST_CASES;
 use crate::open::Open;
@@ -82,6 +83,22 @@ impl Counts {
             Some(state) => self.with(line, state),
             None => Err(ScriptKind::BadPlace),
         }
+    }
+
+    /// What is remembered after one more step that starts nothing, or what is wrong with its place.
+    pub(crate) fn with_step(self) -> Result<Counts, ScriptKind>
+        ensures { result ≡ counted self (Line.Step Call.GetVerdict) }
+    {
+        if !matches!(self.state, Open::Behaviour) {
+            return Err(ScriptKind::BadPlace);
+        }
+        if self.steps >= STEPS {
+            return Err(ScriptKind::TooMany);
+        }
+        Ok(Counts {
+            steps: self.steps + 1,
+            ..self
+        })
     }
 
     /// Whether the text may end here.

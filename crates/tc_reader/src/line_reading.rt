@@ -4,7 +4,6 @@ ghost use Rattle.tc_reader.specs.{Inside.create_named, Line.Gives, Line.are_prin
 
 use crate::kind::{LineFault, ScriptKind};
 use crate::line::{Call, Keyword, Line};
-use crate::plain::read_plain;
 use crate::spelling::{is_word, read_keyword, read_verdict};
 use crate::text::read_words;
 use crate::word::read_name;
@@ -333,10 +332,9 @@ pub fn is_comment(word: &[u8]) -> bool
     }
 }
 
-// What a line says, by its words. It is not inlined, so that the commonest lines have no room for names to clear.
+/// What a line says. The list holds its words meanwhile: given to the next line, it takes no memory again.
 #[tactic(auto, unfolding(crate::specs::Line::line_of))]
-#[inline(never)]
-fn read_by_words<'t>(
+pub fn read_line<'t>(
     alloc: Global,
     line: &'t [u8],
     words: &mut Vec<&'t [u8]>,
@@ -356,20 +354,5 @@ fn read_by_words<'t>(
     match read_keyword(first) {
         Some(keyword) => read_form(alloc, keyword, rest),
         None => Err(LineFault::Kind(ScriptKind::BadLine)),
-    }
-}
-
-/// What a line says. The list holds its words meanwhile: given to the next line, it takes no memory again.
-#[inline(always)]
-pub fn read_line<'t>(
-    alloc: Global,
-    line: &'t [u8],
-    words: &mut Vec<&'t [u8]>,
-) -> Result<Line, LineFault>
-    ensures { Gives result (line_of line.now) }
-{
-    match read_plain(line) {
-        Some(call) => Ok(Line::Step(call)),
-        None => read_by_words(alloc, line, words),
     }
 }

@@ -1,28 +1,94 @@
-//! The commonest lines, as they are usually written: they are known by their whole spelling, and not cut into words.
-ghost use Rattle.std.specs.Prelude.{◌≡◌, Ok, IfSome};
-ghost use Rattle.tc_reader.specs.{Line.line_of, declared.line.Line.Line};
+//! The commonest lines, as they are usually written: each is made a step at once, and not cut into words.
+ghost use Rattle.std.specs.Prelude.{◌≡◌, ◌++◌, ◌∷◌, List, ℕ, IfSome};
+ghost use Rattle.tc_reader.specs.{Inside.IsStepOf, Inside.IsTargetOf, Inside.keyword_text, declared.line.Keyword.Keyword};
 
-use crate::line::Call;
+use crate::Step;
+use crate::names::Names;
 use crate::spelling::is_word;
+use crate::word::read_name;
 use tc_entry::UserVerdict;
+use tc_step::{Place, Status, TargetPlace};
 
 /// The verdict call that the line is, if one space is between its words and none around them.
 #[inline(always)]
-#[tactic(auto, using(crate::proofs::WalkedText::plain_rules))]
-pub(crate) fn read_plain(line: &[u8]) -> Option<Call>
-    ensures { IfSome result (λ call. line_of line.now ≡ Ok (Line.Step call)) }
+#[tactic(auto, using(crate::proofs::Stepping::verdict_rules))]
+fn plain_verdict(line: &[u8]) -> Option<Step>
+    ensures { (ns : List (List ℕ)) → IfSome result (λ step. IsStepOf ns line.now step) }
 {
     if is_word(line, b"getverdict") {
-        Some(Call::GetVerdict)
+        Some(Step::GetVerdict)
     } else if is_word(line, b"setverdict pass") {
-        Some(Call::SetVerdict(UserVerdict::Pass))
+        Some(Step::SetVerdict(UserVerdict::Pass))
     } else if is_word(line, b"setverdict fail") {
-        Some(Call::SetVerdict(UserVerdict::Fail))
+        Some(Step::SetVerdict(UserVerdict::Fail))
     } else if is_word(line, b"setverdict none") {
-        Some(Call::SetVerdict(UserVerdict::None))
+        Some(Step::SetVerdict(UserVerdict::None))
     } else if is_word(line, b"setverdict inconc") {
-        Some(Call::SetVerdict(UserVerdict::Inconc))
+        Some(Step::SetVerdict(UserVerdict::Inconc))
     } else {
         None
+    }
+}
+
+/// What the line asks, and the bytes after the space.
+#[inline(always)]
+fn plain_status(line: &[u8]) -> Option<(Status, &[u8])>
+    ensures { IfSome result (λ a. line.now ≡ keyword_text (Keyword.Ask a.0) ++ 32 ∷ a.1.now) }
+{
+    match line {
+        [b'r', b'u', b'n', b'n', b'i', b'n', b'g', b' ', word @ ..] => Some((
+            Status::Running,
+            word,
+        )),
+        [b'a', b'l', b'i', b'v', b'e', b' ', word @ ..] => Some((Status::Alive, word)),
+        [b'd', b'o', b'n', b'e', b' ', word @ ..] => Some((Status::Done, word)),
+        [b'k', b'i', b'l', b'l', b'e', b'd', b' ', word @ ..] => Some((Status::Killed, word)),
+        _ => None,
+    }
+}
+
+/// The component that the word names by its name, which is bound.
+#[inline(never)]
+#[tactic(auto, using(crate::proofs::Stepping::target_rules))]
+fn plain_bound(bound: &Names, word: &[u8]) -> Option<TargetPlace>
+    ensures { IfSome result (λ target. IsTargetOf bound.now word.now target) }
+{
+    let name = read_name(word)?;
+    let index = u16::try_from(bound.find(&name)?).ok()?;
+    Some(TargetPlace::One(Place::Bound(index)))
+}
+
+/// The components that the word names.
+#[inline(always)]
+#[tactic(auto, using(crate::proofs::Stepping::target_rules))]
+fn plain_target(bound: &Names, word: &[u8]) -> Option<TargetPlace>
+    ensures { IfSome result (λ target. IsTargetOf bound.now word.now target) }
+{
+    if is_word(word, b"self") {
+        Some(TargetPlace::One(Place::Own))
+    } else if is_word(word, b"mtc") {
+        Some(TargetPlace::One(Place::Main))
+    } else if is_word(word, b"any") {
+        Some(TargetPlace::Any)
+    } else if is_word(word, b"all") {
+        Some(TargetPlace::All)
+    } else {
+        plain_bound(bound, word)
+    }
+}
+
+/// The step of the line, if it asks for a status or for a verdict or sets one, with one space between its words and none
+/// around them, and names what is bound.
+#[inline(always)]
+#[tactic(auto, using(crate::proofs::Stepping::ask_rules))]
+pub(crate) fn plain_step(bound: &Names, line: &[u8]) -> Option<Step>
+    ensures { IfSome result (λ step. IsStepOf bound.now line.now step) }
+{
+    match plain_status(line) {
+        Some((status, word)) => {
+            let target = plain_target(bound, word)?;
+            Some(Step::Ask(status, target))
+        }
+        None => plain_verdict(line),
     }
 }

@@ -10,9 +10,10 @@ use crate::walk::Walk;
 use crate::{LineFault, Lines, Part, ScriptKind, read_line};
 use std::alloc::Global;
 
-/// Takes the next line, of this number. It answers what is remembered after it.
+// Takes the line of this number by its words.
 #[tactic(auto, using(crate::proofs::WalkedText::line_rules))]
-fn take_line<'t>(
+#[inline(never)]
+fn take_words<'t>(
     alloc: Global,
     walk: &mut Walk,
     counts: Counts,
@@ -33,6 +34,32 @@ fn take_line<'t>(
     match counts.with_line(&line) {
         Ok(counts) => {
             walk.take(alloc, number, &line)?;
+            Ok(counts)
+        }
+        Err(kind) => Err(ReadFault::Script(ScriptFault { line: number, kind })),
+    }
+}
+
+// Takes the next line, of this number. It answers what is remembered after it.
+#[tactic(auto, using(crate::proofs::Stepping::step_rules))]
+#[inline(always)]
+fn take_line<'t>(
+    alloc: Global,
+    walk: &mut Walk,
+    counts: Counts,
+    number: usize,
+    text: &'t [u8],
+    words: &mut Vec<&'t [u8]>,
+) -> Result<Counts, ReadFault>
+    requires may_take { MayTake counts walk.old }
+    ensures taken { Takes number counts walk.old walk.new result (line_of text.now) }
+{
+    let Some(step) = walk.plain_step(text) else {
+        return take_words(alloc, walk, counts, number, text, words);
+    };
+    match counts.with_step() {
+        Ok(counts) => {
+            walk.add_step(step)?;
             Ok(counts)
         }
         Err(kind) => Err(ReadFault::Script(ScriptFault { line: number, kind })),

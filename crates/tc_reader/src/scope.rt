@@ -77,6 +77,14 @@ impl Scope {
         &self.heads
     }
 
+    /// What is bound.
+    #[inline(always)]
+    pub(crate) fn bound(&self) -> &Names
+        ensures { result.now ≡ self.now.bound }
+    {
+        &self.bound
+    }
+
     /// What is wrong with the name of a test case.
     pub(crate) fn fault_of_case(&self, name: &Name) -> Option<ScriptKind>
         ensures { result ≡ name_fault (names_at self.now) (Line.TestCase name.now) }

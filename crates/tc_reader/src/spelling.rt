@@ -1,6 +1,6 @@
 //! The words of the script language: keywords and verdicts.
 ghost use Rattle.std.specs.Prelude.{◌≡◌, Some};
-ghost use Rattle.tc_reader.specs.{Inside.keyword_text, Inside.spelled_as, Words.is_text, Words.keyword, Words.verdict};
+ghost use Rattle.tc_reader.specs.{Inside.keyword_text, Words.is_text, Words.keyword, Words.verdict};
 
 use crate::line::Keyword;
 use tc_entry::UserVerdict;
@@ -49,39 +49,43 @@ impl Keyword {
     }
 }
 
-// The keyword, if the word is its spelling.
-#[inline(always)]
-fn if_spelled(word: &[u8], keyword: Keyword) -> Option<Keyword>
-    ensures { result ≡ spelled_as word.now keyword }
-{
-    if is_word(word, keyword.spelling().as_bytes()) {
-        Some(keyword)
-    } else {
-        None
-    }
-}
-
-/// The keyword of this spelling. Its first byte says which few it may be.
+/// The keyword of this spelling.
+#[tactic(auto, unfolding(crate::specs::Words::keyword))]
 pub fn read_keyword(word: &[u8]) -> Option<Keyword>
     ensures { result ≡ keyword word.now }
 {
-    let (first, _) = word.split_first()?;
-    match *first {
-        b'a' => if_spelled(word, Keyword::Ask(Status::Alive)),
-        b'b' => if_spelled(word, Keyword::Behaviour),
-        b'c' => if_spelled(word, Keyword::Create),
-        b'd' => if_spelled(word, Keyword::Ask(Status::Done)),
-        b'e' => if_spelled(word, Keyword::End),
-        b'g' => if_spelled(word, Keyword::GetVerdict),
-        b'k' => if_spelled(word, Keyword::Kill).or(if_spelled(word, Keyword::Ask(Status::Killed))),
-        b'r' => if_spelled(word, Keyword::Ask(Status::Running)),
-        b's' => if_spelled(word, Keyword::Start)
-            .or(if_spelled(word, Keyword::Stop))
-            .or(if_spelled(word, Keyword::StopCase))
-            .or(if_spelled(word, Keyword::SetVerdict)),
-        b't' => if_spelled(word, Keyword::TestCase),
-        b'w' => if_spelled(word, Keyword::Wait),
-        _ => None,
+    if is_word(word, b"testcase") {
+        Some(Keyword::TestCase)
+    } else if is_word(word, b"behaviour") {
+        Some(Keyword::Behaviour)
+    } else if is_word(word, b"end") {
+        Some(Keyword::End)
+    } else if is_word(word, b"create") {
+        Some(Keyword::Create)
+    } else if is_word(word, b"start") {
+        Some(Keyword::Start)
+    } else if is_word(word, b"stop") {
+        Some(Keyword::Stop)
+    } else if is_word(word, b"kill") {
+        Some(Keyword::Kill)
+    } else if is_word(word, b"stopcase") {
+        Some(Keyword::StopCase)
+    } else if is_word(word, b"running") {
+        Some(Keyword::Ask(Status::Running))
+    } else if is_word(word, b"alive") {
+        Some(Keyword::Ask(Status::Alive))
+    } else if is_word(word, b"done") {
+        Some(Keyword::Ask(Status::Done))
+    } else if is_word(word, b"killed") {
+        Some(Keyword::Ask(Status::Killed))
+    } else if is_word(word, b"wait") {
+        Some(Keyword::Wait)
+    } else if is_word(word, b"setverdict") {
+        Some(Keyword::SetVerdict)
+    } else if is_word(word, b"getverdict") {
+        Some(Keyword::GetVerdict)
+    } else {
+        None
     }
 }
 

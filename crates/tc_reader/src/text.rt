@@ -1,6 +1,6 @@
 //! The lines of a text, and the words of a line.
 ghost use Rattle.std.specs.Prelude.{suc, ◌≡◌, ◌≤◌, [], ◌∷◌, length, OnOk, IfSome, MatchOption, map};
-ghost use Rattle.tc_reader.specs.{Inside.HasBefore, Inside.IsIndented, Inside.Skips, Inside.SkipsOne, Skipping.BeginsWith, Text.lines, Text.words};
+ghost use Rattle.tc_reader.specs.{Inside.HasBefore, Inside.IsIndented, Inside.Skips, Inside.SkipsOne, Inside.BeginsWith, Text.lines, Text.words};
 
 use memchr::memchr;
 use std::alloc::AllocError;
@@ -24,6 +24,7 @@ pub fn read_words<'t>(line: &'t [u8], list: &mut Vec<&'t [u8]>) -> Result<(), Al
 pub enum Part<'t> {
     /// Lines that say nothing, one more than this number.
     Skipped(u8),
+    /// One line, without its LF.
     Line(&'t [u8]),
 }
 
@@ -142,7 +143,7 @@ impl<'t> Lines<'t> {
     /// takes this line.
     #[tactic(auto, using(crate::proofs::Skipping::begins_with))]
     #[inline(always)]
-    pub fn next_part(&mut self) -> Option<Part<'t>>
+    pub(crate) fn next_part(&mut self) -> Option<Part<'t>>
         ensures { MatchOption result ((self.old ≡ []) × (self.new ≡ [])) (λ part. BeginsWith part self.old self.new) }
     {
         match self.skip() {

@@ -1,13 +1,14 @@
 //! What one walk over the lines of a script finds: its test cases, and the first fault of names.
-ghost use Rattle.std.specs.Prelude.{◌≡◌, OnOk, if◌then◌else◌, is_some};
-ghost use Rattle.tc_reader.specs.Inside.{IsWithin, MayEnd, after, begins, ended, or_fault, with_start};
+ghost use Rattle.std.specs.Prelude.{◌≡◌, OnOk, IfSome, if◌then◌else◌, is_some};
+ghost use Rattle.tc_reader.specs.Inside.{IsStepOf, IsWithin, MayEnd, after, begins, ended, or_fault, with_made_step, with_start};
 
 use crate::campaign::Campaign;
 use crate::fault::ScriptFault;
 use crate::made::Made;
+use crate::plain::plain_step;
 use crate::scope::Scope;
 use crate::starts::{Start, first_wrong};
-use crate::{Call, Line, Name, ScriptKind};
+use crate::{Call, Line, Name, ScriptKind, Step};
 use std::alloc::{AllocError, Global};
 use std::marker::Model;
 
@@ -54,6 +55,22 @@ impl Walk {
     {
         let Walk { made, .. } = self;
         made.into_campaign()
+    }
+
+    /// The step of a line that `plain_step` knows.
+    #[inline(always)]
+    pub(crate) fn plain_step(&self, line: &[u8]) -> Option<Step>
+        ensures { IfSome result (λ step. IsStepOf self.now.names.bound line.now step) }
+    {
+        plain_step(self.names.bound(), line)
+    }
+
+    /// Continues after a line of which this is the step.
+    #[inline(always)]
+    pub(crate) fn add_step(&mut self, step: Step) -> Result<(), AllocError>
+        ensures { OnOk result (self.new ≡ with_made_step step self.old) }
+    {
+        self.made.add_step(step)
     }
 
     // Keeps the fault of a line, if there is none before.

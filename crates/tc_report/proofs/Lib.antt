@@ -3,5 +3,4 @@ pub mod Lemmas
 pub mod Counting
 pub mod Overalls
 pub mod Plain
-pub mod Wording
 pub mod Writing

@@ -27,6 +27,11 @@ pub left_is_prefix : (a b : Option (List ℕ)) (xs : List ℕ) (fault : OutFault
 left_is_prefix a b xs OutFault.NoMemory p = (0, omega arith, keeps_appends a b xs p)
 left_is_prefix a b xs OutFault.Write p = p
 
+-- nothing of it
+pub prefix_none : (a : Option (List ℕ)) (xs : List ℕ) → AppendsPrefix a a xs
+prefix_none None xs = (0, omega arith, tt)
+prefix_none (Some s) xs = (0, omega arith, sym (append-nil s))
+
 -- a text, and then a prefix of another
 pub prefix_behind : (a b c : Option (List ℕ)) (xs ys : List ℕ) → Appends a b xs → AppendsPrefix b c ys → AppendsPrefix a c (xs ++ ys)
 prefix_behind a b c xs ys p q = (

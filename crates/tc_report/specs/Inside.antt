@@ -1,12 +1,12 @@
 -- What the functions inside say, which no public clause names.
-use Rattle.std.specs.Prelude.{ℕ, ◌≡◌, ◌+◌, ◌==◌, Bool, true, false, MatchOption, Option, List, [], ◌∷◌, ◌++◌, filter, length, map, slice_get}
-use Rattle.std.specs.{Global.Vec, List.enumerate_from, List.flat_map, List.join_with_byte, Option.option_and_then, Option.option_map_or}
+use Rattle.std.specs.Prelude.{ℕ, ◌≡◌, ◌+◌, ◌==◌, Bool, true, false, MatchOption, None, Option, List, [], ◌∷◌, ◌++◌, codes, filter, if◌then◌else◌, length, map, nat_lt, not, slice_get}
+use Rattle.std.specs.{Global.Vec, Io.KnownBytes.Appends, List.enumerate_from, List.flat_map, List.join_with_byte, Option.option_and_then, Option.option_map_or}
 use Rattle.csv.specs.declared.writer.Writer.{Writer}
 use Rattle.csv.specs.Writing.{default_writer, writer_setup, fields_written, has_written, writer_under, writer_pending}
-use Rattle.tc_rules.specs.Prelude.{Comp, Entry, name_in, created, Verdict, level_of}
+use Rattle.tc_stream.specs.Prelude.{AppendsPrefix}
+use Rattle.tc_rules.specs.Prelude.{Comp, Entry, name_in, name_of, created, is_parked, Verdict, level_of}
 use Rattle.tc_blocks.specs.declared.{header.Kind.Kind, line.Line.Line as BlockLine}
-use Rattle.tc_text.specs.Prelude.{Holds, Line, ends_word}
-use Rattle.tc_report.specs.{Blocks.blocks_text, Blocks.name_lines, Cause.named_text, Csv.columns_text, Csv.csv_of, Live.opening_text, Live.part_text, Observers.AreTaken, Progress.Names, Progress.Prints, Progress.failed, Report.report_text, Report.tally_of_cases, Summary.case_summary, SummaryText.IsShown, declared.fault.OutFault.OutFault, declared.live_form.LiveForm.LiveForm, declared.results.Finished.Finished, declared.results.Results.Results, declared.results.Tally.Tally, declared.summary.Summary.Summary}
+use Rattle.tc_report.specs.{Blocks.blocks_text, Blocks.name_lines, Cause.cause_text, Cause.named_text, Csv.columns_text, Csv.csv_of, Live.opening_text, Live.part_text, Observers.AreTaken, Progress.AreLinesOf, Progress.failed_lines, Progress.time_text, Report.report_text, Report.shown_entry, Report.tally_of_cases, Status.counted_as, Status.verdict_status, Summary.case_summary, SummaryText.listed, declared.cause.Cause.Cause, declared.fault.OutFault.OutFault, declared.live_form.LiveForm.LiveForm, declared.progress.Progress.Progress, declared.results.Finished.Finished, declared.results.Results.Results, declared.results.Tally.Tally, declared.summary.Summary.Summary}
 
 -- the bytes in memory, and then those that the writer holds back
 abbrev pub written_by : Writer (Vec ℕ) → List ℕ
@@ -84,26 +84,48 @@ tally_with t v = record {
   error = t.error + one_if (level_of v == level_of Verdict.Error);
 }
 
--- so far each of these was reported, and a text has those that have failed; or a line was not printed whole
-abbrev pub IsSoFar : Option OutFault → Option (List ℕ) → List Finished → Option (List ℕ) → List ℕ → Type 0
-IsSoFar fault start fs now again = MatchOption fault (Prints fs start now × Names (failed fs) again) (λ _. Prints [] start now)
+-- the line of a finished test case of which this decided the verdict, after its front
+abbrev pub rest_by : Option Cause → Option (ℕ × ℕ) → Finished → List ℕ
+rest_by cause time f =
+    codes " " ++ (f.name ++ (codes " " ++ (name_of f.report.verdict ++ (time_text time
+    ++ (option_map_or (λ (c : Cause). codes ": " ++ cause_text c) cause [] ++ codes "\n")))))
 
--- a text is appended that has the name and the verdict of each of these test cases
-abbrev pub Adds : List Finished → List ℕ → List ℕ → Type 0
-Adds fs before after = (text : List ℕ) × (after ≡ before ++ text) × Names fs text
+-- the line that names it again, if it has failed
+abbrev pub failed_by : Option Cause → Finished → List ℕ
+failed_by cause f = if nat_lt 0 (verdict_status f.report.verdict) then codes "failed:" ++ rest_by cause None f else []
 
--- a text is appended before which a word ends, and which holds these words
-abbrev pub AddsWords : Line → List ℕ → List ℕ → Type 0
-AddsWords words before after = (text : List ℕ) × (after ≡ before ++ text) × (ends_word text ≡ true) × Holds words text
+module _ {O E C : Type 0} where
+  -- a line was printed or not, and maybe one is kept
+  pub record OnlyPrints (before after : Progress O E C) : Type 0 where
+    pub others : after.observer ≡ before.observer
+    pub same_writer : after.writer.ghost_name ≡ before.writer.ghost_name
+    pub same_failed : after.failed.ghost_name ≡ before.failed.ghost_name
+    pub names : after.names ≡ before.names
+    pub told : after.told ≡ before.told
+    pub begun : after.begun ≡ before.begun
+    pub fault : after.fault ≡ before.fault
 
--- these are shown, in their order
-abbrev pub AreShown : List Summary → List ℕ → Type 0
-AreShown [] text = text ≡ []
-AreShown (s ∷ ss) text = (part : List ℕ) × (others : List ℕ) × (text ≡ part ++ others) × IsShown s part × AreShown ss others
+-- so far each of these was reported, and a text has the lines of those that have failed; or a line was not printed whole
+abbrev pub IsSoFar : List (List ℕ) → Option (List ℕ) → List Finished → Option (List ℕ) → List ℕ → Option OutFault → ℕ → Bool → Type 0
+IsSoFar names start fs now again fault told begun =
+    (begins : Bool) × (text : List ℕ) × AreLinesOf names 0 fs begins text
+    × MatchOption fault ((told ≡ length fs) × (begun ≡ begins) × Appends start now text × (again ≡ failed_lines fs)) (λ _. AppendsPrefix start now text)
 
--- a text is appended in which these test cases are shown
-abbrev pub AddsShown : List Summary → List ℕ → List ℕ → Type 0
-AddsShown ss before after = (text : List ℕ) × (after ≡ before ++ text) × AreShown ss text
+-- a list that continues with this text continues after it, and its line has this room left
+abbrev pub IsNext : List ℕ → ℕ → List ℕ → ℕ → List ℕ → Type 0
+IsNext text room before left after = (ts : List (List ℕ)) → after ++ listed left ts ≡ before ++ listed room (text ∷ ts)
+
+-- an entry that was not parked
+abbrev pub is_shown : Entry → Bool
+is_shown e = not (is_parked e.reply)
+
+-- what is shown of an entry, deeper in
+abbrev pub inner_call : Entry → List ℕ
+inner_call e = codes "  " ++ shown_entry e
+
+-- a test case with a status other than 0
+abbrev pub has_failed : Summary → Bool
+has_failed s = nat_lt 0 (verdict_status (counted_as s.ending))
 
 -- the numbers of the components with this local verdict
 abbrev pub numbers_with : Verdict → List Verdict → List ℕ

@@ -9,4 +9,4 @@ pub use Rattle.tc_report.specs.Output.{LeavesPrefix}
 pub use Rattle.tc_report.specs.Progress.{HasTold, IsToldBy}
 pub use Rattle.tc_report.specs.Status.{ending_status, results_status, verdict_status, worst_of}
 pub use Rattle.tc_report.specs.Summary.{bare_summary, block_summary, case_summary, results_summaries, summary_of}
-pub use Rattle.tc_report.specs.SummaryText.{IsSummary}
+pub use Rattle.tc_report.specs.SummaryText.{summary_text}

@@ -1,7 +1,7 @@
 -- The text report of a campaign, with its tally and how it ended.
-use Rattle.std.specs.Prelude.{ℕ, ◌==◌, List, [], ◌∷◌, ◌++◌, length, filter, codes, Bool, true, false, slice_get, unwrap_or}
+use Rattle.std.specs.Prelude.{ℕ, ◌==◌, if◌then◌else◌, List, [], ◌∷◌, ◌++◌, length, filter, codes, Bool, true, false, slice_get, unwrap_or}
 use Rattle.std.specs.{Fmt.decimal, List.enumerate_from, List.flat_map}
-use Rattle.tc_rules.specs.Prelude.{Verdict, level_of, refusal_text, name_of, Entry, Op, Reply}
+use Rattle.tc_rules.specs.Prelude.{Verdict, level_of, is_parked, refusal_text, name_of, Entry, Op, Reply}
 use Rattle.tc_rules.specs.declared.{refusal.CaseError.CaseError, run_log.RunLog.RunLog}
 use Rattle.tc_text.specs.Prelude.{op_text, reply_text}
 use Rattle.tc_report.specs.declared.results.{CampaignEnd.CampaignEnd, Finished.Finished, Results.Results, Tally.Tally}
@@ -12,14 +12,8 @@ count_of v verdicts = length (filter (λ w. level_of w == level_of v) verdicts)
 
 -- the tally of that many test cases, by how many have each overall verdict
 abbrev pub tally_by : ℕ → (Verdict → ℕ) → Tally
-tally_by cases having = record {
-  cases = cases;
-  none = having Verdict.None;
-  pass = having Verdict.Pass;
-  inconc = having Verdict.Inconc;
-  fail = having Verdict.Fail;
-  error = having Verdict.Error;
-}
+tally_by cases having =
+    record { cases = cases; none = having Verdict.None; pass = having Verdict.Pass; inconc = having Verdict.Inconc; fail = having Verdict.Fail; error = having Verdict.Error }
 
 -- these test cases by their overall verdicts
 abbrev pub tally_of_cases : List Finished → Tally
@@ -60,14 +54,9 @@ shown_op op = op
 abbrev pub call_text : Op → Reply → List ℕ
 call_text op reply = op_text (shown_op op) ++ (codes " -> " ++ reply_text reply)
 
--- the line of a call: none if it was parked
-abbrev pub shown_call : Op → Reply → List ℕ
-shown_call op Reply.Parked = []
-shown_call op reply = codes "  " ++ (call_text op reply ++ (10 ∷ []))
-
--- what is shown of an entry
+-- the line of an entry: none if it was parked
 abbrev pub shown_entry : Entry → List ℕ
-shown_entry e = shown_call e.op e.reply
+shown_entry e = if is_parked e.reply then [] else codes "  " ++ (call_text e.op e.reply ++ (10 ∷ []))
 
 -- the line of a run: its number, its behaviour's name if it has one, and its component
 abbrev pub run_line : List (List ℕ) → RunLog → List ℕ

@@ -5,11 +5,10 @@ use Rattle.tc_report.specs.{Report.is_aborted, Summary.case_summary, declared.re
 
 -- the status for a verdict
 abbrev pub verdict_status : Verdict → ℕ
-verdict_status Verdict.None = 0
-verdict_status Verdict.Pass = 0
 verdict_status Verdict.Inconc = 1
 verdict_status Verdict.Fail = 1
 verdict_status Verdict.Error = 2
+verdict_status v = 0
 
 -- the status for an ending, if this is the worst verdict
 abbrev pub ending_status : CampaignEnd → Verdict → ℕ

@@ -1,10 +1,9 @@
--- What matters of the summary of test cases, a page for a person: the counts, and of each test case that failed its name, how it
--- ended, why, and its components by their local verdicts. No clause spells the rest.
-use Rattle.std.specs.Prelude.{ℕ, ◌≡◌, ◌==◌, nat_lt, if◌then◌else◌, true, Option, Some, List, [], ◌∷◌, ◌++◌, codes, filter, length, map, slice_get}
-use Rattle.std.specs.{Fmt.decimal, List.AllZip, List.concat, List.enumerate_from, List.flat_map, Option.option_and_then, Str.bytes_eq}
-use Rattle.tc_rules.specs.Prelude.{refusal_text, Verdict, level_of, name_of}
-use Rattle.tc_text.specs.Prelude.{Holds, Line, ends_word}
-use Rattle.tc_report.specs.{Cause.cause_text, Cause.named_text, Csv.end_word, Report.tally_by, Report.tally_line, Status.counted_as, Status.verdict_status, declared.cause.Cause.Cause, declared.results.CaseEnd.CaseEnd, declared.summary.Summary.Summary}
+-- The summary of test cases, a page for a person: the counts, and of each test case that failed its name, how it ended, why, and
+-- its components by their local verdicts.
+use Rattle.std.specs.Prelude.{ℕ, ◌+◌, ◌-◌, ◌==◌, nat_lt, not, if◌then◌else◌, Option, Some, List, [], ◌∷◌, ◌++◌, codes, drop, filter, length, map, slice_get, take}
+use Rattle.std.specs.{Fmt.decimal, List.enumerate_from, List.flat_map, Option.option_and_then, Str.bytes_eq}
+use Rattle.tc_rules.specs.Prelude.{refusal_text, is_parked, Verdict, Entry, level_of, name_of}
+use Rattle.tc_report.specs.{Cause.cause_text, Cause.named_text, Csv.end_word, Report.shown_entry, Report.tally_by, Report.tally_line, Status.counted_as, Status.verdict_status, declared.cause.Cause.Cause, declared.results.CaseEnd.CaseEnd, declared.summary.Summary.Summary}
 
 -- how many of the test cases ended with this word
 abbrev pub ended_so : List ℕ → List Summary → ℕ
@@ -21,35 +20,39 @@ counts_text ss =
     ++ (other_line (codes "missing") ss ++ other_line (codes "notrun") ss)))
 
 -- the components with this local verdict, each with its name if it has one
-abbrev pub members : List (Option (List ℕ)) → List Verdict → Verdict → Line
+abbrev pub members : List (Option (List ℕ)) → List Verdict → Verdict → List (List ℕ)
 members names locals v =
     map (λ p. named_text (option_and_then (λ n. n) (slice_get names p.0)) p.0) (filter (λ p. level_of p.1 == level_of v) (enumerate_from 0 locals))
 
--- they come after the name of the verdict, if there are some
-abbrev pub after_verdict : Verdict → Line → Line
-after_verdict v [] = []
-after_verdict v (t ∷ ts) = name_of v ∷ t ∷ ts
+-- the others of a list: each in the same line, if there is room for it, otherwise in the next
+abbrev pub listed : ℕ → List (List ℕ) → List ℕ
+listed room [] = codes "\n"
+listed room (t ∷ ts) = if nat_lt room (length t + 2) then codes ",\n    " ++ (t ++ listed (73 - length t) ts) else codes ", " ++ (t ++ listed (room - (length t + 2)) ts)
+
+-- a list after the name of a verdict, if there is something in it
+abbrev pub verdict_group : Verdict → List (List ℕ) → List ℕ
+verdict_group v [] = []
+verdict_group v (t ∷ ts) = codes "  " ++ (name_of v ++ (codes ": " ++ (t ++ listed (67 - length t) ts)))
 
 -- the components by their local verdicts, the worst first
-abbrev pub by_verdicts : List (Option (List ℕ)) → List Verdict → Line
-by_verdicts names locals = flat_map (λ v. after_verdict v (members names locals v)) (Verdict.Error ∷ Verdict.Fail ∷ Verdict.Inconc ∷ Verdict.Pass ∷ Verdict.None ∷ [])
+abbrev pub verdict_groups : List (Option (List ℕ)) → List Verdict → List ℕ
+verdict_groups names locals = flat_map (λ v. verdict_group v (members names locals v)) (Verdict.Error ∷ Verdict.Fail ∷ Verdict.Inconc ∷ Verdict.Pass ∷ Verdict.None ∷ [])
 
--- why a test case ended so: what decided its verdict, or why it has no report
-abbrev pub why : CaseEnd → Option Cause → Line
-why (CaseEnd.Over v) (Some c) = cause_text c ∷ []
-why (CaseEnd.Aborted refused) cause = refusal_text refused ∷ []
-why ending cause = []
+-- the last five of the calls of a run, if there are some
+abbrev pub calls_text : List Entry → List ℕ
+calls_text [] = []
+calls_text es = codes "  after:\n" ++ flat_map (λ e. codes "  " ++ shown_entry e) (drop (length es - 5) es)
 
--- a test case is shown: a line with its name and how it ended, and then why, and its components
-unfoldable pub IsShown : Summary → List ℕ → Type 0
-IsShown s text =
-    (rest : List ℕ) × (text ≡ codes "\n" ++ (s.name ++ (codes ": " ++ (end_word s.ending ++ rest))))
-    × (ends_word rest ≡ true) × Holds (why s.ending s.cause ++ by_verdicts s.names s.locals) rest
+-- why a test case ended so: what decided its verdict, with the calls before it that were not parked, or why it has no report
+unfoldable pub reason_lines : CaseEnd → Option Cause → List ℕ
+reason_lines (CaseEnd.Over v) (Some c) = codes "  " ++ (cause_text c ++ (codes "\n" ++ calls_text (filter (λ e. not (is_parked e.reply)) (take c.before c.log))))
+reason_lines (CaseEnd.Aborted refused) cause = codes "  " ++ (refusal_text refused ++ codes "\n")
+reason_lines ending cause = []
 
--- those that failed: those whose status is not 0
-abbrev pub failed_of : List Summary → List Summary
-failed_of ss = filter (λ s. nat_lt 0 (verdict_status (counted_as s.ending))) ss
+-- a test case: its name, how it ended and why, and its components
+unfoldable pub shown_case : Summary → List ℕ
+shown_case s = codes "\n" ++ (s.name ++ (codes ": " ++ (end_word s.ending ++ (codes "\n" ++ (reason_lines s.ending s.cause ++ verdict_groups s.names s.locals)))))
 
--- the counts, and after them the test cases that failed, each of which is shown
-abbrev pub IsSummary : List Summary → List ℕ → Type 0
-IsSummary ss text = (shown : List (List ℕ)) × (text ≡ counts_text ss ++ concat shown) × AllZip IsShown (failed_of ss) shown
+-- the counts, and each test case that failed: that has a status other than 0
+abbrev pub summary_text : List Summary → List ℕ
+summary_text ss = counts_text ss ++ flat_map shown_case (filter (λ s. nat_lt 0 (verdict_status (counted_as s.ending))) ss)

@@ -2,7 +2,7 @@
 ghost use Rattle.std.specs.Prelude.{◌≡◌, ◌==◌, ◌++◌, codes, filter, length, unwrap_or, IfOk, IfErr, OnOk, Some};
 ghost use Rattle.std.specs.{Io.KnownBytes.Appends, List.flat_map};
 ghost use Rattle.tc_rules.specs.Prelude.{level_of};
-ghost use Rattle.tc_report.specs.{Output.LeavesPrefix, Status.counted_as as spec_counted, Status.verdict_status as spec_status, Summary.results_summaries};
+ghost use Rattle.tc_report.specs.{Output.LeavesPrefix, Status.counted_as as spec_counted, Status.verdict_status as spec_status, Summary.results_summaries, declared.summary.Summary.Summary as AnySummary};
 ghost use Rattle.tc_report.specs.Junit as spec;
 
 use crate::cause::{Cause, append_cause};
@@ -35,26 +35,13 @@ fn with_status(cases: &[Summary], status: u8) -> usize
         .count()
 }
 
-// The place of the verdict that an end counts as, from best to worst.
-fn level_of_end(ending: CaseEnd) -> u8
-    ensures { result ≡ level_of (spec_counted ending) }
-{
-    match counted_as(ending) {
-        Verdict::None => 0,
-        Verdict::Pass => 1,
-        Verdict::Inconc => 2,
-        Verdict::Fail => 3,
-        Verdict::Error => 4,
-    }
-}
-
-// How many of the test cases count with a verdict in this place.
-fn with_level(cases: &[Summary], level: u8) -> usize
-    ensures { result ≡ length (filter (λ (s : Summary). level_of (spec_counted s.ending) == level) cases.now) }
+// How many of the test cases count with this verdict.
+fn with_verdict(cases: &[Summary], verdict: Verdict) -> usize
+    ensures { result ≡ length (filter (λ (s : AnySummary). level_of (spec_counted s.ending) == level_of verdict) cases.now) }
 {
     cases
         .iter()
-        .filter(|case| level_of_end(case.ending) == level)
+        .filter(|case| counted_as(case.ending) == verdict)
         .count()
 }
 
@@ -110,7 +97,7 @@ fn append_head(out: &mut Vec<u8>, suite: &[u8], cases: &[Summary]) -> Result<(),
     append_counts(out, cases)?;
     append_suite_tag(out, suite)?;
     append_counts(out, cases)?;
-    append_attribute(out, " skipped=\"", with_level(cases, 0))
+    append_attribute(out, " skipped=\"", with_verdict(cases, Verdict::None))
 }
 
 // Appends the program's version.

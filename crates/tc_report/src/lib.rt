@@ -22,7 +22,6 @@ mod status;
 mod stopping;
 mod summary;
 mod summary_text;
-mod words;
 
 pub use blocks::{write_evidence, write_history};
 pub use cause::Cause;

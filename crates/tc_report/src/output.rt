@@ -19,6 +19,15 @@ pub(crate) fn write_made<W: Write>(writer: &mut W, text: &[u8]) -> Result<(), Ou
     }
 }
 
+/// Writes lines, or a prefix of them if the writer fails.
+pub(crate) fn print<W: Write>(writer: &mut W, lines: &[u8]) -> Result<(), OutFault>
+    ensures all { OnOk result (Appends (W.contents writer.old) (W.contents writer.new) lines.now) }
+    ensures part { OnErr result (AppendsPrefix (W.contents writer.old) (W.contents writer.new) lines.now) }
+{
+    write_whole(writer, lines)?;
+    Ok(())
+}
+
 /// Writes the text, and flushes the writer.
 pub(crate) fn write_flushed<W: Write>(writer: &mut W, text: &[u8]) -> Result<(), OutFault>
     ensures all { OnOk result (Appends (W.contents writer.old) (W.contents writer.new) text.now) }

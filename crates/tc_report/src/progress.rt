@@ -1,127 +1,123 @@
 //! What is printed about test cases as they begin and finish.
-ghost use Rattle.std.specs.Prelude.{ℕ, List, Option, ◌≡◌, ◌++◌, ◌∷◌, [], true, IfOk, OnOk, OnErr};
-ghost use Rattle.tc_report.specs.{Inside.Adds, Inside.AddsWords, Progress.HasTold, Progress.IsToldBy, Progress.Prints, Progress.TellsProgress, Progress.failed as spec_failed, Progress.told};
+ghost use Rattle.std.specs.Prelude.{ℕ, List, Option, ◌≡◌, ◌+◌, ◌++◌, ◌∷◌, [], true, None, IfOk, OnOk, OnErr, codes, drop};
+ghost use Rattle.std.specs.{Fmt.decimal, Io.KnownBytes.Appends, Option.option_map_or};
+ghost use Rattle.tc_rules.specs.Prelude.{name_of as spec_name};
+ghost use Rattle.tc_stream.specs.Prelude.{AppendsPrefix};
+ghost use Rattle.tc_report.specs.{Cause.cause_text, Inside.OnlyPrints, Inside.failed_by, Inside.rest_by, Progress.HasTold, Progress.IsToldBy, Progress.TellsProgress, Progress.begun_line, Progress.failed_lines, Progress.finished_line, Progress.case_place, Progress.time_text, declared.cause.Cause.Cause as AnyCause};
 
-use crate::cause::{Cause, cause_of};
+use crate::cause::{Cause, append_cause, cause_of};
 use crate::fault::OutFault;
 use crate::observer::Observer;
-use crate::output::write_made;
+use crate::output::print;
 use crate::results::{CaseEnd, Finished};
 use crate::status::verdict_status;
 use crate::stopping::is_met;
-use crate::words::{append_cause_word, append_prose, append_word};
 use std::alloc::Global;
 use std::io::Write;
-use std::time::{Clock, Duration, Instant};
+use std::time::{Clock, Instant};
 use tc_entry::{Name, NoMemory, Verdict};
 use tc_text::{append_number, append_text};
 use tc_verdict::name as name_of;
 
-// Appends the place of a test case among all that are run.
-fn append_place(out: &mut Vec<u8>, place: usize, count: usize) -> Result<(), NoMemory> {
+// Appends a place, and how many there are. A number that the machine lacks is more than there is memory for.
+fn append_place(out: &mut Vec<u8>, at: usize, names: &[Name]) -> Result<(), NoMemory>
+    ensures { OnOk result (out.new.items ≡ out.old.items ++ case_place names.now at) }
+{
+    let Some(place) = at.checked_add(1) else {
+        return Err(NoMemory);
+    };
     append_number(out, place as u64)?;
     append_text(out, "/")?;
-    append_number(out, count as u64)
+    append_number(out, names.len() as u64)
 }
 
-// Appends the line of a test case that begins.
-fn append_begun(
-    out: &mut Vec<u8>,
-    place: usize,
-    count: usize,
-    name: &Name,
-) -> Result<(), NoMemory> {
-    append_place(out, place, count)?;
+// Appends the end of the line of a test case that begins.
+fn append_begun(out: &mut Vec<u8>, name: &Name) -> Result<(), NoMemory>
+    ensures { OnOk result (out.new.items ≡ out.old.items ++ (codes " " ++ (name.now ++ codes " ..\n"))) }
+{
     append_text(out, " ")?;
     out.extend_from_slice(name.bytes())?;
     append_text(out, " ..\n")
 }
 
-// What is between the seconds and the thousandths of this number.
-fn point_of(millis: u32) -> &'static str {
-    match millis {
-        0..=9 => ".00",
-        10..=99 => ".0",
-        _ => ".",
-    }
-}
-
-// Appends how long it took: seconds, to a thousandth.
-#[tactic(auto, using(crate::proofs::Wording::words_rules))]
-fn append_seconds(alloc: Global, out: &mut Vec<u8>, time: Duration) -> Result<(), NoMemory>
-    ensures { OnOk result (AddsWords [] out.old.items out.new.items) }
+// Appends the line of the test case in this place as it begins, if there is one.
+fn append_begun_line(out: &mut Vec<u8>, names: &[Name], at: usize) -> Result<(), NoMemory>
+    ensures { OnOk result (out.new.items ≡ out.old.items ++ begun_line names.now at) }
 {
-    let mut seconds = Vec::new(alloc);
-    append_number(&mut seconds, time.as_secs())?;
-    append_text(&mut seconds, point_of(time.subsec_millis()))?;
-    append_number(&mut seconds, u64::from(time.subsec_millis()))?;
-    append_word(out, seconds.as_slice())?;
-    append_prose(out, " s")
-}
-
-// Appends how long it took, if a clock said it.
-#[tactic(auto, using(crate::proofs::Wording::words_rules))]
-fn append_time(alloc: Global, out: &mut Vec<u8>, time: Option<Duration>) -> Result<(), NoMemory>
-    ensures { OnOk result (AddsWords [] out.old.items out.new.items) }
-{
-    match time {
-        Some(time) => append_seconds(alloc, out, time),
+    match names.get(at) {
+        Some(name) => {
+            append_place(out, at, names)?;
+            append_begun(out, name)
+        }
         None => Ok(()),
     }
 }
 
-// Appends what decided the verdict, if it is one worse than pass.
-#[tactic(auto, using(crate::proofs::Wording::words_rules))]
-fn append_why(out: &mut Vec<u8>, cause: &Option<Cause>) -> Result<(), NoMemory>
-    ensures { OnOk result (AddsWords [] out.old.items out.new.items) }
+// Appends three digits, the thousandths.
+fn append_thousandths(alloc: Global, out: &mut Vec<u8>, count: u32) -> Result<(), NoMemory>
+    ensures { OnOk result (out.new.items ≡ out.old.items ++ drop 1 (decimal (1000 + count))) }
 {
-    let Some(cause) = cause else {
+    let mut digits = Vec::new(alloc);
+    append_number(&mut digits, 1000 + u64::from(count))?;
+    match digits.as_slice().split_first() {
+        Some((_, rest)) => {
+            out.extend_from_slice(rest)?;
+            Ok(())
+        }
+        None => Ok(()),
+    }
+}
+
+// Appends how long it took, if a clock said it: seconds, to a thousandth.
+fn append_time(alloc: Global, out: &mut Vec<u8>, time: Option<(u64, u32)>) -> Result<(), NoMemory>
+    ensures { OnOk result (out.new.items ≡ out.old.items ++ time_text time) }
+{
+    let Some((seconds, thousandths)) = time else {
         return Ok(());
     };
-    append_prose(out, ":")?;
-    append_cause_word(out, cause)
+    append_text(out, " ")?;
+    append_number(out, seconds)?;
+    append_text(out, ".")?;
+    append_thousandths(alloc, out, thousandths)?;
+    append_text(out, " s")
 }
 
-// Appends the end of a line, without its LF: how long the test case took, and what decided its verdict.
-#[tactic(auto, using(crate::proofs::Wording::words_rules))]
-fn append_rest(
-    alloc: Global,
-    out: &mut Vec<u8>,
-    time: Option<Duration>,
-    cause: &Option<Cause>,
-) -> Result<(), NoMemory>
-    ensures { OnOk result (AddsWords [] out.old.items out.new.items) }
+// Appends what decided the verdict, if it is one worse than pass, and LF.
+fn append_why(out: &mut Vec<u8>, cause: &Option<Cause>) -> Result<(), NoMemory>
+    ensures { OnOk result (out.new.items ≡ out.old.items
+        ++ (option_map_or (λ (c : AnyCause). codes ": " ++ cause_text c) cause.now [] ++ codes "\n")) }
 {
-    append_time(alloc, out, time)?;
-    append_why(out, cause)
+    if let Some(cause) = cause {
+        append_text(out, ": ")?;
+        append_cause(out, cause)?;
+    }
+    append_text(out, "\n")
 }
 
-// Appends the name and the verdict of the test case after this text.
-fn append_told(out: &mut Vec<u8>, front: &[u8], case: &Finished) -> Result<(), NoMemory>
-    ensures { OnOk result (out.new.items ≡ out.old.items ++ (front.now ++ told case.now)) }
+// Appends the name and the verdict of the test case.
+fn append_told(out: &mut Vec<u8>, case: &Finished) -> Result<(), NoMemory>
+    ensures { OnOk result (out.new.items ≡ out.old.items
+        ++ (codes " " ++ (case.now.name ++ (codes " " ++ spec_name case.now.report.verdict)))) }
 {
-    out.extend_from_slice(front)?;
     append_text(out, " ")?;
     out.extend_from_slice(case.name.bytes())?;
     append_text(out, " ")?;
     append_text(out, name_of(case.report.verdict))
 }
 
-// Appends the line of the test case, which has this place.
-#[tactic(auto, using(crate::proofs::Lemmas::Telling::adds_one))]
+// Appends the line of the test case, of which this decided the verdict, after its front.
 fn append_line(
     alloc: Global,
     out: &mut Vec<u8>,
-    place: &[u8],
     case: &Finished,
-    time: Option<Duration>,
+    time: Option<(u64, u32)>,
     cause: &Option<Cause>,
 ) -> Result<(), NoMemory>
-    ensures { OnOk result (Adds (case.now ∷ []) out.old.items out.new.items) }
+    ensures { OnOk result (out.new.items ≡ out.old.items ++ rest_by cause.now time case.now) }
 {
-    append_told(out, place, case)?;
-    append_rest(alloc, out, time, cause)?;
-    append_text(out, "\n")
+    append_told(out, case)?;
+    append_time(alloc, out, time)?;
+    append_why(out, cause)
 }
 
 // Appends the line that names the test case again, if it has failed.
@@ -131,12 +127,13 @@ fn append_failed(
     case: &Finished,
     cause: &Option<Cause>,
 ) -> Result<(), NoMemory>
-    ensures { OnOk result (Adds (spec_failed (case.now ∷ [])) out.old.items out.new.items) }
+    ensures { OnOk result (out.new.items ≡ out.old.items ++ failed_by cause.now case.now) }
 {
     if verdict_status(case.report.verdict) == 0 {
         return Ok(());
     }
-    append_line(alloc, out, b"failed:", case, None, cause)
+    append_text(out, "failed:")?;
+    append_line(alloc, out, case, None, cause)
 }
 
 /// Reports each test case by a line as it begins and by one as it finishes, and passes it on to another observer, which
@@ -146,14 +143,16 @@ fn append_failed(
 pub struct Progress<'a, O: Observer, E: Write, C: Clock> {
     alloc: Global,
     clock: &'a C,
-    /// The names of the test cases that are run, in their order.
-    names: &'a [Name],
     /// The stopping rule of the campaign.
     stop_on: Option<Verdict>,
-    /// How many test cases have begun.
-    begun: usize,
     /// When the last of them began, if the clock said it.
     since: Option<Instant>,
+    /// The names of the test cases that are run, in their order.
+    pub names: &'a [Name],
+    /// How many test cases were reported as they finished.
+    pub told: usize,
+    /// Whether the next one has begun.
+    pub begun: bool,
     /// The observer that is given the test cases.
     pub observer: &'a mut O,
     /// The writer that is printed to.
@@ -182,17 +181,18 @@ impl<'a, O: Observer, E: Write, C: Clock> Progress<'a, O, E, C> {
         ensures same_failed { result.failed.ghost_name ≡ failed.entry.ghost_name }
         ensures observer { result.observer.now ≡ observer.old }
         ensures writer { result.writer.now ≡ writer.old }
+        ensures names { result.names.now ≡ names.now }
         ensures none { HasTold E.contents (E.contents writer.old) [] result }
-        ensures nothing_failed { result.failed.now.items ≡ [] }
     {
         failed.clear();
         Progress {
             alloc,
             clock,
-            names,
             stop_on,
-            begun: 0,
             since: None,
+            names,
+            told: 0,
+            begun: false,
             observer,
             writer,
             failed,
@@ -201,108 +201,112 @@ impl<'a, O: Observer, E: Write, C: Clock> Progress<'a, O, E, C> {
     }
 
     // Prints the line of the next test case, if there is one, and looks at the clock.
+    #[tactic(auto, using(crate::proofs::Writing::prefix_none))]
     fn print_next(&mut self) -> Result<(), OutFault>
-        ensures some { Prints [] (E.contents self.old.writer.now) (E.contents self.new.writer.now) }
+        ensures all { OnOk result (Appends (E.contents self.old.writer.now) (E.contents self.new.writer.now)
+            (begun_line self.old.names.now self.old.told)) }
+        ensures part { OnErr result (AppendsPrefix (E.contents self.old.writer.now) (E.contents self.new.writer.now)
+            (begun_line self.old.names.now self.old.told)) }
+        ensures only { OnlyPrints self.old self.new }
         ensures failed { self.new.failed ≡ self.old.failed }
-        ensures fault { self.new.fault ≡ self.old.fault }
-        ensures others { self.new.observer ≡ self.old.observer }
-        ensures same_writer { self.new.writer.ghost_name ≡ self.old.writer.ghost_name }
     {
         let mut line = Vec::new(self.alloc);
-        if let Some(name) = self.names.get(self.begun) {
-            self.begun = self.begun.saturating_add(1);
-            append_begun(&mut line, self.begun, self.names.len(), name)?;
-        }
-        let answer = write_made(self.writer, line.as_slice());
+        append_begun_line(&mut line, self.names, self.told)?;
+        let answer = print(self.writer, line.as_slice());
         self.since = Instant::now(self.clock).ok();
         answer
     }
 
-    /// Reports that the next test case begins, if there is one, and lines are still printed. It is called before the
-    /// campaign; `take` calls it before each test case after the first.
+    /// Reports that the next test case begins, if it was not reported, there is one, and lines are still printed. It is
+    /// called before the campaign; `take` calls it before each test case after the first.
     pub fn begin(&mut self)
         ensures told { (start : Option (List ℕ)) (fs : List Finished)
             → HasTold E.contents start fs self.old → HasTold E.contents start fs self.new }
+        ensures begun { self.new.fault ≡ None → self.new.begun ≡ true }
+        ensures names { self.new.names ≡ self.old.names }
         ensures others { self.new.observer ≡ self.old.observer }
         ensures same_writer { self.new.writer.ghost_name ≡ self.old.writer.ghost_name }
         ensures same_failed { self.new.failed.ghost_name ≡ self.old.failed.ghost_name }
     {
-        if self.fault.is_some() {
+        if self.begun {
             return;
         }
-        if let Err(fault) = self.print_next() {
-            self.fault = Some(fault);
+        match self.fault {
+            Some(_) => {}
+            None => match self.print_next() {
+                Ok(()) => self.begun = true,
+                Err(fault) => self.fault = Some(fault),
+            },
         }
     }
 
-    // How long the test case that began last has taken, if the clock says it.
-    fn time(&self) -> Option<Duration> {
-        match self.since {
-            Some(since) => since.elapsed(self.clock).ok(),
-            None => None,
-        }
+    // How long the test case that began last has taken, if the clock says it: seconds and thousandths.
+    fn time(&self) -> Option<(u64, u32)> {
+        let time = self.since?.elapsed(self.clock).ok()?;
+        Some((time.as_secs(), time.subsec_millis()))
     }
 
-    // The line of the test case.
-    fn line_of(&self, case: &Finished, cause: &Option<Cause>) -> Result<Vec<u8>, NoMemory>
-        ensures { IfOk result (λ line. Adds (case.now ∷ []) [] line.items) }
+    // Prints the line of the test case, which took this time, and keeps the line that names it again if it has failed.
+    #[tactic(auto, using(crate::proofs::Writing::prefix_none))]
+    fn print_case(
+        &mut self,
+        case: &Finished,
+        time: Option<(u64, u32)>,
+        cause: &Option<Cause>,
+    ) -> Result<(), OutFault>
+        ensures all { OnOk result (Appends (E.contents self.old.writer.now) (E.contents self.new.writer.now)
+            (case_place self.old.names.now self.old.told ++ rest_by cause.now time case.now)) }
+        ensures part { OnErr result (AppendsPrefix (E.contents self.old.writer.now) (E.contents self.new.writer.now)
+            (case_place self.old.names.now self.old.told ++ rest_by cause.now time case.now)) }
+        ensures failed { OnOk result (self.new.failed.now.items ≡ self.old.failed.now.items ++ failed_by cause.now case.now) }
+        ensures only { OnlyPrints self.old self.new }
     {
-        let mut place = Vec::new(self.alloc);
         let mut line = Vec::new(self.alloc);
-        append_place(&mut place, self.begun, self.names.len())?;
-        append_line(
-            self.alloc,
-            &mut line,
-            place.as_slice(),
-            case,
-            self.time(),
-            cause,
-        )?;
-        Ok(line)
-    }
-
-    // Reports the test case, of which this decided the verdict, and keeps the line that names it again if it has failed.
-    fn print_case(&mut self, case: &Finished, cause: &Option<Cause>) -> Result<(), OutFault>
-        ensures all { OnOk result (Prints (case.now ∷ []) (E.contents self.old.writer.now) (E.contents self.new.writer.now)) }
-        ensures failed { OnOk result (Adds (spec_failed (case.now ∷ [])) self.old.failed.now.items self.new.failed.now.items) }
-        ensures part { OnErr result (Prints [] (E.contents self.old.writer.now) (E.contents self.new.writer.now)) }
-        ensures fault { self.new.fault ≡ self.old.fault }
-        ensures others { self.new.observer ≡ self.old.observer }
-        ensures same_writer { self.new.writer.ghost_name ≡ self.old.writer.ghost_name }
-        ensures same_failed { self.new.failed.ghost_name ≡ self.old.failed.ghost_name }
-    {
-        let line = self.line_of(case, cause)?;
+        append_place(&mut line, self.told, self.names)?;
+        append_line(self.alloc, &mut line, case, time, cause)?;
         append_failed(self.alloc, self.failed, case, cause)?;
-        write_made(self.writer, line.as_slice())
+        print(self.writer, line.as_slice())
     }
 
-    // Reports the test case, with what decided its verdict.
-    fn tell_case(&mut self, case: &Finished) -> Result<(), OutFault>
-        ensures all { OnOk result (Prints (case.now ∷ []) (E.contents self.old.writer.now) (E.contents self.new.writer.now)) }
-        ensures failed { OnOk result (Adds (spec_failed (case.now ∷ [])) self.old.failed.now.items self.new.failed.now.items) }
-        ensures part { OnErr result (Prints [] (E.contents self.old.writer.now) (E.contents self.new.writer.now)) }
-        ensures fault { self.new.fault ≡ self.old.fault }
-        ensures others { self.new.observer ≡ self.old.observer }
-        ensures same_writer { self.new.writer.ghost_name ≡ self.old.writer.ghost_name }
-        ensures same_failed { self.new.failed.ghost_name ≡ self.old.failed.ghost_name }
+    // Reports the test case, which took this time. Returns how many were reported.
+    #[tactic(auto, using(crate::proofs::Writing::prefix_none, crate::proofs::Lemmas::Telling::failed_one))]
+    fn tell_case(&mut self, case: &Finished, time: Option<(u64, u32)>) -> Result<usize, OutFault>
+        ensures all { OnOk result (Appends (E.contents self.old.writer.now) (E.contents self.new.writer.now)
+            (finished_line (case_place self.old.names.now self.old.told) time case.now)) }
+        ensures part { OnErr result (AppendsPrefix (E.contents self.old.writer.now) (E.contents self.new.writer.now)
+            (finished_line (case_place self.old.names.now self.old.told) time case.now)) }
+        ensures failed { OnOk result (self.new.failed.now.items ≡ self.old.failed.now.items ++ failed_lines (case.now ∷ [])) }
+        ensures only { OnlyPrints self.old self.new }
+        ensures count { IfOk result (λ told. told ≡ self.old.told + 1) }
     {
         let ending = CaseEnd::Over(case.report.verdict);
         let cause = cause_of(self.alloc, ending, case.report.history.as_slice())?;
-        self.print_case(case, &cause)
+        let Some(told) = self.told.checked_add(1) else {
+            return Err(OutFault::NoMemory);
+        };
+        self.print_case(case, time, &cause)?;
+        Ok(told)
     }
 
     // Reports the test case, if lines are still printed.
     fn tell(&mut self, case: &Finished)
         ensures told { TellsProgress E.contents self.old case.now self.new }
+        ensures names { self.new.names ≡ self.old.names }
         ensures others { self.new.observer ≡ self.old.observer }
         ensures same_writer { self.new.writer.ghost_name ≡ self.old.writer.ghost_name }
         ensures same_failed { self.new.failed.ghost_name ≡ self.old.failed.ghost_name }
     {
-        if self.fault.is_some() {
-            return;
-        }
-        if let Err(fault) = self.tell_case(case) {
-            self.fault = Some(fault);
+        self.begin();
+        let time = self.time();
+        match self.fault {
+            Some(_) => {}
+            None => match self.tell_case(case, time) {
+                Ok(told) => {
+                    self.told = told;
+                    self.begun = false;
+                }
+                Err(fault) => self.fault = Some(fault),
+            },
         }
     }
 
@@ -317,7 +321,7 @@ impl<'a, O: Observer, E: Write, C: Clock> Progress<'a, O, E, C> {
     {
         match self.fault {
             Some(fault) => Err(fault),
-            None => write_made(self.writer, self.failed.as_slice()),
+            None => print(self.writer, self.failed.as_slice()),
         }
     }
 }
@@ -328,7 +332,8 @@ impl<O: Observer, E: Write, C: Clock> Observer for Progress<'_, O, E, C> {
         × TellsProgress E.contents before f after
         × (after.observer.ghost_name ≡ before.observer.ghost_name)
         × (after.writer.ghost_name ≡ before.writer.ghost_name)
-        × (after.failed.ghost_name ≡ before.failed.ghost_name) };
+        × (after.failed.ghost_name ≡ before.failed.ghost_name)
+        × (after.names ≡ before.names) };
 
     fn take(&mut self, case: Finished) -> bool {
         let last = is_met(self.stop_on, case.report.verdict);

@@ -1,16 +1,16 @@
 //! The summary of test cases, a page for a person.
-ghost use Rattle.std.specs.Prelude.{◌≡◌, ◌++◌, ◌∷◌, [], IfOk, OnOk, codes, length, map};
+ghost use Rattle.std.specs.Prelude.{◌≡◌, ◌++◌, ◌∷◌, [], IfOk, OnOk, codes, filter, length, map, take};
+ghost use Rattle.std.specs.List.{flat_map};
 ghost use Rattle.tc_rules.specs.Prelude.{refusal_text, name_of as spec_name};
-ghost use Rattle.tc_report.specs.{Cause.cause_text, Csv.end_word as end_text, Inside.AddsShown, Inside.AddsWords, Inside.member_text as spec_member, Inside.numbers_with, Report.tally_by};
+ghost use Rattle.tc_report.specs.{Cause.cause_text, Csv.end_word as end_text, Inside.IsNext, Inside.has_failed, Inside.inner_call, Inside.is_shown, Inside.member_text as spec_member, Inside.numbers_with, Report.tally_by};
 ghost use Rattle.tc_report.specs.SummaryText as spec;
 
-use crate::cause::{Cause, append_named};
+use crate::cause::{Cause, append_cause, append_named};
 use crate::records::end_word;
 use crate::report::{append_count, append_entry, append_tally};
 use crate::results::{CaseEnd, Tally};
 use crate::status::{counted_as, verdict_status};
 use crate::summary::Summary;
-use crate::words::{append_cause_word, append_prose, append_word};
 use std::alloc::Global;
 use tc_entry::{Entry, Name, NoMemory, Reply, Verdict};
 use tc_rules::CaseError;
@@ -92,15 +92,15 @@ fn member_text(alloc: Global, names: &[Option<Name>], comp: usize) -> Result<Vec
 // Appends one more text of a list: in the same line, if it has that many columns left, otherwise in the next. Returns how
 // many columns the line has left then, of 78, one of them for a comma.
 fn append_next(out: &mut Vec<u8>, room: usize, text: &[u8]) -> Result<usize, NoMemory>
-    ensures { OnOk result (AddsWords (text.now ∷ []) out.old.items out.new.items) }
+    ensures { IfOk result (λ left. IsNext text.now room out.old.items left out.new.items) }
 {
     if text.len() + 2 > room {
-        append_prose(out, ",\n   ")?;
-        append_word(out, text)?;
+        append_text(out, ",\n    ")?;
+        out.extend_from_slice(text)?;
         Ok(73usize.saturating_sub(text.len()))
     } else {
-        append_prose(out, ",")?;
-        append_word(out, text)?;
+        append_text(out, ", ")?;
+        out.extend_from_slice(text)?;
         Ok(room - (text.len() + 2))
     }
 }
@@ -113,14 +113,13 @@ fn append_member(
     room: usize,
     comp: usize,
 ) -> Result<usize, NoMemory>
-    ensures { OnOk result (AddsWords (spec_member names.now comp ∷ []) out.old.items out.new.items) }
+    ensures { IfOk result (λ left. IsNext (spec_member names.now comp) room out.old.items left out.new.items) }
 {
     let text = member_text(alloc, names, comp)?;
     append_next(out, room, text.as_slice())
 }
 
-// Appends the other components of a list.
-#[tactic(auto, using(crate::proofs::Wording::adds_none))]
+// Appends the other components of a list, whose line has that many columns left.
 fn append_listed(
     alloc: Global,
     out: &mut Vec<u8>,
@@ -128,31 +127,26 @@ fn append_listed(
     room: usize,
     members: &[usize],
 ) -> Result<(), NoMemory>
-    ensures { OnOk result (AddsWords (map (spec_member names.now) members.now) out.old.items out.new.items) }
+    ensures { OnOk result (out.new.items ≡ out.old.items ++ spec.listed room (map (spec_member names.now) members.now)) }
 {
     let mut room = room;
-    for comp in members {
+    let mut rest = members;
+    while let Some((comp, others)) = rest.split_first() {
         room = append_member(alloc, out, names, room, *comp)?;
+        rest = others;
     }
-    Ok(())
+    append_text(out, "\n")
 }
 
-// Appends the name of a verdict, and the first component of its list. Returns how many columns the line has left.
-fn append_first(
-    alloc: Global,
-    out: &mut Vec<u8>,
-    names: &[Option<Name>],
-    verdict: Verdict,
-    comp: usize,
-) -> Result<usize, NoMemory>
-    ensures { OnOk result (AddsWords (spec_name verdict ∷ spec_member names.now comp ∷ []) out.old.items out.new.items) }
+// Appends the name of a verdict, and the first component of its list.
+fn append_first(out: &mut Vec<u8>, verdict: Verdict, text: &[u8]) -> Result<(), NoMemory>
+    ensures { OnOk result (out.new.items ≡ out.old.items ++ (codes "  " ++ (spec_name verdict ++ (codes ": " ++ text.now)))) }
 {
-    let text = member_text(alloc, names, comp)?;
-    append_prose(out, " ")?;
-    append_word(out, name_of(verdict).as_bytes())?;
-    append_prose(out, ":")?;
-    append_word(out, text.as_slice())?;
-    Ok(67usize.saturating_sub(text.len()))
+    append_text(out, "  ")?;
+    append_text(out, name_of(verdict))?;
+    append_text(out, ": ")?;
+    out.extend_from_slice(text)?;
+    Ok(())
 }
 
 // Appends the name of a verdict, and these components.
@@ -164,16 +158,21 @@ fn append_group(
     first: usize,
     others: &[usize],
 ) -> Result<(), NoMemory>
-    ensures { OnOk result (AddsWords (spec_name verdict ∷ spec_member names.now first ∷ map (spec_member names.now) others.now)
-        out.old.items out.new.items) }
+    ensures { OnOk result (out.new.items ≡ out.old.items
+        ++ spec.verdict_group verdict (spec_member names.now first ∷ map (spec_member names.now) others.now)) }
 {
-    let room = append_first(alloc, out, names, verdict, first)?;
-    append_listed(alloc, out, names, room, others)?;
-    append_prose(out, "\n")
+    let text = member_text(alloc, names, first)?;
+    append_first(out, verdict, text.as_slice())?;
+    append_listed(
+        alloc,
+        out,
+        names,
+        67usize.saturating_sub(text.len()),
+        others,
+    )
 }
 
 // Appends the lines of the components with a local verdict, if there are some.
-#[tactic(auto, using(crate::proofs::Wording::adds_none))]
 fn append_members(
     alloc: Global,
     out: &mut Vec<u8>,
@@ -181,7 +180,8 @@ fn append_members(
     verdict: Verdict,
     members: &[usize],
 ) -> Result<(), NoMemory>
-    ensures { OnOk result (AddsWords (spec.after_verdict verdict (map (spec_member names.now) members.now)) out.old.items out.new.items) }
+    ensures { OnOk result (out.new.items ≡ out.old.items
+        ++ spec.verdict_group verdict (map (spec_member names.now) members.now)) }
 {
     match members {
         [] => Ok(()),
@@ -197,7 +197,8 @@ fn append_locals_with(
     locals: &[Verdict],
     verdict: Verdict,
 ) -> Result<(), NoMemory>
-    ensures { OnOk result (AddsWords (spec.after_verdict verdict (spec.members names.now locals.now verdict)) out.old.items out.new.items) }
+    ensures { OnOk result (out.new.items ≡ out.old.items
+        ++ spec.verdict_group verdict (spec.members names.now locals.now verdict)) }
 {
     let members = members(alloc, locals, verdict)?;
     append_members(alloc, out, names, verdict, members.as_slice())
@@ -210,7 +211,7 @@ fn append_locals(
     names: &[Option<Name>],
     locals: &[Verdict],
 ) -> Result<(), NoMemory>
-    ensures { OnOk result (AddsWords (spec.by_verdicts names.now locals.now) out.old.items out.new.items) }
+    ensures { OnOk result (out.new.items ≡ out.old.items ++ spec.verdict_groups names.now locals.now) }
 {
     append_locals_with(alloc, out, names, locals, Verdict::Error)?;
     append_locals_with(alloc, out, names, locals, Verdict::Fail)?;
@@ -219,39 +220,32 @@ fn append_locals(
     append_locals_with(alloc, out, names, locals, Verdict::None)
 }
 
-// Appends what is shown of an entry, deeper in.
-fn append_inner(out: &mut Vec<u8>, entry: &Entry) -> Result<(), NoMemory>
-    ensures { OnOk result (AddsWords [] out.old.items out.new.items) }
-{
-    append_text(out, "  ")?;
-    append_entry(out, entry)
-}
-
 // Appends what is shown of each entry, deeper in.
-#[tactic(auto, using(crate::proofs::Wording::words_rules))]
 fn append_inner_calls(out: &mut Vec<u8>, entries: &[Entry]) -> Result<(), NoMemory>
-    ensures { OnOk result (AddsWords [] out.old.items out.new.items) }
+    ensures { OnOk result (out.new.items ≡ out.old.items ++ flat_map inner_call entries.now) }
 {
     for entry in entries {
-        append_inner(out, entry)?;
+        append_text(out, "  ")?;
+        append_entry(out, entry)?;
     }
     Ok(())
 }
 
-// Appends the lines of entries, if there are some.
-#[tactic(auto, using(crate::proofs::Wording::words_rules))]
-fn append_after(out: &mut Vec<u8>, entries: &[Entry]) -> Result<(), NoMemory>
-    ensures { OnOk result (AddsWords [] out.old.items out.new.items) }
+// Appends the last five of these calls, if there are some.
+fn append_calls(out: &mut Vec<u8>, calls: &[Entry]) -> Result<(), NoMemory>
+    ensures { OnOk result (out.new.items ≡ out.old.items ++ spec.calls_text calls.now) }
 {
-    if entries.is_empty() {
+    if calls.is_empty() {
         return Ok(());
     }
-    append_prose(out, "  after:\n")?;
-    append_inner_calls(out, entries)
+    append_text(out, "  after:\n")?;
+    append_inner_calls(out, &calls[calls.len().saturating_sub(5)..])
 }
 
 // Adds a copy of the entry if it is shown: if it was not parked.
-fn add_if_shown(calls: &mut Vec<Entry>, entry: &Entry) -> Result<(), NoMemory> {
+fn add_if_shown(calls: &mut Vec<Entry>, entry: &Entry) -> Result<(), NoMemory>
+    ensures { OnOk result (calls.new.items ≡ calls.old.items ++ filter is_shown (entry.now ∷ [])) }
+{
     if !matches!(entry.reply, Reply::Parked) {
         calls.push(entry.copy())?;
     }
@@ -259,52 +253,48 @@ fn add_if_shown(calls: &mut Vec<Entry>, entry: &Entry) -> Result<(), NoMemory> {
 }
 
 // The entries of the run before the one that decided, as far as they are shown.
-fn calls_before(alloc: Global, cause: &Cause) -> Result<Vec<Entry>, NoMemory> {
+#[tactic(auto, using(std::proofs::lemmas::List::take_min))]
+fn calls_before(alloc: Global, cause: &Cause) -> Result<Vec<Entry>, NoMemory>
+    ensures { IfOk result (λ v. v.items ≡ filter is_shown (take cause.now.before cause.now.log)) }
+{
     let mut calls = Vec::new(alloc);
     let log = cause.log.as_slice();
-    for entry in log.get(..cause.before).unwrap_or(log) {
+    for entry in &log[..cause.before.min(log.len())] {
         add_if_shown(&mut calls, entry)?;
     }
     Ok(calls)
 }
 
-// Appends the last five calls of the run before what decided a verdict.
-fn append_before(alloc: Global, out: &mut Vec<u8>, cause: &Cause) -> Result<(), NoMemory>
-    ensures { OnOk result (AddsWords [] out.old.items out.new.items) }
-{
-    let calls = calls_before(alloc, cause)?;
-    let calls = calls.as_slice();
-    append_after(out, &calls[calls.len().saturating_sub(5)..])
-}
-
 // Appends what decided a verdict, and the last calls of the run before.
 fn append_decided(alloc: Global, out: &mut Vec<u8>, cause: &Cause) -> Result<(), NoMemory>
-    ensures { OnOk result (AddsWords (cause_text cause.now ∷ []) out.old.items out.new.items) }
+    ensures { OnOk result (out.new.items ≡ out.old.items ++ (codes "  " ++ (cause_text cause.now
+        ++ (codes "\n" ++ spec.calls_text (filter is_shown (take cause.now.before cause.now.log)))))) }
 {
-    append_prose(out, " ")?;
-    append_cause_word(out, cause)?;
-    append_prose(out, "\n")?;
-    append_before(alloc, out, cause)
+    let calls = calls_before(alloc, cause)?;
+    append_text(out, "  ")?;
+    append_cause(out, cause)?;
+    append_text(out, "\n")?;
+    append_calls(out, calls.as_slice())
 }
 
 // Appends why a test case has no report.
 fn append_refused(out: &mut Vec<u8>, why: CaseError) -> Result<(), NoMemory>
-    ensures { OnOk result (AddsWords (refusal_text why ∷ []) out.old.items out.new.items) }
+    ensures { OnOk result (out.new.items ≡ out.old.items ++ (codes "  " ++ (refusal_text why ++ codes "\n"))) }
 {
-    append_prose(out, " ")?;
-    append_word(out, why.text().as_bytes())?;
-    append_prose(out, "\n")
+    append_text(out, "  ")?;
+    append_text(out, why.text())?;
+    append_text(out, "\n")
 }
 
 // Appends why a test case ended so.
-#[tactic(auto, using(crate::proofs::Wording::words_rules))]
+#[tactic(auto, unfolding(crate::specs::SummaryText::reason_lines))]
 fn append_why(
     alloc: Global,
     out: &mut Vec<u8>,
     ending: CaseEnd,
     cause: &Option<Cause>,
 ) -> Result<(), NoMemory>
-    ensures { OnOk result (AddsWords (spec.why ending cause.now) out.old.items out.new.items) }
+    ensures { OnOk result (out.new.items ≡ out.old.items ++ spec.reason_lines ending cause.now) }
 {
     match (ending, cause) {
         (CaseEnd::Over(_), Some(cause)) => append_decided(alloc, out, cause),
@@ -316,36 +306,28 @@ fn append_why(
 // Appends the name of a test case, and how it ended.
 fn append_head(out: &mut Vec<u8>, case: &Summary) -> Result<(), NoMemory>
     ensures { OnOk result (out.new.items
-        ≡ out.old.items ++ (codes "\n" ++ (case.now.name ++ (codes ": " ++ end_text case.now.ending)))) }
+        ≡ out.old.items ++ (codes "\n" ++ (case.now.name ++ (codes ": " ++ (end_text case.now.ending ++ codes "\n"))))) }
 {
     append_text(out, "\n")?;
     out.extend_from_slice(case.name.bytes())?;
     append_text(out, ": ")?;
-    append_text(out, end_word(case.ending))
+    append_text(out, end_word(case.ending))?;
+    append_text(out, "\n")
 }
 
-// Appends why a test case ended so, and its components.
-fn append_parts(alloc: Global, out: &mut Vec<u8>, case: &Summary) -> Result<(), NoMemory>
-    ensures { OnOk result (AddsWords (spec.why case.now.ending case.now.cause
-        ++ spec.by_verdicts case.now.names case.now.locals) out.old.items out.new.items) }
+// Appends a test case that failed.
+#[tactic(auto, unfolding(crate::specs::SummaryText::shown_case))]
+fn append_failed(alloc: Global, out: &mut Vec<u8>, case: &Summary) -> Result<(), NoMemory>
+    ensures { OnOk result (out.new.items ≡ out.old.items ++ spec.shown_case case.now) }
 {
-    append_prose(out, "\n")?;
+    append_head(out, case)?;
     append_why(alloc, out, case.ending, &case.cause)?;
     append_locals(alloc, out, case.names.as_slice(), case.locals.as_slice())
 }
 
-// Appends a test case that failed.
-fn append_failed(alloc: Global, out: &mut Vec<u8>, case: &Summary) -> Result<(), NoMemory>
-    ensures { OnOk result (AddsShown (case.now ∷ []) out.old.items out.new.items) }
-{
-    append_head(out, case)?;
-    append_parts(alloc, out, case)
-}
-
 // Appends a test case if it failed.
-#[tactic(auto, using(crate::proofs::Wording::shown_rules))]
 fn append_if_failed(alloc: Global, out: &mut Vec<u8>, case: &Summary) -> Result<(), NoMemory>
-    ensures { OnOk result (AddsShown (spec.failed_of (case.now ∷ [])) out.old.items out.new.items) }
+    ensures { OnOk result (out.new.items ≡ out.old.items ++ flat_map spec.shown_case (filter has_failed (case.now ∷ []))) }
 {
     if verdict_status(counted_as(case.ending)) > 0 {
         return append_failed(alloc, out, case);
@@ -354,9 +336,8 @@ fn append_if_failed(alloc: Global, out: &mut Vec<u8>, case: &Summary) -> Result<
 }
 
 // Appends each test case that failed.
-#[tactic(auto, using(crate::proofs::Wording::shown_rules))]
 fn append_all_failed(alloc: Global, out: &mut Vec<u8>, cases: &[Summary]) -> Result<(), NoMemory>
-    ensures { OnOk result (AddsShown (spec.failed_of cases.now) out.old.items out.new.items) }
+    ensures { OnOk result (out.new.items ≡ out.old.items ++ flat_map spec.shown_case (filter has_failed cases.now)) }
 {
     for case in cases {
         append_if_failed(alloc, out, case)?;
@@ -367,7 +348,7 @@ fn append_all_failed(alloc: Global, out: &mut Vec<u8>, cases: &[Summary]) -> Res
 /// The summary of these test cases, a page for a person: their counts, and then each that failed. It has what decided its
 /// verdict, at most five calls of the run before that, and the local verdicts of its components.
 pub fn summary_report(alloc: Global, cases: &[Summary]) -> Result<Vec<u8>, NoMemory>
-    ensures { IfOk result (λ v. spec.IsSummary cases.now v.items) }
+    ensures { IfOk result (λ v. v.items ≡ spec.summary_text cases.now) }
 {
     let mut out = Vec::new(alloc);
     append_counts(&mut out, cases)?;

@@ -2,7 +2,6 @@
 pub mod Lemmas
 pub mod WorkedCases
 pub mod Making
-pub mod Opening
 pub mod Settled
 pub mod Runs
 pub mod Counting
@@ -10,5 +9,4 @@ pub mod Decided
 pub mod Determined
 pub mod Named
 pub mod Elsewhere
-pub mod Asking
 pub mod Unchanged

@@ -3,7 +3,8 @@ use Rattle.std.proofs.Common.{ℕ, ◌≡◌, ◌≢◌, ◌<◌, ◌==◌, Bool
 use Rattle.std.proofs.lemmas.Bool.Decides.{nat_tests}
 use Rattle.tc_entry.specs.Prelude.{Run, is_ok}
 use Rattle.tc_entry.specs.declared.{comp.Comp.Comp, entry.Entry.Entry, op.Op.Op}
-use Rattle.tc_rules.specs.{History.starts_run, Inside.Step.next_run, Merge.started_run, declared.run_state.RunState.RunState}
+use Rattle.std.specs.Prelude.{is_none, is_some}
+use Rattle.tc_rules.specs.{Inside.Words.starts_run, Inside.Step.next_run, Inside.Words.started_run, Waiting.parks, declared.awaited.Awaited.Awaited, declared.run_state.RunState.RunState}
 use Rattle.tc_rules.proofs.Lemmas.Deciding.{if_same, first_alone}
 
 not_started : (op : Op) (b : ℕ) → started_run op ≡ None → starts_run op b ≡ None
@@ -22,6 +23,18 @@ unfolding next_run
 run_elsewhere e b s ne none =
     let t : (e.caller.0 == b) ≡ false = grind (arith, nat_tests) in
     rw (t, none, if_same (is_ok e.reply) (let o : Option Comp = None in o), first_alone s.comp)
+
+-- an entry that is not parked keeps the state of a run that was started and is not parked
+pub run_kept : (e : Entry) (b : ℕ) (s : RunState) → is_some s.comp ≡ true → is_none s.waiting ≡ true → is_none (parks e.op e.reply) ≡ true → next_run e b s ≡ s
+unfolding next_run
+run_kept e b s on none quiet = by s.comp s.waiting (parks e.op e.reply) refl on none quiet
+  where
+    by : (comp : Option Comp) (waiting parked : Option Awaited) → parks e.op e.reply ≡ parked → is_some comp ≡ true → is_none waiting ≡ true → is_none parked ≡ true
+        → next_run e b (record { comp = comp; waiting = waiting }) ≡ record { comp = comp; waiting = waiting }
+    by (Some c) None None p on none quiet = rw (p, if_same (e.caller.0 == b) (let o : Option Awaited = None in o))
+    by None waiting parked p on none quiet = absurd cc
+    by (Some c) (Some w) parked p on none quiet = absurd cc
+    by (Some c) None (Some w) p on none quiet = absurd cc
 
 -- only the caller changed
 pub caller_changed : (e : Entry) (old new : List RunState) → ((b : ℕ) → b ≢ e.caller.0 → starts_run e.op b ≡ None) →

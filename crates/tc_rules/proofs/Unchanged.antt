@@ -6,7 +6,7 @@ use Rattle.std.proofs.lemmas.{Bool.Decides.nat_tests, List.get_or_default}
 use Rattle.std.specs.List.{list_all}
 use Rattle.tc_entry.specs.Prelude.{Verdict, Run, is_ended, is_fault, is_ok}
 use Rattle.tc_entry.specs.declared.{comp.Comp.Comp, entry.Entry.Entry, op.Group.Group, op.Op.Op, phase.Phase.Phase, reply.Reply.Reply}
-use Rattle.tc_rules.specs.{History.ends_case, History.first_some, History.halts, History.is_comp, History.is_kill_of, History.is_stop_of, History.kills, Inside.States.all_killed, Inside.States.none_running, Inside.Step.IsSettled, Inside.Step.finds, Inside.Step.finds_none, Inside.Step.halted, Inside.Step.next_excused, Inside.Step.next_local, Inside.Step.next_phase, Inside.Step.next_state, Local.gives, Local.setting, Phases.start_in, Status.is_killed, Status.is_running, declared.component_state.ComponentState.ComponentState}
+use Rattle.tc_rules.specs.{History.ends_case, Inside.Words.first_some, History.halts, History.is_comp, History.is_kill_of, History.is_stop_of, History.kills, Inside.States.all_killed, Inside.States.none_running, Inside.Step.IsSettled, Inside.Step.finds, Inside.Step.finds_none, Inside.Step.halted, Inside.Step.next_excused, Inside.Step.next_local, Inside.Step.next_phase, Inside.Step.next_state, Local.gives, Local.setting, Phases.start_in, Status.is_killed, Status.is_running, declared.component_state.ComponentState.ComponentState}
 use Rattle.tc_rules.proofs.Lemmas.Deciding.{and_left, and_no, and_right, if_same}
 
 -- one more place has F of what was there

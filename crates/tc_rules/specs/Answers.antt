@@ -1,6 +1,7 @@
 -- The component table: the reply to every call, by what came before it.
-use Rattle.std.specs.Prelude.{ℕ, ◌==◌, ◌&&◌, if◌then◌else◌, Bool, false, Option, Some, None, List}
-use Rattle.tc_entry.specs.declared.{comp.Comp.Comp, entry.Entry.Entry, op.Op.Op, phase.Phase.Phase, reply.Fault.Fault, reply.Reply.Reply}
+use Rattle.std.specs.Prelude.{ℕ, ◌==◌, ◌&&◌, if◌then◌else◌, Bool, false, List}
+use Rattle.std.specs.Option.{option_map_or}
+use Rattle.tc_entry.specs.declared.{entry.Entry.Entry, op.Op.Op, phase.Phase.Phase, reply.Fault.Fault, reply.Reply.Reply}
 use Rattle.tc_rules.specs.{Faults.components, Faults.fault, History.comp_of, Local.local, Phases.phase, Status.alive, Status.done, Status.killed, Status.running, Waiting.holds, Waiting.is_stuck, declared.awaited.Awaited.Awaited}
 
 -- run b is the one that its component is running
@@ -8,19 +9,9 @@ abbrev pub is_run_of : ℕ → Phase → Bool
 is_run_of b (Phase.Running run) = run.0 == b
 is_run_of b _ = false
 
--- run b, which was started on this component if on any, is active
-abbrev pub is_active_on : List Entry → ℕ → Option Comp → Bool
-is_active_on past b (Some c) = is_run_of b (phase past c.0)
-is_active_on past b None = false
-
--- run b is active
+-- run b is active: it was started, and its component is running it
 unfoldable pub is_active : List Entry → ℕ → Bool
-is_active past b = is_active_on past b (comp_of past b)
-
--- the reply to getverdict by a run on this component
-abbrev pub local_reply : List Entry → Option Comp → Reply
-local_reply past (Some c) = Reply.Local (local past c.0)
-local_reply past None = Reply.Ended
+is_active past b = option_map_or (λ c. is_run_of b (phase past c.0)) (comp_of past b) false
 
 -- the reply to a Wake by run b: the main component's run gets the error stuck if the case is stuck
 abbrev pub wake_reply : List Entry → ℕ → Awaited → Reply
@@ -41,15 +32,10 @@ plain_answer past b (Op.Killed t) = Reply.Answer (killed past t)
 plain_answer past b (Op.Wait k t) = if holds past (record { killed = k; target = t }) then Reply.Matched else Reply.Parked
 plain_answer past b (Op.Wake k t) = wake_reply past b (record { killed = k; target = t })
 plain_answer past b (Op.SetVerdict v) = Reply.Ok
-plain_answer past b Op.GetVerdict = local_reply past (comp_of past b)
+plain_answer past b Op.GetVerdict = option_map_or (λ c. Reply.Local (local past c.0)) (comp_of past b) Reply.Ended
 plain_answer past b Op.Finish = Reply.Ok
 
--- the error, if there is one, and otherwise the reply
-abbrev pub answer_unless : Option Fault → Reply → Reply
-answer_unless (Some f) reply = Reply.Fault f
-answer_unless None reply = reply
-
--- the reply to a call by run b, if there are n behaviours
+-- the reply to a call by run b, if there are n behaviours: the error, if there is one
 unfoldable pub answer : ℕ → List Entry → ℕ → Op → Reply
 answer n past b op =
-    if is_active past b then answer_unless (fault n past b op) (plain_answer past b op) else Reply.Ended
+    if is_active past b then option_map_or (λ f. Reply.Fault f) (fault n past b op) (plain_answer past b op) else Reply.Ended

@@ -1,9 +1,9 @@
 -- Which entry decided the verdict of a test case, and who made it.
 use Rattle.std.specs.Prelude.{ℕ, ◌≡◌, ◌<◌, ◌↔◌, nat_lt, if◌then◌else◌, Option, Some, None, MatchOption, List, [], ◌∷◌, ◌++◌, length}
-use Rattle.std.specs.List.{flat_map}
+use Rattle.std.specs.{List.flat_map, Option.option_or}
 use Rattle.tc_entry.specs.Prelude.{Verdict, level_of, worst}
 use Rattle.tc_entry.specs.declared.{entry.Entry.Entry, op.Op.Op}
-use Rattle.tc_rules.specs.{History.created, History.first_some, History.is_comp, Legal.IsLegal, Local.gives, Local.overall}
+use Rattle.tc_rules.specs.{History.created, History.is_comp, Legal.IsLegal, Local.gives, Local.overall}
 
 -- the entry at this place, counted from 0, decides: the overall verdict is the reported one from this entry on, and not before
 abbrev pub IsDeciding : List Entry → ℕ → Type 0
@@ -29,11 +29,7 @@ abbrev pub name_in : Op → Option (List ℕ)
 name_in (Op.Create alive name) = name
 name_in _ = None
 
--- the name that this entry gives to component c
-abbrev pub name_given : Entry → ℕ → Option (List ℕ)
-name_given e c = if is_comp (created e.op e.reply) c then name_in e.op else None
-
 -- the name of component c, if its creation gave it one
 abbrev pub component_name : List Entry → ℕ → Option (List ℕ)
 component_name [] c = None
-component_name (e ∷ past) c = first_some (component_name past c) (name_given e c)
+component_name (e ∷ past) c = option_or (component_name past c) (if is_comp (created e.op e.reply) c then name_in e.op else None)

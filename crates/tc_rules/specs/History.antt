@@ -2,6 +2,7 @@
 -- Here and in the files next to it, `past` lists the entries so far, the newest first, and components and runs are
 -- numbers.
 use Rattle.std.specs.Prelude.{ℕ, ◌==◌, ◌&&◌, ◌||◌, not, if◌then◌else◌, Bool, true, false, Option, Some, None, List, [], ◌∷◌, ◌++◌, drop}
+use Rattle.std.specs.Option.{option_and_then, option_map_or, option_or}
 use Rattle.tc_entry.specs.Prelude.{Run, is_of, is_ended, is_fault, is_ok}
 use Rattle.tc_entry.specs.declared.{comp.Comp.Comp, entry.Entry.Entry, op.Op.Op, reply.Reply.Reply}
 
@@ -10,15 +11,9 @@ abbrev pub is_in : ℕ → List ℕ → Bool
 is_in x [] = false
 is_in x (y ∷ ys) = (x == y) || is_in x ys
 
--- the first of two that is there
-abbrev pub first_some : {A : Type 0} → Option A → Option A → Option A
-first_some (Some x) o = Some x
-first_some None o = o
-
 -- this is component c
 abbrev pub is_comp : Option Comp → ℕ → Bool
-is_comp (Some d) c = d.0 == c
-is_comp None c = false
+is_comp comp c = option_map_or (λ d. d.0 == c) comp false
 
 -- the component that a Create made
 abbrev pub created : Op → Reply → Option Comp
@@ -35,19 +30,14 @@ abbrev pub is_alive_create : Op → Bool
 is_alive_create (Op.Create alive name) = alive
 is_alive_create _ = false
 
--- the component on which this operation starts run b
-abbrev pub starts_run : Op → ℕ → Option Comp
-starts_run (Op.Start c run args) b = if run.0 == b then Some c else None
-starts_run _ b = None
+-- what an operation starts: a run, on a component, with arguments
+abbrev pub start : Op → Option (Run × Comp × List Comp)
+start (Op.Start c run args) = Some (run, c, args)
+start _ = None
 
 -- the component on which the entry starts run b: a Start that was carried out
 abbrev pub started_on : Entry → ℕ → Option Comp
-started_on e b = if is_ok e.reply then starts_run e.op b else None
-
--- the run that this operation starts on component c
-abbrev pub starts_on : Op → ℕ → Option Run
-starts_on (Op.Start d run args) c = if d.0 == c then Some run else None
-starts_on _ c = None
+started_on e b = if is_ok e.reply then option_and_then (λ s. if s.0.0 == b then Some s.1 else None) (start e.op) else None
 
 -- the operation is the end of a behaviour
 abbrev pub is_finish : Op → Bool
@@ -96,7 +86,7 @@ is_alive_type (e ∷ past) c =
 -- the component that run b is on: that of the first Start of the run
 abbrev pub comp_of : List Entry → ℕ → Option Comp
 comp_of [] b = if b == 0 then Some (record { 0 = 0 }) else None
-comp_of (e ∷ past) b = first_some (comp_of past b) (started_on e b)
+comp_of (e ∷ past) b = option_or (comp_of past b) (started_on e b)
 
 -- the entry ends the test case: a dynamic error, a StopCase, the main component's Finish, its Stop or its Kill
 abbrev pub ends_case : Entry → Bool

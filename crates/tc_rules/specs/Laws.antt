@@ -1,5 +1,6 @@
 -- What holds of every legal history, and the definitions leave unsaid.
 use Rattle.std.specs.Prelude.{ℕ, ◌≡◌, if◌then◌else◌, ◌↔◌, true, false, Some, None, List, [], ◌∷◌, ◌++◌, map}
+use Rattle.std.specs.List.{flat_map}
 use Rattle.tc_entry.specs.Prelude.{Verdict, worst, is_ended}
 use Rattle.tc_entry.specs.declared.{comp.Comp.Comp, entry.Entry.Entry, op.Op.Op, phase.Phase.Phase}
 use Rattle.tc_rules.specs.{History.comp_of, History.is_comp, History.is_over, Legal.IsAllOver, Legal.IsLegal, Local.gives, Local.local, Local.overall, Phases.phase, Phases.was_halted, Phases.was_killed, Standing.Kept, Standing.StandsFor}
@@ -14,14 +15,11 @@ abbrev pub KilledWasHalted : Type 0
 KilledWasHalted =
     (n : ℕ) (past : List Entry) (c : ℕ) → IsLegal n past → was_killed past c ≡ true → was_halted past c ≡ true
 
--- the caller's component, and that it was running this very run
-abbrev pub RunsNow : List Entry → Entry → Comp → Type 0
-RunsNow past e c = (comp_of past e.caller.0 ≡ Some c) × (phase past c.0 ≡ Phase.Running (record { 0 = e.caller.0 }))
-
--- a caller that is not replied Ended is the running run of its component
+-- a caller that is not replied Ended was started on a component, which is running this very run
 abbrev pub AnsweredIsRunning : Type 0
 AnsweredIsRunning =
-    (n : ℕ) (past : List Entry) (e : Entry) → IsLegal n (e ∷ past) → is_ended e.reply ≡ false → (c : Comp) × RunsNow past e c
+    (n : ℕ) (past : List Entry) (e : Entry) → IsLegal n (e ∷ past) → is_ended e.reply ≡ false →
+    (c : Comp) × ((comp_of past e.caller.0 ≡ Some c) × (phase past c.0 ≡ Phase.Running (record { 0 = e.caller.0 })))
 
 -- the component of a run is the same at its entries and over the whole history
 abbrev pub SameComponentLater : Type 0
@@ -30,9 +28,7 @@ SameComponentLater =
 
 -- the verdicts given to component c by runs that are on it in the whole history
 abbrev pub verdicts_in : List Entry → List Entry → ℕ → List Verdict
-verdicts_in whole [] c = []
-verdicts_in whole (e ∷ past) c =
-    if is_comp (comp_of whole e.caller.0) c then gives e.op e.reply ++ verdicts_in whole past c else verdicts_in whole past c
+verdicts_in whole past c = flat_map (λ e. if is_comp (comp_of whole e.caller.0) c then gives e.op e.reply else []) past
 
 -- the local verdict is the worst of what the runs on the component were given, over the whole history
 abbrev pub LocalOfWhole : Type 0

@@ -9,7 +9,6 @@ pub mod Answers
 pub mod Legal
 pub mod Laws
 pub mod Deciding
-pub mod Case
 pub mod Standing
 pub mod Inside
 pub mod Merge

@@ -1,10 +1,10 @@
 -- The part of a history by one run, and the merge of a history without verdict entries with the logs of its runs.
 -- `past` lists entries of the history, the newest first, and `log b` is the log of run b.
-use Rattle.std.specs.Prelude.{ℕ, zero, suc, ◌==◌, ◌++◌, ◌∷◌, [], Bool, Option, List, filter, reverse, ◌+◌, ◌&&◌, not, max, if◌then◌else◌, true, false, Some, None, length, sum_by}
-use Rattle.std.specs.Option.{option_map_or}
-use Rattle.tc_entry.specs.declared.{comp.Comp.Comp, entry.Entry.Entry, op.Op.Op}
+use Rattle.std.specs.Prelude.{ℕ, zero, suc, ◌==◌, ◌++◌, ◌∷◌, [], Bool, Option, List, filter, reverse, ◌+◌, ◌&&◌, not, max, if◌then◌else◌, true, false, None, length, sum_by}
+use Rattle.std.specs.Option.{option_map, option_map_or}
+use Rattle.tc_entry.specs.declared.{entry.Entry.Entry, op.Op.Op}
 use Rattle.tc_entry.specs.Prelude.{Run, is_ended, is_ok}
-use Rattle.tc_rules.specs.{History.comp_of, declared.run_log.RunLog.RunLog}
+use Rattle.tc_rules.specs.{History.comp_of, History.start, declared.run_log.RunLog.RunLog}
 
 -- the entry is one of run b
 abbrev pub is_by : ℕ → Entry → Bool
@@ -14,14 +14,12 @@ is_by b e = e.caller.0 == b
 unfoldable pub part : List Entry → ℕ → List Entry
 part history b = filter (is_by b) history
 
--- the log of run b, if it was started: its component, and its part of the history
-abbrev pub log_if : Option Comp → List Entry → ℕ → List RunLog
-log_if comp history b = option_map_or (λ c. record { run = record { 0 = b }; comp = c; entries = part history b } ∷ []) comp []
-
--- the logs of the runs below n that were started, in the order of their numbers
+-- the logs of the runs below n that were started, in the order of their numbers: of each its component, and its part
 abbrev pub logs_below : List Entry → ℕ → List RunLog
 logs_below history zero = []
-logs_below history (suc b) = logs_below history b ++ log_if (comp_of (reverse history) b) history b
+logs_below history (suc b) =
+    logs_below history b
+    ++ option_map_or (λ c. record { run = record { 0 = b }; comp = c; entries = part history b } ∷ []) (comp_of (reverse history) b) []
 
 -- an operation on verdicts: setverdict, getverdict
 abbrev pub is_verdict_call : Op → Bool
@@ -58,14 +56,9 @@ verdict_calls_after k [] = []
 verdict_calls_after zero (e ∷ es) = if is_other e then [] else if is_late e then verdict_calls_after 0 es else e ∷ verdict_calls_after 0 es
 verdict_calls_after (suc k) (e ∷ es) = verdict_calls_after (if is_other e then k else suc k) es
 
--- the run that an operation starts
-abbrev pub started_run : Op → Option Run
-started_run (Op.Start c run args) = Some run
-started_run _ = None
-
 -- the run that an entry starts, a Start replied Ok
 abbrev pub started : Entry → Option Run
-started e = if is_ok e.reply then started_run e.op else None
+started e = if is_ok e.reply then option_map (λ s. s.0) (start e.op) else None
 
 -- how many of these entries are by run b
 abbrev pub calls_of : ℕ → List Entry → ℕ

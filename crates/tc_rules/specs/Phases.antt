@@ -1,8 +1,9 @@
 -- What a component is doing.
 use Rattle.std.specs.Prelude.{ℕ, ◌==◌, ◌&&◌, ◌||◌, not, if◌then◌else◌, Bool, false, Option, Some, None, is_some, List, [], ◌∷◌}
+use Rattle.std.specs.Option.{option_and_then, option_map_or, option_or}
 use Rattle.tc_entry.specs.Prelude.{Run, is_ok}
 use Rattle.tc_entry.specs.declared.{comp.Comp.Comp, entry.Entry.Entry, phase.Phase.Phase}
-use Rattle.tc_rules.specs.History.{exists, is_alive_type, comp_of, starts_on, first_some, is_comp, is_stop_of, is_kill_of, halts, kills}
+use Rattle.tc_rules.specs.History.{exists, is_alive_type, comp_of, start, is_comp, is_stop_of, is_kill_of, halts, kills}
 
 -- an entry after its creation killed component c
 abbrev pub was_killed : List Entry → ℕ → Bool
@@ -11,12 +12,12 @@ was_killed (e ∷ past) c = (exists past c && kills e c) || was_killed past c
 
 -- the run that the entry starts on component c
 abbrev pub start_in : Entry → ℕ → Option Run
-start_in e c = if is_ok e.reply then starts_on e.op c else None
+start_in e c = if is_ok e.reply then option_and_then (λ s. if s.1.0 == c then Some s.0 else None) (start e.op) else None
 
 -- the run of the last start of component c; the main component runs run 0 from the opening
 abbrev pub last_run : List Entry → ℕ → Option Run
 last_run [] c = if c == 0 then Some (record { 0 = 0 }) else None
-last_run (e ∷ past) c = first_some (start_in e c) (last_run past c)
+last_run (e ∷ past) c = option_or (start_in e c) (last_run past c)
 
 -- since its last start an entry halted component c
 abbrev pub was_halted : List Entry → ℕ → Bool
@@ -36,16 +37,13 @@ is_excused (e ∷ past) c =
     then is_excused past c
     else halts_from_outside (comp_of past e.caller.0) e c)
 
--- what a component is doing that no entry killed, by the run of its last start, if it was started
-abbrev pub phase_if_not_killed : Option Run → Bool → Bool → Phase
-phase_if_not_killed None halted alive_type = Phase.Inactive
-phase_if_not_killed (Some run) halted alive_type =
-    if not halted then Phase.Running run else if alive_type then Phase.Stopped else Phase.Killed
-
 -- what component c is doing
 unfoldable pub phase : List Entry → ℕ → Phase
 phase past c =
-    if was_killed past c then Phase.Killed else phase_if_not_killed (last_run past c) (was_halted past c) (is_alive_type past c)
+    if was_killed past c then Phase.Killed
+    else option_map_or
+    (λ run. if not (was_halted past c) then Phase.Running run else if is_alive_type past c then Phase.Stopped else Phase.Killed)
+    (last_run past c) Phase.Inactive
 
 -- the same, if the component exists
 unfoldable pub phase_if_any : List Entry → ℕ → Option Phase

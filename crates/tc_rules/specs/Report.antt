@@ -36,20 +36,19 @@ pub record IsOneHistory (c : Closed) : Type 0 where
   pub verdict : c.verdict ≡ overall (past_of_closed c)
   pub worst_of_locals : c.verdict ≡ worst c.locals
 
--- why a case was not closed
-abbrev pub close_text : CloseFault → List ℕ
-close_text CloseFault.Torn = codes "torn"
-close_text CloseFault.NoMemory = memory_text
-
 -- why a case has no report, in words
 abbrev pub refusal_text : CaseError → List ℕ
 refusal_text CaseError.NoBehaviours = codes "no behaviours"
 refusal_text CaseError.TooManyBehaviours = codes "too many behaviours"
 refusal_text CaseError.NoMemory = memory_text
 refusal_text CaseError.NoThread = codes "no thread"
-refusal_text CaseError.Torn = close_text CloseFault.Torn
+refusal_text CaseError.Torn = codes "torn"
 
 -- the refusal by which a case that was not closed is answered
 abbrev pub of_close : CloseFault → CaseError
 of_close CloseFault.Torn = CaseError.Torn
 of_close CloseFault.NoMemory = CaseError.NoMemory
+
+-- why a case was not closed, in the same words
+abbrev pub close_text : CloseFault → List ℕ
+close_text fault = refusal_text (of_close fault)

@@ -1,7 +1,7 @@
 -- Waiting for the end or the kill of components, and when a case can no longer continue.
 -- All of it is this project's own: there are no timers, so a case that waits for what cannot come is stuck.
 use Rattle.std.specs.Prelude.{ℕ, ◌==◌, not, if◌then◌else◌, Bool, true, false, Option, Some, None, List, [], ◌∷◌}
-use Rattle.std.specs.List.{list_all}
+use Rattle.std.specs.{List.list_all, Option.option_map_or}
 use Rattle.tc_entry.specs.declared.{entry.Entry.Entry, op.Op.Op, phase.Phase.Phase, reply.Reply.Reply}
 use Rattle.tc_rules.specs.{History.comps, Phases.phase, Status.done, Status.killed, declared.awaited.Awaited.Awaited}
 
@@ -25,14 +25,9 @@ waiting (e ∷ past) b = if e.caller.0 == b then parks e.op e.reply else waiting
 unfoldable pub holds : List Entry → Awaited → Bool
 holds past a = if a.killed then killed past a.target else done past a.target
 
--- it waits, and what it waits for has not come
-abbrev pub waits_in_vain : List Entry → Option Awaited → Bool
-waits_in_vain past None = false
-waits_in_vain past (Some a) = not (holds past a)
-
--- a component in this phase does not keep the case from being stuck
+-- a component in this phase does not keep the case from being stuck: if a run is running, it waits for what has not come
 abbrev pub is_still : List Entry → Phase → Bool
-is_still past (Phase.Running run) = waits_in_vain past (waiting past run.0)
+is_still past (Phase.Running run) = option_map_or (λ a. not (holds past a)) (waiting past run.0) false
 is_still past _ = true
 
 -- every run that is running waits, and the target of none of them holds

@@ -1,6 +1,7 @@
 //! Which entry decided the verdict of a test case, and who made it.
 ghost use Rattle.std.specs.Prelude.{◌≡◌, ◌<◌, if◌then◌else◌, nat_lt, None, Some, IfSome, option_copied, reverse, length};
 ghost use Rattle.tc_entry.specs.Prelude.{level_of};
+ghost use Rattle.tc_rules.specs.Inside.Words.{name_given};
 ghost use Rattle.tc_rules.specs.Deciding as spec;
 ghost use Rattle.tc_rules.specs.History as histories;
 
@@ -56,7 +57,7 @@ pub fn component_of(history: &[Entry], run: Run) -> Option<Comp>
 
 /// The name that the entry gives to the component.
 fn name_given(entry: &Entry, comp: Comp) -> Option<&Name>
-    ensures { option_copied result ≡ spec.name_given entry.now comp.0 }
+    ensures { option_copied result ≡ name_given entry.now comp.0 }
 {
     if !is_comp(created(&entry.op, entry.reply), comp.0) {
         return None;

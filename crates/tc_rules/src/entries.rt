@@ -2,7 +2,7 @@
 ghost use Rattle.std.specs.Prelude.{◌≡◌};
 ghost use Rattle.tc_rules.specs.History as history;
 ghost use Rattle.tc_rules.specs.Laws as laws;
-ghost use Rattle.tc_rules.specs.Merge as merge;
+ghost use Rattle.tc_rules.specs.Inside.Words.{started_run};
 ghost use Rattle.tc_rules.specs.Phases as phases;
 ghost use Rattle.tc_rules.specs.Waiting as waits;
 
@@ -150,7 +150,7 @@ pub fn started_on(entry: &Entry, run: u16) -> Option<Comp>
 
 /// The run that an operation starts.
 pub(crate) fn started_run(op: &Op) -> Option<Run>
-    ensures { result ≡ merge.started_run op.now }
+    ensures { result ≡ started_run op.now }
 {
     match op {
         Op::Start { run, .. } => Some(*run),

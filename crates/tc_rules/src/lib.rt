@@ -23,7 +23,7 @@ pub use check::{CheckFault, replay, replay_check};
 pub use closed::{CloseFault, Closed};
 pub use deciding::{component_of, deciding_entry, name_of};
 pub use ending::ends_pass;
-pub use entries::{created, ends_case, is_comp, is_halting, keeps_phases, started_on};
+pub use entries::{created, ends_case, is_halting, keeps_phases, started_on};
 pub use locals::locals_of;
 pub use refusal::CaseError;
 pub use run_log::RunLog;

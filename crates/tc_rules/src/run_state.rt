@@ -18,7 +18,7 @@ pub(crate) fn opening_runs(alloc: Global, n: u16) -> Result<Vec<RunState>, Alloc
     ensures as_many { IfOk result (λ runs. length runs.items ≡ n) }
     ensures each { IfOk result (λ runs. (b : ℕ) (d : RunState) → b < n → slice_index_or runs.items b d ≡ run_of [] b) }
 {
-    let mut runs = Vec::new(alloc);
+    let mut runs = Vec::with_capacity(alloc, usize::from(n))?;
     for b in 0..n {
         let comp = if b == 0 { Some(Comp(0)) } else { None };
         runs.push(RunState {

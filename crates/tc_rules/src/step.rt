@@ -1,8 +1,9 @@
 //! What one more entry does to what is kept of components and runs.
-ghost use Rattle.std.specs.Prelude.{◌≡◌, ◌≢◌, ℕ, None, false, length, slice_index_or};
+ghost use Rattle.std.specs.Prelude.{◌≡◌, ◌≢◌, ℕ, None, false, length, slice_index_or, IsTrue};
+ghost use Rattle.std.specs.Option.{option_or};
 ghost use Rattle.tc_rules.specs.History as history;
 ghost use Rattle.tc_rules.specs.Local as verdicts;
-ghost use Rattle.tc_rules.specs.Merge as merge;
+ghost use Rattle.tc_rules.specs.Inside.Words.{started_run};
 ghost use Rattle.tc_rules.specs.Inside.Step as step;
 
 use crate::component_state::{ComponentState, is_killed, is_running};
@@ -74,7 +75,7 @@ pub(crate) fn next_local(op: &Op, reply: Reply, local: Verdict) -> Verdict
 
 /// The run that is started, otherwise the last one before.
 fn later(start: Option<Run>, last: Option<Run>) -> Option<Run>
-    ensures { result ≡ history.first_some start last }
+    ensures { result ≡ option_or start last }
 {
     match start {
         Some(run) => Some(run),
@@ -297,6 +298,16 @@ fn next_run(entry: &Entry, run: u16, state: RunState) -> RunState
     }
 }
 
+/// Whether the entry changes nothing that is known of a run, as far as can be seen without the run's number. Then it is
+/// not written: under the lock of a case a write costs the other threads more than the test.
+#[tactic(auto, using(crate::proofs::Runs::run_kept))]
+#[inline(always)]
+fn keeps_run(entry: &Entry, state: RunState) -> bool
+    ensures { (run : ℕ) → IsTrue result → step.next_run entry.now run state ≡ state }
+{
+    state.comp.is_some() && state.waiting.is_none() && parks(&entry.op, entry.reply).is_none()
+}
+
 /// Brings what is known of one run up to one more entry.
 #[inline(always)]
 fn take_in_run(runs: &mut Vec<RunState>, entry: &Entry, run: Run)
@@ -307,14 +318,16 @@ fn take_in_run(runs: &mut Vec<RunState>, entry: &Entry, run: Run)
     let count = runs.as_slice().len();
     if (run.0 as usize) < count {
         let state = runs[run.0 as usize];
-        runs[run.0 as usize] = next_run(entry, run.0, state);
+        if !keeps_run(entry, state) {
+            runs[run.0 as usize] = next_run(entry, run.0, state);
+        }
     }
 }
 
 /// The same of all runs, for an entry that starts none: it changes its caller.
 #[inline(always)]
 pub(crate) fn take_in_caller(runs: &mut Vec<RunState>, entry: &Entry)
-    requires starts_none { merge.started_run entry.now.op ≡ None }
+    requires starts_none { started_run entry.now.op ≡ None }
     ensures as_many { length runs.new.items ≡ length runs.old.items }
     ensures each { (b : ℕ) → step.IsNextRun entry.now b runs.old.items runs.new.items }
 {

@@ -2,7 +2,7 @@
 ghost use Rattle.std.specs.Prelude.{◌≡◌, ◌<◌, ◌≤◌, ◌+◌, ◌++◌, ◌∷◌, [], false, IfOk, OnErr, OnOk};
 ghost use Rattle.std.specs.{Bool.OnTrue, Result.IsOk};
 ghost use Rattle.tc_entry.specs.declared.limits.TheConstants.{BEHAVIOURS};
-ghost use Rattle.tc_rules.specs.Case.{past_of};
+ghost use Rattle.tc_rules.specs.Standing.{past_of};
 ghost use Rattle.tc_rules.specs.History as history;
 ghost use Rattle.tc_rules.specs.Phases as phases;
 ghost use Rattle.tc_rules.specs.Local as verdicts;
@@ -30,7 +30,7 @@ pub struct Table {
 impl Model for Table {
     ghost use Rattle.std.specs.Prelude.{reverse, ◌-◌};
     ghost use Rattle.std.specs.Vec.{vec_len, vec_capacity};
-    ghost use Rattle.tc_rules.specs.Case.{Case};
+    ghost use Rattle.tc_rules.specs.Standing.{Case};
     ghost use Rattle.tc_rules.specs.Standing.{StandsFor};
 
     ghost Value = { Case };

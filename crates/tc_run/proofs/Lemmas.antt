@@ -2,7 +2,7 @@
 use Rattle.std.proofs.Common.{ℕ, zero, suc, ◌≡◌, ◌∙◌, ◌-◌, ◌⊎◌, inl, inr, List, [], ◌∷◌, Option, None, Some, All, length, map, take, arith, refl, sym, ap, subst}
 use Rattle.std.proofs.lemmas.List.{Elements.All-cons, Elements.All-nil, Elements.All-tail, length-map}
 use Rattle.std.specs.{Io.KnownBytes.Appends, List.AllZip, Vec.vec_len}
-use Rattle.std.specs.Prelude.{slice_get}
+use Rattle.std.specs.Prelude.{IfSome, slice_get}
 use Rattle.tc_stream.specs.Prelude.{AppendsPrefix}
 use Rattle.tc_rules.specs.Prelude.{Verdict}
 use Rattle.tc_step.specs.Prelude.{ScriptView}
@@ -11,17 +11,17 @@ use Rattle.tc_script.proofs.Lemmas.{Reports.report_is_course, Running.run_grown,
 use Rattle.tc_reader.specs.Prelude.{IsCase}
 use Rattle.tc_book.specs.Prelude.{PassState}
 use Rattle.tc_exec.specs.declared.{job.Back.Back, test_case.Case.Case}
-use Rattle.tc_exec.specs.Prelude.{IsCaseReport, IsMadeOf}
+use Rattle.tc_exec.specs.Prelude.{IsCaseReport, IsHandedBack, IsMadeOf}
 use Rattle.tc_exec.proofs.Lemmas.Logs.{logs_by}
 use Rattle.tc_report.specs.declared.{fault.OutFault.OutFault, live_form.LiveForm.LiveForm, results.CampaignEnd.CampaignEnd, results.Finished.Finished, results.Results.Results}
-use Rattle.tc_campaign.specs.Prelude.{Outline, HasNames, outline_of, AreFinished, IsCalled, IsEnding, IsOfCase, IsRefusal as RefusesCase, IsRunTo}
+use Rattle.tc_campaign.specs.Prelude.{AreBack, Outline, HasNames, outline_of, AreFinished, IsCalled, IsEnding, IsOfCase, IsRefusal as RefusesCase, IsRunTo}
 use Rattle.tc_campaign.specs.Inside.{IsReported}
 use Rattle.tc_report.specs.Prelude.{LeavesPrefix, IsMet}
 use Rattle.tc_rules.specs.declared.refusal.CaseError.{CaseError}
 use Rattle.tc_command.specs.declared.task.RunOptions.{RunOptions}
 use Rattle.tc_answer.specs.Prelude.{run_fault_line, IsPrintedRefusal, Streams, CaseView, scripts_of}
 use Rattle.tc_answer.specs.{Inside.IsCaseOf, Inside.names_of, declared.outcome.Outcome.Outcome}
-use Rattle.tc_run.specs.{Inside.worker_limit, Output.live_form, Output.of_output, Output.results_in_form, Run.IsLeft, Run.IsRun, Run.IsScripted, Run.IsUnwrittenRun, Run.RunsCases, Run.script_outline}
+use Rattle.tc_run.specs.{Inside.worker_limit, Output.live_form, Output.of_output, Output.results_in_form, Run.AreScriptsBack, Run.IsLeft, Run.IsRun, Run.IsScripted, Run.IsUnwrittenRun, Run.RunsCases, Run.script_outline}
 
 count : (c : CaseView) (k : Case ScriptView) → IsCaseOf c k → vec_len k.jobs ≡ length c.1
 count c k is = omega (arith, ap length is.jobs, length-map c.1 (λ b. b.1))
@@ -80,6 +80,13 @@ scripted (suc n) (c ∷ cs) (k ∷ ks) [] lawful each reports called = absurd ca
 scripted (suc n) (c ∷ cs) (k ∷ ks) (f ∷ fs) lawful each reports called =
     (of_script c k f (lawful 0 c (omega arith)) each.0 reports.0 called.0, scripted n cs ks fs (All-tail (λ c. IsCase c.1) c cs lawful) each.1 reports.1 called.1)
 
+-- the scripts of a torn test case are those of the script
+torn_scripts : (n : ℕ) (cs : List CaseView) (ks : List (Case ScriptView)) → AllZip IsCaseOf cs ks → IfSome (slice_get ks n) (AreBack Acts) → IfSome (slice_get cs n) AreScriptsBack
+torn_scripts n [] ks each back = tt
+torn_scripts n (c ∷ cs) [] each back = absurd each
+torn_scripts zero (c ∷ cs) (k ∷ ks) each back = subst (IsHandedBack Acts) each.0.jobs back
+torn_scripts (suc n) (c ∷ cs) (k ∷ ks) each back = torn_scripts n cs ks each.1 back
+
 module _ (cs : List CaseView) (ks : List (Case ScriptView)) (stop_on : Option Verdict) (threads : ℕ) (lawful : All (λ c. IsCase c.1) cs) (each : AllZip IsCaseOf cs ks) where
   same : map outline_of ks ≡ map script_outline cs
   same = outlines cs ks each
@@ -99,19 +106,20 @@ module _ (cs : List CaseView) (ks : List (Case ScriptView)) (stop_on : Option Ve
       }
 
   -- and so are they if the campaign ended
-  results : (fs : List Finished) (ending : CampaignEnd) → IsRunTo outline_of (IsCalled Acts) ks stop_on threads fs ending
-      → IsRunTo script_outline IsScripted cs stop_on threads fs ending
+  results : (fs : List Finished) (ending : CampaignEnd) → IsRunTo outline_of (IsCalled Acts) ks stop_on threads (AreBack Acts) fs ending
+      → IsRunTo script_outline IsScripted cs stop_on threads AreScriptsBack fs ending
   results fs ending are = record {
     each = finished fs are.each;
     last = subst (λ os. IsEnding (λ f. IsMet stop_on f.report.verdict) (λ why c. RefusesCase threads why c ⊎ ((fs ≡ []) × (why ≡ CaseError.NoMemory)))
         (slice_get fs (length fs - 1)) (slice_get os (length fs)) ending) same are.last;
+    torn = λ name is. torn_scripts (length fs) cs ks each (are.torn name is);
   }
 
 module _ (o : RunOptions) (Are : List CaseView → Type 0) (cs : List CaseView) (ks : List (Case ScriptView)) (chosen : Are cs) (lawful : All (λ c. IsCase c.1) cs)
     (each : AllZip IsCaseOf cs ks) where
   -- a run of the test cases that were made of a script is a run of that script
-  pub run_done : (streams : Streams) (outcome : Outcome) → IsRun outline_of (IsCalled Acts) ks o streams outcome
-      → RunsCases script_outline IsScripted Are o streams outcome
+  pub run_done : (streams : Streams) (outcome : Outcome) → IsRun outline_of (IsCalled Acts) (AreBack Acts) ks o streams outcome
+      → RunsCases script_outline IsScripted AreScriptsBack Are o streams outcome
   run_done streams outcome run = record {
     asked_for = cs;
     chosen = chosen;
@@ -124,8 +132,8 @@ module _ (o : RunOptions) (Are : List CaseView → Type 0) (cs : List CaseView) 
     });
   }
 
-  left_of : (live : Option LiveForm) (s : Streams) (r : Results) (fault : OutFault) → IsLeft outline_of (IsCalled Acts) ks o live s r fault
-      → IsLeft script_outline IsScripted cs o live s r fault
+  left_of : (live : Option LiveForm) (s : Streams) (r : Results) (fault : OutFault) → IsLeft outline_of (IsCalled Acts) (AreBack Acts) ks o live s r fault
+      → IsLeft script_outline IsScripted AreScriptsBack cs o live s r fault
   left_of None s r fault left = (
     results cs ks o.stop_on worker_limit lawful each r.finished r.ending left.0,
     subst (λ ns. LeavesPrefix s.before s.after (results_in_form o.form ns r) fault) (same_names cs ks each) left.1,
@@ -136,9 +144,9 @@ module _ (o : RunOptions) (Are : List CaseView → Type 0) (cs : List CaseView) 
   )
 
   -- and so is one whose results were not written whole
-  pub run_left : (streams : Streams) (fault : OutFault) (told : Option (List ℕ)) (outcome : Outcome) → IsUnwrittenRun outline_of (IsCalled Acts) ks o streams fault
+  pub run_left : (streams : Streams) (fault : OutFault) (told : Option (List ℕ)) (outcome : Outcome) → IsUnwrittenRun outline_of (IsCalled Acts) (AreBack Acts) ks o streams fault
       → IsPrintedRefusal streams.told told (run_fault_line (of_output fault)) outcome
-      → RunsCases script_outline IsScripted Are o (record streams { told = told }) outcome
+      → RunsCases script_outline IsScripted AreScriptsBack Are o (record streams { told = told }) outcome
   run_left streams fault told outcome run refusal = record {
     asked_for = cs;
     chosen = chosen;

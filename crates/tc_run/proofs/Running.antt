@@ -11,7 +11,7 @@ use Rattle.tc_report.specs.{Inside.form_text, declared.fault.OutFault.OutFault, 
 use Rattle.tc_report.specs.Prelude.{abort_text, closing_text, opening_text, LeavesPrefix, IsToldBy, ending_status, results_status, tally_of_cases}
 use Rattle.tc_report.proofs.Lemmas.{Pieces.IsAt, Pieces.Takes, Pieces.all_at, Pieces.all_written, Pieces.begun, Pieces.case_left, Pieces.closing_left, Pieces.ended_at, Pieces.opening_left, Pieces.status_at, Telling.nothing_of}
 use Rattle.tc_answer.specs.Prelude.{case_name, Streams, IsTold}
-use Rattle.tc_campaign.specs.Prelude.{outline_of, AreFinished, IsCalled, IsRunTo}
+use Rattle.tc_campaign.specs.Prelude.{AreBack, outline_of, AreFinished, IsCalled, IsRunTo}
 use Rattle.tc_campaign.specs.Inside.{IsUnrun}
 use Rattle.tc_campaign.proofs.Lemmas.Keeping.{none_finished, unrun_run}
 use Rattle.tc_command.specs.declared.task.{Form.Form, RunOptions.RunOptions}
@@ -61,10 +61,10 @@ writes_nothing contents (Some ending) before after same = tt
 module _ {B : Type 0} (outcome : B → PassState → Back → Type 0) (cases : List (Case B)) (options : RunOptions) where
   -- the results of a run were given, and what is due on standard error was printed
   pub whole_done : (streams : Streams) (between : Option (List ℕ)) (r : Results) (telling : Result (Unit {0}) OutFault) (ended : Outcome)
-      → IsRunTo outline_of (IsCalled outcome) cases options.stop_on worker_limit r.finished r.ending
+      → IsRunTo outline_of (IsCalled outcome) cases options.stop_on worker_limit (AreBack outcome) r.finished r.ending
       → IsToldBy options.progress streams.untold between r.finished telling
       → ended.status ≡ results_status r → Appends streams.before streams.after (results_text outline_of cases options r)
-      → EndsTold between streams.told r.ending telling ended.told → IsRun outline_of (IsCalled outcome) cases options streams ended
+      → EndsTold between streams.told r.ending telling ended.told → IsRun outline_of (IsCalled outcome) (AreBack outcome) cases options streams ended
   whole_done streams between r telling ended run told status written line = record {
     results = r;
     right = run;
@@ -76,14 +76,14 @@ module _ {B : Type 0} (outcome : B → PassState → Back → Type 0) (cases : L
   -- the results of a run were not written whole
   pub whole_left : (streams : Streams) (r : Results) (telling : Result (Unit {0}) OutFault) (fault : OutFault) (answer : Result Outcome OutFault)
       → IsErrAnd answer (λ f. f ≡ fault) → live_form options.live options.form ≡ None
-      → IsRunTo outline_of (IsCalled outcome) cases options.stop_on worker_limit r.finished r.ending
+      → IsRunTo outline_of (IsCalled outcome) cases options.stop_on worker_limit (AreBack outcome) r.finished r.ending
       → IsToldBy options.progress streams.untold streams.told r.finished telling
       → LeavesPrefix streams.before streams.after (results_text outline_of cases options r) fault
-      → IfErr answer (IsUnwrittenRun outline_of (IsCalled outcome) cases options streams)
+      → IfErr answer (IsUnwrittenRun outline_of (IsCalled outcome) (AreBack outcome) cases options streams)
   whole_left streams r telling fault (Ok ended) what is run told left = absurd what
   whole_left streams r telling fault (Err f) what is run told left = record {
     results = r;
-    left = subst (λ live. IsLeft outline_of (IsCalled outcome) cases options live streams r f) (sym is)
+    left = subst (λ live. IsLeft outline_of (IsCalled outcome) (AreBack outcome) cases options live streams r f) (sym is)
         (run, subst (LeavesPrefix streams.before streams.after (results_text outline_of cases options r)) (sym what) left);
     told = (telling, told);
   }
@@ -93,17 +93,17 @@ module _ {B : Type 0} (outcome : B → PassState → Back → Type 0) (cases : L
     cut_up : (r : Results) (telling : Result (Unit {0}) OutFault) (fault : OutFault)
         → AreFinished outline_of (IsCalled outcome) cases options.stop_on worker_limit r.finished
         → IsToldBy options.progress streams.untold streams.told r.finished telling
-        → AppendsPrefix streams.before streams.after (form_text form r) → IsUnwrittenRun outline_of (IsCalled outcome) cases options streams fault
+        → AppendsPrefix streams.before streams.after (form_text form r) → IsUnwrittenRun outline_of (IsCalled outcome) (AreBack outcome) cases options streams fault
     cut_up r telling fault each told left = record {
       results = r;
-      left = subst (λ live. IsLeft outline_of (IsCalled outcome) cases options live streams r fault) (sym same)
+      left = subst (λ live. IsLeft outline_of (IsCalled outcome) (AreBack outcome) cases options live streams r fault) (sym same)
           (each, subst (AppendsPrefix streams.before streams.after) (live_text options.live options.form form (map case_name cases) r same) left);
       told = (telling, told);
     }
 
     -- what is before the test cases was not written whole, and nothing was printed
     pub at_opening : (fault : OutFault) → streams.told ≡ streams.untold → LeavesPrefix streams.before streams.after (opening_text form) fault
-        → IsUnwrittenRun outline_of (IsCalled outcome) cases options streams fault
+        → IsUnwrittenRun outline_of (IsCalled outcome) (AreBack outcome) cases options streams fault
     at_opening fault nothing left =
         cut_up (record { finished = []; ending = CampaignEnd.Complete }) (Ok tt) fault (none_finished outcome cases options.stop_on worker_limit)
         (subst (λ t. IsToldBy options.progress streams.untold t [] (Ok tt)) (sym nothing) (nothing_of options.progress streams.untold))
@@ -129,13 +129,13 @@ module _ {B : Type 0} (outcome : B → PassState → Back → Type 0) (cases : L
           → IsToldBy options.progress streams.untold streams.told finished telling
           → IfNone answer (streams.after ≡ (contents after.writer.now))
           → IfSome answer (λ e. LeavesPrefix (contents after.writer.now) streams.after (closing_text after.form after.tally e) fault)
-          → IsUnwrittenRun outline_of (IsCalled outcome) cases options streams fault
+          → IsUnwrittenRun outline_of (IsCalled outcome) (AreBack outcome) cases options streams fault
       live_left telling fault told cut part = go answer given cut part
         where
           go : (a : Option CampaignEnd) → AreGiven outcome (Takes contents) cases options before after finished a
               → IfNone a (streams.after ≡ (contents after.writer.now))
               → IfSome a (λ e. LeavesPrefix (contents after.writer.now) streams.after (closing_text after.form after.tally e) fault)
-              → IsUnwrittenRun outline_of (IsCalled outcome) cases options streams fault
+              → IsUnwrittenRun outline_of (IsCalled outcome) (AreBack outcome) cases options streams fault
           go (Some ending) given cut part =
               cut_up (record { finished = finished; ending = ending }) telling fault given.0.each told
               (closing_left contents form streams.before before after first finished ending given.1 streams.after fault part)
@@ -149,7 +149,7 @@ module _ {B : Type 0} (outcome : B → PassState → Back → Type 0) (cases : L
           → IsToldBy options.progress streams.untold between finished telling → answer ≡ Some ending
           → Appends (contents after.writer.now) streams.after (closing_text after.form after.tally ending)
           → ended.status ≡ ending_status ending after.worst
-          → EndsTold between streams.told ending telling ended.told → IsRun outline_of (IsCalled outcome) cases options streams ended
+          → EndsTold between streams.told ending telling ended.told → IsRun outline_of (IsCalled outcome) (AreBack outcome) cases options streams ended
       live_done between telling ending ended told is out status line =
           let had : AreGiven outcome (Takes contents) cases options before after finished (Some ending) =
           subst (AreGiven outcome (Takes contents) cases options before after finished) is given in
@@ -161,13 +161,13 @@ module _ {B : Type 0} (outcome : B → PassState → Back → Type 0) (cases : L
 
   -- nothing was run or written, since memory ran out
   pub unrun_left : (streams : Streams) → streams.after ≡ streams.before → streams.told ≡ streams.untold
-      → IsUnwrittenRun outline_of (IsCalled outcome) cases options streams OutFault.NoMemory
+      → IsUnwrittenRun outline_of (IsCalled outcome) (AreBack outcome) cases options streams OutFault.NoMemory
   unrun_left streams unwritten untold = go (live_form options.live options.form) refl
     where
       keeps : Keeps streams.before streams.after
       keeps = subst (Keeps streams.before) (sym unwritten) (keeps_same streams.before)
 
-      go : (live : Option LiveForm) → live_form options.live options.form ≡ live → IsUnwrittenRun outline_of (IsCalled outcome) cases options streams OutFault.NoMemory
+      go : (live : Option LiveForm) → live_form options.live options.form ≡ live → IsUnwrittenRun outline_of (IsCalled outcome) (AreBack outcome) cases options streams OutFault.NoMemory
       go None is =
           whole_left streams (record { finished = []; ending = unrun_ending cases }) (Ok tt) OutFault.NoMemory (Err OutFault.NoMemory) refl is
           (unrun_run outcome [] (unrun_ending cases) refl cases options.stop_on worker_limit (is_unrun cases))

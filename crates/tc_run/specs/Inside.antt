@@ -6,7 +6,7 @@ use Rattle.tc_report.specs.{Inside.IsEndedAt, declared.fault.OutFault.OutFault, 
 use Rattle.tc_report.specs.Prelude.{AreTaken, IsToldBy}
 use Rattle.tc_book.specs.Prelude.{PassState}
 use Rattle.tc_exec.specs.declared.{job.Back.Back, test_case.Case.Case}
-use Rattle.tc_campaign.specs.Prelude.{AreFinished, IsCalled, IsRunTo, outline_of}
+use Rattle.tc_campaign.specs.Prelude.{AreBack, AreFinished, IsCalled, IsRunTo, outline_of}
 use Rattle.tc_command.specs.declared.task.RunOptions.{RunOptions}
 use Rattle.tc_answer.specs.declared.fault.RunFault.{RunFault}
 use Rattle.tc_run.specs.Output.{of_output}
@@ -23,7 +23,7 @@ module _ {B O : Type 0} (outcome : B → PassState → Back → Type 0) (takes :
   -- these test cases were finished and given to the observer; the campaign ended so, or the observer has ended it at the last of them
   abbrev pub AreGiven : O → O → List Finished → Option CampaignEnd → Type 0
   AreGiven before after fs (Some ending) =
-      IsRunTo outline_of (IsCalled outcome) cases o.stop_on worker_limit fs ending × AreTaken takes fs before after
+      IsRunTo outline_of (IsCalled outcome) cases o.stop_on worker_limit (AreBack outcome) fs ending × AreTaken takes fs before after
   AreGiven before after fs None = AreFinished outline_of (IsCalled outcome) cases o.stop_on worker_limit fs × IsEndedAt takes fs before after
 
   -- the campaign was run so, and what was printed is what is due about the test cases that were finished

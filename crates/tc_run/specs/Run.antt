@@ -9,8 +9,8 @@ use Rattle.tc_command.specs.declared.task.RunOptions.{RunOptions}
 use Rattle.tc_answer.specs.declared.{fault.RunFault.RunFault, outcome.Outcome.Outcome}
 use Rattle.tc_entry.specs.declared.limits.TheConstants.{BEHAVIOURS}
 use Rattle.tc_answer.specs.Prelude.{Streams, IsTold, run_fault_line, IsPrintedRefusal, CaseView, scripts_of}
-use Rattle.tc_exec.specs.Prelude.{AreCalled, IsMadeOf, AreLogsBy}
-use Rattle.tc_script.specs.Prelude.{MakesItsCalls}
+use Rattle.tc_exec.specs.Prelude.{AreCalled, IsHandedBack, IsMadeOf, AreLogsBy}
+use Rattle.tc_script.specs.Prelude.{Acts, MakesItsCalls}
 use Rattle.tc_course.specs.Prelude.{IsWitness}
 use Rattle.tc_run.specs.Output.{of_output, live_form, results_in_form}
 
@@ -28,11 +28,11 @@ pub record TellsRun (progress : Bool) (r : Results) (untold told : Option (List 
 abbrev pub results_text : {C : Type 0} → (C → Outline) → List C → RunOptions → Results → List ℕ
 results_text outline cases options r = results_in_form options.form (map (λ c. (outline c).name) cases) r
 
-module _ {C : Type 0} (outline : C → Outline) (called : C → Finished → Type 0) (cases : List C) (options : RunOptions) where
+module _ {C : Type 0} (outline : C → Outline) (called : C → Finished → Type 0) (back : C → Type 0) (cases : List C) (options : RunOptions) where
   -- these cases were run under these options, and the results were given
   pub record IsRun (streams : Streams) (outcome : Outcome) : Type 0 where
     pub results : Results
-    pub right : IsRunTo outline called cases options.stop_on BEHAVIOURS results.finished results.ending
+    pub right : IsRunTo outline called cases options.stop_on BEHAVIOURS back results.finished results.ending
     -- the outcome has their status
     pub status : outcome.status ≡ results_status results
     -- their text was written in the form asked for
@@ -44,7 +44,7 @@ module _ {C : Type 0} (outline : C → Outline) (called : C → Finished → Typ
   -- prefix of it is out, and the fault may have ended the campaign.
   abbrev pub IsLeft : Option LiveForm → Streams → Results → OutFault → Type 0
   IsLeft None s r fault =
-      IsRunTo outline called cases options.stop_on BEHAVIOURS r.finished r.ending
+      IsRunTo outline called cases options.stop_on BEHAVIOURS back r.finished r.ending
       × LeavesPrefix s.before s.after (results_text outline cases options r) fault
   IsLeft (Some form) s r fault =
       AreFinished outline called cases options.stop_on BEHAVIOURS r.finished × AppendsPrefix s.before s.after (results_text outline cases options r)
@@ -56,12 +56,12 @@ module _ {C : Type 0} (outline : C → Outline) (called : C → Finished → Typ
     pub left : IsLeft (live_form options.live options.form) streams results fault
     pub told : (telling : Result (Unit {0}) OutFault) × IsToldBy options.progress streams.untold streams.told results.finished telling
 
-module _ {C : Type 0} (outline : C → Outline) (called : C → Finished → Type 0) (AreToBeRun : List C → Type 0) (o : RunOptions) (streams : Streams) (outcome : Outcome) where
+module _ {C : Type 0} (outline : C → Outline) (called : C → Finished → Type 0) (back : C → Type 0) (AreToBeRun : List C → Type 0) (o : RunOptions) (streams : Streams) (outcome : Outcome) where
   -- the results of these test cases were not written whole, and that is printed after what was printed of them
   pub record LeavesCases (cases : List C) : Type 0 where
     pub fault : OutFault
     pub between : Option (List ℕ)
-    pub run : IsUnwrittenRun outline called cases o (record streams { told = between }) fault
+    pub run : IsUnwrittenRun outline called back cases o (record streams { told = between }) fault
     pub refusal : IsPrintedRefusal between streams.told (run_fault_line (of_output fault)) outcome
 
   -- The test cases that are asked for were run, as it is asked for. Their right results were written, and their status
@@ -69,7 +69,7 @@ module _ {C : Type 0} (outline : C → Outline) (called : C → Finished → Typ
   pub record RunsCases : Type 0 where
     pub asked_for : List C
     pub chosen : AreToBeRun asked_for
-    pub run : IsRun outline called asked_for o streams outcome ⊎ LeavesCases asked_for
+    pub run : IsRun outline called back asked_for o streams outcome ⊎ LeavesCases asked_for
 
 -- the outline of a test case: each behaviour is one job
 abbrev pub script_outline : CaseView → Outline
@@ -82,3 +82,7 @@ abbrev pub IsScripted : CaseView → Finished → Type 0
 IsScripted c f =
     AreCalled MakesItsCalls (scripts_of c.1) f.report × IsMadeOf MakesItsCalls (scripts_of c.1) f.report × AreLogsBy MakesItsCalls (scripts_of c.1) f.report
     × IsWitness (scripts_of c.1) f.report.history f.report.verdict
+
+-- each script of this case was called, did not run out of memory, and handed back its pass; or its run was never started
+abbrev pub AreScriptsBack : CaseView → Type 0
+AreScriptsBack c = IsHandedBack Acts (scripts_of c.1)

@@ -3,7 +3,7 @@ ghost use Rattle.std.specs.Prelude.{true, ◌≡◌, ◌≤◌, [], All, Err, If
 ghost use Rattle.std.specs.{Io.KnownBytes.Appends, Vec.vec_capacity, Vec.vec_len};
 ghost use Rattle.tc_verdict.specs.declared.verdict.Verdict.TheVariants.{None as NoVerdict};
 ghost use Rattle.tc_answer.specs.Prelude.{case_name, held_streams};
-ghost use Rattle.tc_campaign.specs.Prelude.{HasNames, outline_of, IsCalled, IsRunTo};
+ghost use Rattle.tc_campaign.specs.Prelude.{AreBack, HasNames, outline_of, IsCalled, IsRunTo};
 ghost use Rattle.tc_report.specs.Prelude.{closing_text, LeavesPrefix, HasTold, IsToldBy, ending_status, tally_of_cases};
 ghost use Rattle.tc_entry.specs.declared.limits.TheConstants.{BEHAVIOURS as MOST_BEHAVIOURS};
 ghost use Rattle.tc_run.specs.{Inside.WasTold, Output.live_form as spec_form, Run.IsRun, Run.IsUnwrittenRun};
@@ -108,7 +108,8 @@ where
     requires names { All HasNames cases.items }
     requires none { kept.finished.items ≡ [] }
     requires room { vec_len cases ≤ vec_capacity kept.finished }
-    ensures run { IsRunTo outline_of (IsCalled B.outcome) cases.items options.now.stop_on MOST_BEHAVIOURS result.0.finished result.0.ending }
+    ensures run { IsRunTo outline_of (IsCalled B.outcome) cases.items options.now.stop_on MOST_BEHAVIOURS (AreBack B.outcome)
+        result.0.finished result.0.ending }
     ensures told { IsToldBy options.now.progress (E.contents errors.old) (E.contents errors.new)
         result.0.finished result.1 }
 {
@@ -132,7 +133,8 @@ fn run_or_not<R, B: Callable, E: Write>(
 where
     R: Threads + Wait + Clock + Copy + Send + 'static,
     requires names { All HasNames cases.items }
-    ensures run { IsRunTo outline_of (IsCalled B.outcome) cases.items options.now.stop_on MOST_BEHAVIOURS result.0.finished result.0.ending }
+    ensures run { IsRunTo outline_of (IsCalled B.outcome) cases.items options.now.stop_on MOST_BEHAVIOURS (AreBack B.outcome)
+        result.0.finished result.0.ending }
     ensures told { IsToldBy options.now.progress (E.contents errors.old) (E.contents errors.new)
         result.0.finished result.1 }
 {
@@ -180,9 +182,9 @@ where
     requires form { spec_form options.now.live options.now.form ≡ Some live.old.form }
     requires tally { live.old.tally ≡ tally_of_cases [] }
     requires worst { live.old.worst ≡ NoVerdict }
-    ensures done { IfOk result (IsRun outline_of (IsCalled B.outcome) cases.items options.now
+    ensures done { IfOk result (IsRun outline_of (IsCalled B.outcome) (AreBack B.outcome) cases.items options.now
         (held_streams W.contents live.old.writer.now live.new.writer.now E.contents errors.old errors.new)) }
-    ensures refused { IfErr result (IsUnwrittenRun outline_of (IsCalled B.outcome) cases.items options.now
+    ensures refused { IfErr result (IsUnwrittenRun outline_of (IsCalled B.outcome) (AreBack B.outcome) cases.items options.now
         (held_streams W.contents live.old.writer.now live.new.writer.now E.contents errors.old errors.new)) }
     ensures same { live.new.writer.ghost_name ≡ live.old.writer.ghost_name }
 {
@@ -217,9 +219,9 @@ where
     R: Threads + Wait + Clock + Copy + Send + 'static,
     requires names { All HasNames cases.items }
     requires are { names.now ≡ map case_name cases.items }
-    ensures done { IfOk result (IsRun outline_of (IsCalled B.outcome) cases.items options.now
+    ensures done { IfOk result (IsRun outline_of (IsCalled B.outcome) (AreBack B.outcome) cases.items options.now
         (held_streams W.contents writer.old writer.new E.contents errors.old errors.new)) }
-    ensures refused { IfErr result (IsUnwrittenRun outline_of (IsCalled B.outcome) cases.items options.now
+    ensures refused { IfErr result (IsUnwrittenRun outline_of (IsCalled B.outcome) (AreBack B.outcome) cases.items options.now
         (held_streams W.contents writer.old writer.new E.contents errors.old errors.new)) }
 {
     if let Some(form) = live_form(options.live, &options.form) {
@@ -246,9 +248,9 @@ pub fn run_cases<R, B: Callable, W: Write, E: Write>(
 where
     R: Threads + Wait + Clock + Copy + Send + 'static,
     requires names { All HasNames cases.items }
-    ensures done { IfOk result (IsRun outline_of (IsCalled B.outcome) cases.items options.now
+    ensures done { IfOk result (IsRun outline_of (IsCalled B.outcome) (AreBack B.outcome) cases.items options.now
         (held_streams W.contents writer.old writer.new E.contents errors.old errors.new)) }
-    ensures refused { IfErr result (IsUnwrittenRun outline_of (IsCalled B.outcome) cases.items options.now
+    ensures refused { IfErr result (IsUnwrittenRun outline_of (IsCalled B.outcome) (AreBack B.outcome) cases.items options.now
         (held_streams W.contents writer.old writer.new E.contents errors.old errors.new)) }
     ensures workers { THREADS ≡ MOST_BEHAVIOURS }
 {

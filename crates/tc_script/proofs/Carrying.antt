@@ -7,7 +7,7 @@ use Rattle.tc_step.specs.declared.{place.Place.Place, place.TargetPlace.TargetPl
 use Rattle.tc_step.specs.Prelude.{operation, target, count_after}
 use Rattle.tc_book.specs.Prelude.{IsCall, IsWait, PassState, Waits, has_ended, entry_of, with_own_entry, reply_of}
 use Rattle.tc_book.specs.declared.halt.Halt.{Halt}
-use Rattle.tc_script.specs.{Calls.Calls, Calls.bound_behind, Inside.Carried, Inside.IsStepped, Inside.creates, Inside.is_refused, Inside.waits}
+use Rattle.tc_script.specs.{Calls.Calls, Calls.bound_after, Inside.Carried, Inside.IsStepped, Inside.creates, Inside.is_refused, Inside.waits}
 
 pub carried : {A : Type 0} (said : A → Reply) (P Q : Reply → Type 0) (same same-new : Type 0) (answer : Result A Halt) (result : Result (Unit {0}) NoMemory)
     → MatchOption (reply_of said answer) same P → is_ok result ≡ not (is_refused answer) → ((r : Reply) → P r → Q r) → (same → same-new) → Carried Q same-new result
@@ -33,7 +33,7 @@ args_same (Step.SetVerdict v) bound p q r is = ap (λ x. x.args) is
 args_same Step.StopCase bound p q r is = ap (λ x. x.args) is
 args_same Step.GetVerdict bound p q r is = ap (λ x. x.args) is
 
-binds_none : (s : Step) (r : Reply) (bound : List Comp) → creates s ≡ false → bound_behind s r bound ≡ bound
+binds_none : (s : Step) (r : Reply) (bound : List Comp) → creates s ≡ false → bound_after s r bound ≡ bound
 binds_none (Step.Create alive name) r bound is = absurd (cc)
 binds_none (Step.Start on run args) r bound is = refl
 binds_none (Step.Stop g) r bound is = refl
@@ -120,7 +120,7 @@ unfolding ends_pass
 fault_ends own run op f = refl
 
 -- a create that was replied Ended, or by a dynamic error
-halted_at : (alive : Bool) (name : Option (List ℕ)) (made : List Comp) (p q : PassState) (r : Reply) → bound_behind (Step.Create alive name) r (p.args ++ made) ≡ p.args ++ made
+halted_at : (alive : Bool) (name : Option (List ℕ)) (made : List Comp) (p q : PassState) (r : Reply) → bound_after (Step.Create alive name) r (p.args ++ made) ≡ p.args ++ made
     → ends_pass p.me (entry_of p.run (Op.Create alive name) r) ≡ true → q ≡ with_own_entry p (Op.Create alive name) r → IsStepped (Step.Create alive name) (p.args ++ made) p (q.args ++ made) q r
 halted_at alive name made p q r same ends is = record {
   called = is;

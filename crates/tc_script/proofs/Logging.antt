@@ -12,7 +12,7 @@ use Rattle.tc_exec.specs.Prelude.{HasLeft}
 use Rattle.tc_course.specs.Prelude.{CourseState, after_own, is_idle, turn_on}
 use Rattle.tc_course.specs.Inside.{call_of, wake_for, wake_if}
 use Rattle.tc_course.proofs.Lemmas.{other_not_idle}
-use Rattle.tc_script.specs.Calls.{MakesItsCalls, Calls, HasCalled, bound_behind, ending, none, one_more}
+use Rattle.tc_script.specs.Calls.{MakesItsCalls, Calls, HasCalled, bound_after, ending, none, one_more}
 
 -- ---- a run and its own entries
 
@@ -92,7 +92,7 @@ no_wait op Reply.Matched h = refl
 no_wait op Reply.Ended h = refl
 no_wait op (Reply.Fault f) h = refl
 
-create_binds : (alive : Bool) (name : Option (List ℕ)) (r : Reply) (bound : List Comp) → bound_behind (Step.Create alive name) r bound ≡ bound ++ option_to_list (created (Op.Create alive name) r)
+create_binds : (alive : Bool) (name : Option (List ℕ)) (r : Reply) (bound : List Comp) → bound_after (Step.Create alive name) r bound ≡ bound ++ option_to_list (created (Op.Create alive name) r)
 create_binds alive name (Reply.Made c) bound = refl
 create_binds alive name Reply.Parked bound = sym (append-nil bound)
 create_binds alive name Reply.Ok bound = sym (append-nil bound)
@@ -220,9 +220,9 @@ module _ (steps : List Step) (killed : Bool) (t : TargetPlace (Place ℕ)) (left
       subst (IsAt steps left bound) (sym is-new) now
 
 step_at : (steps : List Step) (s : Step) (left : List Step) (bound : List Comp) (p q : PassState) (r : Reply) → IsAt steps (s ∷ left) bound p → has_ended p ≡ false → Calls bound s p q r
-    → IsAt steps left (bound_behind s r bound) q
+    → IsAt steps left (bound_after s r bound) q
 step_at steps (Step.Create alive name) left bound p q r is on calls =
-    plain_at steps (Step.Create alive name) left bound p is on (bound_behind (Step.Create alive name) r bound) q (Op.Create alive name) r refl refl (no_wait (Op.Create alive name) r refl) (create_binds alive name r bound) calls
+    plain_at steps (Step.Create alive name) left bound p is on (bound_after (Step.Create alive name) r bound) q (Op.Create alive name) r refl refl (no_wait (Op.Create alive name) r refl) (create_binds alive name r bound) calls
 step_at steps (Step.Start c run args) left bound p q r is on calls =
     calm_at steps (Step.Start c run args) left bound p is on q (operation p.me bound (Step.Start c run args)) r refl refl refl refl calls
 step_at steps (Step.Stop g) left bound p q r is on calls = calm_at steps (Step.Stop g) left bound p is on q (operation p.me bound (Step.Stop g)) r refl refl refl refl calls

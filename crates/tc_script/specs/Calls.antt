@@ -12,9 +12,9 @@ Calls bound (Step.Wait killed t) before after reply = Waits killed (target befor
 Calls bound s before after reply = after ≡ with_own_entry before (operation before.me bound s) reply
 
 -- the components that are bound after a step: a Create binds what it made
-abbrev pub bound_behind : Step → Reply → List Comp → List Comp
-bound_behind (Step.Create alive name) (Reply.Made c) bound = bound ++ c ∷ []
-bound_behind _ _ bound = bound
+abbrev pub bound_after : Step → Reply → List Comp → List Comp
+bound_after (Step.Create alive name) (Reply.Made c) bound = bound ++ c ∷ []
+bound_after _ _ bound = bound
 
 -- the calls of these steps up to those that are left, each on a pass that had not ended: what is bound then, and the pass.
 -- At first the arguments are bound
@@ -22,7 +22,7 @@ pub data HasCalled (steps : List Step) (start : PassState) : List Step → List 
   none : HasCalled steps start steps start.args start
   one_more : (s : Step) (left : List Step) (bound : List Comp) (before after : PassState) (reply : Reply)
       → HasCalled steps start (s ∷ left) bound before → has_ended before ≡ false → Calls bound s before after reply
-      → HasCalled steps start left (bound_behind s reply bound) after
+      → HasCalled steps start left (bound_after s reply bound) after
 
 -- a behaviour comes back Starved exactly if its pass has not ended and steps are left
 abbrev pub ending : Bool → List Step → Ending

@@ -6,7 +6,7 @@ use Rattle.tc_step.specs.Prelude.{count_after, AreBound}
 use Rattle.tc_book.specs.Prelude.{PassState, has_ended}
 use Rattle.tc_book.specs.declared.halt.Halt.{Halt}
 use Rattle.tc_exec.specs.declared.job.Ending.{Ending}
-use Rattle.tc_script.specs.Calls.{Calls, bound_behind, HasCalled}
+use Rattle.tc_script.specs.Calls.{Calls, bound_after, HasCalled}
 
 -- the run, its component and its arguments are the same, and the log has grown
 abbrev pub HasGrown : PassState → PassState → Type 0
@@ -33,7 +33,7 @@ waits _ = false
 -- what a step did to the pass, and to what is bound
 pub record IsStepped (s : Step) (bound : List Comp) (before : PassState) (bound-new : List Comp) (after : PassState) (reply : Reply) : Type 0 where
   pub called : Calls bound s before after reply
-  pub binds : bound-new ≡ bound_behind s reply bound
+  pub binds : bound-new ≡ bound_after s reply bound
   pub counts : has_ended after ≡ false → length bound-new ≡ count_after (length bound) s
 
 -- the call of a step, on this pass and with these components made before it. It was carried out, and this is the pass

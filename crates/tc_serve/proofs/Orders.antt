@@ -7,7 +7,7 @@ use Rattle.tc_text.proofs.Lemmas.Digits.{no_letter}
 use Rattle.tc_text.specs.Prelude.{move_text, op_text, IsOp, AreComps, IsGroup, IsTarget, args_text, group_text, target_text}
 use Rattle.tc_blocks.specs.Prelude.{said_text, IsSentence}
 use Rattle.tc_blocks.proofs.Lemmas.Notes.{entry_not_said, said_not_naming}
-use Rattle.tc_serve.specs.{Laws.LongLinesAreRefused, Protocol.IsOrder, Protocol.order_text, declared.order.Order.Order, declared.order.TheConstants.LINE_BYTES, declared.refusal.Refusal.Refusal}
+use Rattle.tc_serve.specs.{Laws.LongLinesAreRefused, Protocol.IsOrder, Protocol.order_text, declared.order.Order.Order, declared.order.TheConstants.LINE_BYTES, declared.order.Refusal.Refusal}
 
 -- no move begins with a letter
 move_no_letter : (run b : ℕ) (op : Op) (after : List ℕ) → run < 2 ^ 16 → 57 < b → move_text run op ≡ b ∷ after → ⊥

@@ -8,7 +8,7 @@ use Rattle.tc_rules.proofs.Lemmas.{Deciding.and_left, Deciding.and_no, Deciding.
 use Rattle.tc_blocks.specs.declared.line.Line.{Line}
 use Rattle.tc_blocks.specs.Prelude.{entries_of, entry_in}
 use Rattle.tc_serve.specs.{Inside.after_call, Inside.wakes_nobody, Inside.with_line, Laws.AllServed, Laws.IsSettled, Laws.IsSound, Protocol.Played, Protocol.called, Protocol.moved, Protocol.played_past, Protocol.wake_op, Protocol.woken, Protocol.woken_from}
-use Rattle.tc_serve.proofs.{Asked.all_legal, Asked.move_sound, Asked.no_entry, Asked.note_sound, Changes.all_served}
+use Rattle.tc_serve.proofs.{Evident.all_legal, Evident.move_sound, Evident.no_entry, Evident.note_sound, Changes.all_served}
 
 -- ---- a call that is replied Ended changes nothing for the others
 

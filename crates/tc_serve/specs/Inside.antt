@@ -1,11 +1,12 @@
 -- What the functions inside say.
-use Rattle.std.specs.Prelude.{ℕ, ◌≡◌, ◌+◌, ◌-◌, ◌<◌, ◌≤◌, ◌^◌, ◌==◌, suc, if◌then◌else◌, Bool, true, false, is_some, is_none, Option, Some, None, Result, Ok, Err, List, [], ◌∷◌, ◌++◌, length, take, drop, insert, MatchResult}
+use Rattle.std.specs.Prelude.{ℕ, ◌≡◌, ◌+◌, ◌-◌, ◌<◌, ◌≤◌, ◌^◌, ◌==◌, suc, if◌then◌else◌, Bool, true, false, is_some, is_none, Option, Some, None, Result, Ok, Err, List, [], ◌∷◌, ◌++◌, length, take, drop, insert, MatchBool, MatchResult}
+use Rattle.tc_stream.specs.Prelude.{AppendsPrefix}
 use Rattle.std.specs.{Io.KnownBytes.Appends, Io.KnownBytes.Consumes, List.list_any}
 use Rattle.tc_rules.specs.Prelude.{Run, IsBehaviours, Kept, StandsFor, waiting, Entry, Op, Reply}
 use Rattle.tc_rules.specs.declared.awaited.Awaited.{Awaited}
 use Rattle.tc_blocks.specs.declared.{line.Line.Line, met.MetRuns.MetRuns}
 use Rattle.tc_blocks.specs.Prelude.{entries_of, AreMet}
-use Rattle.tc_serve.specs.{Laws.IsSettled, Protocol.AllEnded, Protocol.AreServed, Protocol.Came, Protocol.IsNobodys, Protocol.IsOf, Protocol.IsOrderOf, Protocol.NoLf, Protocol.OpensNone, Protocol.Played, Protocol.Refuses, Protocol.Sent, Protocol.ServiceState, Protocol.after_order, Protocol.called, Protocol.done_of, Protocol.finished_state, Protocol.moved, Protocol.order_text, Protocol.played_past, Protocol.refused, Protocol.seen, Protocol.sleep_of, Protocol.woken_from, Serve.Devices, Serve.HasEnded, Serve.IsTaken, Text.bytes_of, Text.end_told, Text.lines_messages, Text.stand_text, Text.worst_case, declared.fault.ServeFault.ServeFault, declared.open_case.OpenCase.OpenCase, declared.order.Order.Order, declared.refusal.Refusal.Refusal, declared.server.Server.Server, declared.service.Served.Served, declared.serving.Serving.Serving, declared.sleepers.Sleeper.Sleeper}
+use Rattle.tc_serve.specs.{Laws.IsSettled, Protocol.AllEnded, Protocol.AreServed, Protocol.Came, Protocol.IsNobodys, Protocol.IsOf, Protocol.IsOrderOf, Protocol.NoLf, Protocol.OpensNone, Protocol.Played, Protocol.Refuses, Protocol.Sent, Protocol.ServiceState, Protocol.after_order, Protocol.called, Protocol.done_of, Protocol.finished_state, Protocol.moved, Protocol.order_text, Protocol.played_past, Protocol.refused, Protocol.seen, Protocol.sleep_of, Protocol.woken_from, Serve.Devices, Serve.HasEnded, Serve.bytes_of, Serve.end_told, Serve.lines_messages, Serve.stand_text, Serve.worst_case, declared.service.ServeFault.ServeFault, declared.open_case.OpenCase.OpenCase, declared.order.Order.Order, declared.order.Refusal.Refusal, declared.server.Server.Server, declared.service.Served.Served, declared.serving.Serving.Serving, declared.sleepers.Sleeper.Sleeper}
 
 -- the line is neither a move nor a remark
 abbrev pub IsOther : Order → Type 0
@@ -274,6 +275,10 @@ abbrev pub IsTurn : Type 0 → (Result Served ServeFault → Type 0) → Result 
 IsTurn Goes Ends (Ok None) = Goes
 IsTurn Goes Ends (Ok (Some r)) = Ends (Ok r)
 IsTurn Goes Ends (Err f) = Ends (Err f)
+
+-- a device took the text, or a prefix of it
+abbrev pub IsTaken : Bool → Option (List ℕ) → Option (List ℕ) → List ℕ → Type 0
+IsTaken told before after text = MatchBool told (Appends before after text) (AppendsPrefix before after text)
 
 -- standard error gets the text if it took all before it
 abbrev pub Hears : Bool → Bool → Option (List ℕ) → Option (List ℕ) → List ℕ → Type 0

@@ -5,7 +5,7 @@ use Rattle.tc_rules.specs.Prelude.{answer, IsLegal, waiting, overall, is_parked,
 use Rattle.tc_rules.specs.declared.awaited.Awaited.{Awaited}
 use Rattle.tc_blocks.specs.declared.{block.Block.Block, line.Line.Line}
 use Rattle.tc_blocks.specs.Prelude.{AreEvidence, block_lines}
-use Rattle.tc_serve.specs.{Protocol.AreServed, Protocol.Came, Protocol.Comes, Protocol.Played, Protocol.Refuses, Protocol.Sent, Protocol.ServiceState, Protocol.done_of, Protocol.finished_state, Protocol.played_past, Protocol.seen, Protocol.wake_op, Text.case_header, Text.stand_text, declared.order.Order.Order, declared.order.TheConstants.LINE_BYTES, declared.refusal.Refusal.Refusal}
+use Rattle.tc_serve.specs.{Protocol.AreServed, Protocol.Came, Protocol.Comes, Protocol.Played, Protocol.Refuses, Protocol.Sent, Protocol.ServiceState, Protocol.done_of, Protocol.finished_state, Protocol.played_past, Protocol.seen, Protocol.wake_op, Serve.case_header, Serve.stand_text, declared.order.Order.Order, declared.order.TheConstants.LINE_BYTES, declared.order.Refusal.Refusal}
 
 -- of all that is served this holds of each test case, also of one that is open
 abbrev pub AllServed : (Played → Type 0) → Type 0

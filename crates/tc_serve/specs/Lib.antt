@@ -1,6 +1,5 @@
 -- The definitions that the contracts of this crate cite.
 pub mod Protocol
-pub mod Text
 pub mod Serve
 pub mod Inside
 pub mod Laws

@@ -1,3 +1,2 @@
 -- What other crates cite of these definitions.
-pub use Rattle.tc_serve.specs.Serve.{IsServiceEnd, devices}
-pub use Rattle.tc_serve.specs.Text.{refused_line_text}
+pub use Rattle.tc_serve.specs.Serve.{IsServiceEnd, devices, refused_line_text}

@@ -1,6 +1,6 @@
 -- The protocol: what a line asks for, when it may, what it adds to the evidence, who is woken by it, what a refused line
 -- does, and how the service ends. An order has one spelling, and a refusal its words, which are this project's own. What
--- is written is in Text.
+-- is written is in Serve.
 use Rattle.std.specs.Prelude.{ℕ, List, codes, ◌<◌, ◌^◌, false, ◌++◌, ◌≡◌, ◌==◌, ◌≤◌, ◌⊎◌, ◌&&◌, nat_lt, if◌then◌else◌, zero, suc, Bool, true, Option, Some, None, is_some, Result, Ok, Err, is_err, [], ◌∷◌, length, take}
 use Rattle.std.specs.{Fmt.decimal, List.AllByRecursion, List.list_all, Option.option_map_or, Result.result_map_both, Result.result_unwrap_or}
 use Rattle.tc_rules.specs.Prelude.{IsBehaviours, IsName, Run, Entry, Op, answer, waiting, is_parked, is_wake}
@@ -8,7 +8,7 @@ use Rattle.tc_text.specs.Prelude.{move_text, IsOp, EndsNumber}
 use Rattle.tc_blocks.specs.Prelude.{naming_text, said_text, IsSentence, entries_of, is_met}
 use Rattle.tc_rules.specs.declared.awaited.Awaited.{Awaited}
 use Rattle.tc_blocks.specs.declared.line.Line.{Line}
-use Rattle.tc_serve.specs.declared.{order.Order.Order, order.TheConstants.LINE_BYTES, refusal.Refusal.Refusal}
+use Rattle.tc_serve.specs.declared.{order.Order.Order, order.TheConstants.LINE_BYTES, order.Refusal.Refusal}
 
 -- why the line is refused
 abbrev pub why_text : Refusal → List ℕ

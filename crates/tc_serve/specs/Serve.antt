@@ -1,8 +1,58 @@
--- The service: what is written, by what is read.
-use Rattle.std.specs.Prelude.{ℕ, ◌≡◌, ◌≢◌, ◌+◌, ◌-◌, ◌≤◌, ◌^◌, ◌⊎◌, Bool, true, false, is_some, is_none, Option, Result, Ok, Err, List, [], ◌∷◌, ◌++◌, length}
-use Rattle.std.specs.{Io.KnownBytes.Appends, Io.KnownBytes.Consumes, Io.KnownBytes.IsAtEnd, List.list_any}
+-- The service: what is written and reported of the lines that came, what their verdicts come to, and how it ends.
+use Rattle.std.specs.Prelude.{MatchBool, ℕ, ◌+◌, if◌then◌else◌, Bool, List, [], ◌∷◌, ◌++◌, codes, length, map, reverse, ◌≡◌, ◌≢◌, ◌-◌, ◌≤◌, ◌^◌, ◌⊎◌, true, false, is_some, is_none, Option, Result, Ok, Err}
+use Rattle.std.specs.{Fmt.decimal, List.flat_map, Option.option_map_or, Io.KnownBytes.Appends, Io.KnownBytes.Consumes, Io.KnownBytes.IsAtEnd, List.list_any}
+use Rattle.tc_rules.specs.Prelude.{Verdict, worst, is_over, overall}
+use Rattle.tc_blocks.specs.Prelude.{end_text, line_text, with_lf, header_text}
+use Rattle.tc_blocks.specs.declared.header.{Header.Header, Kind.Kind}
+use Rattle.tc_serve.specs.{Protocol.Came, Protocol.Played, Protocol.Sent, Protocol.ServiceState, Protocol.played_past, Protocol.was_lost, Protocol.why_text, declared.order.Refusal.Refusal, Protocol.AllEnded, Protocol.AreServed, Protocol.NoLf, Protocol.Refuses, Protocol.done_of, Protocol.finished_state, Protocol.seen, declared.service.ServeFault.ServeFault, declared.service.Ending.Ending, declared.service.Served.Served}
 use Rattle.tc_stream.specs.Prelude.{AppendsPrefix}
-use Rattle.tc_serve.specs.{Protocol.AllEnded, Protocol.AreServed, Protocol.NoLf, Protocol.Refuses, Protocol.Sent, Protocol.ServiceState, Protocol.done_of, Protocol.finished_state, Protocol.seen, Text.bytes_of, Text.end_told, Text.lines_messages, Text.stand_text, Text.worst_case, declared.fault.ServeFault.ServeFault, declared.refusal.Refusal.Refusal, declared.service.Ending.Ending, declared.service.Served.Served}
+
+-- what the first line of its evidence says
+abbrev pub case_header : Played → Header
+case_header p = record { kind = Kind.Evidence; name = p.name; behaviours = p.behaviours }
+
+-- the text of a test case that is open
+abbrev pub opened_text : Played → List ℕ
+opened_text p = with_lf (header_text (case_header p)) ++ flat_map (λ l. with_lf (line_text l)) (reverse p.lines)
+
+-- the text of a test case that was closed
+abbrev pub block : Played → List ℕ
+block p = opened_text p ++ with_lf (end_text (overall (played_past p)))
+
+-- the text so far
+abbrev pub stand_text : ServiceState → List ℕ
+stand_text s = flat_map block (reverse s.closed) ++ option_map_or opened_text s.current []
+
+-- the verdict that a test case counts as: error if it is not over
+abbrev pub counted : Played → Verdict
+counted p = if is_over (played_past p) then overall (played_past p) else Verdict.Error
+
+-- the worst of the test cases that were closed
+abbrev pub worst_case : ServiceState → Verdict
+worst_case s = worst (map counted s.closed)
+
+-- the bytes of lines, the newest first in the list, each with its LF
+abbrev pub bytes_of : List Sent → List ℕ
+bytes_of [] = []
+bytes_of (l ∷ before) = bytes_of before ++ (l.bytes ++ (if l.ended then 10 ∷ [] else []))
+
+-- what is said on standard error of the line of this number, which is refused for this
+abbrev pub refused_line_text : ℕ → Refusal → List ℕ
+refused_line_text n why = codes "ttrun: line " ++ (decimal n ++ (codes ": " ++ (why_text why ++ (10 ∷ []))))
+
+-- what goes there about the line of this number
+abbrev pub lost_text : ℕ → Came → List ℕ
+lost_text n (was_lost why) = refused_line_text n why
+lost_text n _ = []
+
+-- and about these lines, the newest first
+abbrev pub lines_messages : List Sent → List ℕ
+lines_messages [] = []
+lines_messages (l ∷ before) = lines_messages before ++ lost_text (length before + 1) l.came
+
+-- and about the end of the input, by whether a test case is open
+abbrev pub end_told : Bool → List ℕ
+end_told inside = if inside then codes "ttrun: the input ended inside a test case" ++ (10 ∷ []) else []
 
 -- what is left of the input, and what the output and standard error took, if they are known
 pub record Devices : Type 0 where
@@ -38,11 +88,6 @@ pub data HasEnded (bytes : List ℕ) (input : Option (List ℕ)) (text reports :
       → AllEnded lines ⊎ ((rest ≡ []) × IsAtEnd input) → IsWhy f lines s rest input
       → text ≡ stand_text s → reports ≡ lines_messages lines → HasEnded bytes input text reports (Err f)
 
--- a device took the text, or a prefix of it
-abbrev pub IsTaken : Bool → Option (List ℕ) → Option (List ℕ) → List ℕ → Type 0
-IsTaken true before after text = Appends before after text
-IsTaken false before after text = AppendsPrefix before after text
-
 -- the service ended as was due, and its text was written; or the output failed, and took a prefix of it. Standard error took
 -- the reports, or a prefix of them
 pub record IsServiceEnd (from to : Devices) (e : Ending) : Type 0 where
@@ -53,4 +98,4 @@ pub record IsServiceEnd (from to : Devices) (e : Ending) : Type 0 where
   pub read : Consumes from.input to.input bytes
   pub ended : HasEnded bytes to.input text reports due
   pub written : ((e.outcome ≡ due) × Appends from.output to.output text) ⊎ ((e.outcome ≡ Err ServeFault.Write) × AppendsPrefix from.output to.output text)
-  pub reported : IsTaken e.told from.errors to.errors reports
+  pub reported : MatchBool e.told (Appends from.errors to.errors reports) (AppendsPrefix from.errors to.errors reports)

@@ -2,7 +2,7 @@
 ghost use Rattle.tc_serve.specs.Laws as laws;
 
 /// Each history is legal, and no wake in it is replied parked.
-#[tactic(auto, using(crate::proofs::Asked::served_is_sound))]
+#[tactic(auto, using(crate::proofs::Evident::served_is_sound))]
 pub fn served_is_sound()
     ensures { laws.AllServed laws.IsSound }
 {}
@@ -14,7 +14,7 @@ pub fn nobody_sleeps_on()
 {}
 
 /// The evidence has what was asked for, each once and in its order, and nothing else but wakes and refusals.
-#[tactic(auto, using(crate::proofs::Asked::evidence_is_asked))]
+#[tactic(auto, using(crate::proofs::Evident::evidence_is_asked))]
 pub fn evidence_is_asked()
     ensures { laws.EvidenceIsAsked }
 {}
@@ -31,7 +31,7 @@ pub fn long_lines_are_refused()
 {}
 
 /// A line adds to the text, and changes none of it.
-#[tactic(auto, using(crate::proofs::Growing::text_grows))]
+#[tactic(auto, using(crate::proofs::Changes::text_grows))]
 pub fn text_grows()
     ensures { laws.TextGrows }
 {}

@@ -6,9 +6,9 @@ ghost use Rattle.tc_text.specs.Prelude.{move_text};
 ghost use Rattle.tc_blocks.specs.Prelude.{outcome_text, with_lf, entry_in, is_met, line_text, AreMet};
 ghost use Rattle.tc_rules.specs.Local as verdicts;
 ghost use Rattle.tc_rules.specs.Waiting as waits;
-ghost use Rattle.tc_serve.specs.{Inside.Becomes, Inside.BecomesAwake, Inside.Changes, Inside.IsCalled, Inside.IsOpen, Inside.IsPassed, Inside.Moves, Inside.after_call, Inside.entry, Inside.started as spec_started, Inside.wakes_nobody as spec_wakes_nobody, Inside.woken_once, Protocol.Played as AnyPlayed, Protocol.called, Protocol.made, Protocol.played_past, Protocol.sleep_of as spec_sleep, Protocol.why_text, Protocol.with_added_line, Protocol.with_name, Protocol.woken, Text.counted as spec_counted};
+ghost use Rattle.tc_serve.specs.{Inside.Becomes, Inside.BecomesAwake, Inside.Changes, Inside.IsCalled, Inside.IsOpen, Inside.IsPassed, Inside.Moves, Inside.after_call, Inside.entry, Inside.started as spec_started, Inside.wakes_nobody as spec_wakes_nobody, Inside.woken_once, Protocol.Played as AnyPlayed, Protocol.called, Protocol.made, Protocol.played_past, Protocol.sleep_of as spec_sleep, Protocol.why_text, Protocol.with_added_line, Protocol.with_name, Protocol.woken, Serve.counted as spec_counted};
 
-use crate::refusal::Refusal;
+use crate::order::Refusal;
 use crate::sleepers::{Sleeper, add, awaited_by};
 use std::alloc::Global;
 use tc_blocks::{Line, MetRuns, append_line, append_said};

@@ -3,11 +3,10 @@ ghost use Rattle.std.specs.Prelude.{◌≡◌, ◌<◌, ◌^◌, [], ℕ, List, 
 ghost use Rattle.std.specs.Io.{StartsWith};
 ghost use Rattle.tc_rules.specs.Prelude.{IsBehaviours};
 ghost use Rattle.tc_text.specs.Prelude.{move_text};
-ghost use Rattle.tc_serve.specs.{Inside.StandsAs, Inside.TellsRun, Inside.Tries, Inside.TriesLine, Inside.start as spec_start, Protocol.IsOf, Protocol.IsOrder, Protocol.ServiceState as AnyStand, Protocol.after_order, Protocol.made, Protocol.order_text, Protocol.with_added_line, Protocol.with_name, Protocol.with_open, Text.worst_case};
+ghost use Rattle.tc_serve.specs.{Inside.StandsAs, Inside.TellsRun, Inside.Tries, Inside.TriesLine, Inside.start as spec_start, Protocol.IsOf, Protocol.IsOrder, Protocol.ServiceState as AnyStand, Protocol.after_order, Protocol.made, Protocol.order_text, Protocol.with_added_line, Protocol.with_name, Protocol.with_open, Serve.worst_case};
 
 use crate::open_case::OpenCase;
-use crate::order::{Order, read_order, read_short_move};
-use crate::refusal::Refusal;
+use crate::order::{Order, Refusal, read_order, read_short_move};
 use std::alloc::Global;
 use tc_blocks::{Header, Kind, Line, Sentence, append_end, append_first_line};
 use tc_entry::{Name, NoMemory, Op, Run, Verdict};

@@ -4,14 +4,40 @@ ghost use Rattle.std.specs.{Borrow.GName, Io.KnownBytes.Appends};
 ghost use Rattle.tc_stream.specs.Prelude.{AppendsPrefix};
 ghost use Rattle.tc_serve.specs.{Inside.Hears, Inside.IsAt, Inside.IsFed, Inside.IsTurn, Serve.Devices as AnyDevices, Serve.IsServiceEnd, Serve.devices};
 
-use crate::fault::ServeFault;
+use crate::order::Refusal;
 use crate::serving::Serving;
 use std::alloc::Global;
 use std::io::{Read, Write};
-use tc_entry::Verdict;
+use tc_entry::{NoMemory, Verdict};
 use tc_stream::{
     CountedRead, CountedReader, CountedWrite, CountedWriter, WriteFault, write_counted, write_whole,
 };
+
+/// Why a service ended before the end of its input.
+#[derive(Clone, Copy, PartialEq, Eq, Debug)]
+pub enum ServeFault {
+    /// The line of this number, counted from 1, was refused outside a test case, for this reason.
+    Line(usize, Refusal),
+    /// There are more lines, or reads, than can be counted.
+    TooLong,
+    /// The input could not be read; an interrupted read counts as a failure.
+    Read,
+    /// The output could not be written.
+    Write,
+    /// Memory ran out.
+    NoMemory,
+}
+
+impl From<NoMemory> for ServeFault {
+    ghost use Rattle.std.specs.Prelude.{◌≡◌};
+    ghost use Rattle.tc_serve.specs.declared.service.ServeFault.TheVariants as faults;
+
+    ghost from_gives = { λ _ f. f ≡ faults.NoMemory };
+
+    fn from(_: NoMemory) -> ServeFault {
+        ServeFault::NoMemory
+    }
+}
 
 /// What came of an input that was served to its end.
 #[derive(Clone, Copy, PartialEq, Eq, Debug)]

@@ -1,13 +1,11 @@
 //! Lines that come in pieces.
 ghost use Rattle.std.specs.Prelude.{◌≡◌, ◌≢◌, ◌<◌, ◌-◌, ◌++◌, ◌∷◌, [], ℕ, List, Option, Err, IfOk, IfErr, OnOk, OnErr, length, take};
 ghost use Rattle.std.specs.Io.{KnownBytes.IsAtEnd, StartsWith};
-ghost use Rattle.tc_serve.specs.{Inside.Closes, Inside.Fails, Inside.Feeds, Inside.IsEnd, Inside.IsFed, Inside.IsOwn, Inside.IsTurn, Inside.Serves, Inside.StopsIn, Inside.TakesPiece, Protocol.NoLf, Serve.HasEnded, Text.end_told, Text.refused_line_text};
+ghost use Rattle.tc_serve.specs.{Inside.Closes, Inside.Fails, Inside.Feeds, Inside.IsEnd, Inside.IsFed, Inside.IsOwn, Inside.IsTurn, Inside.Serves, Inside.StopsIn, Inside.TakesPiece, Protocol.NoLf, Serve.HasEnded, Serve.end_told, Serve.refused_line_text};
 
-use crate::fault::ServeFault;
-use crate::order::LINE_BYTES;
-use crate::refusal::Refusal;
+use crate::order::{LINE_BYTES, Refusal};
 use crate::server::Server;
-use crate::service::Served;
+use crate::service::{ServeFault, Served};
 use std::alloc::Global;
 use tc_entry::NoMemory;
 use tc_text::{append_number, append_text};

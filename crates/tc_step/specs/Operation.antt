@@ -3,15 +3,11 @@ use Rattle.std.specs.Prelude.{ℕ, List, map, slice_index_or}
 use Rattle.tc_entry.specs.declared.{comp.Comp.Comp, op.Group.Group, op.Op.Op, op.Target.Target}
 use Rattle.tc_step.specs.declared.{place.GroupPlace.GroupPlace, place.Place.Place, place.TargetPlace.TargetPlace, step.Status.Status, step.Step.Step}
 
--- component 0
-abbrev pub main : Comp
-main = record { 0 = 0 }
-
 -- the component that a place names, by the behaviour's own component and those that are bound; a script names none but these
 abbrev pub component : Comp → List Comp → Place ℕ → Comp
-component me bound Place.Main = main
+component me bound Place.Main = record { 0 = 0 }
 component me bound Place.Own = me
-component me bound (Place.Bound k) = slice_index_or bound k main
+component me bound (Place.Bound k) = slice_index_or bound k (record { 0 = 0 })
 
 -- the group that a step names, with the component of its place
 abbrev pub group : Comp → List Comp → GroupPlace (Place ℕ) → Group

@@ -4,7 +4,7 @@ use Rattle.std.specs.Fmt.{decimal}
 use Rattle.std.proofs.lemmas.Grind.{common_steps}
 use Rattle.tc_entry.specs.declared.{comp.Comp.Comp, limits.TheConstants.ARGUMENTS, op.Group.Group, op.Op.Op, op.Target.Target}
 use Rattle.tc_entry.specs.Prelude.{Run}
-use Rattle.tc_text.specs.{Inside.IsWait, Inside.operand_text, Inside.status_text, Inside.verb_of, Inside.verb_text, Reading.EndsMove, Reading.EndsNumber, Spelling.AreComps, Spelling.IsComp, Spelling.IsGroup, Spelling.IsTarget, Spelling.args_text, Spelling.group_text, Spelling.op_text, Spelling.start_text, Spelling.target_text, declared.verb.Status.Status, declared.verb.Verb.Verb}
+use Rattle.tc_text.specs.{Inside.IsWait, Inside.operand_text, Inside.status_text, Inside.verb_of, Inside.verb_text, Reading.EndsMove, Reading.EndsNumber, Spelling.AreComps, Spelling.IsComp, Spelling.IsGroup, Spelling.IsTarget, Spelling.args_text, Spelling.group_text, Spelling.op_text, Inside.start_text, Spelling.target_text, declared.verb.Status.Status, declared.verb.Verb.Verb}
 use Rattle.tc_text.proofs.Lemmas.Digits.{digit_first, no_letter}
 
 -- an operation is its first words and what follows them

@@ -1,9 +1,9 @@
 -- What only the way the texts are read needs: no public clause names a word of this file.
 use Rattle.std.specs.Prelude.{ℕ, ◌≡◌, ◌≢◌, ◌<◌, ◌≤◌, ◌+◌, ◌-◌, ◌*◌, ◌^◌, ◌++◌, codes, drop, length, take, Bool, true, false, if◌then◌else◌, List, [], ◌∷◌, Option, Some, None, MatchOption, slice_get}
 use Rattle.std.specs.{Borrow.Bor, Char.is_ascii_digit, Fmt.decimal, Str.all_ascii_digits}
-use Rattle.tc_entry.specs.Prelude.{given, name_of}
-use Rattle.tc_entry.specs.declared.op.{Op.Op, Target.Target}
-use Rattle.tc_text.specs.{MoveList.IsMove, MoveList.Move, MoveList.lines_of, MoveList.move_line, Said.ends_word, Spelling.group_text, Spelling.start_text, Spelling.target_text, declared.said.Part.Part, declared.verb.Status.Status, declared.verb.Verb.Verb}
+use Rattle.tc_entry.specs.Prelude.{Run, given, name_of}
+use Rattle.tc_entry.specs.declared.{comp.Comp.Comp, op.Op.Op, op.Target.Target}
+use Rattle.tc_text.specs.{MoveList.IsMove, MoveList.Move, MoveList.lines_of, MoveList.move_line, Said.ends_word, Spelling.args_text, Spelling.group_text, Spelling.target_text, declared.said.Part.Part, declared.verb.Status.Status, declared.verb.Verb.Verb}
 
 -- this value was read of a line, and these lines are after it
 abbrev pub TakesLine : {A : Type 0} → Option (A × Bor (List ℕ)) → A → List (List ℕ) → Type 0
@@ -129,6 +129,10 @@ verb_of (Op.Wake true _) = Verb.Status Status.WakeKilled
 verb_of (Op.SetVerdict _) = Verb.SetVerdict
 verb_of Op.GetVerdict = Verb.GetVerdict
 verb_of Op.Finish = Verb.Finish
+
+-- what follows `start `
+abbrev pub start_text : Comp → Run → List Comp → List ℕ
+start_text c run args = decimal c.0 ++ (codes " " ++ (decimal run.0 ++ args_text args))
 
 -- what follows `create` of the component's kind
 abbrev pub kind_text : Bool → List ℕ

@@ -1,6 +1,5 @@
 -- The definitions that the contracts of this crate cite.
 pub mod Spelling
-pub mod TextKind
 pub mod MoveList
 pub mod Reading
 pub mod Said

@@ -3,7 +3,9 @@ use Rattle.std.specs.Prelude.{ℕ, ◌==◌, if◌then◌else◌, List, [], ◌�
 use Rattle.std.specs.{Fmt.decimal, List.AllByRecursion, List.onto_first}
 use Rattle.tc_entry.specs.Prelude.{IsBehaviours, Run}
 use Rattle.tc_entry.specs.declared.op.Op.{Op}
-use Rattle.tc_text.specs.{Spelling.IsOp, Spelling.move_text, declared.fault.TextFault.TextFault, declared.fault.TextKind.TextKind}
+use Rattle.tc_text.specs.Spelling.{IsOp, move_text}
+use Rattle.tc_text.specs.declared.{fault.TextFault.TextFault, fault.TextKind.TextKind}
+use Rattle.tc_verdict.specs.Prelude.{early_text, memory_text}
 
 -- LF ends a line; a last line may lack it, and after a last LF there is none
 abbrev pub lines_of : List ℕ → List (List ℕ)
@@ -66,3 +68,15 @@ IsListFault text (TextFault.At line TextKind.FirstLine) = IsBadFirstLine text ×
 IsListFault text (TextFault.At line TextKind.Move) = IsBadMove text line
 IsListFault text (TextFault.At line TextKind.Entry) = ⊥
 IsListFault text TextFault.NoMemory = Unit {0}
+
+-- the words that name a fault
+abbrev pub text_kind_text : TextKind → List ℕ
+text_kind_text TextKind.FirstLine = codes "bad first line"
+text_kind_text TextKind.Move = codes "bad move"
+text_kind_text TextKind.Entry = codes "bad entry"
+text_kind_text TextKind.Early = early_text
+
+-- the line and the words of its fault
+abbrev pub fault_text : TextFault → List ℕ
+fault_text (TextFault.At line kind) = codes "line " ++ (decimal line ++ (codes ": " ++ text_kind_text kind))
+fault_text TextFault.NoMemory = memory_text

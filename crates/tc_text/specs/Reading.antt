@@ -6,7 +6,7 @@ use Rattle.tc_text.specs.declared.short.ShortOp.{ShortOp}
 
 -- this value was read, and this is after it
 abbrev pub Takes : {A : Type 0} → Option (A × Bor (List ℕ)) → A → List ℕ → Type 0
-Takes found value behind = MatchOption found ⊥ (λ r. (r.0 ≡ value) × (r.1.now ≡ behind))
+Takes found value rest = MatchOption found ⊥ (λ r. (r.0 ≡ value) × (r.1.now ≡ rest))
 
 -- what may be after a number or a name: neither a digit nor a letter comes first
 abbrev pub EndsNumber : List ℕ → Type 0
@@ -42,4 +42,4 @@ op_of ShortOp.Finish = Op.Finish
 
 -- the text begins with the end of a line, LF or the end of the text, and this is after it
 abbrev pub EndsLine : List ℕ → List ℕ → Type 0
-EndsLine text behind = ((text ≡ []) × (behind ≡ [])) ⊎ (text ≡ 10 ∷ behind)
+EndsLine text rest = ((text ≡ []) × (rest ≡ [])) ⊎ (text ≡ 10 ∷ rest)

@@ -2,7 +2,7 @@
 use Rattle.std.specs.Prelude.{ℕ, ◌<◌, ◌≤◌, ◌^◌, true, false, Some, IfSome, if◌then◌else◌, List, [], ◌++◌, length, codes}
 use Rattle.std.specs.{Fmt.decimal, List.AllByRecursion, List.flat_map, Option.option_map_or}
 use Rattle.tc_entry.specs.declared.{comp.Comp.Comp, limits.TheConstants.ARGUMENTS, op.Group.Group, op.Op.Op, op.Target.Target, reply.Reply.Reply}
-use Rattle.tc_entry.specs.Prelude.{IsName, fault_name, given, name_of, Run}
+use Rattle.tc_entry.specs.Prelude.{IsName, fault_name, given, name_of}
 
 -- a component by its number, or all of them
 abbrev pub group_text : Group → List ℕ
@@ -25,14 +25,10 @@ IsLong (Op.Start c run args) = Unit {0}
 IsLong (Op.Create alive (Some name)) = Unit {0}
 IsLong _ = ⊥
 
--- what follows `start `
-abbrev pub start_text : Comp → Run → List Comp → List ℕ
-start_text c run args = decimal c.0 ++ (codes " " ++ (decimal run.0 ++ args_text args))
-
 -- an operation, without its caller
 abbrev pub op_text : Op → List ℕ
 op_text (Op.Create alive name) = codes "create" ++ ((if alive then codes " alive" else []) ++ option_map_or (λ n. codes " named " ++ n) name [])
-op_text (Op.Start c run args) = codes "start " ++ start_text c run args
+op_text (Op.Start c run args) = codes "start " ++ (decimal c.0 ++ (codes " " ++ (decimal run.0 ++ args_text args)))
 op_text (Op.Stop g) = codes "stop " ++ group_text g
 op_text (Op.Kill g) = codes "kill " ++ group_text g
 op_text Op.StopCase = codes "stopcase"

@@ -1,6 +1,6 @@
 //! What is wrong with a text.
 ghost use Rattle.std.specs.Prelude.{◌≡◌, Some};
-ghost use Rattle.tc_text.specs.TextKind.{fault_text, text_kind_text};
+ghost use Rattle.tc_text.specs.MoveList.{fault_text, text_kind_text};
 
 use std::fmt;
 use tc_verdict::{EARLY_END, NoMemory};

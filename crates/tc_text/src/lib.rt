@@ -21,7 +21,7 @@ pub use append::{append_number, append_text};
 pub use cursor::{after, take_line_end};
 pub use fault::{TextFault, TextKind};
 pub use move_list::{MoveList, TakesMoves, as_behaviours, read_moves, read_moves_into};
-pub use moves::{read_move, take_long_move, take_move};
+pub use moves::{read_move, take_long_move};
 pub use name::take_name;
 pub use number::{read_number, take_number};
 pub use operand::take_run;

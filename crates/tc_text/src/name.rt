@@ -6,7 +6,7 @@ ghost use Rattle.tc_text.specs.{Inside.NoLow, Reading.EndsNumber, Reading.Takes}
 use tc_entry::Name;
 
 // The bytes before the first one that comes before the digits, and the others.
-#[tactic(auto, using(crate::proofs::Lemmas::Naming::no_low_take))]
+#[tactic(auto, using(crate::proofs::Lemmas::LinesOf::no_low_take))]
 fn cut_low(text: &[u8]) -> (&[u8], &[u8])
     ensures parts { text.now ≡ result.0.now ++ result.1.now }
     ensures before { NoLow result.0.now }

@@ -1,6 +1,6 @@
 //! What a behaviour may set.
 ghost use Rattle.std.specs.Prelude.{◌≡◌, Some, IfSome};
-ghost use Rattle.tc_verdict.specs.UserVerdict.{given, rank_of};
+ghost use Rattle.tc_verdict.specs.{UserVerdict.given, Verdict.level_of};
 
 use crate::verdict::Verdict;
 
@@ -41,7 +41,7 @@ pub fn to_user(v: Verdict) -> Option<UserVerdict>
 
 /// The place of a setting in the order from best to worst: 0 to 3.
 pub fn rank(v: UserVerdict) -> u64
-    ensures { result ≡ rank_of v }
+    ensures { result ≡ level_of (given v) }
 {
     match v {
         UserVerdict::None => 0,
@@ -53,8 +53,8 @@ pub fn rank(v: UserVerdict) -> u64
 
 /// The setting of this rank: none above 3.
 pub fn of_rank(n: u64) -> Option<UserVerdict>
-    ensures ranked { IfSome result (λ v. rank_of v ≡ n) }
-    ensures only { (v : UserVerdict) → rank_of v ≡ n → result ≡ Some v }
+    ensures ranked { IfSome result (λ v. level_of (given v) ≡ n) }
+    ensures only { (v : UserVerdict) → level_of (given v) ≡ n → result ≡ Some v }
 {
     match n {
         0 => Some(UserVerdict::None),

@@ -5,7 +5,7 @@ use Rattle.std.proofs.lemmas.{Bool.Decides.nat_tests, List.Elements.All-head, Li
 use Rattle.tc_rules.specs.Prelude.{Verdict, Run, name_of, IsName, Entry, Op}
 use Rattle.tc_text.specs.Inside.{NoLow}
 use Rattle.tc_text.specs.Prelude.{lines_of, EndsLine, EndsNumber, is_plain, op_text, reply_text}
-use Rattle.tc_text.proofs.Lemmas.{Digits.both, Digits.digit_first, Digits.no_letter, Digits.spelled_digits, LinesOf.first_line, LinesOf.line_ended, Naming.same_cut}
+use Rattle.tc_text.proofs.Lemmas.{Digits.both, Digits.digit_first, Digits.no_letter, Digits.spelled_digits, LinesOf.first_line, LinesOf.line_ended, LinesOf.same_cut}
 use Rattle.tc_blocks.specs.{HistoryBlock.end_text, HistoryBlock.entry_text, HistoryText.IsEntry, Inside.ArePlain, Inside.NoPlainFirst, Inside.mark_text, Line.line_text, Line.naming_text, Line.said_text, Text.IsLine, declared.header.Kind.Kind, declared.line.Line.Line}
 use Rattle.tc_blocks.proofs.Lemmas.Bytes.{AreAllPlain, naming_quiet, plain_no_lf, quiet_plain, said_plain}
 

@@ -1,7 +1,7 @@
 -- The part of a history by a run, and what a run left.
 use Rattle.std.proofs.Common.{zero, suc, ◌++◌, slice_index_or, ◌≡◌, ℕ, ◌==◌, if◌then◌else◌, option_map, Bool, true, false, Option, Some, None, List, [], ◌∷◌, refl, sym, ap, ◌∙◌}
 use Rattle.tc_rules.specs.Prelude.{Comp, Entry, Op, is_ok, comp_of, first_some, starts_run, part, is_by}
-use Rattle.tc_book.specs.{Inside.KnowsStarts, Inside.comp_by, Inside.start_at, OpenCase.start_of, OpenCase.starts_with}
+use Rattle.tc_book.specs.{Inside.KnowsStarts, Inside.comp_by, Inside.start_at, OpenCase.start_of, Inside.starts_with}
 
 with_comp : (op : Op) (b : ℕ) → starts_run op b ≡ option_map (λ s. s.0) (starts_with op b)
 with_comp (Op.Start c run args) b = by_test (run.0 == b)

@@ -1,8 +1,13 @@
 -- What only the way the words are settled needs: no public clause names a word of this file.
-use Rattle.std.specs.Prelude.{ℕ, ◌≡◌, ◌<◌, Bool, true, false, Some, List, length, set}
-use Rattle.tc_rules.specs.Prelude.{Run, UserVerdict, Entry, Op, Reply, comp_of, is_active}
+use Rattle.std.specs.Prelude.{ℕ, ◌≡◌, ◌<◌, Bool, true, false, Option, Some, List, [], ◌∷◌, length, set}
+use Rattle.std.specs.Option.{option_and_then}
+use Rattle.tc_rules.specs.Prelude.{Run, UserVerdict, Comp, Entry, Op, Reply, comp_of, is_active, last_run}
 use Rattle.tc_board.specs.declared.record.Record.{Record, TheVariants.Closed, TheVariants.Open, TheVariants.Unbegun}
-use Rattle.tc_book.specs.Words.{IsWordOf, record_at, carried, is_closed, run_before}
+use Rattle.tc_book.specs.Words.{IsWordOf, record_at, carried, is_closed, left_by, run_before}
+
+-- the last run on this component, if there is one
+abbrev pub last_on : List Entry → Option Comp → Option Run
+last_on past comp = option_and_then (λ c. last_run past c.0) comp
 
 -- the word was begun and not closed yet
 abbrev pub is_open : Record → Bool
@@ -37,3 +42,13 @@ CanBegin _ _ words = Unit {0}
 abbrev pub with_start : Op → Reply → UserVerdict → List Record → List Record
 with_start (Op.Start c run args) Reply.Ok u words = set words run.0 (Open u)
 with_start _ _ u words = words
+
+-- what the component carries on which this call would start a run
+abbrev pub carried_to : List Record → List Entry → Op → UserVerdict
+carried_to words past (Op.Start c run args) = left_by words (last_run past c.0)
+carried_to words past _ = UserVerdict.None
+
+-- what the component carried on which the newest entry would start a run
+abbrev pub carried_to_newest : List Record → List Entry → UserVerdict
+carried_to_newest words [] = UserVerdict.None
+carried_to_newest words (e ∷ past) = carried_to words past e.op

@@ -7,13 +7,13 @@ ghost use Rattle.tc_book.specs.{Closing.IsAgreed, Closing.IsMerged, Closing.IsOn
 use crate::book::Book;
 use crate::close::{all_agreed, are_placed};
 use crate::left::Left;
+use crate::merging::merge_by_run;
 use crate::parts::{logs_by_run, rests_of};
 use crate::report::report;
 use crate::walk::walk;
 use std::alloc::Global;
 use std::snapshot::Snapshot;
 use tc_entry::{Args, Comp, Entry, Sequence};
-use tc_merge::merge_by_run;
 use tc_rules::{CaseState, CloseFault, Closed};
 use tc_verdict::NoMemory;
 

@@ -2,7 +2,7 @@
 ghost use Rattle.std.specs.Prelude.{◌≡◌, ◌≢◌, ◌&&◌, not, true, false, IfOk, IfSome, OnErr, OnSome, IfNone, IsTrue};
 ghost use Rattle.tc_rules.specs.Prelude.{is_verdict_call, waiting};
 ghost use Rattle.tc_rules.specs.Laws as laws;
-ghost use Rattle.tc_book.specs.{Inside.StaysParked, Inside.goes_on, Inside.newest_wakes, Inside.parked_goes_on, Inside.wakes, OpenCase.NobodyWakes, OpenCase.has_wake, OpenCase.open_past, OpenCase.places_after, OpenCase.reply_to, OpenCase.with_entry, OpenCase.without_wake, Replies.suits};
+ghost use Rattle.tc_book.specs.{Inside.goes_on, Inside.newest_wakes, Inside.parked_goes_on, Inside.wakes, OpenCase.NobodyWakes, OpenCase.WouldPark, OpenCase.has_wake, OpenCase.open_past, OpenCase.places_after, OpenCase.reply_to, OpenCase.with_entry, OpenCase.without_wake};
 
 use crate::book::Book;
 use crate::until::Until;
@@ -30,7 +30,6 @@ impl Book {
         requires other { is_verdict_call op ≡ false }
         ensures behaviours { self.new.behaviours ≡ self.old.behaviours }
         ensures reply { IfOk result (λ r. r.0 ≡ reply_to self.old run op) }
-        ensures suits { IfOk result (λ r. suits op r.0 ≡ true) }
         ensures history { IfOk result (λ r. self.new.history ≡ with_entry self.old run op r.0) }
         ensures places { IfOk result (λ r. self.new.places ≡ places_after self.old run r.0) }
         ensures silent { IfOk result (λ r. r.1 ≡ false → NobodyWakes self.old self.new) }
@@ -48,11 +47,10 @@ impl Book {
     pub fn call_wake(&mut self, run: Run, killed: bool, target: Target) -> Option<(Reply, bool)>
         ensures behaviours { self.new.behaviours ≡ self.old.behaviours }
         ensures none { IfNone result (self.new ≡ self.old) }
-        ensures asleep { IfNone result (StaysParked self.old run killed target) }
+        ensures asleep { IfNone result (has_wake self.old run ≡ true → WouldPark self.old run killed target) }
         ensures kept { OnSome result (IsTrue (has_wake self.old run)) }
         ensures awake { IfSome result (λ r. r.0 ≢ Reply.Parked) }
         ensures reply { IfSome result (λ r. r.0 ≡ reply_to self.old run (Op.Wake killed target)) }
-        ensures suits { IfSome result (λ r. suits (Op.Wake killed target) r.0 ≡ true) }
         ensures history { IfSome result (λ r. self.new.history ≡ with_entry self.old run (Op.Wake killed target) r.0) }
         ensures places { OnSome result (self.new.places ≡ without_wake self.old run) }
         ensures silent { IfSome result (λ r. r.1 ≡ false → NobodyWakes self.old self.new) }

@@ -3,7 +3,7 @@ ghost use Rattle.std.specs.Prelude.{◌≡◌, ◌<◌, ◌≤◌, ◌+◌, ◌+
 ghost use Rattle.std.specs.Vec.{vec_len, vec_capacity};
 ghost use Rattle.tc_board.specs.declared.answer.Answer.TheVariants.{Met};
 ghost use Rattle.tc_rules.specs.Prelude.{is_verdict_call};
-ghost use Rattle.tc_book.specs.{Hands.IsHandOf, Inside.is_closed, Inside.with_own, Passes.ended_by, Replies.suits};
+ghost use Rattle.tc_book.specs.{Hands.IsHandOf, Inside.is_closed, Inside.with_own, Passes.ended_by, Inside.Replies.suits};
 
 use crate::logged_book::Started;
 use crate::run_hand::RunHand;

@@ -10,7 +10,7 @@ use Rattle.tc_exec.specs.declared.{job.Back.Back, test_case.Case.Case}
 use Rattle.tc_report.specs.{Inside.IsEndedAt, declared.kept.Kept.Kept, declared.results.CampaignEnd.CampaignEnd, declared.results.Finished.Finished}
 use Rattle.tc_report.specs.Prelude.{Keeps, AreTaken, IsMet}
 use Rattle.tc_report.proofs.Lemmas.Keeping.{are_kept, never_ended}
-use Rattle.tc_campaign.specs.{Campaign.AreFinished, Campaign.IsCalled, Campaign.IsCutShort, Campaign.IsEnding, Campaign.IsObserved, Campaign.IsRefusal, Campaign.IsRunTo, Campaign.IsTornAt, Inside.HasBehaviours, Inside.IsUnrun, Outline.Outline, Outline.outline_of}
+use Rattle.tc_campaign.specs.{Campaign.AreBack, Campaign.AreFinished, Campaign.IsCalled, Campaign.IsCutShort, Campaign.IsEnding, Campaign.IsObserved, Campaign.IsRefusal, Campaign.IsRunTo, Inside.HasBehaviours, Inside.IsUnrun, Outline.Outline, Outline.outline_of}
 
 take_short : {A : Type 0} (n : ℕ) (xs : List A) → length (take n xs) ≤ length xs
 take_short zero xs = omega arith
@@ -28,10 +28,11 @@ may_end Stops Refuses Also last (Some c) (CampaignEnd.Aborted name why) ends = (
 -- a campaign that was observed is one that was run
 pub run_to : {B O : Type 0} {outcome : B → PassState → Back → Type 0} {cases : List (Case B)} {stop_on : Option Verdict} {threads : ℕ}
     {takes : O → Finished → O → Bool → Type 0} {before after : O} {ending : CampaignEnd} (seen : IsObserved outcome cases stop_on threads takes before after ending)
-    → IsRunTo outline_of (IsCalled outcome) cases stop_on threads seen.finished ending
+    → IsRunTo outline_of (IsCalled outcome) cases stop_on threads (AreBack outcome) seen.finished ending
 run_to {B} {O} {outcome} {cases} {stop_on} {threads} {takes} {before} {after} {ending} seen = record {
   each = seen.run.each;
   last = may_end (λ f. IsMet stop_on f.report.verdict) (IsRefusal threads) (λ why c. (seen.finished ≡ []) × (why ≡ CaseError.NoMemory)) _ _ ending seen.run.last;
+  torn = seen.run.torn;
 }
 
 -- an observer that cut a campaign short has ended it
@@ -79,25 +80,15 @@ module _ {B : Type 0} (outcome : B → PassState → Back → Type 0) (cases : L
       same : seen.finished ≡ after.finished.items
       same = sym (all_are_kept before after none room seen.finished seen.run.each seen.taken)
 
-      pub kept_run : IsRunTo outline_of (IsCalled outcome) cases stop_on threads after.finished.items ending
-      kept_run = subst (λ fs. IsRunTo outline_of (IsCalled outcome) cases stop_on threads fs ending) same (run_to seen)
-
-      pub kept_torn : IsTornAt outcome (slice_get cases (length after.finished.items)) ending
-      kept_torn = subst (λ fs. IsTornAt outcome (slice_get cases (length fs)) ending) same seen.torn
+      pub kept_run : IsRunTo outline_of (IsCalled outcome) cases stop_on threads (AreBack outcome) after.finished.items ending
+      kept_run = subst (λ fs. IsRunTo outline_of (IsCalled outcome) cases stop_on threads (AreBack outcome) fs ending) same (run_to seen)
 
 module _ {B : Type 0} (outcome : B → PassState → Back → Type 0) (finished : List Finished) (ending : CampaignEnd) (none : finished ≡ []) where
   -- a campaign that was not run because there is no room
   pub unrun_run : (cases : List (Case B)) (stop_on : Option Verdict) (threads : ℕ) → IsUnrun (map outline_of cases) ending
-      → IsRunTo outline_of (IsCalled outcome) cases stop_on threads finished ending
-  unrun_run cases stop_on threads is = subst (λ fs. IsRunTo outline_of (IsCalled outcome) cases stop_on threads fs ending) (sym none) (go cases is)
+      → IsRunTo outline_of (IsCalled outcome) cases stop_on threads (AreBack outcome) finished ending
+  unrun_run cases stop_on threads is = subst (λ fs. IsRunTo outline_of (IsCalled outcome) cases stop_on threads (AreBack outcome) fs ending) (sym none) (go cases is)
     where
-      go : (cs : List (Case B)) → IsUnrun (map outline_of cs) ending → IsRunTo outline_of (IsCalled outcome) cs stop_on threads [] ending
-      go [] is = rw is (record { each = none_finished outcome [] stop_on threads; last = (tt, refl) })
-      go (c ∷ cs) is = rw is (record { each = none_finished outcome (c ∷ cs) stop_on threads; last = (tt, (refl, inr (refl, refl))) })
-
-  pub unrun_torn : (cases : List (Case B)) → IsUnrun (map outline_of cases) ending → IsTornAt outcome (slice_get cases (length finished)) ending
-  unrun_torn cases is = subst (λ fs. IsTornAt outcome (slice_get cases (length fs)) ending) (sym none) (go cases is)
-    where
-      go : (cs : List (Case B)) → IsUnrun (map outline_of cs) ending → IsTornAt outcome (slice_get cs 0) ending
-      go [] is = λ name torn. let bad : CampaignEnd.Complete ≡ CampaignEnd.Aborted name CaseError.Torn = sym is ∙ torn in absurd cc
-      go (c ∷ cs) is = λ name torn. let bad : CampaignEnd.Aborted (outline_of c).name CaseError.NoMemory ≡ CampaignEnd.Aborted name CaseError.Torn = sym is ∙ torn in absurd cc
+      go : (cs : List (Case B)) → IsUnrun (map outline_of cs) ending → IsRunTo outline_of (IsCalled outcome) cs stop_on threads (AreBack outcome) [] ending
+      go [] is = rw is (record { each = none_finished outcome [] stop_on threads; last = (tt, refl); torn = λ name torn. absurd cc })
+      go (c ∷ cs) is = rw is (record { each = none_finished outcome (c ∷ cs) stop_on threads; last = (tt, (refl, inr (refl, refl))); torn = λ name torn. absurd cc })

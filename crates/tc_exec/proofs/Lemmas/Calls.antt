@@ -1,12 +1,13 @@
 -- What workers left, one after another.
 use Rattle.std.proofs.Common.{ℕ, zero, suc, ◌≡◌, ◌≢◌, ◌<◌, ◌+◌, ◌==◌, ◌||◌, inl, inr, Bool, true, false, Some, None, Result, Ok, Err, IfOk, List, [], ◌∷◌, ◌++◌, length, get_or, map, reverse, refl, sym, ap, subst, ◌∙◌, arith}
 use Rattle.std.proofs.lemmas.{Bool.Decides.nat_tests, List.Elements.All-get_or, List.append-nil}
-use Rattle.tc_rules.specs.Prelude.{Entry, comp_of, Run}
+use Rattle.tc_rules.specs.Prelude.{Entry, comp_of, Run, Reply, is_ended, is_fault, is_ok, Op}
 use Rattle.tc_rules.specs.declared.{closed.Closed.Closed, refusal.CaseError.CaseError, refusal.CaseError.TheVariants.NoMemory, refusal.CaseError.TheVariants.Torn}
-use Rattle.tc_book.specs.Prelude.{IsFitting, IsOneEach, IsWhole, start_of, PassState, LeftState}
+use Rattle.tc_book.specs.Prelude.{IsFitting, IsOneEach, IsWhole, start_of, PassState, LeftState, has_ended, with_own_entry}
 use Rattle.tc_book.specs.Inside.{comp_by}
 use Rattle.tc_book.proofs.Lemmas.PartOf.{comp_is}
-use Rattle.tc_exec.specs.{Case.AreCalled, Case.IsHandedBack, Case.IsMadeOf, Case.IsOutOfMemory, Inside.AreLeftBy, Inside.Gathers, Inside.HasStarved, Inside.IsOneStarved, Inside.is_starved, Workers.IsLeftBy, Workers.IsWorked, Workers.WasCalled, Workers.WasCalledFor, Workers.opening_pass, declared.gathered.Gathered.Gathered, declared.handed.Handed.Handed, declared.job.Back.Back, declared.job.Ending.Ending}
+use Rattle.tc_exec.specs.{Case.AreCalled, Case.IsHandedBack, Case.IsMadeOf, Case.IsOutOfMemory, Inside.AreLeftBy, Inside.Gathers, Inside.HasStarved, Inside.IsOneStarved, Inside.is_starved, Workers.IsLeftBy, Workers.IsWorked, Workers.WasCalled, Workers.WasCalledFor, Workers.opening_pass, Workers.HasLeft}
+use Rattle.tc_exec.specs.declared.{gathered.Gathered.Gathered, handed.Handed.Handed, job.Back.Back, job.Ending.Ending}
 
 -- memory ran out neither before nor now
 pub neither : (before now after : Bool) → after ≡ (before || now) → after ≡ false → (before ≡ false) × (now ≡ false)
@@ -245,3 +246,12 @@ module _ {B : Type 0} (outcome : B → PassState → Back → Type 0) where
       let h = starved_at runs bs (one refl) in
       let same : get_or runs h.0 (record { 0 = 0 }) ≡ record { 0 = h.0 } = ap (λ m. let r : Run = record { 0 = m } in r) (number h.0 (record { 0 = 0 }) h.2) in
       inl (h.0, h.1, λ b. subst (λ r. HasStarved outcome r (get_or bs h.0 b)) same (h.3 (record { 0 = 0 }) b))
+
+pub has_left : (p : PassState) (l : LeftState) → l.run ≡ p.run → l.started ≡ Some (p.me, p.args) → (has_ended p ≡ true → l.log ≡ p.log) →
+    (has_ended p ≡ false → (r : Reply) × (l.log ≡ (with_own_entry p Op.Finish r).log) × ((is_ok r || is_ended r || is_fault r) ≡ true)) → HasLeft p l
+has_left p l run started ended finished = record {
+  run = run;
+  started = started;
+  ended = ended;
+  finished = finished;
+}

@@ -5,7 +5,7 @@ use Rattle.tc_rules.specs.Prelude.{Run, Comp, Entry, comp_of, part, log_if, logs
 use Rattle.tc_rules.specs.declared.closed.Closed.{Closed}
 use Rattle.tc_book.specs.Prelude.{IsFitting, PassState, LeftState, start_of}
 use Rattle.tc_book.proofs.Lemmas.PartOf.{comp_is}
-use Rattle.tc_exec.specs.{Case.IsMadeOf, Logs.AreLogsBy, Logs.IsLogBy, Workers.IsLeftBy, declared.job.Back.Back}
+use Rattle.tc_exec.specs.{Case.IsMadeOf, Case.AreLogsBy, Case.IsLogBy, Workers.IsLeftBy, declared.job.Back.Back}
 use Rattle.tc_exec.proofs.Lemmas.Calls.{unstarted_comp}
 
 module _ {B : Type 0} (outcome : B → PassState → Back → Type 0) (own : (b : B) (p : PassState) (k : Back) → outcome b p k → k.pass.run ≡ p.run) where

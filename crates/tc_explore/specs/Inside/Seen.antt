@@ -1,10 +1,10 @@
 -- The states that a search has seen.
-use Rattle.std.specs.Prelude.{ℕ, ◌⊎◌, List, ◌∷◌, ◌≡◌, true, false, ◌<◌, length, slice_index_or, ◌≤◌, ◌&&◌, nat_le, if◌then◌else◌, Bool, Option, None, Some, [], ◌++◌, map, slice_get, All}
+use Rattle.std.specs.Prelude.{ℕ, ◌⊎◌, List, ◌∷◌, ◌≡◌, true, false, ◌<◌, length, slice_index_or, ◌≤◌, ◌&&◌, nat_le, ◌-◌, if◌then◌else◌, Bool, Option, None, Some, [], ◌++◌, map, slice_get, All}
 use Rattle.tc_rules.specs.Prelude.{Entry, local_if_any, is_active, Run, Verdict, level_of, Op, is_fault, Case, past_of, is_over, overall, answer}
 use Rattle.tc_step.specs.Prelude.{ScriptView}
 use Rattle.tc_course.specs.declared.witness.Witness.{Witness}
-use Rattle.tc_course.specs.Prelude.{carried_on, IsTurn, IsCourse, CannotGo, AreWitnesses, IsWitness, is_found, stand, goes_on, entry_made, IsOn}
-use Rattle.tc_explore.specs.{Found.AreCovered, Found.AreReached, Found.Covers, Inside.Simulation.IsAlike, Inside.Simulation.IsClosed, Inside.Simulation.IsClosedFor, Inside.Simulation.IsCovered, Inside.Simulation.IsFor, Inside.Simulation.IsWithin, Inside.Simulation.is_spent, Inside.Twins.key_of, declared.findings.Findings.Findings, declared.search.Met.Met}
+use Rattle.tc_course.specs.Prelude.{carried_on, IsTurn, IsCourse, CannotGo, AreWitnesses, AllFound, IsWitness, is_found, stand, goes_on, entry_made, IsOn}
+use Rattle.tc_explore.specs.{Found.AreAllMet, Found.AreCovered, Found.AreReached, Found.Covers, Inside.Simulation.IsAlike, Inside.Simulation.IsClosed, Inside.Simulation.IsClosedFor, Inside.Simulation.IsCovered, Inside.Simulation.IsFor, Inside.Simulation.IsWithin, Inside.Simulation.is_silent, Inside.Simulation.is_spent, Inside.Twins.key_of, declared.findings.Findings.Findings, declared.search.Extent.Extent, declared.search.Met.Met}
 
 -- the next call of run b is made, if it can continue
 abbrev pub IsStepped : List ScriptView → List Entry → List Entry → ℕ → Type 0
@@ -64,6 +64,11 @@ IsCalm scripts past = (b : ℕ) → b < length scripts → IsCalmAt scripts past
 abbrev pub IsLoudAt : ℕ → List Entry → ℕ → Op → Type 0
 IsLoudAt n past b op = goes_on (answer n past b op) ≡ true → is_fault (answer n past b op) ≡ false → is_spent past op ≡ false
 
+-- somebody can see that it was made
+abbrev pub IsSeenBy : Verdict → List ScriptView → Case → ℕ → Op → Type 0
+IsSeenBy aim scripts t b op =
+    goes_on (answer t.behaviours (past_of t) b op) ≡ true → is_fault (answer t.behaviours (past_of t) b op) ≡ false → is_silent aim scripts (past_of t) b op ≡ false
+
 -- the course is as long as it was, and so it is of the next call of run b
 abbrev pub IsCalmAfter : List ScriptView → Case → Case → ℕ → Type 0
 IsCalmAfter scripts before after b = (past_of after ≡ past_of before) × IsCalmAt scripts (past_of before) b
@@ -89,9 +94,14 @@ pub record AreKept (aim : Verdict) (scripts : List ScriptView) (met : Met) (foun
   pub keyed : AreKeyed scripts met
   pub counted : All (λ t. Covers found.reached.items (past_of t)) met.states.items
 
--- the states are these, or one more
+-- a case of as many behaviours and of the same entries
+pub record IsSameCase (t u : Case) : Type 0 where
+  pub behaviours : u.behaviours ≡ t.behaviours
+  pub entries : u.history ≡ t.history
+
+-- the states are these, or that of this case more
 abbrev pub IsWith : List Case → Case → List Case → Type 0
-IsWith before t after = (after ≡ before) ⊎ (after ≡ before ++ t ∷ [])
+IsWith before t after = (after ≡ before) ⊎ ((u : Case) × IsSameCase t u × (after ≡ before ++ u ∷ []))
 
 -- there are as many numbers, and none is less
 pub record IsNoLess (before after : List ℕ) : Type 0 where
@@ -112,9 +122,18 @@ IsStillAt scripts past b = (e : Entry) → e.caller.0 ≡ b → IsTurn scripts p
 abbrev pub AreStill : List ScriptView → List Entry → ℕ → Type 0
 AreStill scripts past n = (b : ℕ) → b < n → IsStillAt scripts past b
 
--- the next call of each run does not continue
+-- the next call of run b does not continue
+abbrev pub IsHeldAt : List ScriptView → List Entry → ℕ → Type 0
+IsHeldAt scripts past b = (e : Entry) → e.caller.0 ≡ b → IsTurn scripts past e → goes_on e.reply ≡ false
+
+-- so it is of each run
 abbrev pub AreHeld : List ScriptView → List Entry → Type 0
-AreHeld scripts past = (b : ℕ) → b < length scripts → (e : Entry) → e.caller.0 ≡ b → IsTurn scripts past e → goes_on e.reply ≡ false
+AreHeld scripts past = (b : ℕ) → b < length scripts → IsHeldAt scripts past b
+
+-- the run at a place among n, from the highest on or from the lowest
+abbrev pub run_at : Bool → ℕ → ℕ → ℕ
+run_at true n k = n - 1 - k
+run_at false n k = k
 
 -- one of these states is that after r
 abbrev pub IsSeen : List Case → List Entry → Type 0
@@ -123,6 +142,14 @@ IsSeen states r = (i : ℕ) × (t : Case) × (slice_get states i ≡ Some t) × 
 -- what was found so far: witnesses, and how many calls each run carries out in some course, in these at least
 abbrev pub IsNoted : List ScriptView → Findings → Type 0
 IsNoted scripts f = AreNoted scripts f.witnesses.items × AreReached scripts f.reached.items × AreCovered f.reached.items f.witnesses.items
+
+-- what the searches up to each aim have found, and how far they went
+pub record IsSearched (scripts : List ScriptView) (limit : ℕ) (found : Findings) (e : Extent) : Type 0 where
+  pub noted : IsNoted scripts found
+  pub met : AreAllMet scripts found.reached.items e.states
+  pub complete : e.is_whole ≡ true → AllFound scripts found.witnesses.items
+  pub within : e.states ≤ limit
+  pub full : e.is_whole ≡ false → e.states ≡ limit
 
 -- there may be more after it
 abbrev pub IsLonger : {A : Type 0} → List A → List A → Type 0

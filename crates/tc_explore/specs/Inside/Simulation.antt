@@ -1,7 +1,7 @@
 -- A history represents others that differ from it only in calls that nobody can see were made: those that change
 -- nothing but their caller's place, and the ends of runs.
 use Rattle.std.specs.Prelude.{ℕ, suc, ◌≡◌, ◌==◌, ◌<◌, ◌≤◌, ◌-◌, ◌⊎◌, ◌&&◌, ◌||◌, not, nat_le, nat_lt, Bool, true, false, Option, Some, None, List, ◌∷◌, MatchOption, length, slice_get}
-use Rattle.tc_rules.specs.Prelude.{Run, Verdict, level_of, given, Comp, Entry, Op, Target, Phase, is_fault, comps, comp_of, is_alive_type, is_over, phase, phase_if_any, overall, fault, is_active, Group}
+use Rattle.tc_rules.specs.Prelude.{Run, Verdict, level_of, given, Comp, Entry, Op, Target, Phase, is_fault, comps, comp_of, is_alive_type, is_over, is_comp, phase, phase_if_any, overall, fault, is_active, Group}
 use Rattle.tc_step.specs.Prelude.{ScriptView}
 use Rattle.tc_course.specs.{Inside.call_of, declared.witness.Witness.Witness}
 use Rattle.tc_course.specs.Prelude.{CourseState, stand, goes_on, steps_of, turn, IsTurn, IsCourse, is_found}
@@ -182,6 +182,33 @@ pub record IsFelling (aim : Verdict) (scripts : List ScriptView) (q : List Entry
   pub comp : Comp
   pub halts_it : (op ≡ Op.Stop (Group.One comp)) ⊎ (op ≡ Op.Kill (Group.One comp))
   pub felled : IsFelled aim scripts q b comp
+
+-- the call ends run b, which is not the main one, on a component that nothing can start again
+abbrev pub is_end : List Entry → ℕ → Option Comp → Op → Bool
+is_end q b (Some comp) Op.Finish = not (b == 0) && not (is_alive_type q comp.0)
+is_end q b on op = false
+
+-- the call, if there is one, sets a verdict worse than this one
+abbrev pub bars_next : Verdict → Option Op → Bool
+bars_next aim (Some op) = is_barred aim op
+bars_next aim None = false
+
+-- a component in this phase has a run on it, other than b and the main one, that is barred there, and nothing can start it again
+abbrev pub is_felled : Verdict → List ScriptView → List Entry → ℕ → Comp → Option Phase → Bool
+is_felled aim scripts q b comp (Some (Phase.Running run)) =
+    (nat_lt run.0 (length scripts) && (not (comp.0 == 0) && (not (run.0 == 0) && not (b == run.0))))
+    && (is_comp (stand q run.0).comp comp.0 && (not (is_alive_type q comp.0) && bars_next aim (turn scripts q run.0)))
+is_felled aim scripts q b comp at = false
+
+-- the call of run b stops or kills such a component
+abbrev pub is_felling : Verdict → List ScriptView → List Entry → ℕ → Op → Bool
+is_felling aim scripts q b (Op.Stop (Group.One comp)) = is_felled aim scripts q b comp (phase_if_any q comp.0)
+is_felling aim scripts q b (Op.Kill (Group.One comp)) = is_felled aim scripts q b comp (phase_if_any q comp.0)
+is_felling aim scripts q b op = false
+
+-- nobody can see that run b made this call
+abbrev pub is_silent : Verdict → List ScriptView → List Entry → ℕ → Op → Bool
+is_silent aim scripts q b op = is_spent q op || (is_end q b (stand q b).comp op || (is_quiet aim op || is_felling aim scripts q b op))
 
 -- nobody can see that run b made this call, except that the verdict may be worse then, but no worse than this one
 abbrev pub IsSilent : Verdict → List ScriptView → List Entry → ℕ → Op → Type 0

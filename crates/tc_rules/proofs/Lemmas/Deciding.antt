@@ -3,7 +3,7 @@ use Rattle.std.proofs.Common.{ℕ, ◌≡◌, ◌==◌, ◌&&◌, ◌<◌, ◌�
 use Rattle.std.proofs.lemmas.Bool.Decides.{nat_tests}
 use Rattle.tc_entry.specs.declared.{comp.Comp.Comp, op.Op.Op, reply.Reply.Reply}
 use Rattle.tc_entry.specs.Prelude.{is_ok}
-use Rattle.tc_rules.specs.{History.first_some, History.is_comp, History.is_finish, History.is_kill_of, History.is_stop_case, History.is_stop_of, Inside.Laws.halting_op}
+use Rattle.tc_rules.specs.{Inside.Words.first_some, History.is_comp, History.is_finish, History.is_kill_of, History.is_stop_case, History.is_stop_of, Inside.Laws.halting_op}
 
 pub self_equal : (m : ℕ) → (m == m) ≡ true
 self_equal m = grind (arith, nat_tests)

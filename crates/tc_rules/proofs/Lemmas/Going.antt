@@ -2,7 +2,7 @@
 use Rattle.std.proofs.Common.{ℕ, ◌≡◌, ◌<◌, ◌==◌, ◌&&◌, ◌||◌, not, nat_le, if◌then◌else◌, Bool, true, false, Option, Some, None, is_some, List, [], ◌∷◌, refl, ap, sym, ◌∙◌}
 use Rattle.tc_entry.specs.Prelude.{Run, is_ended, is_fault, is_ok}
 use Rattle.tc_entry.specs.declared.{comp.Comp.Comp, entry.Entry.Entry, op.Op.Op, phase.Phase.Phase, reply.Fault.Fault, reply.Reply.Reply}
-use Rattle.tc_rules.specs.{Answers.answer, Answers.is_active, Answers.is_run_of, Faults.start_fault, History.comp_of, History.exists, History.first_some, History.halts, History.is_alive_type, History.is_comp, History.is_finish, History.is_kill_of, History.is_stop_case, History.is_stop_of, History.kills, History.started_on, History.starts_on, History.starts_run, Inside.Laws.halting_op, Inside.Laws.may_halt, Legal.IsLegal, Phases.last_run, Phases.phase, Phases.start_in, Phases.was_halted, Phases.was_killed, Status.is_killed, Status.is_running}
+use Rattle.tc_rules.specs.{Answers.answer, Answers.is_active, Answers.is_run_of, Faults.start_fault, History.comp_of, History.exists, Inside.Words.first_some, History.halts, History.is_alive_type, History.is_comp, History.is_finish, History.is_kill_of, History.is_stop_case, History.is_stop_of, History.kills, History.started_on, Inside.Words.starts_on, Inside.Words.starts_run, Inside.Laws.halting_op, Inside.Laws.may_halt, Legal.IsLegal, Phases.last_run, Phases.phase, Phases.start_in, Phases.was_halted, Phases.was_killed, Status.is_killed, Status.is_running}
 use Rattle.tc_rules.proofs.Lemmas.{Deciding.and_no, Deciding.equal_if, Deciding.no_finish, Deciding.no_kill, Deciding.no_stop, Deciding.no_stop_case, Deciding.ok_is, Deciding.self_equal, Deciding.test_by, Keeping.kill_halts, Kept.inactive, Over.on_existing, Sound.IsPlain, Sound.no_special, Sound.plain_if, Sound.runs_on, Sound.starts, Sound.starts_fresh, Steps.phase_by}
 
 -- this is run b

@@ -3,7 +3,7 @@ use Rattle.std.proofs.Common.{ℕ, ◌≡◌, ◌<◌, ◌≤◌, ◌==◌, ◌&
 use Rattle.std.specs.List.{list_all}
 use Rattle.tc_entry.specs.declared.{comp.Comp.Comp, entry.Entry.Entry}
 use Rattle.tc_entry.specs.Prelude.{is_ended, is_ok}
-use Rattle.tc_rules.specs.{Answers.answer, Faults.all_exist, Faults.target_names, History.add_new, History.comp_of, History.comps, History.created, History.ends_case, History.exists, History.first_some, History.halts, History.is_alive_create, History.is_comp, History.is_finish, History.is_in, History.is_kill_of, History.is_over, History.is_stop_of, History.kills, History.starts_run, Inside.Counts.made_state, Inside.Kept.IsKept, Inside.Kept.numbers_from, Inside.Step.next_run, Inside.Step.next_state, Phases.last_run, Phases.start_in, Phases.was_halted, Phases.was_killed, Standing.Kept, Standing.StandsFor, Waiting.parks, Waiting.waiting, declared.awaited.Awaited.Awaited, declared.component_state.ComponentState.ComponentState, declared.run_state.RunState.RunState}
+use Rattle.tc_rules.specs.{Answers.answer, Faults.all_exist, Faults.target_names, History.add_new, History.comp_of, History.comps, History.created, History.ends_case, History.exists, Inside.Words.first_some, History.halts, History.is_alive_create, History.is_comp, History.is_finish, History.is_in, History.is_kill_of, History.is_over, History.is_stop_of, History.kills, Inside.Words.starts_run, Inside.Counts.made_state, Inside.Kept.IsKept, Inside.Kept.numbers_from, Inside.Step.next_run, Inside.Step.next_state, Phases.last_run, Phases.start_in, Phases.was_halted, Phases.was_killed, Standing.Kept, Standing.StandsFor, Waiting.parks, Waiting.waiting, declared.awaited.Awaited.Awaited, declared.component_state.ComponentState.ComponentState, declared.run_state.RunState.RunState}
 use Rattle.tc_rules.proofs.Lemmas.{Deciding.equal_if, Deciding.other_comp, Fresh.fresh_step, Kept.existing, Kept.exists_if, Kept.exists_unless, Sound.no_parks, Sound.parked, Sound.runs_on, Sound.starts, Sound.starts_fresh, Steps.run_step, Steps.state_step}
 
 halting_by : (ended ends fin stop kill : Bool) → (ends || (not ended && kill)) ≡ true → (ends || (not ended && (fin || stop || kill))) ≡ true

@@ -3,7 +3,7 @@ use Rattle.std.proofs.Common.{ℕ, ◌≡◌, if◌then◌else◌, Bool, true, f
 use Rattle.std.proofs.lemmas.Bool.Decides.{nat_tests}
 use Rattle.tc_entry.specs.Prelude.{Verdict, worst, is_ended}
 use Rattle.tc_entry.specs.declared.{comp.Comp.Comp, entry.Entry.Entry, op.Op.Op, phase.Phase.Phase, reply.Reply.Reply}
-use Rattle.tc_rules.specs.{Answers.answer, Answers.answer_unless, Answers.is_active, Answers.is_active_on, Answers.is_run_of, Answers.plain_answer, Faults.fault, History.comp_of, History.exists, History.halts, History.is_comp, History.kills, Laws.AnsweredIsRunning, Laws.KilledWasHalted, Laws.LocalOfWhole, Laws.OverForAll, Laws.RunsNow, Laws.SameComponentLater, Laws.verdicts_in, Legal.IsLegal, Local.gives, Local.local, Local.verdicts_of, Phases.phase, Phases.start_in, Phases.was_halted, Phases.was_killed}
+use Rattle.tc_rules.specs.{Answers.answer, Inside.Words.answer_unless, Answers.is_active, Inside.Words.is_active_on, Answers.is_run_of, Answers.plain_answer, Faults.fault, History.comp_of, History.exists, History.halts, History.is_comp, History.kills, Laws.AnsweredIsRunning, Laws.KilledWasHalted, Laws.LocalOfWhole, Laws.OverForAll, Inside.Words.RunsNow, Laws.SameComponentLater, Laws.verdicts_in, Legal.IsLegal, Local.gives, Local.local, Local.verdicts_of, Phases.phase, Phases.start_in, Phases.was_halted, Phases.was_killed}
 use Rattle.tc_rules.proofs.Lemmas.{Keeping.halted_by, Keeping.kill_halts, Over.all_over, Sound.starts}
 
 pub over_for_all : OverForAll
@@ -65,11 +65,15 @@ ended_gives_none op Reply.Matched h = absurd cc
 ended_gives_none op Reply.Parked h = absurd cc
 ended_gives_none op (Reply.Fault f) h = absurd cc
 
-none_given : (t u : Bool) (given vs ws : List Verdict) → given ≡ [] → vs ≡ ws → (if t then given ++ vs else vs) ≡ (if u then given ++ ws else ws)
+none_given : (t u : Bool) (given vs ws : List Verdict) → given ≡ [] → vs ≡ ws → (if t then given else []) ++ vs ≡ (if u then given ++ ws else ws)
 none_given true true given vs ws g e = rw (g, e) refl
 none_given true false given vs ws g e = rw (g, e) refl
 none_given false true given vs ws g e = rw (g, e) refl
 none_given false false given vs ws g e = e
+
+given_if : (t : Bool) (given vs : List Verdict) → (if t then given else []) ++ vs ≡ (if t then given ++ vs else vs)
+given_if true given vs = refl
+given_if false given vs = refl
 
 same_verdicts : (n : ℕ) (past later : List Entry) (c : ℕ) → IsLegal n past → verdicts_in (later ++ past) past c ≡ verdicts_of past c
 same_verdicts n [] later c legal = refl
@@ -80,7 +84,7 @@ same_verdicts n (e ∷ past) later c legal =
     by_reply true h same =
         none_given (is_comp (comp_of (later ++ e ∷ past) e.caller.0) c) (is_comp (comp_of past e.caller.0) c) (gives e.op e.reply) (verdicts_in (later ++ e ∷ past) past c) (verdicts_of past c)
         (ended_gives_none e.op e.reply h) same
-    by_reply false h same = rw (same_component_later n past later e legal h, same) refl
+    by_reply false h same = rw (same_component_later n past later e legal h, same) (given_if (is_comp (comp_of past e.caller.0) c) (gives e.op e.reply) (verdicts_of past c))
 
 pub local_of_whole : LocalOfWhole
 unfolding local

@@ -3,7 +3,7 @@ use Rattle.std.proofs.Common.{ℕ, ◌≡◌, ◌==◌, ◌&&◌, ◌||◌, not,
 use Rattle.std.specs.List.{list_any, list_all}
 use Rattle.tc_entry.specs.Prelude.{Run, is_ended, is_fault, is_ok}
 use Rattle.tc_entry.specs.declared.{comp.Comp.Comp, entry.Entry.Entry, op.Op.Op, op.Target.Target, phase.Phase.Phase, reply.Fault.Fault, reply.Reply.Reply}
-use Rattle.tc_rules.specs.{Answers.answer, Answers.answer_unless, Answers.is_active, Answers.is_active_on, Answers.is_run_of, Faults.all_exist, Faults.asks_many, Faults.fault, Faults.target_names, History.add_new, History.comp_of, History.comps, History.created, History.ends_case, History.exists, History.first_some, History.halts, History.is_alive_type, History.is_finish, History.is_in, History.kills, History.starts_on, History.starts_run, Inside.Laws.WakesNobody, Inside.Laws.halting_op, Inside.Laws.is_quiet, Inside.Laws.keeps_phases, Inside.Laws.lets_go_on, Legal.IsLegal, Phases.last_run, Phases.phase, Phases.phase_if_not_killed, Phases.start_in, Phases.was_halted, Phases.was_killed, Status.done, Status.is_done, Status.is_killed, Status.is_running, Status.killed, Waiting.holds, Waiting.is_still, Waiting.is_stuck, Waiting.parks, Waiting.waiting, declared.awaited.Awaited.Awaited}
+use Rattle.tc_rules.specs.{Answers.answer, Inside.Words.answer_unless, Answers.is_active, Inside.Words.is_active_on, Answers.is_run_of, Faults.all_exist, Faults.asks_many, Faults.fault, Faults.target_names, History.add_new, History.comp_of, History.comps, History.created, History.ends_case, History.exists, Inside.Words.first_some, History.halts, History.is_alive_type, History.is_finish, History.is_in, History.kills, Inside.Words.starts_on, Inside.Words.starts_run, Inside.Laws.WakesNobody, Inside.Laws.halting_op, Inside.Laws.is_quiet, Inside.Laws.keeps_phases, Inside.Laws.lets_go_on, Legal.IsLegal, Phases.last_run, Phases.phase, Inside.Words.phase_if_not_killed, Phases.start_in, Phases.was_halted, Phases.was_killed, Status.done, Status.is_done, Status.is_killed, Status.is_running, Status.killed, Waiting.holds, Waiting.is_still, Waiting.is_stuck, Waiting.parks, Waiting.waiting, declared.awaited.Awaited.Awaited}
 use Rattle.tc_rules.proofs.Lemmas.{Deciding.and_left, Deciding.and_no, Deciding.and_right, Deciding.first_alone, Deciding.if_same, Deciding.no_finish, Deciding.no_kill, Deciding.no_stop, Deciding.no_stop_case, Deciding.none_if, Deciding.self_equal, LawsOfHistories.answered_is_running, Over.on_existing, Over.stays, Sound.starts, Stuck.one_false}
 
 -- what an operation that keeps the phases is not

@@ -3,7 +3,7 @@ use Rattle.std.proofs.Common.{ℕ, ◌≡◌, ◌<◌, ◌==◌, ◌&&◌, ◌||
 use Rattle.std.proofs.lemmas.Bool.Decides.{nat_tests}
 use Rattle.tc_entry.specs.declared.{comp.Comp.Comp, entry.Entry.Entry, limits.TheConstants.COMPONENTS, op.Op.Op, reply.Fault.Fault, reply.Reply.Reply}
 use Rattle.tc_entry.specs.Prelude.{Run, is_ended, is_fault, is_ok}
-use Rattle.tc_rules.specs.{Answers.answer, Answers.answer_unless, Answers.is_active, Answers.plain_answer, Faults.all_exist, Faults.asks_many, Faults.components, Faults.fault, Faults.names, Faults.special_fault, Faults.start_fault, Faults.target_names, History.comp_of, History.created, History.exists, History.is_alive_create, History.is_alive_type, History.kills, History.starts_on, History.starts_run, Phases.last_run, Phases.phase, Phases.start_in, Phases.was_halted, Phases.was_killed, Status.is_killed, Status.is_running, Waiting.awaited, Waiting.parks, declared.awaited.Awaited.Awaited}
+use Rattle.tc_rules.specs.{Answers.answer, Inside.Words.answer_unless, Answers.is_active, Answers.plain_answer, Faults.all_exist, Faults.asks_many, Faults.components, Faults.fault, Faults.names, Faults.special_fault, Faults.start_fault, Faults.target_names, History.comp_of, History.created, History.exists, History.is_alive_create, History.is_alive_type, History.kills, Inside.Words.starts_on, Inside.Words.starts_run, Phases.last_run, Phases.phase, Phases.start_in, Phases.was_halted, Phases.was_killed, Status.is_killed, Status.is_running, Waiting.awaited, Waiting.parks, declared.awaited.Awaited.Awaited}
 use Rattle.tc_rules.proofs.Lemmas.{Deciding.equal_if, Deciding.ok_is, Deciding.self_equal, Deciding.test_by, Kept.all_exist_more, Steps.phase_by}
 
 -- the call was made by a run that is active, and is no error

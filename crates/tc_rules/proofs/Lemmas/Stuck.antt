@@ -4,7 +4,7 @@ use Rattle.std.specs.List.{list_all}
 use Rattle.std.proofs.lemmas.Bool.Decides.{nat_tests}
 use Rattle.tc_entry.specs.Prelude.{Run}
 use Rattle.tc_entry.specs.declared.{comp.Comp.Comp, entry.Entry.Entry, phase.Phase.Phase}
-use Rattle.tc_rules.specs.{Answers.is_active, Answers.is_run_of, History.comp_of, History.comps, History.exists, History.is_alive_type, History.is_in, Inside.Kept.IsKept, Inside.States.goes_on, Phases.last_run, Phases.phase, Phases.was_halted, Phases.was_killed, Waiting.is_still, Waiting.is_stuck, Waiting.waiting, Waiting.waits_in_vain, declared.component_state.ComponentState.ComponentState, declared.run_state.RunState.RunState}
+use Rattle.tc_rules.specs.{Answers.is_active, Answers.is_run_of, History.comp_of, History.comps, History.exists, History.is_alive_type, History.is_in, Inside.Kept.IsKept, Inside.States.goes_on, Phases.last_run, Phases.phase, Phases.was_halted, Phases.was_killed, Waiting.is_still, Waiting.is_stuck, Waiting.waiting, Inside.Words.waits_in_vain, declared.component_state.ComponentState.ComponentState, declared.run_state.RunState.RunState}
 use Rattle.tc_rules.proofs.Lemmas.{Deciding.and_no, Deciding.self_equal, Kept.exists_if, Steps.phase_by}
 
 all_true : (f : ℕ → Bool) (xs : List ℕ) → ((x : ℕ) → f x ≡ true) → list_all f xs ≡ true

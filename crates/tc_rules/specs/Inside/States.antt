@@ -1,9 +1,9 @@
 -- Tests on what is kept of components.
-use Rattle.std.specs.Prelude.{ℕ, ◌≡◌, ◌&&◌, ◌||◌, not, nat_lt, Bool, true, false, Option, is_some, MatchOption, List, map}
+use Rattle.std.specs.Prelude.{ℕ, ◌&&◌, ◌||◌, not, nat_lt, Bool, is_some, List, map}
 use Rattle.std.specs.List.{list_any, list_all}
 use Rattle.tc_entry.specs.Prelude.{Verdict, worst}
 use Rattle.tc_entry.specs.declared.{comp.Comp.Comp, entry.Entry.Entry}
-use Rattle.tc_rules.specs.{Answers.is_active, Status.is_done, Status.is_killed, Status.is_running, Waiting.waiting, Waiting.waits_in_vain, declared.component_state.ComponentState.ComponentState}
+use Rattle.tc_rules.specs.{Answers.is_active, Status.is_done, Status.is_killed, Status.is_running, Waiting.waiting, Inside.Words.waits_in_vain, declared.component_state.ComponentState.ComponentState}
 
 unfoldable pub any_running : List ComponentState → Bool
 any_running states = list_any (λ s. is_running s.phase) states
@@ -35,10 +35,6 @@ all_below cs count = list_all (λ c. nat_lt c.0 count) cs
 -- run b is active, and does not wait in vain
 unfoldable pub goes_on : List Entry → ℕ → Bool
 goes_on past b = is_active past b && not (waits_in_vain past (waiting past b))
-
--- there is a component exactly if run b is active
-abbrev pub IsThereIfActive : List Entry → ℕ → Option Comp → Type 0
-IsThereIfActive past b comp = MatchOption comp (is_active past b ≡ false) (λ c. is_active past b ≡ true)
 
 unfoldable pub worst_local : List ComponentState → Verdict
 worst_local states = worst (map (λ s. s.local) states)

@@ -1,5 +1,5 @@
 //! Which runs continue, which wait, and whether the case is stuck.
-ghost use Rattle.std.specs.Prelude.{◌≡◌, ◌<◌, true, Some, IfSome, List, length};
+ghost use Rattle.std.specs.Prelude.{◌≡◌, ◌<◌, true, false, Some, IfSome, MatchOption, List, length};
 ghost use Rattle.tc_entry.specs.declared.entry.Entry.{Entry};
 ghost use Rattle.tc_rules.specs.Standing.{StandsFor};
 ghost use Rattle.tc_rules.specs.History as history;
@@ -7,6 +7,7 @@ ghost use Rattle.tc_rules.specs.Waiting as waits;
 ghost use Rattle.tc_rules.specs.Faults as faults;
 ghost use Rattle.tc_rules.specs.Answers as answers;
 ghost use Rattle.tc_rules.specs.Inside.States as tests;
+ghost use Rattle.tc_rules.specs.Inside.Words.{waits_in_vain};
 
 use crate::awaited::Awaited;
 use crate::state::CaseState;
@@ -18,7 +19,7 @@ impl CaseState {
     /// The component of a run that is active.
     #[inline(always)]
     pub fn active_on(&self, caller: Run) -> Option<Comp>
-        ensures active { (past : List Entry) → StandsFor self.now past → tests.IsThereIfActive past caller.0 result }
+        ensures active { (past : List Entry) → StandsFor self.now past → MatchOption result (answers.is_active past caller.0 ≡ false) (λ _. answers.is_active past caller.0 ≡ true) }
         ensures on { (past : List Entry) → StandsFor self.now past → IfSome result (λ c. history.comp_of past caller.0 ≡ Some c) }
         ensures within { IfSome result (λ c. c.0 < length self.now.states) }
     {
@@ -55,7 +56,7 @@ impl CaseState {
     /// Whether a run waits for what has not come.
     #[tactic(auto, using(crate::proofs::Lemmas::Kept::kept_rules, crate::proofs::Lemmas::Kept::wait_rules), unfolding(crate::specs::Standing::StandsFor))]
     pub(crate) fn waits_in_vain(&self, run: Run) -> bool
-        ensures { (past : List Entry) → StandsFor self.now past → result ≡ waits.waits_in_vain past (waits.waiting past run.0) }
+        ensures { (past : List Entry) → StandsFor self.now past → result ≡ waits_in_vain past (waits.waiting past run.0) }
     {
         let runs = self.runs.as_slice();
         if (run.0 as usize) < runs.len() {

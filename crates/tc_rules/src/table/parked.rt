@@ -1,6 +1,6 @@
 //! What a run waits for.
 ghost use Rattle.std.specs.Prelude.{◌≡◌};
-ghost use Rattle.tc_rules.specs.Case.{past_of};
+ghost use Rattle.tc_rules.specs.Standing.{past_of};
 ghost use Rattle.tc_rules.specs.Waiting as waits;
 
 use crate::awaited::Awaited;

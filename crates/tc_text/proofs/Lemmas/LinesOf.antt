@@ -1,8 +1,11 @@
 -- Lines, and what follows them.
-use Rattle.std.proofs.Common.{◌≡◌, ◌≢◌, ◌∙◌, ◌==◌, inl, inr, ℕ, List, [], ◌∷◌, ◌++◌, Bool, true, false, if◌then◌else◌, length, ◌<◌, sym, ap, refl, arith}
-use Rattle.std.specs.List.{onto_first, AllByRecursion}
-use Rattle.std.proofs.lemmas.Bool.Decides.{nat_tests}
-use Rattle.tc_text.specs.{MoveList.lines_of, Reading.EndsLine}
+use Rattle.std.proofs.Common.{◌≡◌, ◌≢◌, ◌∙◌, ◌==◌, inl, inr, ℕ, List, [], ◌∷◌, ◌++◌, Bool, true, false, if◌then◌else◌, length, ◌<◌, sym, ap, refl, arith, ◌^◌, codes, Some, None, rules, ◌+◌, ◌≤◌, IsTrue, All, take, get_or}
+use Rattle.std.specs.{List.onto_first, List.AllByRecursion, Fmt.decimal, Char.is_ascii_digit, Str.all_ascii_digits}
+use Rattle.std.proofs.lemmas.{Bool.Decides.nat_tests, List.Elements.All-head, List.Elements.All-tail, List.take_more}
+use Rattle.tc_text.specs.{MoveList.lines_of, Reading.EndsLine, MoveList.IsMove, MoveList.Move, MoveList.behaviours_line, MoveList.move_line, Reading.EndsMove, Reading.EndsNumber, Reading.EndsReply, Spelling.IsOp, Spelling.move_text, Spelling.AreComps, Spelling.IsGroup, Spelling.IsTarget, Spelling.args_text, Spelling.group_text, Spelling.op_text, Spelling.target_text, Inside.NoLow}
+use Rattle.tc_entry.specs.Prelude.{Run, IsBehaviours, name_of, given, UserVerdict, IsName, is_name_byte}
+use Rattle.tc_entry.specs.declared.{op.Op.Op, comp.Comp.Comp, op.Group.Group, op.Target.Target}
+use Rattle.tc_text.proofs.{Operands.IsThatNumber, Operands.ends_nothing, Lemmas.Digits.both, Lemmas.Digits.digit_first, Lemmas.Digits.spelled_digits}
 
 -- no byte is LF
 abbrev pub NoLf : List ℕ → Type 0
@@ -106,3 +109,195 @@ ended_lines (l ∷ ls) = l ++ 10 ∷ ended_lines ls
 pub lines-ended_lines : (ls : List (List ℕ)) → AllByRecursion NoLf ls → lines_of (ended_lines ls) ≡ ls
 lines-ended_lines [] plain = refl
 lines-ended_lines (l ∷ ls) plain = line_of l (ended_lines ls) plain.0 ∙ ap (λ x. l ∷ x) (lines-ended_lines ls plain.1)
+
+-- a line may end after a move
+not_low : (b : ℕ) → is_name_byte b ≡ true → 48 ≤ b
+not_low b allowed = grind (arith, nat_tests)
+
+none_low : (bs : List ℕ) → All (λ b. IsTrue (is_name_byte b)) bs → NoLow bs
+none_low [] all = tt
+none_low (b ∷ bs) all = (not_low b (All-head (λ x. IsTrue (is_name_byte x)) b bs all), none_low bs (All-tail (λ x. IsTrue (is_name_byte x)) b bs all))
+
+pub name_not_low : (name : List ℕ) → IsName name → NoLow name
+name_not_low name is = none_low name is.allowed
+
+no_feed : (b : ℕ) → 48 ≤ b → (b == 10) ≡ false
+no_feed b high = grind (arith, nat_tests)
+
+low_plain : (bs : List ℕ) → NoLow bs → NoLf bs
+low_plain [] none = tt
+low_plain (b ∷ bs) none = (no_feed b none.0, low_plain bs none.1)
+
+pub name_plain : (name : List ℕ) → IsName name → NoLf name
+name_plain name is = low_plain name (name_not_low name is)
+
+more : (xs : List ℕ) (x : ℕ) → NoLow xs → 48 ≤ x → NoLow (xs ++ x ∷ [])
+more [] x none high = (high, tt)
+more (y ∷ ys) x none high = (none.0, more ys x none.1 high)
+
+pub no_low_take : (xs : List ℕ) (i d : ℕ) → i < length xs → NoLow (take i xs) → 48 ≤ get_or xs i d → NoLow (take (i + 1) xs)
+no_low_take xs i d below none high = rw (take_more xs i d below) (more (take i xs) (get_or xs i d) none high)
+
+first_is : (x y : ℕ) (xs ys : List ℕ) → x ∷ xs ≡ y ∷ ys → x ≡ y
+first_is x y xs ys e = cc
+
+others_are : (x y : ℕ) (xs ys : List ℕ) → x ∷ xs ≡ y ∷ ys → xs ≡ ys
+others_are x y xs ys e = cc
+
+-- a text has one place before which no byte is low, and after which one is or none comes
+pub same_cut : (name rest before after : List ℕ) → NoLow name → EndsNumber rest → NoLow before → EndsNumber after → name ++ rest ≡ before ++ after → (before ≡ name) × (after ≡ rest)
+same_cut [] rest [] after none ends none' ends' e = (refl, sym e)
+same_cut [] rest (b ∷ bs) after none ends none' ends' e = let low = ends b (bs ++ after) e in absurd (let high = none'.0 in omega (arith, low, high))
+same_cut (x ∷ xs) rest [] after none ends none' ends' e = let low = ends' x (xs ++ rest) (sym e) in absurd (let high = none.0 in omega (arith, low, high))
+same_cut (x ∷ xs) rest (b ∷ bs) after none ends none' ends' e =
+    let same = first_is x b (xs ++ rest) (bs ++ after) e in
+    let two = same_cut xs rest bs after none.1 ends none'.1 ends' (others_are x b (xs ++ rest) (bs ++ after) e) in
+    (let tail = two.0 in cc, two.1)
+
+digit_plain : (b : ℕ) → is_ascii_digit b ≡ true → (b == 10) ≡ false
+digit_plain b digit = grind (arith, nat_tests)
+
+digits_plain : (ds : List ℕ) → all_ascii_digits ds ≡ true → NoLf ds
+digits_plain [] all = tt
+digits_plain (d ∷ ds) all = let two = both (is_ascii_digit d) (all_ascii_digits ds) all in (digit_plain d two.0, digits_plain ds two.1)
+
+pub number_plain : (n : ℕ) → n < 2 ^ 32 → NoLf (decimal n)
+number_plain n fits = digits_plain (decimal n) (spelled_digits n fits).0
+
+group_plain : (g : Group) → IsGroup g → NoLf (group_text g)
+group_plain (Group.One c) fits = number_plain c.0 fits
+group_plain Group.All fits = search rules
+
+target_plain : (t : Target) → IsTarget t → NoLf (target_text t)
+target_plain (Target.One c) fits = number_plain c.0 fits
+target_plain Target.Any fits = search rules
+target_plain Target.All fits = search rules
+
+args_plain : (cs : List Comp) → AreComps cs → NoLf (args_text cs)
+args_plain [] fits = tt
+args_plain (c ∷ cs) fits = (refl, no_lf-append (decimal c.0) (args_text cs) (number_plain c.0 fits.0) (args_plain cs fits.1))
+
+setting_plain : (v : UserVerdict) → NoLf (name_of (given v))
+setting_plain UserVerdict.None = search rules
+setting_plain UserVerdict.Pass = search rules
+setting_plain UserVerdict.Inconc = search rules
+setting_plain UserVerdict.Fail = search rules
+
+op_plain : (op : Op) → IsOp op → NoLf (op_text op)
+op_plain (Op.Create false None) fits = search rules
+op_plain (Op.Create true None) fits = search rules
+op_plain (Op.Create false (Some name)) fits = no_lf-append (codes "create named ") name (search rules) (name_plain name fits)
+op_plain (Op.Create true (Some name)) fits = no_lf-append (codes "create alive named ") name (search rules) (name_plain name fits)
+op_plain (Op.Start c run args) fits =
+    no_lf-append (codes "start ") _ (search rules)
+    (no_lf-append (decimal c.0) _ (number_plain c.0 fits.0) (refl, no_lf-append (decimal run.0) (args_text args) (number_plain run.0 (let low = fits.1 in omega (arith, low))) (args_plain args fits.3)))
+op_plain (Op.Stop g) fits = no_lf-append (codes "stop ") (group_text g) (search rules) (group_plain g fits)
+op_plain (Op.Kill g) fits = no_lf-append (codes "kill ") (group_text g) (search rules) (group_plain g fits)
+op_plain (Op.Running t) fits = no_lf-append (codes "running ") (target_text t) (search rules) (target_plain t fits)
+op_plain (Op.Alive t) fits = no_lf-append (codes "alive ") (target_text t) (search rules) (target_plain t fits)
+op_plain (Op.Done t) fits = no_lf-append (codes "done ") (target_text t) (search rules) (target_plain t fits)
+op_plain (Op.Killed t) fits = no_lf-append (codes "killed ") (target_text t) (search rules) (target_plain t fits)
+op_plain (Op.Wait false t) fits = no_lf-append (codes "wait done ") (target_text t) (search rules) (target_plain t fits)
+op_plain (Op.Wait true t) fits = no_lf-append (codes "wait killed ") (target_text t) (search rules) (target_plain t fits)
+op_plain (Op.Wake false t) fits = no_lf-append (codes "wake done ") (target_text t) (search rules) (target_plain t fits)
+op_plain (Op.Wake true t) fits = no_lf-append (codes "wake killed ") (target_text t) (search rules) (target_plain t fits)
+op_plain (Op.SetVerdict v) fits = no_lf-append (codes "setverdict ") (name_of (given v)) (search rules) (setting_plain v)
+op_plain Op.StopCase fits = search rules
+op_plain Op.GetVerdict fits = search rules
+op_plain Op.Finish fits = search rules
+
+pub move_plain : (run : ℕ) (op : Op) → run < 2 ^ 16 → IsOp op → NoLf (move_text run op)
+move_plain run op low fits = no_lf-append (decimal run) (codes " " ++ op_text op) (number_plain run (omega arith)) (refl, op_plain op fits)
+
+pub behaviours_plain : (n : ℕ) → IsBehaviours n → NoLf (behaviours_line n)
+behaviours_plain n few = no_lf-append (codes "behaviours ") (decimal n) (search rules) (number_plain n (let low = few.1 in omega (arith, low)))
+
+pub some_behaviours : (n : ℕ) → behaviours_line n ≢ []
+some_behaviours n = λ e. cc
+
+pub some_move : (run : ℕ) (op : Op) → run < 2 ^ 16 → move_text run op ≢ []
+some_move run op low = λ e. let first = digit_first run (omega arith) in let is = sym (ap (λ l. l ++ (codes " " ++ op_text op)) first.1.1) ∙ e in cc
+
+-- a byte of a name is a digit, a letter or an underscore
+pub ends_line : (rest behind : List ℕ) → EndsLine rest behind → EndsMove rest
+ends_line rest behind (inl last) = rw last.0 ends_nothing
+ends_line rest behind (inr more) = rw more (record {
+  number = λ b after e. let same : ◌≡◌ {A = ℕ} 10 b = first_is 10 b behind after e in omega (arith, same);
+  word = λ b after e. let same : ◌≡◌ {A = ℕ} 10 32 = first_is 10 32 behind (b ∷ after) e in absurd (omega (arith, same));
+})
+  where
+    first_is : (x y : ℕ) (xs ys : List ℕ) → x ∷ xs ≡ y ∷ ys → x ≡ y
+    first_is x y xs ys e = cc
+
+-- and after a reply
+pub ends_reply : (rest behind : List ℕ) → EndsLine rest behind → EndsReply rest
+ends_reply rest behind (inl last) = rw last.0 (record { number = λ b after e. absurd cc; no_space = λ after e. cc })
+ends_reply rest behind (inr more) = record { number = (ends_line rest behind (inr more)).number; no_space = λ after e. let same : ◌≡◌ {A = ℕ} 10 32 = let whole = sym more ∙ e in cc in omega (arith, same) }
+
+pub move_spelled : (text rest behind : List ℕ) (m : Move) → text ≡ move_text m.0.0 m.1 ++ rest → IsMove m → EndsLine rest behind → lines_of text ≡ move_line m ∷ lines_of behind
+move_spelled text rest behind m spelled fits ends = ap lines_of spelled ∙ line_ended (move_line m) rest behind (some_move m.0.0 m.1 fits.0) (move_plain m.0.0 m.1 fits.0 fits.1) ends
+
+-- no move
+pub never_move : (text : List ℕ) → ((run : ℕ) (op : Op) (rest : List ℕ) → run < 2 ^ 16 → IsOp op → EndsMove rest → text ≡ move_text run op ++ rest → ⊥)
+    → (m : Move) (others : List (List ℕ)) → IsMove m → lines_of text ≡ move_line m ∷ others → ⊥
+never_move text never m others fits lines =
+    let begins = first_line text (move_line m) others lines in
+    never m.0.0 m.1 begins.rest fits.0 fits.1 (ends_line begins.rest begins.behind begins.ends) begins.parts
+
+-- what is read is that, and the end of the line and these lines are after it
+pub record IsThat {A : Type 0} (one that : A) (rest : List ℕ) (others : List (List ℕ)) : Type 0 where
+  pub same : one ≡ that
+  pub behind : List ℕ
+  pub ends : EndsLine rest behind
+  pub lines : lines_of behind ≡ others
+
+ends_at : (x y behind : List ℕ) → x ≡ y → EndsLine y behind → EndsLine x behind
+ends_at x y behind e ends = rw e ends
+
+pub that_line : (text rest : List ℕ) (one : Move) → ((run : ℕ) (op : Op) (after : List ℕ) → run < 2 ^ 16 → IsOp op → EndsMove after → text ≡ move_text run op ++ after → (one ≡ (record { 0 = run }, op)) × (rest ≡ after))
+    → (m : Move) (others : List (List ℕ)) → IsMove m → lines_of text ≡ move_line m ∷ others → IsThat one m rest others
+that_line text rest one only m others fits lines =
+    let begins = first_line text (move_line m) others lines in
+    let two = only m.0.0 m.1 begins.rest fits.0 fits.1 (ends_line begins.rest begins.behind begins.ends) begins.parts in
+    record { same = two.0; behind = begins.behind; ends = ends_at rest begins.rest begins.behind two.1 begins.ends; lines = begins.lines }
+
+-- the same of a move whose caller and operation are read
+pub that_short_line : (text rest : List ℕ) (caller : Run) (op : Op) → ((run : ℕ) (o : Op) (after : List ℕ) → run < 2 ^ 16 → IsOp o → EndsMove after → text ≡ move_text run o ++ after → (caller.0 ≡ run) × (op ≡ o) × (rest ≡ after))
+    → (m : Move) (others : List (List ℕ)) → IsMove m → lines_of text ≡ move_line m ∷ others → IsThat {A = Move} (caller, op) m rest others
+that_short_line text rest caller op only = that_line text rest (caller, op) (λ run o after few is ends parts. let three = only run o after few is ends parts in (same_move caller run op o three.0 three.1, three.2))
+  where
+    move : ℕ → Op → Move
+    move k o = (record { 0 = k }, o)
+
+    same_move : (r : Run) (n : ℕ) (x y : Op) → r.0 ≡ n → x ≡ y → ◌≡◌ {A = Move} (r, x) (record { 0 = n }, y)
+    same_move r n x y number same = ap (λ (k : ℕ). move k x) number ∙ ap (λ (o : Op). move n o) same
+
+-- ---- the first line of a list
+
+behaviours_assoc : (n : ℕ) (rest : List ℕ) → behaviours_line n ++ rest ≡ codes "behaviours " ++ (decimal n ++ rest)
+behaviours_assoc n rest = refl
+
+pub behaviours_spelled : (text behind rest end : List ℕ) (n : ℕ) → text ≡ codes "behaviours " ++ behind → behind ≡ decimal n ++ rest → IsBehaviours n → EndsLine rest end → lines_of text ≡ behaviours_line n ∷ lines_of end
+behaviours_spelled text behind rest end n word number few ends =
+    ap lines_of (word ∙ ap (λ l. codes "behaviours " ++ l) number ∙ sym (behaviours_assoc n rest)) ∙ line_ended (behaviours_line n) rest end (some_behaviours n) (behaviours_plain n few) ends
+
+behind_word : (xs ys : List ℕ) → codes "behaviours " ++ xs ≡ codes "behaviours " ++ ys → xs ≡ ys
+behind_word xs ys e = cc
+
+pub no_word : (text : List ℕ) → ((after : List ℕ) → text ≢ codes "behaviours " ++ after) → (n : ℕ) (others : List (List ℕ)) → lines_of text ≡ behaviours_line n ∷ others → ⊥
+no_word text none n others lines =
+    let begins = first_line text (behaviours_line n) others lines in
+    none (decimal n ++ begins.rest) (begins.parts ∙ behaviours_assoc n begins.rest)
+
+pub no_behaviours : (text behind : List ℕ) → text ≡ codes "behaviours " ++ behind → ((n : ℕ) (rest : List ℕ) → n < 2 ^ 32 → EndsNumber rest → behind ≡ decimal n ++ rest → ⊥) → (n : ℕ) (others : List (List ℕ)) → IsBehaviours n → lines_of text ≡ behaviours_line n ∷ others → ⊥
+no_behaviours text behind word never n others few lines =
+    let begins = first_line text (behaviours_line n) others lines in
+    let low = few.1 in
+    never n begins.rest (omega (arith, low)) (ends_line begins.rest begins.behind begins.ends).number (behind_word behind _ (sym word ∙ begins.parts ∙ behaviours_assoc n begins.rest))
+
+pub that_first : (text behind rest : List ℕ) (number : ℕ) → text ≡ codes "behaviours " ++ behind → IsThatNumber behind number rest → (n : ℕ) (others : List (List ℕ)) → IsBehaviours n → lines_of text ≡ behaviours_line n ∷ others → IsThat number n rest others
+that_first text behind rest number word only n others few lines =
+    let begins = first_line text (behaviours_line n) others lines in
+    let low = few.1 in
+    let two = only n begins.rest (omega (arith, low)) (ends_line begins.rest begins.behind begins.ends).number (behind_word behind _ (sym word ∙ begins.parts ∙ behaviours_assoc n begins.rest)) in
+    record { same = two.0; behind = begins.behind; ends = ends_at rest begins.rest begins.behind two.1 begins.ends; lines = begins.lines }

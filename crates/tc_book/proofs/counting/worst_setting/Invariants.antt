@@ -1,6 +1,6 @@
 use Rattle.std.proofs.Common.{◌≡◌, ◌++◌, List, map, length}
 use Rattle.tc_rules.specs.Prelude.{worst, given, Entry}
-use Rattle.tc_book.specs.Closing.{settings}
+use Rattle.tc_book.specs.Inside.{settings}
 use Rattle.tc_book.proofs.counting.worst_setting.Given as goal
 
 -- the settings passed so far are those of the end of the log

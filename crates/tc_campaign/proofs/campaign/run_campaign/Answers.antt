@@ -1,4 +1,4 @@
 use Rattle.tc_campaign.proofs.campaign.run_campaign.Goals as goal
 
-pub returns-in-Err-clause-run : goal.returns-in-Err-clause-run
-returns-in-Err-clause-run g c = c.without_room.ensures.run c.args.stop_on c.args.threads
+pub returns-in-Err : goal.returns-in-Err
+returns-in-Err g c = record { run = c.without_room.ensures.run c.args.stop_on c.args.threads }

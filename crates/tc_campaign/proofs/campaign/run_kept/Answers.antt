@@ -3,7 +3,7 @@ use Rattle.std.specs.Prelude.{IfNone}
 use Rattle.std.specs.Vec.{vec_capacity}
 use Rattle.tc_report.specs.Prelude.{Keeps}
 use Rattle.tc_campaign.specs.Campaign.{IsCutShort}
-use Rattle.tc_campaign.proofs.Lemmas.Keeping.{kept_run, kept_torn, not_cut}
+use Rattle.tc_campaign.proofs.Lemmas.Keeping.{kept_run, not_cut}
 use Rattle.tc_campaign.proofs.campaign.run_kept.Goals as goal
 
 pub unreachable-requires : goal.unreachable-requires
@@ -13,14 +13,10 @@ unreachable-requires g c =
     c.in-None.is c.run_campaign_with-ending.ensures.cut in
     absurd (not_cut g.B.Callable.outcome _ _ _ _ _ c.requires.none fits cut)
 
-pub returns-clause-run : goal.returns-clause-run
-returns-clause-run g c =
+pub returns : goal.returns
+returns g c =
     let fits : length c.args.cases.items ≤ vec_capacity c.args.kept.finished = omega (arith, c.requires.room) in
-    rw (c.into_results.ensures.finished, c.into_results.ensures.ending)
-    (kept_run g.B.Callable.outcome _ _ _ _ _ c.requires.none fits _ _ c.in-Some.is c.run_campaign_with-ending.ensures.ended)
-
-pub returns-clause-torn : goal.returns-clause-torn
-returns-clause-torn g c =
-    let fits : length c.args.cases.items ≤ vec_capacity c.args.kept.finished = omega (arith, c.requires.room) in
-    rw (c.into_results.ensures.finished, c.into_results.ensures.ending)
-    (kept_torn g.B.Callable.outcome _ _ _ _ _ c.requires.none fits _ _ c.in-Some.is c.run_campaign_with-ending.ensures.ended)
+    record {
+      run = rw (c.into_results.ensures.finished, c.into_results.ensures.ending)
+          (kept_run g.B.Callable.outcome _ _ _ _ _ c.requires.none fits _ _ c.in-Some.is c.run_campaign_with-ending.ensures.ended);
+    }

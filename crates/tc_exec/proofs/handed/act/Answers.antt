@@ -1,5 +1,5 @@
 use Rattle.std.proofs.Common.{rules}
-use Rattle.tc_exec.proofs.Leaving.{has_left}
+use Rattle.tc_exec.proofs.Lemmas.Calls.{has_left}
 use Rattle.tc_exec.proofs.handed.act.Goals as goal
 
 pub returns : goal.returns

@@ -23,7 +23,7 @@ returns-then-not-extent c =
     let part : c.in_ok-extent.extent.is_whole ≡ false = search rules in
     let most = most_of c.loop-extent.states c.in_ok-extent.extent.states c.max-states.result c.max-states.ensures in
     record {
-      found = now.found;
+      noted = now.found;
       met = met_max c.args.scripts.now c.loop-extent.found.reached.items c.search_all.new.found.reached.items c.loop-extent.states c.in_ok-extent.extent.states c.max-states.result most now.more was.2 now.met;
       complete = λ h. absurd cc;
       within = most_within c.loop-extent.states c.in_ok-extent.extent.states c.max-states.result c.args.limit most was.3 now.within;
@@ -38,7 +38,7 @@ returns-in-None c =
     let is : None ≡ next_aim c.search_all.new.found.witnesses.items c.loop-extent.aim = search rules in
     let most = most_of c.loop-extent.states c.in_ok-extent.extent.states c.max-states.result c.max-states.ensures in
     record {
-      found = now.found;
+      noted = now.found;
       met = met_max c.args.scripts.now c.loop-extent.found.reached.items c.search_all.new.found.reached.items c.loop-extent.states c.in_ok-extent.extent.states c.max-states.result most now.more was.2 now.met;
       complete = λ h. above_all c.args.scripts.now c.loop-extent.found.witnesses.items c.search_all.new.found.witnesses.items c.loop-extent.aim now.more_found was.1 (now.complete whole) is;
       within = most_within c.loop-extent.states c.in_ok-extent.extent.states c.max-states.result c.args.limit most was.3 now.within;

@@ -1,8 +1,8 @@
 use Rattle.std.specs.{Cmp.Lexicographic.pointwise, List.list_any}
-use Rattle.std.proofs.Common.{rules, ◌≡◌, true, nat_eq, length}
+use Rattle.std.proofs.Common.{rules, ◌≡◌, ◌∷◌, ◌++◌, [], true, nat_eq, length, reverse, ap, subst}
 use Rattle.tc_rules.specs.Prelude.{past_of}
-use Rattle.tc_explore.specs.Inside.Twins.{key_of}
-use Rattle.tc_explore.proofs.{Keeping.state_self, Keys.seen_by_key, Seeing.seen_last}
+use Rattle.tc_explore.specs.Inside.{Seen.IsSeen, Twins.key_of}
+use Rattle.tc_explore.proofs.{Keeping.state_same, Keeping.state_self, Keys.seen_by_key, Seeing.seen_last}
 use Rattle.tc_explore.proofs.search.place.Goals as goal
 
 pub returns-then-contains-clause-seen : goal.returns-then-contains-clause-seen
@@ -13,4 +13,8 @@ returns-then-contains-clause-seen c h =
 
 pub returns-clause-seen : goal.returns-clause-seen
 returns-clause-seen c h =
-    rw c.in_ok-push.ensures.items (seen_last c.args.met.now.states.items c.args.course (state_self c.args.scripts.now c.args.course c.requires.state))
+    let states = c.args.met.now.states.items in
+    let kept = c.in_ok-kept.kept in
+    let is = c.in_ok-kept.ensures in
+    let state = state_same c.args.scripts.now c.args.course kept is.behaviours is.entries c.requires.state in
+    rw c.in_ok-push.ensures.items (subst (IsSeen (states ++ kept ∷ [])) (ap reverse is.entries) (seen_last states kept (state_self c.args.scripts.now kept state)))

@@ -1,7 +1,7 @@
 use Rattle.std.specs.{Cmp.Lexicographic.pointwise, List.list_any}
-use Rattle.std.proofs.Common.{rules, ◌≡◌, true, nat_eq, length}
+use Rattle.std.proofs.Common.{rules, ◌≡◌, ◌∷◌, ◌++◌, [], true, nat_eq, length, reverse, ap, subst}
 use Rattle.tc_rules.specs.Prelude.{past_of}
-use Rattle.tc_explore.specs.Inside.Twins.{twin_key}
+use Rattle.tc_explore.specs.Inside.Twins.{IsTwinSeen, twin_key}
 use Rattle.tc_explore.proofs.{LocalsClosed.twin_seen_last, TwinKeys.seen_by_twin_key}
 use Rattle.tc_explore.proofs.search_locals.place.Goals as goal
 
@@ -12,4 +12,7 @@ returns-then-contains-clause-seen c h =
     seen_by_twin_key c.args.scripts.now c.args.met.now c.args.course c.in_ok-key.key.items c.requires.some c.requires.state c.requires.states c.requires.keyed is known
 
 pub returns-clause-seen : goal.returns-clause-seen
-returns-clause-seen c h = rw c.in_ok-push.ensures.items (twin_seen_last c.args.met.now.states.items c.args.course)
+returns-clause-seen c h =
+    let states = c.args.met.now.states.items in
+    let kept = c.in_ok-kept.kept in
+    rw c.in_ok-push.ensures.items (subst (IsTwinSeen (states ++ kept ∷ [])) (ap reverse c.in_ok-kept.ensures.entries) (twin_seen_last states kept))

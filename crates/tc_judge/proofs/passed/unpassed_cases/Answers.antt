@@ -9,5 +9,5 @@ returns-clause-are c =
     let part : c.split_script.result.1.now ≡ blocks_part c.args.text.now = search rules in
     let blocks = c.in_ok-blocks.blocks.items in
     ready_unpassed c.args.choice.now c.args.text.now c.in_ok-ready.ready.items c.unpassed.result.items blocks c.in_ok-seen.seen c.in_ok-ready.ensures.ready
-    (subst (λ t. AreJudgedIn KeepsNothing t blocks) part c.in_ok-blocks.ensures.judged)
+    (subst (λ t. AreJudgedIn KeepsNothing c.args.choice.now.last t blocks) part c.in_ok-blocks.ensures.judged)
     (subst (λ l. HasSeen l c.in_ok-seen.seen) c.as_slice.ensures.value c.in_ok-seen.ensures) c.unpassed.ensures

@@ -1,5 +1,5 @@
 use Rattle.std.proofs.Common.{◌∙◌, [], ap, filter, map, subst, sym}
-use Rattle.tc_judge.specs.{Inside.IsSummaryOf, Inside.Reports, Inside.first_illegal, Inside.is_picked, Inside.summary_by, Picking.is_chosen, Report.IsReport}
+use Rattle.tc_judge.specs.{Inside.IsSummaryOf, Inside.Reports, Inside.first_illegal, Inside.is_picked, Inside.summary_by, Check.counting, Check.is_chosen, Report.IsReport}
 use Rattle.tc_judge.proofs.Judging.{names_found, names_lacking, of_any_text, picked_reports}
 use Rattle.tc_judge.proofs.report.reported.Goals as goal
 
@@ -21,12 +21,13 @@ returns c given fits are =
         blocks = are.blocks;
         evidence = are.evidence;
         holds = λ all is.
-            let chosen = filter (is_chosen choice) all in
-            of_any_text form given c.args.text.now all chosen [] [] answer fits
-            (subst (λ notes. IsReport form c.args.text.now all chosen [] notes answer) c.new.ensures.items
-            (c.in_ok-answer.ensures all chosen
-            (subst (λ js. Reports all chosen (map (summary_by (λ s. s)) js) c.first_illegal-illegal.result) (sym picked)
-            (picked_reports (is_picked choice.only.items choice.failed) all blocks c.first_illegal-illegal.result (are.holds all is) first))));
+            let bs = counting choice.last all in
+            let chosen = filter (is_chosen choice) bs in
+            of_any_text form given c.args.text.now bs chosen [] [] answer fits
+            (subst (λ notes. IsReport form c.args.text.now bs chosen [] notes answer) c.new.ensures.items
+            (c.in_ok-answer.ensures bs chosen
+            (subst (λ js. Reports bs chosen (map (summary_by (λ s. s)) js) c.first_illegal-illegal.result) (sym picked)
+            (picked_reports (is_picked choice.only.items choice.failed) bs blocks c.first_illegal-illegal.result (are.holds all is) first))));
       },
       names_found IsSummaryOf choice c.as_slice-only.result.now given blocks same are (rw c.as_slice.ensures.value at (sym c.name_blocks.ensures ∙ c.if-not-name_blocks.false)),
     )

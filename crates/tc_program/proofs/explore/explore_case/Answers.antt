@@ -1,9 +1,9 @@
 use Rattle.std.proofs.Common.{◌≡◌, ◌≤◌, ◌∙◌, List, length, ap, subst, sym}
 use Rattle.std.proofs.lemmas.List.{length-map}
 use Rattle.tc_step.specs.Prelude.{ScriptView}
-use Rattle.tc_explore.specs.Prelude.{most_states, AreAllMet, AreReached}
+use Rattle.tc_explore.specs.Prelude.{IsAtLimit, most_states, AreAllMet, AreReached}
 use Rattle.tc_course.specs.Prelude.{AllFound, AreLegal, AreWitnesses}
-use Rattle.tc_course.specs.declared.found.Ending.{Ending}
+use Rattle.tc_course.specs.declared.found.{Ending.Ending, Limit.Limit}
 use Rattle.tc_answer.specs.Prelude.{scripts_of}
 use Rattle.tc_program.specs.Explore.{TellsAfter}
 use Rattle.tc_program.proofs.explore.explore_case.Goals as goal
@@ -23,7 +23,8 @@ returns c v of =
       reached = subst (λ (s : List ScriptView). AreReached s e.reached) same so.reached;
       met = subst (λ (s : List ScriptView). AreAllMet s e.reached e.states) same so.met;
       most = subst (λ (s : List ScriptView). e.states ≤ most_states s c.args.options.now.states) same so.most;
-      undecided = subst (λ (s : List ScriptView). e.ending ≡ Ending.Undecided → 1 ≤ length s → e.states ≡ most_states s c.args.options.now.states) same so.undecided;
+      undecided = subst (λ (s : List ScriptView). (l : Limit) → e.ending ≡ Ending.Undecided l → 1 ≤ length s → IsAtLimit s c.args.options.now.states e.states l) same so.undecided;
+      told = subst (λ (s : List ScriptView). (l : Limit) → e.ending ≡ Ending.Undecided l → 1 ≤ length s → 1 ≤ length e.found) same so.told;
       details_are = subst (λ (s : List ScriptView). TellsAfter c.args.options.now s e c.new.result) same
           (subst (TellsAfter c.args.options.now c.as_slice-scripts.result.now e) (sym c.new.ensures) c.in_ok-details.ensures);
     }

@@ -1,6 +1,6 @@
 use Rattle.std.proofs.Common.{◌∙◌, ap, refl}
 use Rattle.std.specs.List.{flat_map}
-use Rattle.tc_judge.proofs.Lemmas.Few.{few_jobs}
+use Rattle.tc_judge.proofs.Lemmas.{few_jobs}
 use Rattle.tc_program.specs.Explore.{status_of_all, explored_text}
 use Rattle.tc_program.proofs.Exploring.{explored_each}
 use Rattle.tc_program.proofs.explore.explore_text.Goals as goal

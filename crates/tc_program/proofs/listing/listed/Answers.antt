@@ -1,5 +1,5 @@
 use Rattle.std.proofs.Common.{◌∙◌, [], ap}
-use Rattle.tc_judge.proofs.Lemmas.Answering.{answer_of}
+use Rattle.tc_judge.proofs.Lemmas.{answer_of}
 use Rattle.tc_program.proofs.listing.listed.Goals as goal
 
 pub returns : goal.returns

@@ -1,6 +1,7 @@
-use Rattle.std.proofs.Common.{take}
-use Rattle.tc_report.specs.{Inside.AddsShown, SummaryText.failed_of}
+use Rattle.std.proofs.Common.{◌≡◌, ◌++◌, filter, take}
+use Rattle.std.specs.List.{flat_map}
+use Rattle.tc_report.specs.{Inside.has_failed, SummaryText.shown_case}
 use Rattle.tc_report.proofs.summary_text.append_all_failed.Given as goal
 
 abbrev pub invariant-loop-case : goal.invariant-loop-case
-invariant-loop-case l = AddsShown (failed_of (take l.case-index l.cases)) l.fn.out.items l.out.items
+invariant-loop-case l = l.out.items ≡ l.fn.out.items ++ flat_map shown_case (filter has_failed (take l.case-index l.cases))

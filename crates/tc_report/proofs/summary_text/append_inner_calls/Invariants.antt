@@ -1,6 +1,7 @@
-use Rattle.std.proofs.Common.{[]}
-use Rattle.tc_report.specs.Inside.{AddsWords}
+use Rattle.std.proofs.Common.{◌≡◌, ◌++◌, take}
+use Rattle.std.specs.List.{flat_map}
+use Rattle.tc_report.specs.Inside.{inner_call}
 use Rattle.tc_report.proofs.summary_text.append_inner_calls.Given as goal
 
 abbrev pub invariant-loop-entry : goal.invariant-loop-entry
-invariant-loop-entry l = AddsWords [] l.fn.out.items l.out.items
+invariant-loop-entry l = l.out.items ≡ l.fn.out.items ++ flat_map inner_call (take l.entry-index l.entries)

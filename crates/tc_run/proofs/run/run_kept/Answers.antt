@@ -1,7 +1,7 @@
 use Rattle.std.proofs.Common.{◌≤◌, length, arith, subst, sym}
 use Rattle.std.specs.Vec.{vec_capacity}
 use Rattle.tc_report.specs.Prelude.{Keeps, IsToldBy}
-use Rattle.tc_campaign.specs.Prelude.{IsCalled, IsRunTo, outline_of}
+use Rattle.tc_campaign.specs.Prelude.{AreBack, IsCalled, IsRunTo, outline_of}
 use Rattle.tc_campaign.proofs.Lemmas.Keeping.{all_are_kept, not_ended}
 use Rattle.tc_run.specs.Inside.{AreGiven, worker_limit}
 use Rattle.tc_run.proofs.run.run_kept.Goals as goal
@@ -21,7 +21,7 @@ returns g c =
     let kept = all_are_kept g.B.Callable.outcome _ _ _ _ _ c.requires.none fits was.finished given.0.each given.1 in
     record {
       run = rw (c.into_results.ensures.finished, c.into_results.ensures.ending)
-          (subst (λ fs. IsRunTo outline_of (IsCalled g.B.Callable.outcome) c.args.cases.items c.args.options.now.stop_on worker_limit fs c.in-Some.ending) (sym kept) given.0);
+          (subst (λ fs. IsRunTo outline_of (IsCalled g.B.Callable.outcome) c.args.cases.items c.args.options.now.stop_on worker_limit (AreBack g.B.Callable.outcome) fs c.in-Some.ending) (sym kept) given.0);
       told = rw c.into_results.ensures.finished
           (subst (λ fs. IsToldBy c.args.options.now.progress (g.E.Write.contents c.args.errors.now) (g.E.Write.contents c.run_told-ending.new.errors)
           fs c.run_told-ending.result.1) (sym kept) was.told_of);

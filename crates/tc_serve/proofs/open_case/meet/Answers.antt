@@ -1,6 +1,6 @@
 use Rattle.std.proofs.Common.{◌∙◌, [], ◌∷◌, sym}
 use Rattle.tc_blocks.specs.declared.line.Line.{Line}
-use Rattle.tc_serve.proofs.Calling.{met_none, met_some}
+use Rattle.tc_serve.proofs.Trying.{met_none, met_some}
 use Rattle.tc_serve.proofs.open_case.meet.Goals as goal
 
 pub returns-in_default : goal.returns-in_default

@@ -1,5 +1,5 @@
 use Rattle.std.proofs.Common.{◌≡◌, Some}
-use Rattle.tc_serve.proofs.Turns.{uncounted}
+use Rattle.tc_serve.proofs.Feeding.{uncounted}
 use Rattle.tc_serve.proofs.service.serve_lines.Goals as goal
 
 pub returns-clause-ending : goal.returns-clause-ending

@@ -1,5 +1,5 @@
 use Rattle.std.proofs.Common.{◌∙◌, sym}
-use Rattle.tc_text.proofs.Lemmas.Naming.{name_not_low, same_cut}
+use Rattle.tc_text.proofs.Lemmas.LinesOf.{name_not_low, same_cut}
 use Rattle.tc_text.proofs.name.take_name.Goals as goal
 
 pub returns-in_err-of_bytes-clause-only : goal.returns-in_err-of_bytes-clause-only

@@ -1,6 +1,6 @@
 use Rattle.std.proofs.Common.{◌∙◌, [], sym, inl, refl, arith, rules}
 use Rattle.std.proofs.lemmas.{Grind.common_steps, List.append-nil}
-use Rattle.tc_text.proofs.Lemmas.MoveLines.{ends_reply}
+use Rattle.tc_text.proofs.Lemmas.LinesOf.{ends_reply}
 use Rattle.tc_text.proofs.reply.read_reply.Goals as goal
 
 pub returns-in-None-clause-only : goal.returns-in-None-clause-only

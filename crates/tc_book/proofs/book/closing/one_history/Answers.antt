@@ -1,7 +1,7 @@
 use Rattle.std.proofs.Common.{rules, reverse, ◌≡◌, false, true, IsTrue}
 use Rattle.tc_rules.specs.Prelude.{is_over}
 use Rattle.tc_book.specs.{Closing.merged, Inside.IsSound}
-use Rattle.tc_book.proofs.{Merging.has_logs, Merging.joined_by, Merging.merged_by, Merging.sound_of, Merging.walk_of, Wholeness.sound_by}
+use Rattle.tc_book.proofs.{Joining.has_logs, Joining.joined_by, Joining.merged_by, Joining.sound_of, Joining.walk_of, Wholeness.sound_by}
 use Rattle.tc_book.proofs.book.closing.one_history.Goals as goal
 
 pub returns-clause-merged : goal.returns-clause-merged

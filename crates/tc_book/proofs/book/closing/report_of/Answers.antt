@@ -1,6 +1,6 @@
 use Rattle.std.proofs.Common.{reverse}
 use Rattle.tc_rules.specs.Prelude.{logs_below}
-use Rattle.tc_book.proofs.{Merging.below_logs, Reporting.none_beyond, Wholeness.whole_by}
+use Rattle.tc_book.proofs.{Joining.below_logs, Reporting.none_beyond, Wholeness.whole_by}
 use Rattle.tc_book.proofs.book.closing.report_of.Goals as goal
 
 pub report-requires-clause-merged : goal.report-requires-clause-merged

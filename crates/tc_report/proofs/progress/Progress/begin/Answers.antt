@@ -1,15 +1,29 @@
-use Rattle.std.proofs.Common.{subst, sym}
-use Rattle.tc_report.specs.Inside.{IsSoFar}
-use Rattle.tc_report.proofs.Lemmas.Telling.{so_begun, so_cut}
+use Rattle.std.proofs.Common.{◌≡◌, ◌∙◌, true, false, None, refl, ap, subst, sym}
+use Rattle.tc_report.proofs.Lemmas.Telling.{IsCut, moved, so_begun, so_cut}
 use Rattle.tc_report.proofs.progress.Progress.begin.Goals as goal
 
-pub returns-in-Err-clause-told : goal.returns-in-Err-clause-told
-returns-in-Err-clause-told g c start fs at = so_cut start _ _ fs c.args.self.now.failed.now.items c.args.self.now.fault at c.print_next.ensures.some
-
-pub returns-in_default-clause-told : goal.returns-in_default-clause-told
-returns-in_default-clause-told g c start fs at =
+pub returns-in-Ok-clause-told : goal.returns-in-Ok-clause-told
+returns-in-Ok-clause-told g c start fs at =
     let p = c.args.self.now in
     let q = c.print_next.new.self in
-    subst (λ w. IsSoFar w start fs (g.E.Write.contents q.writer.now) q.failed.now.items) (sym c.print_next.ensures.fault)
-    (subst (λ failed. IsSoFar p.fault start fs (g.E.Write.contents q.writer.now) failed.now.items) (sym c.print_next.ensures.failed)
-    (so_begun start _ _ fs p.failed.now.items p.fault at c.print_next.ensures.some))
+    let before = g.E.Write.contents p.writer.now in
+    let after = g.E.Write.contents q.writer.now in
+    let again = p.failed.now.items in
+    let only = c.print_next.ensures.only in
+    let fresh : p.begun ≡ false = cc in
+    let so = moved p.names.now p.names.now start fs before again again p.fault None p.told p.told p.begun false refl refl (sym c.in-None.is) refl (sym fresh) at in
+    moved p.names.now q.names.now start fs after again q.failed.now.items None q.fault p.told q.told true true (ap (λ n. n.now) only.names)
+    (ap (λ l. l.now.items) c.print_next.ensures.failed) (only.fault ∙ c.in-None.is) only.told refl
+    (so_begun p.names.now start before after fs again p.told so c.in-Ok.ensures.all)
+
+pub returns-in-Err-clause-told : goal.returns-in-Err-clause-told
+returns-in-Err-clause-told g c start fs at =
+    let p = c.args.self.now in
+    let q = c.print_next.new.self in
+    let before = g.E.Write.contents p.writer.now in
+    let after = g.E.Write.contents q.writer.now in
+    let again = p.failed.now.items in
+    let fresh : p.begun ≡ false = cc in
+    let so = moved p.names.now p.names.now start fs before again again p.fault None p.told p.told p.begun false refl refl (sym c.in-None.is) refl (sym fresh) at in
+    subst (λ names. IsCut names start fs after) (sym (ap (λ n. n.now) c.print_next.ensures.only.names))
+    (so_cut p.names.now start before after fs again p.told so c.in-Err.ensures.part)

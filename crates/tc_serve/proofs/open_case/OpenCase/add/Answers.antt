@@ -1,6 +1,6 @@
 use Rattle.std.proofs.Common.{◌∙◌, Ok, refl, sym}
-use Rattle.tc_serve.specs.{Inside.with_line, declared.refusal.Refusal.Refusal}
-use Rattle.tc_serve.proofs.Calling.{may_change, may_not, noted}
+use Rattle.tc_serve.specs.{Inside.with_line, declared.order.Refusal.Refusal}
+use Rattle.tc_serve.proofs.Trying.{may_change, may_not, noted}
 use Rattle.tc_serve.proofs.open_case.OpenCase.add.Goals as goal
 
 pub returns-then-not-has-clause-ok : goal.returns-then-not-has-clause-ok

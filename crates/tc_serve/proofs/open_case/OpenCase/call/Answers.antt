@@ -1,7 +1,7 @@
 use Rattle.std.proofs.Common.{refl}
 use Rattle.tc_blocks.specs.Prelude.{outcome_text}
 use Rattle.tc_text.specs.Prelude.{move_text}
-use Rattle.tc_serve.proofs.Calling.{call_made, line_whole}
+use Rattle.tc_serve.proofs.Trying.{call_made, line_whole}
 use Rattle.tc_serve.proofs.open_case.OpenCase.call.Goals as goal
 
 pub returns-clause-ok : goal.returns-clause-ok

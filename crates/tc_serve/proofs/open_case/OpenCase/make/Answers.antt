@@ -1,5 +1,5 @@
 use Rattle.std.proofs.Common.{◌∙◌, refl, sym}
-use Rattle.tc_serve.proofs.Calling.{made_not, made_so, may_be_awake, moves_rest}
+use Rattle.tc_serve.proofs.Trying.{made_not, made_so, may_be_awake, moves_rest}
 use Rattle.tc_serve.proofs.open_case.OpenCase.make.Goals as goal
 
 pub returns-in-Some-clause-ok : goal.returns-in-Some-clause-ok

@@ -1,4 +1,0 @@
--- The lemmas that other crates cite.
-pub mod Kept
-pub mod Length
-pub mod Table

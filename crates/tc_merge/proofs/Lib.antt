@@ -1,5 +1,0 @@
--- The lemmas of this crate.
-pub mod Lemmas
-pub mod InPlace
-pub mod PartOfMerge
-mod WorkedCases

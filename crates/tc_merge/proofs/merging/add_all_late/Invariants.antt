@@ -1,8 +1,0 @@
-use Rattle.std.proofs.Common.{◌≡◌, ◌++◌, ℕ, List}
-use Rattle.tc_rules.specs.Prelude.{Entry, late}
-use Rattle.tc_merge.specs.OneCase.{Has}
-use Rattle.tc_merge.proofs.merging.add_all_late.Given as goal
-
--- those of the runs passed so far
-abbrev pub invariant-loop-entries : goal.invariant-loop-entries
-invariant-loop-entries l = (log : ℕ → List Entry) → Has l.logs log → l.all.items ≡ l.initial.all.items ++ late log l.entries-index

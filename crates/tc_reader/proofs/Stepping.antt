@@ -1,0 +1,157 @@
+-- What the commonest lines say, and what the walk makes of them.
+use Rattle.std.proofs.Common.{ℕ, ◌≡◌, ◌∙◌, ◌+◌, ◌≤◌, get_or, Bool, true, false, Option, Some, None, Result, Ok, Err, List, [], ◌∷◌, ◌++◌, length, All, refl, sym, ap, subst, arith, codes, rules, tests}
+use Rattle.std.specs.Prelude.{◌==◌, ◌&&◌, ◌||◌, nat_le, nat_lt, if◌then◌else◌, is_some, not, IsTrue}
+use Rattle.std.specs.{Char.is_ascii_alphabetic, Char.is_ascii_alphanumeric, Cmp.Lexicographic.bytes_decides, List.list_all, List.list_any, List.slice_split, Option.option_map, Option.option_map_or}
+use Rattle.std.proofs.lemmas.{Bool.Decides.Decides-by_and, Bool.Decides.nat_tests, List.Splits.slice_split_none}
+use Rattle.tc_entry.specs.Prelude.{IsName, UserVerdict, given, is_name_byte, name_of}
+use Rattle.tc_step.specs.declared.{place.Place.Place, place.TargetPlace.TargetPlace, step.Status.Status, step.Step.Step}
+use Rattle.tc_reader.specs.{Campaign.step_of, FirstPass.argument_count, FirstPass.open_after, Inside.IsStepOf, Inside.IsTargetOf, Inside.Takes, Inside.WalkView, Inside.after, Inside.counted, Inside.counted_with, Inside.fault_in, Inside.keyword_text, Inside.made_step, Inside.place_in, Inside.with_made_step, Inside.with_start, Line.are_printable, Line.form, Line.line_of, Line.reference, Line.target_named, Line.word_name, Line.◌>>=◌, Names.Word, Names.among, Names.index_of, Scope.with_bound, Text.words, Words.is_name, Words.is_text, Words.keyword, Words.name, Words.verdict, declared.counts.Counts.Counts, declared.fault.ReadFault.ReadFault, declared.kind.ScriptKind.ScriptKind, declared.line.Call.Call, declared.line.Keyword.Keyword, declared.line.Line.Line, declared.open.Open.Open}
+use Rattle.tc_reader.proofs.Naming.{name_is_found, name_is_said, other_is}
+
+same : (line text : List ℕ) → is_text line text ≡ true → line ≡ text
+unfolding is_text
+same line text e = (bytes_decides line text).0 e
+
+-- ---- verdict calls
+
+gets : line_of (codes "getverdict") ≡ Ok (Line.Step Call.GetVerdict)
+unfolding line_of words is_text keyword verdict are_printable form
+gets = refl
+
+sets : (v : UserVerdict) → line_of (codes "setverdict " ++ name_of (given v)) ≡ Ok (Line.Step (Call.SetVerdict v))
+unfolding line_of words is_text keyword verdict are_printable form
+sets UserVerdict.None = refl
+sets UserVerdict.Pass = refl
+sets UserVerdict.Inconc = refl
+sets UserVerdict.Fail = refl
+
+pub get : (line : List ℕ) (ns : List Word) → is_text line (codes "getverdict") ≡ true → IsStepOf ns line Step.GetVerdict
+unfolding step_of
+get line ns e = record { call = Call.GetVerdict; is = rw (same line _ e) gets; is_made = refl; gives_none = refl; binds_none = λ _. refl; starts_none = λ _ _. refl }
+
+pub set : (v : UserVerdict) (line : List ℕ) (ns : List Word) → is_text line (codes "setverdict " ++ name_of (given v)) ≡ true → IsStepOf ns line (Step.SetVerdict v)
+unfolding step_of
+set v line ns e = record { call = Call.SetVerdict v; is = rw (same line _ e) (sets v); is_made = refl; gives_none = refl; binds_none = λ _. refl; starts_none = λ _ _. refl }
+
+pub ruleset verdict_rules = (get)
+
+-- ---- status calls
+
+-- one word of printable bytes
+record IsOne (word : List ℕ) : Type 0 where
+  is_some : (length word == 0) ≡ false
+  is_one : slice_split (λ b. b == 32) word ≡ word ∷ []
+  is_printable : list_all (λ b. nat_le 32 b && nat_le b 126) word ≡ true
+
+asks : (s : Status) (word : List ℕ) (t : TargetPlace (Place Word)) → IsOne word → target_named word ≡ Ok t
+    → line_of (keyword_text (Keyword.Ask s) ++ 32 ∷ word) ≡ Ok (Line.Step (Call.Ask s t))
+unfolding line_of words is_text keyword are_printable form
+asks Status.Running word t one is = rw (one.is_one, one.is_printable, one.is_some, is) refl
+asks Status.Alive word t one is = rw (one.is_one, one.is_printable, one.is_some, is) refl
+asks Status.Done word t one is = rw (one.is_one, one.is_printable, one.is_some, is) refl
+asks Status.Killed word t one is = rw (one.is_one, one.is_printable, one.is_some, is) refl
+
+named_by : (ns : List Word) (word text : List ℕ) (t : TargetPlace (Place ℕ)) (named : TargetPlace (Place Word)) → is_text word text ≡ true → IsOne text → target_named text ≡ Ok named
+    → ((s : Status) → made_step ns (Call.Ask s named) ≡ Ok (Step.Ask s t)) → IsTargetOf ns word t
+named_by ns word text t named e one is made =
+    record { target = named; is = λ s. rw (same word text e) (asks s text named one is); is_made = made }
+
+pub own : (ns : List Word) (word : List ℕ) → is_text word (codes "self") ≡ true → IsTargetOf ns word (TargetPlace.One Place.Own)
+unfolding target_named reference is_text step_of
+own ns word e = named_by ns word _ _ (TargetPlace.One Place.Own) e (record { is_some = refl; is_one = refl; is_printable = refl }) refl (λ s. refl)
+
+pub main : (ns : List Word) (word : List ℕ) → is_text word (codes "mtc") ≡ true → IsTargetOf ns word (TargetPlace.One Place.Main)
+unfolding target_named reference is_text step_of
+main ns word e = named_by ns word _ _ (TargetPlace.One Place.Main) e (record { is_some = refl; is_one = refl; is_printable = refl }) refl (λ s. refl)
+
+pub any : (ns : List Word) (word : List ℕ) → is_text word (codes "any") ≡ true → IsTargetOf ns word TargetPlace.Any
+unfolding target_named is_text step_of
+any ns word e = named_by ns word _ _ TargetPlace.Any e (record { is_some = refl; is_one = refl; is_printable = refl }) refl (λ s. refl)
+
+pub all : (ns : List Word) (word : List ℕ) → is_text word (codes "all") ≡ true → IsTargetOf ns word TargetPlace.All
+unfolding target_named is_text step_of
+all ns word e = named_by ns word _ _ TargetPlace.All e (record { is_some = refl; is_one = refl; is_printable = refl }) refl (λ s. refl)
+
+allowed_byte : (b : ℕ) → IsTrue (is_name_byte b) → ((nat_le 32 b && nat_le b 126) ≡ true) × ((b == 32) ≡ false)
+allowed_byte b h = (grind (arith, nat_tests, tests, h), grind (arith, nat_tests, tests, h))
+
+one_name : (word : List ℕ) → IsName word → IsOne word
+one_name word is = record {
+  is_some = grind (arith, nat_tests, is.is_some);
+  is_one = slice_split_none (λ b. b == 32) word (λ i d lt. (allowed_byte (get_or word i d) (is.allowed i d lt)).1);
+  is_printable =
+      (Decides-by_and (λ b. nat_le 32 b && nat_le b 126) (λ b. (nat_le 32 b && nat_le b 126) ≡ true) (list_all (λ b. nat_le 32 b && nat_le b 126)) (λ b. (λ e. e, λ e. e)) refl (λ _ _. refl) word).1
+      (λ i d lt. (allowed_byte (get_or word i d) (is.allowed i d lt)).0);
+}
+
+target_of : (word : List ℕ) → IsName word → target_named word ≡ Ok (TargetPlace.One (Place.Bound word))
+unfolding target_named reference word_name
+target_of word is =
+    rw (other_is word (codes "any") is.not_any, other_is word (codes "all") is.not_all, other_is word (codes "mtc") is.not_mtc, other_is word (codes "self") is.not_self, name_is_found word is) refl
+
+made_by : (ns : List Word) (word : Word) (i : ℕ) (s : Status) → place_in ns word ≡ Some i
+    → made_step ns (Call.Ask s (TargetPlace.One (Place.Bound word))) ≡ Ok (Step.Ask s (TargetPlace.One (Place.Bound i)))
+unfolding step_of
+made_by ns word i s at = by (among word ns) refl at
+  where
+    by : (b : Bool) → among word ns ≡ b → (if b then Some (index_of word ns) else None) ≡ Some i
+        → made_step ns (Call.Ask s (TargetPlace.One (Place.Bound word))) ≡ Ok (Step.Ask s (TargetPlace.One (Place.Bound i)))
+    by true found e = let same : index_of word ns ≡ i = cc in rw (found, same) refl
+    by false found e = absurd cc
+
+pub bound_name : (ns : List Word) (word n : List ℕ) (i : ℕ) → name word ≡ Some n → place_in ns n ≡ Some i → IsTargetOf ns word (TargetPlace.One (Place.Bound i))
+bound_name ns word n i named at = by (is_name word) refl named
+  where
+    by : (b : Bool) → is_name word ≡ b → (if b then Some word else None) ≡ Some n → IsTargetOf ns word (TargetPlace.One (Place.Bound i))
+    by true e is =
+        let one = name_is_said word e in
+        let same : word ≡ n = cc in
+        record {
+          target = TargetPlace.One (Place.Bound word);
+          is = λ s. asks s word _ (one_name word one) (target_of word one);
+          is_made = λ s. made_by ns word i s (ap (place_in ns) same ∙ at);
+        }
+    by false e is = absurd cc
+
+pub ruleset target_rules = (own, main, any, all, bound_name)
+
+pub ask : (ns : List Word) (line word : List ℕ) (s : Status) (t : TargetPlace (Place ℕ)) → line ≡ keyword_text (Keyword.Ask s) ++ 32 ∷ word → IsTargetOf ns word t
+    → IsStepOf ns line (Step.Ask s t)
+ask ns line word s t e is = record {
+  call = Call.Ask s is.target;
+  is = rw e (is.is s);
+  is_made = is.is_made s;
+  gives_none = refl;
+  binds_none = λ _. refl;
+  starts_none = λ _ _. refl;
+}
+
+pub ruleset ask_rules = (ask)
+
+-- ---- what the walk makes of it
+
+counted_so : (counts : Counts) (o : Open) (call : Call) → argument_count call ≡ 0
+    → option_map_or (λ o. counted_with (Line.Step call) o counts) (open_after (Line.Step call) o) (Err ScriptKind.BadPlace)
+    ≡ option_map_or (λ o. counted_with (Line.Step Call.GetVerdict) o counts) (open_after (Line.Step Call.GetVerdict) o) (Err ScriptKind.BadPlace)
+counted_so counts Open.Nothing call few = refl
+counted_so counts Open.NewCase call few = refl
+counted_so counts Open.Case call few = refl
+counted_so counts Open.Behaviour call few = rw few refl
+
+after_step : (number : ℕ) (w : WalkView) (bytes : List ℕ) (s : Step) → (is : IsStepOf w.names.bound bytes s) → after number (Line.Step is.call) w ≡ with_made_step s w
+after_step number w bytes s is = by (is_some w.fault) refl
+  where
+    by : (b : Bool) → is_some w.fault ≡ b → after number (Line.Step is.call) w ≡ with_made_step s w
+    by true e = rw (is.is_made, is.binds_none w.names.bound, e) refl
+    by false e = rw (is.is_made, is.binds_none w.names.bound, e, is.starts_none w.starts number) refl
+
+pub stepped : (number : ℕ) (counts more : Counts) (w next : WalkView) (bytes : List ℕ) (s : Step) → IsStepOf w.names.bound bytes s
+    → counted counts (Line.Step Call.GetVerdict) ≡ Ok more → next ≡ with_made_step s w → Takes number counts w next (Ok more) (line_of bytes)
+stepped number counts more w next bytes s is count ends =
+    (Line.Step is.call, is.is, counted_so counts counts.state is.call is.gives_none ∙ count, ends ∙ sym (after_step number w bytes s is))
+
+pub refused : (number : ℕ) (counts : Counts) (w next : WalkView) (bytes : List ℕ) (s : Step) (kind : ScriptKind) → IsStepOf w.names.bound bytes s
+    → counted counts (Line.Step Call.GetVerdict) ≡ Err kind → Takes number counts w next (Err (ReadFault.Script (fault_in number kind))) (line_of bytes)
+refused number counts w next bytes s kind is count = (refl, rw is.is (counted_so counts counts.state is.call is.gives_none ∙ count))
+
+pub ruleset step_rules = (stepped, refused)
