@@ -11,8 +11,7 @@ import words as of_words
 from browser import Chromium
 from documents import Document, output_of, read
 from harness import Folder, Ran, Skipped, add_tools, bytes_of, call, hold, same, tests_of, text_of
-from room import checkout, copy_checkout
-from yaml_reader import read_yaml
+from room import checkout, copy_checkout, read_yaml
 
 GREEN = "2345 passed, 0 failed"
 TOOLCHAIN = "the toolchain of the tests"

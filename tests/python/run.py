@@ -18,7 +18,7 @@ sys.dont_write_bytecode = True
 import kit
 
 import holding
-from lanes import lanes
+from case import lanes
 
 holding.load("device_tests", "document_tests", "ending_tests", "random_tests", "runner_tests", "server_tests", "word_tests")
 
