@@ -202,10 +202,16 @@ def it_tells_where_two_cases_part(context: Context) -> str:
     return f"{len(answer['texts'])} cases, alike for {sorted(met)} entries"
 
 
+# On the component of run 1, which a stop ended, run 2 ends before run 1 makes its call; or run 1 was faster.
+RESTARTED = "".join(f"history 2 t 3\n0 create alive -> made 1\n0 start 1 1 -> ok\n{first}0 stop 1 -> ok\n0 start 1 2 -> ok\n2 finish -> ok\n"
+                    f"{last}0 finish -> ok\nend {verdict}\n"
+                    for first, last, verdict in (("", "1 setverdict fail -> ended\n", "none"), ("1 setverdict fail -> ok\n", "", "fail")))
+
+
 def it_tells_where_each_run_parts(context: Context) -> str:
     """The first call of each run that differs from the first case's, and what ended the run, as `explore --details` has it without names."""
     rng, met = random.Random(context.seed + 5), Counter()
-    texts = ["".join(random_legal(rng, "t") for _ in range(3)) for _ in range(200)]
+    texts = [RESTARTED, *("".join(random_legal(rng, "t") for _ in range(3)) for _ in range(200))]
     for text, told in zip(texts, ask(context, "games", texts)):
         first, *others = legal_blocks_of(text.encode())
         wanted = [[], *([it[2:] for it in parting_lines(first, other, plain_call)] for other in others)]
