@@ -44,15 +44,6 @@ def plain_call(_: Block, entry: Entry) -> str:
     return f"{entry.op.text().replace('wake', 'wait')} -> {entry.reply}"
 
 
-def call_text(block: Block, entry: Entry) -> str:
-    """A call for people: components have their names, and a wake is its wait."""
-    op = entry.op
-    on = [it if isinstance(it, str) else called(block, it) for it in op.named()]
-    words = {"start": ["start", *on[:1], "run", str(op.run), *["with"] * (len(on) > 1), *on[1:]], "wait": ["wait", op.awaited, *on]}
-    known = words.get(op.verb.replace("wake", "wait"), [op.verb, *on] if on else [op.text()])
-    return f"{' '.join(known)} -> {entry.reply}"
-
-
 def end_text(side: str, block: Block, run: int, calls: List[Entry]) -> str:
     """What ended a run whose next call is replied so."""
     table = Table(block.behaviours)
@@ -65,7 +56,7 @@ def end_text(side: str, block: Block, run: int, calls: List[Entry]) -> str:
     return ""
 
 
-def parting_lines(one: Block, other: Block, spelled: Callable[[Block, Entry], str] = call_text) -> Iterator[str]:
+def parting_lines(one: Block, other: Block, spelled: Callable[[Block, Entry], str] = plain_call) -> Iterator[str]:
     """For each run the first of its calls that differ."""
     for run in sorted({it.caller for it in one.entries + other.entries}):
         left, right = ([it for it in block.entries if it.caller == run and it.reply != "parked"] for block in (one, other))
