@@ -278,7 +278,7 @@ fn joined(alloc: Global, words: &[&[u8]]) -> Result<Vec<u8>, NoMemory> {
 }
 
 // The line of a script, with the next of the words that were found for each `$`, and all that are left for `*`.
-fn filled(alloc: Global, line: &str, found: &[&[u8]]) -> Result<Vec<u8>, NoMemory> {
+fn filled<'t>(alloc: Global, line: &'t str, found: &[&'t [u8]]) -> Result<Vec<u8>, NoMemory> {
     let mut words = Vec::new(alloc);
     let mut rest = found;
     for part in line.as_bytes().split(|byte| *byte == b' ') {
@@ -305,10 +305,10 @@ fn is_line(alloc: Global, line: &[u8]) -> Result<bool, NoMemory> {
 }
 
 // The line of a script that does the same as this form, if the tokens are of it; otherwise an empty one.
-fn line_by(
+fn line_by<'t>(
     alloc: Global,
-    (source, line): (&str, &str),
-    tokens: &[&[u8]],
+    (source, line): (&'t str, &'t str),
+    tokens: &[&'t [u8]],
 ) -> Result<Vec<u8>, NoMemory> {
     let mut form = Vec::new(alloc);
     read_words(source.as_bytes(), &mut form)?;
