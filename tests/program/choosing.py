@@ -121,7 +121,7 @@ def faults_of_choice(program: str, given: Script, asked: Choice, source: random.
     status = max((status_of(given.verdicts[it]) for it in chosen), default=0)
     is_run = ([*blocks_by_name(ran.output)], ran.errors, ran.status) == (chosen, b"", status)
     is_right = {"list": listed == Ran(as_lines(*chosen), b"", 0), "run": is_run,
-                "search": explored == Ran(as_lines(*(f"{it} {given.verdicts[it]} complete" for it in chosen)), b"", 0)}
+                "search": explored == Ran(as_lines(*(f"{it} {given.verdicts[it]} complete" for it in chosen)), b"", status if status == 2 else 0)}
     return [f"{words}, {chosen} were chosen: the {it} gave {listed}, {ran}, {explored}" for it, right in is_right.items() if not right]
 
 

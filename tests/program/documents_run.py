@@ -52,7 +52,7 @@ def shown_cases() -> List[Case]:
             found.append(Case(name, words, script, errors=written, status=3))
         else:
             verdicts = set(written.split(b"\n")[0].split()[1:-1])
-            found.append(Case(name, words, script, output=written, status=int(len(verdicts) > 1)))
+            found.append(Case(name, words, script, output=written, status=2 if verdicts == {b"error"} else int(len(verdicts) > 1)))
     assert [it.words[1] for it in found] == ["--explain", "--locals", "--details", "--details"], [it.name for it in found]
     return found
 
