@@ -196,6 +196,8 @@ class Builder:
         self.uses = {it: every[it] for it in with_below(every, program)}
         self.chains = chains_of(self.uses, lambda it: bytes_of(f"{top}/crates/{it}"))
         self.room = f"{top}/crates/{program}/out/building"
+        # The program is built when another may use the room, so what is said of it has a file of this process.
+        self.last = f"{self.room}.{os.getpid()}.log"
         # The memory that was free before what runs now took its part, at least.
         self.lanes, self.memory = processors(), 0
         self.told, self.has_begun = "", False
@@ -251,9 +253,10 @@ class Builder:
             self.begin(name, jobs, ["lib", "--jobs", str(jobs)], f"{self.tree(name)}/crates/{name}", not is_longest)
 
     def begin(self, name: str, jobs: int, words: List[str], folder: str, is_yielding: bool = False) -> None:
-        os.makedirs(self.room, exist_ok=True)
+        os.makedirs(os.path.dirname(self.room) if name == self.program else self.room, exist_ok=True)
         self.has_begun = True
-        self.running[name] = Running(name, jobs, words, folder, f"{self.room}/{name}.log", is_yielding)
+        log = self.last if name == self.program else f"{self.room}/{name}.log"
+        self.running[name] = Running(name, jobs, words, folder, log, is_yielding)
 
     def tree(self, name: str) -> str:
         return f"{self.room}/{name}"
@@ -348,12 +351,17 @@ def main(top: str, program: str) -> int:
     held = builder.hold_folders()
     try:
         status = builder.build_libraries()
-        for it in held:
-            os.close(it)
-        return status or builder.build_program()
     finally:
         builder.end_all()
         remove(builder.room)
+        for it in held:
+            os.close(it)
+    try:
+        return status or builder.build_program()
+    finally:
+        builder.end_all()
+        if os.path.lexists(builder.last):
+            os.remove(builder.last)
 
 
 if __name__ == "__main__":
