@@ -16,11 +16,13 @@ use tc_verdict::{NoMemory, Verdict};
 fn verdicts_of(alloc: Global, found: &[Witness]) -> Result<Vec<Verdict>, NoMemory>
     ensures { IfOk result (λ v. v.items ≡ line.verdicts_where (is_found_among found.now)) }
 {
-    Ok(VERDICTS
-        .iter()
-        .copied()
-        .filter(|verdict| is_found(found, *verdict))
-        .collect(alloc)?)
+    Ok(
+        VERDICTS
+            .iter()
+            .copied()
+            .filter(|verdict| is_found(found, *verdict))
+            .collect(alloc)?,
+    )
 }
 
 // How many verdicts were found.

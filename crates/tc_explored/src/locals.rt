@@ -20,11 +20,13 @@ fn verdicts_of(alloc: Global, locals: &Locals, comp: usize) -> Result<Vec<Verdic
     requires { comp * 5 ≤ length locals.now.found }
     ensures { IfOk result (λ v. v.items ≡ verdicts_where (is_local locals.now.found comp)) }
 {
-    Ok(VERDICTS
-        .iter()
-        .copied()
-        .filter(|verdict| is_found_of(locals, comp, *verdict))
-        .collect(alloc)?)
+    Ok(
+        VERDICTS
+            .iter()
+            .copied()
+            .filter(|verdict| is_found_of(locals, comp, *verdict))
+            .collect(alloc)?,
+    )
 }
 
 // Whether a component is found with this verdict.
