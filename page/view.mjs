@@ -36,7 +36,7 @@ function caseFrame(cases, games, part) {
     ${others.map(choice).join("")}</select>`)}
     ${when(!two, `<span class="push"></span>${button("save", "SVG", "saves this chart as a picture")}
     ${button("mermaid", "Mermaid", "shows the text of this chart for Mermaid")}`)}</div></div>
-    ${when(two, `<pre class="partings" aria-label="where the calls of each run part">${escaped(partings(...games).join("\n"))}</pre>`)}
+    ${two ? `<pre class="partings" aria-label="where the runs part">${escaped(partings(...games).join("\n"))}</pre>` : ""}
     <div class="case ${when(two, "two")}">${cases.map(pane).join("")}<aside class="state"></aside></div>`;
 }
 export function showCases(cases) {

@@ -25,7 +25,7 @@ from browser import Browser, Chromium
 from harness import TOP, Answer, Tests, answers_of, chosen, hold, same, status_of, text_of, words_of
 from model import Context
 
-MOST_LINES, WIDTH, MOST_MADE = 1300, 130, 75_000
+MOST_LINES, WIDTH, MOST_MADE = 1300, 130, 76_000
 
 
 def the_sources_are_small_and_plain(_: Context) -> str:
