@@ -107,7 +107,7 @@ NUMBERS: Dict[str, Dict[str, str]] = {
     "docs/texts.md": {"Line 1 is `behaviours N`, N a number from 1 to #.": "behaviours", "with 0 to # arguments |": "arguments",
         "| `1` | 1 to # |": "behaviours of format 1", "| `2` | 1 to #,": "behaviours",
         "Inside come lines of these four forms, none or more of each, in any order. N is from 1 to #;": "behaviours",
-        "TEXT has 1 to # bytes": "bytes of a sentence", "at most # entries of each": "rows", "The first column is at least # bytes wide": "column",
+        "TEXT has 1 to # bytes": "bytes of a sentence", "if each has at most # entries": "rows", "The first column is at least # bytes wide": "column",
         "If a line or a word has more than # bytes, the first": "shown", "the longest that is taken has # bytes": "longest remark",
         "| has # bytes or more |": "bytes of a line of serve", "why-a-line-is-refused) has # texts": "refusals",
         "The word has at most # bytes": "name bytes", "a name has 1 to # letters": "name bytes", "if NAMES are more than # bytes": "shown",

@@ -19,7 +19,7 @@ RECORD = text("a,1,0,1,0,0,0,pass")
 HISTORY = text("history 2 a 1;0 setverdict pass -> ok;0 finish -> ok;end pass;history 2 b 1;0 finish -> ok;end none")
 
 COUNTS = b'tests="2" failures="0" errors="0"'
-HEAD = (b'<?xml version="1.0" encoding="UTF-8"?>\n<testsuites COUNTS>\n<testsuite name="ttrun" COUNTS skipped="SKIPPED">\n'
+HEAD = (b'<?xml version="1.0" encoding="UTF-8"?>\n<testsuites COUNTS skipped="SKIPPED">\n<testsuite name="ttrun" COUNTS skipped="SKIPPED">\n'
         b'<properties>\n<property name="version" value="1"/>\n</properties>\n')
 OF_A = b'<testcase name="a" classname="ttrun">\n<system-out>\nlocal 0 pass\n</system-out>\n</testcase>\n'
 OF_B = b'<testcase name="b" classname="ttrun">\n<skipped/>\n<system-out>\nlocal 0 none\n</system-out>\n</testcase>\n'

@@ -15,7 +15,7 @@ BENCH = os.path.join(TOP, "crates", "car_window", "out", "car_window")
 NAMES = ("closes", "opens_again", "pinches")
 VERDICTS = dict(zip(NAMES, ("pass", "pass", "fail")))
 # What decides the verdict of the one that fails.
-WHY = b"run 2 on component 2 judge: setverdict fail -> ok"
+WHY = b"run 2 judge on component 2 judge: setverdict fail -> ok"
 OPTIONS = ("csv", "history", "evidence", "junit", "suite", "live", "progress", "stop-on", "list", "only", "shard")
 FEWEST = 60
 

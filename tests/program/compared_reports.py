@@ -72,7 +72,7 @@ def faults_of_suite(program: str, blocks: str, elements: Tuple[str, ...], missin
     """A JUnit report, byte by byte except the version."""
     ran = answer(program, text(f"{SCRIPT};{blocks}"), "report", "--script", "--junit")
     cases = "".join([*elements, *map(NO_RUN.format, missing)])
-    wanted = (f'<?xml version="1.0" encoding="UTF-8"?>\n<testsuites {counts.partition(" skipped")[0]}>\n<testsuite name="ttrun" {counts}>\n'
+    wanted = (f'<?xml version="1.0" encoding="UTF-8"?>\n<testsuites {counts}>\n<testsuite name="ttrun" {counts}>\n'
               f'<properties>\n<property name="version" value="{reports.version_in(ran.output)}"/>\n</properties>\n{cases}</testsuite>\n</testsuites>\n')
     return faults_in(Ran(wanted.encode(), as_lines(*(f"missing {it}" for it in missing)), 3), ran)
 

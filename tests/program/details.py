@@ -3,7 +3,7 @@ steps that no schedule carries out are held to a plain search in `random_courses
 import random
 from collections import Counter
 from itertools import takewhile, zip_longest
-from typing import Iterator, List
+from typing import Callable, Iterator, List
 
 from case import Judgement, answer, below
 from random_courses import drawn_campaign
@@ -14,6 +14,10 @@ BATCHES = 10
 CASES = 100
 COLUMN = 36
 ROWS = 12
+MEANINGS = {"no-component": "a component that the call names does not exist", "not-main": "only run 0 may say any or all",
+            "start-main": "the main component is never started", "already-running": "another run is running on the component",
+            "not-startable": "the component is killed", "too-many": "there are as many components as a test case may have",
+            "no-behaviour": "there is no such run to start", "stuck": "no run can continue"}
 
 
 def alike(left: List[str], right: List[str]) -> int:
@@ -40,13 +44,69 @@ def locals_line(block: Block) -> str:
     return f"  {block.verdict}: {', '.join(f'{called(block, at)} {it.verdict}' for at, it in enumerate(components))}"
 
 
+def plain_call(_: Block, entry: Entry) -> str:
+    return f"{entry.op.text().replace('wake', 'wait')} -> {entry.reply}"
+
+
+def call_text(block: Block, entry: Entry) -> str:
+    """A call for people: components have their names, and a wake is its wait."""
+    op = entry.op
+    on = [it if isinstance(it, str) else called(block, it) for it in op.named()]
+    words = {"start": ["start", *on[:1], "run", str(op.run), *["with"] * (len(on) > 1), *on[1:]], "wait": ["wait", op.awaited, *on]}
+    known = words.get(op.verb.replace("wake", "wait"), [op.verb, *on] if on else [op.text()])
+    return f"{' '.join(known)} -> {entry.reply}"
+
+
+def meaning(entry: Entry, table: Table) -> str:
+    """What an error means after these calls."""
+    is_again = entry.reply == "error no-behaviour" and entry.op.run and entry.op.run in table.component_of_run
+    words = f"run {entry.op.run} was started before: a behaviour is started at most once" if is_again else MEANINGS.get(entry.reply[6:])
+    return f": {words}" if entry.reply.startswith("error ") else ""
+
+
+def decided_lines(block: Block) -> List[str]:
+    """The first call after which the test case has its verdict, if this is worse than pass."""
+    table = Table(block.behaviours)
+    for entry in block.entries if block.verdict not in ("none", "pass") else []:
+        means = meaning(entry, table)
+        table.play(entry.caller, entry.op)
+        if table.overall() == block.verdict:
+            component = table.component_of_run[entry.caller]
+            on = "component " * (component > 0) + called(block, component)
+            return [f"  {block.verdict}: run {entry.caller} on {on}: {call_text(block, entry)}{means}"]
+    return []
+
+
+def end_text(side: str, block: Block, run: int, calls: List[Entry]) -> str:
+    """What ended a run whose next call is replied so."""
+    table = Table(block.behaviours)
+    is_ended = calls and calls[0].reply == "ended"
+    for entry in block.entries[:block.entries.index(calls[0])] if is_ended else []:
+        was_active = table.is_going_on(run)
+        table.play(entry.caller, entry.op)
+        if was_active and not table.is_going_on(run):
+            return f"; {side}: before it {entry.text()}"
+    return ""
+
+
+def parting_lines(one: Block, other: Block, spelled: Callable[[Block, Entry], str] = call_text) -> Iterator[str]:
+    """For each run the first of its calls that differ."""
+    for run in sorted({it.caller for it in one.entries + other.entries}):
+        left, right = ([it for it in block.entries if it.caller == run and it.reply != "parked"] for block in (one, other))
+        same = alike(*([plain_call(one, it) for it in calls] for calls in (left, right)))
+        sides = ((one, left[same:]), (other, right[same:]))
+        first, second = (spelled(block, calls[0]) if calls else "not made" for block, calls in sides)
+        ends = "".join(end_text(side, block, run, calls) for side, (block, calls) in zip(("left", "right"), sides))
+        yield from [f"  run {run}: call {same + 1}: {first} | {second}{ends}"] * (len(left) > same or len(right) > same)
+
+
 def race_lines(one: Block, other: Block) -> List[str]:
-    """Two witnesses next to each other from where they part."""
+    """Two witnesses from where they part: next to each other, or run by run if that is long."""
     left, right = ([it.text() for it in block.entries] for block in (one, other))
     same = alike(left, right)
-    rows = [(one.verdict, other.verdict), *list(zip_longest(left[same:], right[same:], fillvalue=""))]
-    lines = [f"  {one.verdict} and {other.verdict}: alike for {same} entries"]
-    return lines + [f"  {a:<{COLUMN}} | {b}" for a, b in rows[:ROWS + 1]] + ["  .."] * (len(rows) > ROWS + 1)
+    rows = [(one.verdict, other.verdict), *zip_longest(left[same:], right[same:], fillvalue="")]
+    side_by_side = [f"  {a:<{COLUMN}} | {b}" for a, b in rows]
+    return [f"  {one.verdict} and {other.verdict}: alike for {same} entries", *(side_by_side if len(rows) <= ROWS + 1 else parting_lines(one, other))]
 
 
 def target_text(block: Block, table: Table, target: Target) -> str:
@@ -77,7 +137,7 @@ def wanted_of(lines: List[str], blocks: List[Block]) -> List[str]:
     wanted: List[str] = []
     for line in lines:
         witnesses = [it for it in blocks if it.name == line.split(" ")[0]]
-        wanted += [line, *map(locals_line, witnesses)]
+        wanted += [line, *(it for block in witnesses for it in (locals_line(block), *decided_lines(block)))]
         wanted += [it for other in witnesses[1:] for it in race_lines(witnesses[0], other)]
         wanted += [it for block in witnesses for it in wait_lines(block)]
     return wanted
@@ -98,8 +158,9 @@ def details_are_of_the_witnesses(program: str, seed: int) -> Iterator[str]:
         met["cases"] += len(lines)
         met["races"] += sum(": alike for " in it for it in came)
         met["stuck"] += sum(it.startswith("  stuck: ") for it in came)
-        met["cut"] += came.count("  ..")
-    yield from below(met, {"cases": BATCHES * CASES, "races": 50, "stuck": 50, "cut": 5})
+        for words in (": call ", ": before it ", "not made", "started before", "no-component", " with "):
+            met[words] += sum(words in it for it in came)
+    yield from below(met, {"cases": BATCHES * CASES, "races": 50, "stuck": 50, ": call ": 5, ": before it ": 5, "started before": 5})
 
 
 def judgements(seed: int) -> List[Judgement]:

@@ -168,7 +168,7 @@ def faults_of_a_run(program: str, script: bytes, live: Tuple[str, ...], met: Cou
     faults = faults_in(Ran(written_of(campaign, blocks), b"", examples.status_in("history", plain)), ran)
     faults += examples.faults_of_history(campaign, plain)
     faults += [] if len(blocks) == len(campaign) else [f"{len(blocks)} blocks of {len(campaign)} test cases"]
-    for words in (("check",), ("report", "--csv"), ("report", "--junit")):
+    for words in (("check",), ("report", "--csv")):
         of_both = [answer(program, it, *words) for it in (plain, ran.output)]
         faults += [] if of_both[0] == of_both[1] else [f"{words}: {of_both[1]} of evidence, and {of_both[0]} of the history in it"]
     met.update(blocks=len(blocks), names=sum(len(it.names) for it in blocks), entries=sum(len(it.entries) for it in blocks), live=len(live))

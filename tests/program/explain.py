@@ -85,6 +85,8 @@ STEP_LINES: Dict[str, List[Row]] = {
         ("a_reason_without_brackets", 'setverdict fail ^"reason"', there("the end of the call"), *instead("setverdict fail")),
         ("a_name_with_a_semicolon", "create ^p; // x", COMPONENT, *instead("create p")),
         ("a_line_of_many_tokens", f"setverdict{' ' * 30}^(pass);", VERDICT, *instead("setverdict pass")),
+        ("a_line_of_200_tokens", f"setverdict{' ' * 198}^(", VERDICT, SOURCE, ONE_CALL),
+        ("a_line_of_201_tokens", f"setverdict{' ' * 199}^(", VERDICT),
     ],
     "line 3: bad name": [
         ("a_bad_name", "create  ^1x", COMPONENT, NAME_RULE),

@@ -18,9 +18,9 @@ CHOICES: Tuple[Tuple[str, ...], ...] = (
 # Each example with the number of its test cases that fail, as inconc, fail or error.
 SCRIPTS = (("restart", 1), ("verdicts", 3), ("workers", 0), ("pumps", 0))
 FAILED = (b"inconc", b"fail", b"error")
-# A test case of a JUnit report, and what decided its verdict.
-IN_JUNIT = re.compile(rb'<testcase name="(\w+)" classname="ttrun">\n(?:<(?:failure|error) type="\w+" message="([^"]*)">)?')
-SETS = b"run 0 on component 0: setverdict %s -> ok"
+# A test case of a JUnit report, and the call that decided its verdict.
+IN_JUNIT = re.compile(rb'<testcase name="(\w+)" classname="ttrun">\n(?:<(?:failure|error) type="\w+" message="([^":]*: [^":]*)[^"]*">)?')
+SETS = b"run 0 main on mtc: setverdict %s -> ok"
 
 
 def lines_of(place: int, count: int, name: bytes, verdict: bytes, why: bytes) -> Tuple[bytes, bytes, bytes]:
@@ -58,7 +58,7 @@ def as_they_finish(program: str) -> List[str]:
     """If a signal ends a live run, as many test cases are reported as are out, or one more; and the next has begun if all are out."""
     for ran in killed_runs(program, ["run", "--live", "--progress"], long_campaign(), signal.SIGKILL, is_begun):
         # Each starts one behaviour forty times, which is an error at the second.
-        why = b"run 0 on component 0: start 2 1 -> error no-behaviour"
+        why = b"run 0 main on mtc: start 2 run 1 other -> error no-behaviour"
         each = [lines_of(it, TEST_CASES, b"t%d" % (it - 1), b"error", why) for it in range(1, TEST_CASES + 1)]
         written, count = len(ends_of_cases(ran.output, ())), ran.errors.count(b"\n")
         wanted = b"".join([line for begun, ended, _ in each for line in (begun, ended)][:count])

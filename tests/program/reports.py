@@ -4,7 +4,8 @@ import random
 import re
 import xml.etree.ElementTree as ElementTree
 from collections import Counter
-from typing import Dict, Iterator, List, Tuple, Union
+from typing import Callable, Dict, Iterator, List, Tuple, Union
+from xml.sax.saxutils import escape
 
 import examples
 import pages
@@ -23,7 +24,7 @@ FLOORS: Dict[str, int] = {"none": 100, "pass": 20, "inconc": 20, "fail": 20, "er
 
 # A schema of our own: each element with its attributes, and the elements that may be in it, by their order.
 SCHEMA: Dict[str, Tuple[Tuple[str, ...], str]] = {
-    "testsuites": (("tests", "failures", "errors"), "testsuite"),
+    "testsuites": (("tests", "failures", "errors", "skipped"), "testsuite"),
     "testsuite": (("name", "tests", "failures", "errors", "skipped"), "properties( testcase)*"),
     "properties": ((), "property"), "property": (("name", "value"), ""),
     "testcase": (("name", "classname"), "(failure |error |skipped )?system-out"),
@@ -47,8 +48,8 @@ def line_of(entry: Entry) -> str:
     return f"{'wait' + text[4:] if entry.op.verb == 'wake' else text} -> {entry.reply}"
 
 
-def lines_by(entries: List[Entry], caller: int) -> List[str]:
-    return [f"  {line_of(it)}" for it in entries if it.caller == caller and it.reply != "parked"]
+def lines_by(entries: List[Entry], caller: int, shown: Callable[[Entry], str] = line_of) -> List[str]:
+    return [f"  {shown(it)}" for it in entries if it.caller == caller and it.reply != "parked"]
 
 
 class Told:
@@ -63,17 +64,68 @@ class Told:
         self.name = block.name
         self.locals = [it.verdict for it in table.components]
         made = [it.op for it in block.entries if it.op.verb == "create" and it.reply.startswith("made ")]
-        self.components = ["0", *(f"{at} {it.name}".rstrip() for at, it in enumerate(made, start=1))]
+        self.components = ["mtc", *(f"{at} {it.name}".rstrip() for at, it in enumerate(made, start=1))]
+        self.names = {said.run: said.text for _, said in block.said if not said.mark}
         self.end = "unfinished" if table.components[0].phase == "running" else table.overall()
         self.message = MESSAGES.get(self.end, "")
         self.lines: List[str] = []
+        self.reasons: List[str] = []
         self.before: List[str] = []
         if self.end in VERDICTS[2:]:
             at = verdicts.index(self.end)
             caller = block.entries[at].caller
-            self.message = f"run {caller} on component {self.components[table.component_of_run[caller]]}: {line_of(block.entries[at])}"
-            self.lines = lines_by(block.entries, caller)
-            self.before = lines_by(block.entries[:at], caller)[-5:]
+            on = table.component_of_run[caller]
+            self.message = f"run {self.run(caller)} on {'component ' * (on > 0)}{self.component(on)}: {self.named(block.entries[at])}"
+            self.message += meaning(block.entries[:at], block.entries[at])
+            self.reasons = reasons(block, at)
+            self.lines = lines_by(block.entries, caller, self.named)
+            self.before = lines_by(block.entries[:at], caller, self.named)[-5:]
+
+    def why(self) -> str:
+        """What decided the verdict, and what was said of it."""
+        return self.message + "".join(f': "{said}"' for said in self.reasons)
+
+    def run(self, run: int) -> str:
+        return f"{run} {self.names.get(run, '')}".rstrip()
+
+    def component(self, target: Union[int, str]) -> str:
+        return self.components[target] if isinstance(target, int) and target < len(self.components) else str(target)
+
+    def named(self, entry: Entry) -> str:
+        """A call and its reply, with names next to numbers."""
+        op, last = entry.op, line_of(entry)
+        if op.verb == "start":
+            args = " ".join(map(self.component, op.args))
+            return f"start {self.component(op.target)} run {self.run(op.run)}{' with ' * bool(args)}{args} -> {entry.reply}"
+        if not op.named():
+            return last
+        front = last.partition(" -> ")[0].rpartition(" ")[0]
+        return f"{front} {self.component(op.target)} -> {entry.reply}"
+
+
+# What each error of a deciding call means.
+MEANINGS = {"no-component": "a component that the call names does not exist", "not-main": "only run 0 may say any or all",
+            "start-main": "the main component is never started", "already-running": "another run is running on the component",
+            "not-startable": "the component is killed", "no-behaviour": "there is no such run to start",
+            "too-many": "there are as many components as a test case may have", "stuck": "no run can continue"}
+
+
+def meaning(before: List[Entry], entry: Entry) -> str:
+    """What the error of this entry means, which comes after these."""
+    verb, _, fault = entry.reply.partition(" ")
+    if verb != "error":
+        return ""
+    run = entry.op.run
+    is_again = fault == "no-behaviour" and run and any(it.op.verb == "start" and it.op.run == run and it.reply == "ok" for it in before)
+    return f": run {run} was started before: a behaviour is started at most once" if is_again else f": {MEANINGS[fault]}"
+
+
+def reasons(block: Block, at: int) -> List[str]:
+    """What the caller of this entry said: the last remark since its entry before, and the first until its next one."""
+    caller, own = block.entries[at].caller, [place for place, it in enumerate(block.entries) if it.caller == block.entries[at].caller]
+    first, last = max([it + 1 for it in own if it < at], default=0), min([it for it in own if it > at], default=len(block.entries))
+    said = [(place, it.text) for place, it in block.said if it.mark == "#" and it.run == caller]
+    return [text for place, text in said if first <= place <= at][-1:] + [text for place, text in said if at < place <= last][:1]
 
 
 def bare_case(name: str, end: str) -> Told:
@@ -99,9 +151,8 @@ def csv_of(told: List[Told]) -> bytes:
 def junit_of(told: List[Told], version: str, name: str = "ttrun") -> bytes:
     """The JUnit report, byte by byte."""
     kinds = [ELEMENTS.get(it.end, ("",))[0] for it in told]
-    counts = f' tests="{len(told)}" failures="{kinds.count("failure")}" errors="{kinds.count("error")}"'
-    skipped = f' skipped="{kinds.count("skipped")}"'
-    lines = ['<?xml version="1.0" encoding="UTF-8"?>', f"<testsuites{counts}>", f'<testsuite name="{name}"{counts}{skipped}>',
+    counts = f' tests="{len(told)}" failures="{kinds.count("failure")}" errors="{kinds.count("error")}" skipped="{kinds.count("skipped")}"'
+    lines = ['<?xml version="1.0" encoding="UTF-8"?>', f"<testsuites{counts}>", f'<testsuite name="{name}"{counts}>',
              "<properties>", f'<property name="version" value="{version}"/>', "</properties>"]
     for it in told:
         lines.append(f'<testcase name="{it.name}" classname="{name}">')
@@ -109,7 +160,8 @@ def junit_of(told: List[Told], version: str, name: str = "ttrun") -> bytes:
         if kind in MESSAGES:
             lines.append(f'<{element} type="{kind}" message="{it.message}"/>')
         elif kind:
-            lines += [f'<{element} type="{kind}" message="{it.message}">', it.message, *it.lines, f"</{element}>"]
+            message = it.message + "".join(f': &quot;{escape(said, {chr(34): "&quot;"})}&quot;' for said in it.reasons)
+            lines += [f'<{element} type="{kind}" message="{message}">', message, *it.lines, f"</{element}>"]
         elif element:
             lines.append(f'<{element} message="{it.message}"/>' if it.message else f"<{element}/>")
         lines += ["<system-out>", *(f"local {at} {v}" for at, v in enumerate(it.locals)), "</system-out>", "</testcase>"]
@@ -141,7 +193,7 @@ def summary_of(told: List[Told]) -> bytes:
             continue
         lines += ["", f"{it.name}: {it.end}"]
         if it.end in VERDICTS:
-            lines += [f"  {it.message}", *(["  after:"] if it.before else []), *(f"  {line}" for line in it.before)]
+            lines += [f"  {it.why()}", *(["  after:"] if it.before else []), *(f"  {line}" for line in it.before)]
         for verdict in reversed(VERDICTS):
             found = [name for name, local in zip(it.components, it.locals) if local == verdict]
             lines += wrapped(verdict, found) if found else []
@@ -179,7 +231,7 @@ def faults_of_junit(text: bytes) -> List[str]:
     faults = list(faults_of_element(root)) + ([] if root.tag == "testsuites" else [f"the root is {root.tag}"])
     for suite in root.findall("testsuite"):
         faults += faults_of_counts(suite)
-        faults += [f"the suites' {it} differs" for it in ("tests", "failures", "errors") if suite.get(it) != root.get(it)]
+        faults += [f"the suites' {it} differs" for it in ("tests", "failures", "errors", "skipped") if suite.get(it) != root.get(it)]
     return faults
 
 
@@ -201,6 +253,8 @@ def faults_of_forms(form: str, told: List[Told], text: bytes, ran: Ran, errors: 
     elif form == "junit":
         version = version_in(ran.output)
         wanted, faults = junit_of(told, version), faults_of_junit(ran.output) + ([] if version else ["it tells no version"])
+        read = [it.get("message") for it in ElementTree.fromstring(ran.output).iter() if it.tag in ("failure", "error")]
+        faults += [] if read == [it.why() for it in told if ELEMENTS.get(it.end, ("", ""))[1]] else [f"a reader of XML finds {read}"]
     else:
         wanted = csv_of(told) if form == "csv" else summary_of(told)
     return faults + faults_in(Ran(wanted, errors, status), ran)
@@ -223,7 +277,7 @@ def tally_of(report: bytes) -> Dict[str, int]:
 def faults_as_run(program: str, stem: str) -> List[str]:
     """Of a script whose verdicts are the same in each run: the forms of `run` and of `report` are the same."""
     script = examples.bytes_of(f"{stem}.script")
-    text = answer(program, script, "run", "--history").output
+    text = answer(program, script, "run", "--evidence").output
     faults: List[str] = []
     for form in ("--csv", "--junit"):
         ran = answer(program, script, "run", form)
@@ -328,6 +382,17 @@ DRAWN["many_components"] = text(";".join(
     f"history 2 {case} 2;" + ";".join(f"0 create{' named ' + 'n' * (at % 33) if at % 33 else ''} -> made {at}" for at in range(1, most + 1))
     + f";0 start {most} 1 -> ok;1 setverdict {verdict} -> ok;0 finish -> ok;end {verdict}"
     for case, most, verdict in (("a", 999, "fail"), ("b", 70, "inconc"))))
+# What a run may say: each byte in turn. Names as long as may be, of each behaviour and of a component; and remarks that are too far away.
+EACH_BYTE = "".join(map(chr, range(32, 127)))
+DRAWN["a_reason_of_each_byte"] = as_lines("evidence 1 t 1", "behaviour 0 main", f"0 # {EACH_BYTE}", "0 setverdict fail -> ok", "0 # ]]>", "0 finish -> ok", "end fail")
+DRAWN["names_of_each_behaviour"] = as_lines(
+    "evidence 1 t 256", *(f"behaviour {at} {'n' * 32}" for at in range(256)), f"0 create named {'c' * 32} -> made 1", "0 create -> made 2",
+    "0 start 1 255 1 0 2 1 -> ok", "255 wait done 2 -> parked", "0 kill 2 -> ok", "255 wake done 2 -> matched", "255 setverdict inconc -> ok",
+    "0 create -> made 3", "0 start 3 256 -> error no-behaviour", "end error")
+DRAWN["remarks_far_away"] = text(
+    "evidence 1 t 3;0 create named p -> made 1;0 # of another call;0 start 1 1 -> ok;2 # of another run;1 ! refused;1 # first;1 # last;0 # of run 0;"
+    "1 setverdict fail -> ok;1 ! refused;0 getverdict -> none;1 # after;1 # more;1 getverdict -> fail;1 # late;0 finish -> ok;end fail")
+DRAWN["names_of_some"] = text("evidence 1 t 2;behaviour 1 probe;0 create -> made 1;0 start 1 1 -> ok;1 stop all -> error not-main;end error")
 UNFINISHED = b"history 2 t 1\n0 create -> made 1\n0 setverdict pass -> ok\nend pass\n"
 
 
@@ -348,8 +413,7 @@ def cases() -> Iterator[Union[Case, Judgement]]:
     names = sorted(os.listdir(examples.FOLDER))
     for stem in (it[: -len(".script")] for it in names if it.endswith(".script")):
         yield Judgement(f"report_of_one_run_{stem}", f"ttrun run --history < examples/{stem}.script | ttrun report", faults_of_one_run, (stem,))
-        if f"{stem}.csv" in names:
-            yield Judgement(f"report_as_run_{stem}", f"ttrun run --csv < examples/{stem}.script", faults_as_run, (stem,))
+        yield Judgement(f"report_as_run_{stem}", f"ttrun run --csv < examples/{stem}.script", faults_as_run, (stem,))
     for name in (it for it in names if it.endswith(".history")):
         yield Judgement(f"report_of_{name}", f"ttrun report < examples/{name}", faults_of_each_form, (examples.bytes_of(name),))
     for name, fewest in (("verdicts.history", 15), ("restart.history", 10)):

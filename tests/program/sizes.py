@@ -150,23 +150,23 @@ def long_report() -> Iterator[Case]:
     call, last = "0 getverdict -> none", ("0 setverdict fail -> ok", "0 finish -> ok")
     given = text(";".join(["history 2 t 1", *[call] * 700_000, *last, "end fail"]))
     calls = "".join(f"  {it[2:]}\n" for it in (*[call] * 700_000, *last))
-    cause = "run 0 on component 0: setverdict fail -> ok"
+    cause = "run 0 on mtc: setverdict fail -> ok"
     yield Case("junit_of_a_long_history", ("report", "--junit"), given, SomeText((cause, calls)), status=1)
     yield Case("summary_of_a_long_history", ("report", "--summary"), given, summary(
-        1, f"t: fail;  {cause};  after:;" + ";".join(["    getverdict -> none"] * 5) + ";  fail: 0"), status=1)
+        1, f"t: fail;  {cause};  after:;" + ";".join(["    getverdict -> none"] * 5) + ";  fail: mtc"), status=1)
     names = ("", " named pump", " named valve_of_the_tank", "")
     made = [f"0 create{names[at % 4]} -> made {at}" for at in range(1, 29)]
     waits = ("0 start 1 1 -> ok", "0 wait done 1 -> parked", "1 setverdict pass -> ok", "1 finish -> ok", "0 wake done 1 -> matched")
     yield Case("summary_of_many_components", ("report", "--summary"), text(";".join(
         ["history 2 t 2", *made, *waits, *[call] * 3, *last, "end fail"])), summary(
-            1, f"t: fail;  {cause};  after:;    start 1 1 -> ok;    wait done 1 -> matched;" + "    getverdict -> none;" * 3
-            + "  fail: 0;  pass: 1 pump;  none: 2 valve_of_the_tank, 3, 4, 5 pump, 6 valve_of_the_tank, 7, 8,;"
+            1, f"t: fail;  {cause};  after:;    start 1 pump run 1 -> ok;    wait done 1 pump -> matched;" + "    getverdict -> none;" * 3
+            + "  fail: mtc;  pass: 1 pump;  none: 2 valve_of_the_tank, 3, 4, 5 pump, 6 valve_of_the_tank, 7, 8,;"
             "    9 pump, 10 valve_of_the_tank, 11, 12, 13 pump, 14 valve_of_the_tank, 15,;"
             "    16, 17 pump, 18 valve_of_the_tank, 19, 20, 21 pump, 22 valve_of_the_tank,;"
             "    23, 24, 25 pump, 26 valve_of_the_tank, 27, 28"), status=1)
     many = "".join(history_of_verdict(f"t{at}", "fail") for at in range(200_000))
     yield Case("summary_of_many_histories", ("report", "--summary"), many.encode(), summary(
-        200_000, ";;".join(f"t{at}: fail;  {cause};  fail: 0" for at in range(200_000))), status=1)
+        200_000, ";;".join(f"t{at}: fail;  {cause};  fail: mtc" for at in range(200_000))), status=1)
     yield Case("page_of_a_long_history", ("report", "--html"), given, SomeText((given.decode(),)), status=1)
 
 
@@ -202,14 +202,14 @@ def most_components() -> Iterator[Case]:
     local = many_of("local 0 fail", *(f"local {at} none" for at in range(1, 1000)))
     block = f"history 2 t 1\n{entries}end fail\n"
     report = f"testcase t\nrun 0 main on 0\n{shown}{local}verdict fail\n{counts_of('fail')}complete\n".encode()
-    cause = "run 0 on component 0: setverdict fail -> ok"
+    cause = "run 0 on mtc: setverdict fail -> ok"
     evidence = f"evidence 1 t 1\nbehaviour 0 main\n{entries}end fail\n".encode()
     for words, wanted in ((("run",), report), (("run", "--live"), report), (("run", "--history"), block.encode()), (("run", "--evidence"), evidence),
-                          (("run", "--junit"), SomeText((cause, shown, local)))):
+                          (("run", "--junit"), SomeText((cause.replace("0", "0 main", 1), shown, local)))):
         yield Case(joined("a_thousand_components", *words), words, script, wanted, status=1)
     record = (CSV_HEADER + "t,1000,999,0,0,1,0,fail\n").encode()
     for form, wanted in (("csv", record), ("junit", SomeText((cause, shown, local))), ("html", SomeText((block,))),
-                         ("summary", SomeText((f"t: fail\n  {cause}\n  after:\n", "  fail: 0\n  none: 1, 2, 3,", " 998, 999\n")))):
+                         ("summary", SomeText((f"t: fail\n  {cause}\n  after:\n", "  fail: mtc\n  none: 1, 2, 3,", " 998, 999\n")))):
         yield Case(f"a_thousand_components_report_{form}", ("report", f"--{form}"), block.encode(), wanted, status=1)
     yield Case("a_thousand_components_checked", ("check",), block.encode(), text("legal t 1001 fail"))
     yield Case("a_thousand_components_compared", ("check", "--script"), script + block.encode(), text("legal t 1001 fail"))
@@ -228,7 +228,7 @@ def a_thousand() -> Iterator[Case]:
     script = ";".join(f"testcase {it};behaviour main;setverdict fail;end;end" for it in names)
     blocks = ";".join(f"history 2 {it} 1;0 setverdict fail -> ok;0 finish -> ok;end fail" for it in names)
     records = CSV_HEADER.encode() + b"".join(csv_of_verdict(it, "fail").encode() for it in names)
-    why = "run 0 on component 0: setverdict fail -> ok"
+    why = "run 0 main on mtc: setverdict fail -> ok"
     told = [f"{at}/1000 {it} ..;{at}/1000 {it} fail 0.000 s: {why}" for at, it in enumerate(names, 1)]
     again = [f"failed: {it} fail: {why}" for it in names]
     yield Case("a_thousand_lines_of_progress", ("run", "--csv", "--progress"), text(script), records, Timed(text(";".join(told + again))), 1)

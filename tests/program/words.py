@@ -12,7 +12,7 @@ COMMANDS = ("run", "serve", "check", "replay", "explore", "report", "\n  ttrun r
             "Each command reads standard input and writes standard output:\n",
             "Status of run, serve, replay and report: 0 for none and pass, 1 for inconc and\nfail, 2 for error.\n",
             "Status of check: 0 if each history is legal.\n",
-            "Status of explore: 0 if each test case has one verdict, 1 if one has several.\n",
+            "Status of explore: 0 if each test case has one verdict, 1 if one has several,\n2 if one has no verdict but error.\n",
             "3 says that a test case was aborted, a history is not legal, or a search met\nits limit;"
             " or that the arguments or the input were refused, memory ran out, or\n"
             "standard input or output failed: standard error says which.\n")
@@ -55,7 +55,7 @@ EXPLORE = ("looks for every overall verdict that a test case can have\n",
            "Standard input is a script: ttrun explore < FILE. Standard output is a line\n"
            "for each test case: its name, the verdicts found, and how the search ended.\n"
            "N is from 1 to 1000000, and 100000 without --states. --only, --shard and\n--failed choose test cases as those of run do, with --last too.\n",
-           "Status: 0 if each test case has one verdict, 1 if one has several, 3 if a\nsearch met its limit, or for a refusal.\n")
+           "Status: 0 if each test case has one verdict, 1 if one has several, 2 if one\nhas no verdict but error, 3 if a search met its limit, or for a refusal.\n")
 REPORT = ("reads histories, and writes them in one of these forms\n",
           "  --csv           writes a table as CSV\n", "  --junit         writes a JUnit suite\n",
           "  --suite <NAME>  calls the JUnit suite NAME instead of ttrun\n",
@@ -321,7 +321,8 @@ LOOSE = text("testcase t;behaviour main;create p;start p w;end;behaviour w;setve
 MAKING = LOOSE.replace(b"fail\n", b"fail\ncreate q\n")
 # Its worker waits for its own end, and nobody comes after that.
 DEAD = text("testcase t;behaviour main;create p alive;start p w;wait done p;setverdict pass;end;behaviour w;wait killed self;end;end")
-DEAD_TOLD = text("t error complete;  error: mtc error, 1 none;  stuck: run 0 on mtc waits for done of 1, where run 1 is;"
+DEAD_TOLD = text("t error complete;  error: mtc error, 1 none;  error: run 0 on mtc: wait done 1 -> error stuck: no run can continue;"
+                 "  stuck: run 0 on mtc waits for done of 1, where run 1 is;"
                  "  stuck: run 1 on 1 waits for killed of 1, where run 1 is;  not seen: run 0 from step 4 of 4 on: setverdict pass")
 # Half a search prints no step as one that no schedule carries out.
 HALF_TOLD = DEAD_TOLD[: DEAD_TOLD.index(b"  not seen")].replace(b"complete", b"undecided after 1 states: limit of states")
@@ -329,21 +330,29 @@ HALF_TOLD = DEAD_TOLD[: DEAD_TOLD.index(b"  not seen")].replace(b"complete", b"u
 KILLED = text("testcase t;behaviour main;create p named worker;start p w;setverdict fail;kill p;end;behaviour w;setverdict pass;end;end")
 KILLED_TOLD = b"t fail complete\n  local 1 worker: none or pass\n"
 # The main component waits for the end of one that is stopped, and stays alive.
-STOPPED = text("testcase t;behaviour main;create p alive;start p w;wait done p;wait killed p;end;behaviour w;end;end")
-STOPPED_TOLD = text("t error complete;  error: mtc error, 1 none;  stuck: run 0 on mtc waits for killed of 1, stopped")
+STOPPED = text("testcase u;behaviour main;create p alive;start p w;wait done p;wait killed p;end;behaviour w;end;end")
+STOPPED_TOLD = text("u error complete;  error: mtc error, 1 none;  error: run 0 on mtc: wait killed 1 -> error stuck: no run can continue;"
+                    "  stuck: run 0 on mtc waits for killed of 1, stopped")
 # Component 3 has the name x or y, whichever is created first.
 NAMED_BY_ORDER = text("testcase t;behaviour main;create p;create q;start p one;start q two;wait done all;end;"
                       "behaviour one;create c named x;start c three;end;behaviour two;create c named y;end;"
                       "behaviour three;setverdict fail;end;end")
 # Of this no step is dead.
 PLAIN = text("testcase t;behaviour main;create p;start p w;wait done p;end;behaviour w;setverdict pass;end;end")
-# A race of which one side has thirteen entries, and twelve rows are shown.
+# A race of which one side has thirteen entries, and twelve are shown side by side.
 LONG = LOOSE.replace(b"fail\n", b"fail\n" + b"getverdict\n" * 10)
-LONG_TOLD = as_lines(
-    "t none fail complete", "  none: mtc none, 1 none", "  fail: mtc none, 1 fail", "  none and fail: alike for 2 entries",
-    f"  {'none':<36} | fail", f"  {'0 finish -> ok':<36} | 1 setverdict fail -> ok",
-    f"  {'1 setverdict fail -> ended':<36} | 1 getverdict -> fail", *(f"  {'':<36} | 1 getverdict -> fail",) * 9,
-    f"  {'':<36} | 1 finish -> ok", "  ..")
+SHORT = LOOSE.replace(b"fail\n", b"fail\n" + b"getverdict\n" * 9)
+PARTED = ("t none fail complete", "  none: mtc none, 1 none", "  fail: mtc none, 1 fail", "  fail: run 1 on component 1: setverdict fail -> ok",
+          "  none and fail: alike for 2 entries")
+LONG_TOLD = as_lines(*PARTED, "  run 1: call 1: setverdict fail -> ended | setverdict fail -> ok; left: before it 0 finish -> ok")
+SHORT_TOLD = as_lines(
+    *PARTED, f"  {'none':<36} | fail", f"  {'0 finish -> ok':<36} | 1 setverdict fail -> ok",
+    f"  {'1 setverdict fail -> ended':<36} | 1 getverdict -> fail", *(f"  {'':<36} | 1 getverdict -> fail",) * 8,
+    f"  {'':<36} | 1 finish -> ok", f"  {'':<36} | 0 finish -> ok")
+# A behaviour is started again, or was never there.
+AGAIN = text("testcase t;behaviour main;create p;create q;start p w;start q w;end;behaviour w;end;end")
+AGAIN_TOLD = text("t error complete;  error: mtc error, 1 none, 2 none;  error: run 0 on mtc: start 2 run 1 -> error no-behaviour: "
+                  "run 1 was started before: a behaviour is started at most once")
 
 # Name, options, script, output, status.
 EXPLORED: List[Tuple[str, str, bytes, Wanted, int]] = [
@@ -352,13 +361,17 @@ EXPLORED: List[Tuple[str, str, bytes, Wanted, int]] = [
     ("three_states_are_complete", "--states 3", LOOSE, b"t none fail complete\n", 1),
     ("the_worst_verdict_is_found_first", "--states 3", MAKING, b"t none fail undecided after 3 states: limit of states\n", 3),
     ("a_race_is_told_complete", "", RACE, b"t none fail complete\n", 1),
-    ("steps_behind_a_wait_are_dead", "--details", DEAD, DEAD_TOLD, 0),
-    ("a_stopped_component_is_waited_for", "--details", STOPPED, STOPPED_TOLD, 0),
-    ("a_long_race_is_cut", "--details", LONG, LONG_TOLD, 1),
+    ("steps_behind_a_wait_are_dead", "--details", DEAD, DEAD_TOLD, 2),
+    ("a_stopped_component_is_waited_for", "--details", STOPPED, STOPPED_TOLD, 2),
+    ("only_an_error_next_to_a_race", "", LOOSE + STOPPED, b"t none fail complete\nu error complete\n", 2),
+    ("half_a_search_next_to_an_error", "--states 1", STOPPED + LOOSE, SomeText(("u error", "t none fail undecided")), 3),
+    ("a_long_race_is_told_run_by_run", "--details", LONG, LONG_TOLD, 1),
+    ("a_race_of_twelve_rows", "--details", SHORT, SHORT_TOLD, 1),
+    ("a_behaviour_is_started_again", "--details", AGAIN, AGAIN_TOLD, 2),
     ("no_step_is_dead", "--details", PLAIN, b"t pass complete\n  pass: mtc none, 1 pass\n", 0),
     ("no_step_is_told_dead_by_half_a_search", "--details --states 1", DEAD, HALF_TOLD, 3),
     ("local_verdicts_that_differ", "--locals", KILLED, KILLED_TOLD, 0),
-    ("local_verdicts_before_details", "--locals --details", KILLED, KILLED_TOLD + b"  fail: mtc fail, 1 worker pass\n", 0),
+    ("local_verdicts_before_details", "--locals --details", KILLED, KILLED_TOLD + text("  fail: mtc fail, 1 worker pass;  fail: run 0 on mtc: setverdict fail -> ok"), 0),
     ("a_component_of_two_names_has_none", "--locals", NAMED_BY_ORDER, text("t fail complete;  local 3: none or fail;  local 4: none or fail"), 0),
     ("no_local_verdict_differs", "--locals", PLAIN, b"t pass complete\n", 0),
     ("local_verdicts_of_half_a_search", "--locals --states 2", KILLED,

@@ -23,7 +23,7 @@ e,0,0,0,0,0,0,notrun
 ";
 
 const SUITE: &str = "<?xml version=\"1.0\" encoding=\"UTF-8\"?>
-<testsuites tests=\"5\" failures=\"2\" errors=\"1\">
+<testsuites tests=\"5\" failures=\"2\" errors=\"1\" skipped=\"1\">
 <testsuite name=\"ttrun\" tests=\"5\" failures=\"2\" errors=\"1\" skipped=\"1\">
 <properties>
 <property name=\"version\" value=\"7\"/>
@@ -34,8 +34,8 @@ local 0 pass
 </system-out>
 </testcase>
 <testcase name=\"b\" classname=\"ttrun\">
-<failure type=\"fail\" message=\"run 0 on component 0: setverdict fail -> ok\">
-run 0 on component 0: setverdict fail -> ok
+<failure type=\"fail\" message=\"run 0 main on mtc: setverdict fail -> ok\">
+run 0 main on mtc: setverdict fail -> ok
   setverdict fail -> ok
   finish -> ok
 </failure>
@@ -44,8 +44,8 @@ local 0 fail
 </system-out>
 </testcase>
 <testcase name=\"c\" classname=\"ttrun\">
-<failure type=\"inconc\" message=\"run 0 on component 0: setverdict inconc -> ok\">
-run 0 on component 0: setverdict inconc -> ok
+<failure type=\"inconc\" message=\"run 0 main on mtc: setverdict inconc -> ok\">
+run 0 main on mtc: setverdict inconc -> ok
   setverdict inconc -> ok
   finish -> ok
 </failure>
@@ -72,12 +72,12 @@ aborted 1
 notrun 1
 
 b: fail
-  run 0 on component 0: setverdict fail -> ok
-  fail: 0
+  run 0 main on mtc: setverdict fail -> ok
+  fail: mtc
 
 c: inconc
-  run 0 on component 0: setverdict inconc -> ok
-  inconc: 0
+  run 0 main on mtc: setverdict inconc -> ok
+  inconc: mtc
 
 d: aborted
   torn

@@ -318,8 +318,8 @@ fn a_campaign_that_is_cut_short_is_told_of(rt: HostRuntime) -> Result<(), Fail> 
     let wanted = "1/3 a ..
 1/3 a pass
 2/3 b ..
-2/3 b fail: run 0 on component 0: setverdict fail -> ok
-failed: b fail: run 0 on component 0: setverdict fail -> ok
+2/3 b fail: run 0 main on mtc: setverdict fail -> ok
+failed: b fail: run 0 main on mtc: setverdict fail -> ok
 ";
     is(&rt, "what is told", lines.as_slice(), wanted.as_bytes());
     Ok(())

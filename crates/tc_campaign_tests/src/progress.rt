@@ -18,11 +18,11 @@ use tc_stream::devices::{NarrowWriter, WriteFailure};
 const TOLD: &str = "1/3 a ..
 1/3 a pass 0.007 s
 2/3 b ..
-2/3 b fail 0.041 s: run 0 on component 0: setverdict fail -> ok
+2/3 b fail 0.041 s: run 0 main on mtc: setverdict fail -> ok
 3/3 c ..
-3/3 c inconc 75.100 s: run 0 on component 0: setverdict inconc -> ok
-failed: b fail: run 0 on component 0: setverdict fail -> ok
-failed: c inconc: run 0 on component 0: setverdict inconc -> ok
+3/3 c inconc 75.100 s: run 0 main on mtc: setverdict inconc -> ok
+failed: b fail: run 0 main on mtc: setverdict fail -> ok
+failed: c inconc: run 0 main on mtc: setverdict inconc -> ok
 ";
 
 // What a clock says one time after the other, in thousandths of a second: when each test case begins, and when it has
@@ -191,11 +191,11 @@ fn without_a_time(rt: HostRuntime) -> Result<(), Fail> {
     let wanted = "1/3 a ..
 1/3 a pass 0.000 s
 2/3 b ..
-2/3 b fail: run 0 on component 0: setverdict fail -> ok
+2/3 b fail: run 0 main on mtc: setverdict fail -> ok
 3/3 c ..
-3/3 c inconc: run 0 on component 0: setverdict inconc -> ok
-failed: b fail: run 0 on component 0: setverdict fail -> ok
-failed: c inconc: run 0 on component 0: setverdict inconc -> ok
+3/3 c inconc: run 0 main on mtc: setverdict inconc -> ok
+failed: b fail: run 0 main on mtc: setverdict fail -> ok
+failed: c inconc: run 0 main on mtc: setverdict inconc -> ok
 ";
     is(&rt, "what is told", told.as_slice(), wanted.as_bytes());
     Ok(())

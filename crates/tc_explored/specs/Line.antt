@@ -1,11 +1,12 @@
 -- What is printed about a test case that was explored.
-use Rattle.std.specs.Prelude.{ℕ, ◌==◌, if◌then◌else◌, nat_lt, Bool, Option, List, [], ◌∷◌, ◌++◌, codes, filter, length, ◌+◌, ◌/◌, None, drop, slice_index_or}
-use Rattle.std.specs.{Fmt.decimal, List.flat_map, List.range_with_len, Option.option_map_or}
+use Rattle.std.specs.Prelude.{ℕ, ◌==◌, if◌then◌else◌, nat_lt, Bool, List, [], ◌∷◌, ◌++◌, codes, filter, length, ◌+◌, ◌/◌, None, drop, slice_index_or}
+use Rattle.std.specs.{Fmt.decimal, List.flat_map, List.range_with_len}
 use Rattle.tc_rules.specs.Prelude.{Verdict, name_of}
 use Rattle.tc_blocks.specs.Prelude.{history_text}
 use Rattle.tc_course.specs.Prelude.{is_found, is_local}
-use Rattle.tc_course.specs.declared.found.{Ending.Ending, Explored.Explored, Limit.Limit, Locals.Locals}
+use Rattle.tc_course.specs.declared.{found.Ending.Ending, found.Explored.Explored, found.Limit.Limit, found.Locals.Locals, witness.Witness.Witness}
 use Rattle.tc_text.specs.Prelude.{shown_line}
+use Rattle.tc_report.specs.Prelude.{component_text}
 
 -- the verdicts of which this holds, from the best to the worst
 unfoldable pub verdicts_where : (Verdict → Bool) → List Verdict
@@ -16,11 +17,15 @@ abbrev pub if_complete : {A : Type 0} → Ending → A → A → A
 if_complete Ending.Complete first other = first
 if_complete (Ending.Undecided limit) first other = other
 
--- the status of a test case by the number of verdicts: 0 for one, 1 for more; 3 if none was found, or the search met its limit
+-- the status of a test case of which these were found: 0 for one verdict, or 2 if it is error; 1 for more; 3 for none
+abbrev pub found_status : List Witness → ℕ
+found_status found =
+    let count = length (verdicts_where (is_found found)) in
+    if count == 1 then (if is_found found Verdict.Error then 2 else 0) else if nat_lt 1 count then 1 else 3
+
+-- the same of all that a search found; 3 if it met its limit
 abbrev pub explored_status : Explored → ℕ
-explored_status e =
-    let count = length (verdicts_where (is_found e.found)) in
-    if_complete e.ending (if count == 1 then 0 else if nat_lt 1 count then 1 else 3) 3
+explored_status e = if_complete e.ending (found_status e.found) 3
 
 -- the limit that a search met
 abbrev pub limit_words : Limit → List ℕ
@@ -37,10 +42,6 @@ abbrev pub explored_line : List ℕ → Explored → List ℕ
 explored_line name e =
     name ++ (flat_map (λ v. codes " " ++ name_of v) (verdicts_where (is_found e.found)) ++ (ending_words e.ending e.states ++ (10 ∷ [])))
 
--- a component after a space: its number and its name, if it has one; the main one as mtc
-abbrev pub component_text : ℕ → Option (List ℕ) → List ℕ
-component_text c name = if c == 0 then codes " mtc" else 32 ∷ (decimal c ++ option_map_or (λ n. 32 ∷ n) name [])
-
 -- the histories of all witnesses, in a test case of this name and of n behaviours
 abbrev pub witnesses_text : List ℕ → ℕ → Explored → List ℕ
 witnesses_text name n e = flat_map (λ w. history_text 2 name n w.history w.verdict) e.found
@@ -54,7 +55,7 @@ unfoldable pub local_line : Locals → ℕ → List ℕ
 local_line l c =
     let verdicts = verdicts_where (is_local l.found c) in
     if nat_lt 1 (length verdicts)
-    then shown_line (codes " local" ++ (component_text c (slice_index_or l.names c None) ++ (codes ":" ++ or_text verdicts)))
+    then shown_line (codes " local " ++ (component_text c (slice_index_or l.names c None) ++ (codes ":" ++ or_text verdicts)))
     else []
 
 -- all that is printed; of a search that met its limit how many states it looked at

@@ -1,9 +1,11 @@
-//! Two witnesses side by side, from where they part.
-ghost use Rattle.std.specs.Prelude.{◌≡◌, ◌≤◌, ◌++◌, [], ◌∷◌, IfOk, OnOk, bytes_eq, codes, drop, length};
+//! Two witnesses from the place where they part: side by side, or run by run.
+ghost use Rattle.std.specs.Prelude.{◌≡◌, ◌≤◌, ◌++◌, ◌∷◌, ◌&&◌, All, IfOk, OnOk, bytes_eq, codes, drop, length, nat_le, reverse};
+ghost use Rattle.tc_entry.specs.declared.limits.TheConstants.{BEHAVIOURS};
 ghost use Rattle.tc_blocks.specs.Prelude.{entry_text};
-ghost use Rattle.tc_rules.specs.Prelude.{name_of as verdict_name};
+ghost use Rattle.tc_rules.specs.Prelude.{IsLegal, name_of as verdict_name};
 ghost use Rattle.tc_explored.specs.Race as spec;
 
+use crate::parting::append_partings;
 use std::alloc::Global;
 use tc_course::Witness;
 use tc_entry::Entry;
@@ -13,11 +15,11 @@ use tc_verdict::{NoMemory, name as name_of};
 /// The left column, if nothing is in it.
 const COLUMN: &str = "                                    ";
 
-/// How many lines of entries are shown.
+/// How many lines of entries are shown at most.
 const ROWS: usize = 12;
 
-// Appends an entry as histories spell it; if memory runs out, a part of it.
-fn append_entry(out: &mut Vec<u8>, entry: &Entry) -> Result<(), NoMemory>
+/// Appends an entry as histories spell it; if memory runs out, a part of it.
+pub(crate) fn append_entry(out: &mut Vec<u8>, entry: &Entry) -> Result<(), NoMemory>
     ensures { OnOk result (out.new.items ≡ out.old.items ++ entry_text entry.now) }
 {
     write_move(out, entry.caller, &entry.op)?;
@@ -36,8 +38,8 @@ fn is_alike(alloc: Global, left: &Entry, right: &Entry) -> Result<bool, NoMemory
     Ok(text.as_slice() == other.as_slice())
 }
 
-// How many entries two histories have alike in front.
-fn alike_count(alloc: Global, left: &[Entry], right: &[Entry]) -> Result<usize, NoMemory>
+/// How many entries two lists have alike in front.
+pub(crate) fn alike_count(alloc: Global, left: &[Entry], right: &[Entry]) -> Result<usize, NoMemory>
     ensures is { IfOk result (λ count. count ≡ spec.alike_count left.now right.now) }
     ensures within { IfOk result (λ count. count ≤ length left.now) }
     ensures within_other { IfOk result (λ count. count ≤ length right.now) }
@@ -97,55 +99,22 @@ fn text_at(alloc: Global, history: &[Entry], at: usize) -> Result<Vec<u8>, NoMem
     Ok(text)
 }
 
-// Appends the line of the entries at a place, if one of both has an entry there; if memory runs out, a part of it.
-fn append_row_at(
+// Appends the entries of both in two columns; if memory runs out, a part of them.
+#[tactic(auto, using(tc_course::proofs::Lemmas::next_of))]
+fn append_rows(
     alloc: Global,
     out: &mut Vec<u8>,
     left: &[Entry],
     right: &[Entry],
-    at: usize,
 ) -> Result<(), NoMemory>
-    ensures { OnOk result (out.new.items ≡ out.old.items ++ spec.row_at left.now right.now at) }
+    ensures { OnOk result (out.new.items ≡ out.old.items ++ spec.rows left.now right.now) }
 {
-    if at < left.len() || at < right.len() {
+    for at in 0..left.len().max(right.len()) {
         let text = text_at(alloc, left, at)?;
         let other = text_at(alloc, right, at)?;
-        append_row(alloc, out, text.as_slice(), other.as_slice())
-    } else {
-        Ok(())
-    }
-}
-
-// Appends the first entries of both in two columns; if memory runs out, a part of them.
-#[tactic(auto, unfolding(crate::specs::Race::first_rows), using(tc_course::proofs::Lemmas::next_of))]
-fn append_first_rows(
-    alloc: Global,
-    out: &mut Vec<u8>,
-    left: &[Entry],
-    right: &[Entry],
-) -> Result<(), NoMemory>
-    ensures { OnOk result (out.new.items ≡ out.old.items ++ spec.first_rows left.now right.now) }
-{
-    for at in 0..ROWS {
-        append_row_at(alloc, out, left, right, at)?;
+        append_row(alloc, out, text.as_slice(), other.as_slice())?;
     }
     Ok(())
-}
-
-// Appends a line if one of both has more entries; if memory runs out, a part of it.
-fn append_more(
-    alloc: Global,
-    out: &mut Vec<u8>,
-    left: &[Entry],
-    right: &[Entry],
-) -> Result<(), NoMemory>
-    ensures { OnOk result (out.new.items ≡ out.old.items ++ spec.more_rows left.now right.now) }
-{
-    if ROWS < left.len() || ROWS < right.len() {
-        append_shown(alloc, out, b" ..")
-    } else {
-        Ok(())
-    }
 }
 
 // Appends the verdicts of two witnesses; if memory runs out, a part of them.
@@ -177,38 +146,76 @@ fn append_alike(
     append_shown(alloc, out, text.as_slice())
 }
 
-// Appends two witnesses side by side from where they part; if memory runs out, a part of it.
-fn append_race(
+// Whether neither of both has more entries than are shown.
+fn are_short(left: &[Entry], right: &[Entry]) -> bool
+    ensures { result ≡ nat_le (length left.now) 12 && nat_le (length right.now) 12 }
+{
+    left.len() <= ROWS && right.len() <= ROWS
+}
+
+// Appends two witnesses from where they part, after that many entries; if memory runs out, a part of it.
+fn append_parts(
     alloc: Global,
     out: &mut Vec<u8>,
+    behaviours: u16,
     witness: &Witness,
     other: &Witness,
+    count: usize,
 ) -> Result<(), NoMemory>
-    ensures { OnOk result (out.new.items ≡ out.old.items ++ spec.race witness.now other.now) }
+    requires some { 1 ≤ behaviours }
+    requires few { behaviours ≤ BEHAVIOURS }
+    requires legal { IsLegal behaviours (reverse witness.now.history) }
+    requires other_legal { IsLegal behaviours (reverse other.now.history) }
+    requires within { count ≤ length witness.now.history }
+    requires within_other { count ≤ length other.now.history }
+    ensures { OnOk result (out.new.items ≡ out.old.items ++ spec.parts behaviours witness.now other.now count) }
 {
     let left = witness.history.as_slice();
     let right = other.history.as_slice();
-    let count = alike_count(alloc, left, right)?;
-    append_alike(alloc, out, witness, other, count)?;
+    if !are_short(&left[count..], &right[count..]) {
+        return append_partings(alloc, out, behaviours, left, right);
+    }
     let head = name_of(witness.verdict).as_bytes();
     append_row(alloc, out, head, name_of(other.verdict).as_bytes())?;
-    append_first_rows(alloc, out, &left[count..], &right[count..])?;
-    append_more(alloc, out, &left[count..], &right[count..])
+    append_rows(alloc, out, &left[count..], &right[count..])
+}
+
+// Appends how far two witnesses are alike, and where they part; if memory runs out, a part of it.
+fn append_race(
+    alloc: Global,
+    out: &mut Vec<u8>,
+    behaviours: u16,
+    witness: &Witness,
+    other: &Witness,
+) -> Result<(), NoMemory>
+    requires some { 1 ≤ behaviours }
+    requires few { behaviours ≤ BEHAVIOURS }
+    requires legal { IsLegal behaviours (reverse witness.now.history) }
+    requires other_legal { IsLegal behaviours (reverse other.now.history) }
+    ensures { OnOk result (out.new.items ≡ out.old.items ++ spec.race behaviours witness.now other.now) }
+{
+    let count = alike_count(alloc, witness.history.as_slice(), other.history.as_slice())?;
+    append_alike(alloc, out, witness, other, count)?;
+    append_parts(alloc, out, behaviours, witness, other, count)
 }
 
 /// Appends the first witness next to each other one, from where they part. If memory runs out, a part of it.
 pub(crate) fn append_races(
     alloc: Global,
     out: &mut Vec<u8>,
+    behaviours: u16,
     found: &[Witness],
 ) -> Result<(), NoMemory>
-    ensures { OnOk result (out.new.items ≡ out.old.items ++ spec.races found.now) }
+    requires some { 1 ≤ behaviours }
+    requires few { behaviours ≤ BEHAVIOURS }
+    requires legal { All (λ w. IsLegal behaviours (reverse w.history)) found.now }
+    ensures { OnOk result (out.new.items ≡ out.old.items ++ spec.races behaviours found.now) }
 {
     let Some((witness, others)) = found.split_first() else {
         return Ok(());
     };
     for other in others {
-        append_race(alloc, out, witness, other)?;
+        append_race(alloc, out, behaviours, witness, other)?;
     }
     Ok(())
 }

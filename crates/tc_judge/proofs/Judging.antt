@@ -1,20 +1,21 @@
 -- Judged blocks: what `check` and `report` make of them.
-use Rattle.std.proofs.Common.{ℕ, ◌≡◌, ◌∙◌, ◌&&◌, ◌||◌, ◌==◌, cond, not, Bool, true, false, Option, Some, None, List, [], ◌∷◌, ◌++◌, if◌then◌else◌, filter, length, map, reverse, refl, ap, ap₂, sym, subst, codes}
-use Rattle.std.proofs.lemmas.List.Elements.{All-cons, All-head, All-nil, All-tail}
+use Rattle.std.proofs.Common.{ℕ, ◌≡◌, ◌≢◌, ◌∙◌, ◌&&◌, ◌||◌, ◌==◌, cond, not, Bool, true, false, Option, Some, None, List, [], ◌∷◌, ◌++◌, if◌then◌else◌, filter, length, map, reverse, refl, ap, ap₂, sym, subst, codes}
+use Rattle.std.proofs.lemmas.List.{append-nil, Elements.All-cons, Elements.All-head, Elements.All-nil, Elements.All-tail}
 use Rattle.std.specs.List.{AllZip, list_any}
 use Rattle.std.specs.Prelude.{is_some, Ok}
 use Rattle.tc_answer.specs.Prelude.{have_names}
-use Rattle.tc_blocks.specs.declared.{block.Block.Block, line.Line.Line}
-use Rattle.tc_blocks.specs.Prelude.{AreEvidence, entries_of, history_of}
+use Rattle.tc_blocks.specs.declared.{block.Block.Block, header.Header.Header, line.Line.Line}
+use Rattle.tc_blocks.specs.Prelude.{AreEvidence, entries_of, entry_in}
 use Rattle.tc_answer.specs.declared.{fault.RunFault.RunFault, reply.Answer.Answer}
 use Rattle.tc_command.specs.declared.task.{Choice.Choice, ReportForm.ReportForm}
-use Rattle.tc_report.specs.Prelude.{block_summary, bare_summary, summary_of, verdict_status, worst_of}
-use Rattle.tc_report.specs.declared.{results.CaseEnd.CaseEnd, summary.Summary.Summary}
+use Rattle.tc_report.specs.Prelude.{block_summary, bare_summary, said_in, said_with, summary_of, verdict_status, worst_of}
+use Rattle.tc_report.specs.declared.{results.CaseEnd.CaseEnd, said.Said.Said, summary.Summary.Summary}
 use Rattle.tc_rules.specs.Prelude.{Entry, StandsFor, Verdict, matches, name_of}
 use Rattle.tc_text.specs.Prelude.{reply_text}
 use Rattle.tc_reader.specs.Prelude.{Word}
-use Rattle.tc_judge.specs.{Check.AreAllLegal, Check.Checks, Check.IsChecked, Check.IsIllegalLine, Check.IsLegalBlock, Check.IsMadeOfBlocks, Check.IsSilent, Check.NameBlocks, Check.RefusesBlocks, Check.disagreeing_line, Inside.AreJudgedIn, Inside.IsFirstIllegal, Inside.IsJudgedBlock, Inside.IsJudgement, Inside.IsPlayed, Inside.IsPlayedTo, Inside.IsSummaryOf, Inside.IsTextFor, Inside.IsWholeOfBlock, Inside.Reports, Inside.block_name, Inside.first_illegal, Inside.illegal_line, Inside.is_picked, Inside.judged_name, Inside.judges_legal, Inside.line_of_judgement, Inside.picked_by, Inside.printed, Inside.recorded, Inside.recorded_in, Inside.summary_by, Check.counting, Check.is_chosen, Report.AnswersCases, Report.IsForm, Report.IsReport, Report.summaries_of, declared.judged.Judged.Judged, declared.kept.Whole.Whole, declared.playing.Difference.Difference, declared.playing.Judgement.Judgement, declared.playing.Playing.Playing, Inside.gives_text, Inside.made_line}
-use Rattle.tc_judge.proofs.{Lemmas.answer_of, Lemmas.block_line, Lemmas.none_illegal, Lemmas.entries_last, Lemmas.no_difference}
+use Rattle.tc_judge.specs.{Check.AreAllLegal, Check.Checks, Check.IsChecked, Check.IsIllegalLine, Check.IsLegalBlock, Check.IsMadeOfBlocks, Check.IsSilent, Check.NameBlocks, Check.RefusesBlocks, Check.disagreeing_line, Inside.AreJudgedIn, Inside.IsFirstIllegal, Inside.IsJudgedBlock, Inside.IsJudgement, Inside.IsPlayed, Inside.IsPlayedTo, Inside.IsRecorded, Inside.IsSummaryOf, Inside.IsTextFor, Inside.IsWholeOfBlock, Inside.Reports, Inside.block_name, Inside.first_illegal, Inside.illegal_line, Inside.is_picked, Inside.judged_name, Inside.judges_legal, Inside.line_of_judgement, Inside.picked_by, Inside.printed, Inside.recorded, Inside.recorded_in, Inside.summary_by, Check.counting, Check.is_chosen, Report.AnswersCases, Report.IsForm, Report.IsReport, Report.summaries_of, declared.judged.Judged.Judged, declared.judged.Recorded.Recorded, declared.kept.Whole.Whole, declared.playing.Difference.Difference, declared.playing.Judgement.Judgement, declared.playing.Playing.Playing, Inside.gives_text, Inside.made_line}
+use Rattle.tc_judge.proofs.{Lemmas.answer_of, Lemmas.block_line, Lemmas.none_illegal, Lemmas.entries_last, Lemmas.no_difference, Lemmas.quiet_played}
+use Rattle.tc_report.proofs.Lemmas.Telling.{said_more}
 use Rattle.tc_answer.proofs.Lemmas.Chosen.{at_place}
 
 -- the line of another reply or verdict is made so
@@ -32,6 +33,27 @@ recorded_none false = refl
 pub recorded_more : (records : Bool) (lines : List Line) (l : Line) → recorded records (lines ++ l ∷ []) ≡ recorded records lines ++ recorded_in records l
 recorded_more true lines l = entries_last lines l
 recorded_more false lines l = refl
+
+quiet_recorded : (records : Bool) (l : Line) → entry_in l ≡ [] → recorded_in records l ≡ []
+quiet_recorded true l none = none
+quiet_recorded false l none = refl
+
+no_entry : (l : Line) → ((e : Entry) → l ≢ Line.Entry e) → entry_in l ≡ []
+no_entry (Line.Entry e) other = absurd (other e refl)
+no_entry l other = refl
+
+-- what is recorded with one more line that is no entry
+pub line_recorded : (records : Bool) (first : ℕ) (h : Header) (before : List Line) (l : Line) (r : Recorded) (said : Said) → ((e : Entry) → l ≢ Line.Entry e)
+    → (records ≡ true → said ≡ said_with r.said (length r.entries.items) l) → IsRecorded records first h before r
+    → IsRecorded records first h (before ++ l ∷ []) (record r { said = said })
+line_recorded records first h before l r said other kept is =
+    let none = no_entry l other in (
+      (is.0.0, quiet_played h.behaviours first before l r.playing.state r.playing.entries r.playing.difference none is.0.1),
+      is.1 ∙ sym (recorded_more records before l ∙ (ap (λ (es : List Entry). recorded records before ++ es) (quiet_recorded records l none) ∙ append-nil (recorded records before))),
+      λ on.
+          let count : length r.entries.items ≡ length (entries_of before) = ap length is.1 ∙ ap (λ t. length (recorded t before)) on in
+          kept on ∙ (ap (λ (s : Said). said_with s (length r.entries.items) l) (is.2 on) ∙ (ap (λ k. said_with (said_in before) k l) count ∙ sym (said_more before l))),
+    )
 
 -- the line of a block that is not legal
 illegal_said : (b : Block) (k : Judgement) → judges_legal k ≡ false → IsJudgement b k → IsIllegalLine b (illegal_line k)
@@ -153,19 +175,15 @@ module _ {K : Type 0} (keeps : Block → K → Type 0) where
 
 -- ---- what `report` makes of them
 
--- what the forms say of a block
-abbrev pub summary_at : Block → Summary
-summary_at = λ b. block_summary (history_of b)
-
 -- the summary of what was played is that of the block, if it is legal
 pub summary_kept : (b : Block) (p : Playing) (entries : List Entry) (s : Summary) → IsPlayed b.first_line b.header b.lines p → entries ≡ entries_of b.lines
-    → (StandsFor p.state (reverse entries) → s ≡ summary_of p.header.name entries) → IsSummaryOf b s
-summary_kept b p entries s played are says legal = by p.difference played.1
+    → (said : Said) → said ≡ said_in b.lines → (StandsFor p.state (reverse entries) → s ≡ summary_of p.header.name entries said) → IsSummaryOf b s
+summary_kept b p entries s played are said same says legal = by p.difference played.1
   where
-    by : (d : Option Difference) → IsPlayedTo b.header.behaviours b.first_line b.lines p.state p.entries d → s ≡ summary_at b
+    by : (d : Option Difference) → IsPlayedTo b.header.behaviours b.first_line b.lines p.state p.entries d → s ≡ block_summary b
     by None is =
         says (subst (λ l. StandsFor p.state (reverse l)) (sym are) is.1)
-        ∙ (ap (summary_of p.header.name) are ∙ ap (λ h. summary_of h.name (entries_of b.lines)) played.0)
+        ∙ (ap₂ (summary_of p.header.name) are same ∙ ap (λ h. summary_of h.name (entries_of b.lines) (said_in b.lines)) played.0)
     by (Some d) is = absurd (no_difference b.header.behaviours b.lines is.before is.behind is.entry d.reply legal.replies is.place is.answers is.other)
 
 -- the blocks that are picked
@@ -175,17 +193,17 @@ pub picked_reports : (picks : Word → Verdict → Bool) (bs : List Block) (js :
 picked_reports picks bs js o each first = (subst (IsFirstIllegal bs) (sym first) (first_found IsSummaryOf bs js each), by bs js each)
   where
     by : (bs : List Block) (js : List (Judged Summary)) → AllZip (IsJudgedBlock IsSummaryOf) bs js → AreAllLegal bs
-        → map (summary_by (λ s. s)) (filter (λ j. picks j.name j.verdict) js) ≡ map summary_at (filter (picked_by picks) bs)
+        → map (summary_by (λ s. s)) (filter (λ j. picks j.name j.verdict) js) ≡ map block_summary (filter (picked_by picks) bs)
     by [] [] each legal = refl
     by [] (j ∷ js) each legal = absurd each
     by (b ∷ bs) [] each legal = absurd each
     by (b ∷ bs) (j ∷ js) each legal =
         one (picks j.name j.verdict) (each.0.kept (All-head IsLegalBlock b bs legal)) (by bs js each.1 (All-tail IsLegalBlock b bs legal))
-        ∙ ap (λ t. map summary_at (if t then b ∷ filter (picked_by picks) bs else filter (picked_by picks) bs)) (ap₂ picks each.0.name each.0.verdict)
+        ∙ ap (λ t. map block_summary (if t then b ∷ filter (picked_by picks) bs else filter (picked_by picks) bs)) (ap₂ picks each.0.name each.0.verdict)
       where
-        one : (t : Bool) → j.kept ≡ summary_at b → map (summary_by (λ s. s)) (filter (λ x. picks x.name x.verdict) js) ≡ map summary_at (filter (picked_by picks) bs)
+        one : (t : Bool) → j.kept ≡ block_summary b → map (summary_by (λ s. s)) (filter (λ x. picks x.name x.verdict) js) ≡ map block_summary (filter (picked_by picks) bs)
             → map (summary_by (λ s. s)) (if t then j ∷ filter (λ x. picks x.name x.verdict) js else filter (λ x. picks x.name x.verdict) js)
-            ≡ map summary_at (if t then b ∷ filter (picked_by picks) bs else filter (picked_by picks) bs)
+            ≡ map block_summary (if t then b ∷ filter (picked_by picks) bs else filter (picked_by picks) bs)
         one true is rest = ap₂ (λ (s : Summary) (l : List Summary). s ∷ l) is rest
         one false is rest = rest
 
@@ -194,7 +212,7 @@ pub all_reports : (bs : List Block) (js : List (Judged (Whole Summary))) (o : Op
     → o ≡ first_illegal js → Reports bs bs (map (summary_by (λ w. w.said)) js) o
 all_reports bs js o each first = (subst (IsFirstIllegal bs) (sym first) (first_found (IsWholeOfBlock IsSummaryOf) bs js each), by bs js each)
   where
-    by : (bs : List Block) (js : List (Judged (Whole Summary))) → AllZip (IsJudgedBlock (IsWholeOfBlock IsSummaryOf)) bs js → AreAllLegal bs → map (summary_by (λ w. w.said)) js ≡ map summary_at bs
+    by : (bs : List Block) (js : List (Judged (Whole Summary))) → AllZip (IsJudgedBlock (IsWholeOfBlock IsSummaryOf)) bs js → AreAllLegal bs → map (summary_by (λ w. w.said)) js ≡ map block_summary bs
     by [] [] each legal = refl
     by [] (j ∷ js) each legal = absurd each
     by (b ∷ bs) [] each legal = absurd each

@@ -66,6 +66,13 @@ pub passed_played : (n first : ℕ) (lines : List Line) (l : Line) (k : Kept) (e
 passed_played n first lines l k entries None some so = absurd cc
 passed_played n first lines l k entries (Some d) some so = other_stays n first lines l d.line d.given d.reply so
 
+-- a line that is no entry
+pub quiet_played : (n first : ℕ) (lines : List Line) (l : Line) (k : Kept) (entries : ℕ) (o : Option Difference) → entry_in l ≡ [] → IsPlayedTo n first lines k entries o → IsPlayedTo n first (lines ++ l ∷ []) k entries o
+quiet_played n first lines l k entries None none so =
+    let same : entries_of lines ≡ entries_of (lines ++ l ∷ []) = sym (entries_last lines l ∙ (ap (λ (es : List Entry). entries_of lines ++ es) none ∙ append-nil (entries_of lines))) in
+    (so.0, subst (λ (es : List Entry). StandsFor k (reverse es)) same so.1, subst (λ (es : List Entry). IsLegal n (reverse es)) same so.2, so.3 ∙ ap length same)
+quiet_played n first lines l k entries (Some d) none so = other_stays n first lines l d.line d.given d.reply so
+
 -- an entry with the table's reply; there are fewer entries than lines, so their number is exact
 pub entry_played : (n first : ℕ) (lines : List Line) (e : Entry) (k k' : Kept) (entries entries' line : ℕ) (o : Option Difference) → is_some o ≡ false → IsPlayedTo n first lines k entries o → IsReplyOf k e.caller e.op e.reply → TakesIn k e k' → k'.behaviours ≡ k.behaviours
     → entries' ≡ min (entries + 1) (2 ^ 64 - 1) → line ≡ first + length lines + 1 → line ≤ 2 ^ 64 - 1 → IsPlayedTo n first (lines ++ Line.Entry e ∷ []) k' entries' o

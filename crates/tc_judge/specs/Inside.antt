@@ -6,9 +6,9 @@ use Rattle.tc_rules.specs.Prelude.{Verdict, Entry, Kept, StandsFor, answer, name
 use Rattle.tc_text.specs.Prelude.{reply_text}
 use Rattle.tc_step.specs.Prelude.{ScriptView}
 use Rattle.tc_reader.specs.Prelude.{is_text, Word, add, among, has_twice, CampaignView}
-use Rattle.tc_blocks.specs.Prelude.{entries_of, entry_in, HoldsOfBlocks, LinesAreLegal, history_of, overall_of}
+use Rattle.tc_blocks.specs.Prelude.{entries_of, entry_in, HoldsOfBlocks, LinesAreLegal, overall_of}
 use Rattle.tc_blocks.specs.declared.{block.Block.Block, header.Header.Header, line.Line.Line as BlockLine}
-use Rattle.tc_report.specs.Prelude.{block_summary}
+use Rattle.tc_report.specs.Prelude.{block_summary, said_in}
 use Rattle.tc_report.specs.declared.summary.Summary.{Summary}
 use Rattle.tc_exec.specs.declared.test_case.Case.{Case}
 use Rattle.tc_command.specs.declared.task.{Choice.Choice, ReportForm.ReportForm}
@@ -84,9 +84,10 @@ recorded_in records l = if records then entry_in l else []
 abbrev pub recorded : Bool → List BlockLine → List Entry
 recorded records lines = if records then entries_of lines else []
 
--- the same, and the entries are kept, if they are recorded
+-- the same, and the entries are kept and what is said next to them, if they are recorded
 abbrev pub IsRecorded : Bool → ℕ → Header → List BlockLine → Recorded → Type 0
-IsRecorded records first_line h lines r = IsPlayed first_line h lines r.playing × (r.entries.items ≡ recorded records lines)
+IsRecorded records first_line h lines r =
+    IsPlayed first_line h lines r.playing × (r.entries.items ≡ recorded records lines) × (records ≡ true → r.said ≡ said_in lines)
 
 -- the line with this number was played after those of a block, if it is the next
 abbrev pub PlaysNext : ℕ → BlockLine → Playing → Playing → Type 0
@@ -105,7 +106,7 @@ KeepsNothing b kept = Unit {0}
 
 -- what is kept of a block for its report: what the forms say of it, if it is legal
 abbrev pub IsSummaryOf : Block → Summary → Type 0
-IsSummaryOf b s = IsLegalBlock b → s ≡ block_summary (history_of b)
+IsSummaryOf b s = IsLegalBlock b → s ≡ block_summary b
 
 -- and what is kept of it next to a script: what is said of it, and its entries
 pub record IsWholeOfBlock {S : Type 0} (says : Block → S → Type 0) (b : Block) (w : Whole S) : Type 0 where
@@ -169,7 +170,7 @@ IsFirstIllegal blocks (Some judgement) = Checks (λ b. false) blocks (illegal_li
 
 -- and these are the test cases of the chosen ones, if there is none
 abbrev pub Reports : List Block → List Block → List Summary → Option Judgement → Type 0
-Reports blocks chosen ss illegal = IsFirstIllegal blocks illegal × (AreAllLegal blocks → ss ≡ map (λ b. block_summary (history_of b)) chosen)
+Reports blocks chosen ss illegal = IsFirstIllegal blocks illegal × (AreAllLegal blocks → ss ≡ map block_summary chosen)
 
 -- the test cases that a run is asked for
 abbrev pub AreReadyToRun : Choice → List ℕ → List (Case ScriptView) → Type 0

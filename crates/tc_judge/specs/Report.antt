@@ -1,7 +1,7 @@
 -- What `report` writes of histories and evidence, and of them the chosen.
 use Rattle.std.specs.Prelude.{ℕ, Bool, false, ◌≡◌, ◌==◌, if◌then◌else◌, List, [], ◌++◌, codes, filter, length, map}
 use Rattle.tc_command.specs.declared.{command.TheConstants.VERSION, task.ReportForm.ReportForm}
-use Rattle.tc_blocks.specs.Prelude.{HoldsOfBlocks, history_of}
+use Rattle.tc_blocks.specs.Prelude.{HoldsOfBlocks}
 use Rattle.tc_blocks.specs.declared.block.Block.{Block}
 use Rattle.tc_answer.specs.Prelude.{page_of}
 use Rattle.tc_report.specs.declared.{results.CaseEnd.CaseEnd, summary.Summary.Summary}
@@ -27,7 +27,7 @@ unreported line = record { out = []; told = codes "ttrun: " ++ line; status = 3 
 
 -- the test cases of blocks, and after them those of these names, of which there is none
 abbrev pub summaries_of : List Block → List (List ℕ) → List Summary
-summaries_of blocks missing = map (λ b. block_summary (history_of b)) blocks ++ map (bare_summary CaseEnd.Missing) missing
+summaries_of blocks missing = map block_summary blocks ++ map (bare_summary CaseEnd.Missing) missing
 
 -- What is answered for blocks of a text, some of them chosen, and missing test cases, with lines for standard error. `check`
 -- finds each block legal; or it finds one that is not, and this line is all that it prints if no block is chosen.

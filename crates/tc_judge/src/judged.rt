@@ -3,6 +3,7 @@ ghost use Rattle.std.specs.Prelude.{◌≡◌, ◌<◌, ◌++◌, ◌⊎◌, IfO
 ghost use Rattle.std.specs.List.{AllZip};
 ghost use Rattle.tc_stream.specs.Prelude.{IsRead};
 ghost use Rattle.tc_reader.specs.Prelude.{is_text};
+ghost use Rattle.tc_report.specs.Prelude.{said_with};
 ghost use Rattle.tc_answer.specs.Prelude.{IsUnread};
 ghost use Rattle.tc_answer.specs.declared.limits.TheConstants.{HISTORY_LIMIT};
 ghost use Rattle.tc_judge.specs.{Check.RefusesHistory, Inside.AreJudgedIn, Inside.IsJudgedBlock, Inside.IsRecorded, Inside.PutsNext, Inside.first_illegal as spec_first, Inside.judged_name, Inside.recorded_in, Check.that_count};
@@ -16,6 +17,7 @@ use std::io::Read;
 use tc_answer::{HISTORY_LIMIT, RunFault, of_input};
 use tc_blocks::{Header, Line, TakesEvidence, read_evidence_from, read_evidence_into};
 use tc_entry::Name;
+use tc_report::Said;
 use tc_rules::{Entry, NoMemory, Reply, Run, Verdict};
 use tc_text::ShortOp;
 
@@ -42,11 +44,12 @@ pub(crate) fn first_illegal<K: Drop>(blocks: &[Judged<K>]) -> Option<Judgement>
         .find(|judgement| !judgement.is_legal())
 }
 
-/// A block that is played as it is read, with its entries if they are asked for.
+/// A block that is played as it is read, with its entries and what it says next to them, if they are asked for.
 #[derive(Drop)]
 pub(crate) struct Recorded {
     playing: Playing,
     entries: Vec<Entry>,
+    said: Said,
 }
 
 /// The blocks so far, each of which is judged.
@@ -63,6 +66,16 @@ fn record<K: Keeps>(entries: &mut Vec<Entry>, entry: Entry) -> Result<(), NoMemo
 {
     if K::RECORDS {
         entries.push(entry)?;
+    }
+    Ok(())
+}
+
+// Keeps what the line says after that many entries, if entries are asked for.
+fn keep_said<K: Keeps>(said: &mut Said, at: usize, line: Line) -> Result<(), NoMemory>
+    ensures { OnOk result (K.RECORDS ≡ true → said.new ≡ said_with said.old at line) }
+{
+    if K::RECORDS {
+        said.take(at, line)?;
     }
     Ok(())
 }
@@ -85,13 +98,14 @@ impl<K: Keeps + Drop> TakesEvidence for Judging<K> {
         Ok(Recorded {
             playing: Playing::new(alloc, header)?,
             entries: Vec::new(alloc),
+            said: Said::new(alloc),
         })
     }
 
     fn take(begun: &mut Recorded, line: usize, taken: Line) -> Result<(), NoMemory> {
-        match &taken {
-            Line::Entry(entry) => Self::take_entry(begun, line, entry.copy()),
-            Line::Named { .. } | Line::Remark { .. } | Line::Refused { .. } => Ok(()),
+        match taken {
+            Line::Entry(entry) => Self::take_entry(begun, line, entry),
+            other => keep_said::<K>(&mut begun.said, begun.entries.len(), other),
         }
     }
 
@@ -120,8 +134,12 @@ impl<K: Keeps + Drop> TakesEvidence for Judging<K> {
     }
 
     fn close(&mut self, begun: Recorded, line: usize, verdict: Verdict) -> Result<(), NoMemory> {
-        let Recorded { playing, entries } = begun;
-        let kept = K::keep(self.alloc, &playing, entries)?;
+        let Recorded {
+            playing,
+            entries,
+            said,
+        } = begun;
+        let kept = K::keep(self.alloc, &playing, entries, said)?;
         self.blocks.push(Judged {
             name: playing.name(),
             verdict,

@@ -2,13 +2,14 @@
 ghost use Rattle.std.specs.Prelude.{◌≡◌, Bool, IfOk, false, true};
 ghost use Rattle.tc_blocks.specs.Prelude.{entries_of};
 ghost use Rattle.tc_blocks.specs.declared.block.Block.{Block};
+ghost use Rattle.tc_report.specs.Prelude.{said_in};
 ghost use Rattle.tc_report.specs.declared.summary.Summary.{Summary};
 ghost use Rattle.tc_judge.specs.Inside.{IsPlayed, IsSummaryOf, IsWholeOfBlock, KeepsNothing, recorded};
 
 use crate::playing::Playing;
 use std::alloc::Global;
 use tc_entry::NoMemory;
-use tc_report::Summary;
+use tc_report::{Said, Summary};
 use tc_rules::Entry;
 
 /// What is said of a block that was played with its entries.
@@ -17,9 +18,14 @@ pub(crate) trait Says: Sized {
     ghost says: { Block → Self → Type 0 };
 
     /// What is said of the block.
-    fn say(alloc: Global, playing: &Playing, entries: &[Entry]) -> Result<Self, NoMemory>
-        ensures { IfOk result (λ said. (b : Block) → IsPlayed b.first_line b.header b.lines playing.now
-            → entries.now ≡ entries_of b.lines → says b said) };
+    fn say(
+        alloc: Global,
+        playing: &Playing,
+        entries: &[Entry],
+        said: Said,
+    ) -> Result<Self, NoMemory>
+        ensures { IfOk result (λ made. (b : Block) → IsPlayed b.first_line b.header b.lines playing.now
+            → entries.now ≡ entries_of b.lines → said ≡ said_in b.lines → says b made) };
 }
 
 /// What is kept of a block besides its name, its verdict and its judgement.
@@ -32,10 +38,15 @@ pub(crate) trait Keeps: Sized {
     /// The value is what is kept of the block.
     ghost keeps: { Block → Self → Type 0 };
 
-    /// What is kept of a block that was played, with its entries if they are asked for.
-    fn keep(alloc: Global, playing: &Playing, entries: Vec<Entry>) -> Result<Self, NoMemory>
+    /// What is kept of a block that was played, with its entries and what it says next to them, if they are asked for.
+    fn keep(
+        alloc: Global,
+        playing: &Playing,
+        entries: Vec<Entry>,
+        said: Said,
+    ) -> Result<Self, NoMemory>
         ensures { IfOk result (λ kept. (b : Block) → IsPlayed b.first_line b.header b.lines playing.now
-            → entries.items ≡ recorded RECORDS b.lines → keeps b kept) };
+            → entries.items ≡ recorded RECORDS b.lines → (RECORDS ≡ true → said ≡ said_in b.lines) → keeps b kept) };
 }
 
 /// What is kept has what the forms say of the block.
@@ -54,7 +65,13 @@ pub(crate) struct Nothing;
 impl Says for Nothing {
     ghost says = { KeepsNothing };
 
-    fn say(_alloc: Global, _playing: &Playing, _entries: &[Entry]) -> Result<Nothing, NoMemory> {
+    fn say(
+        _alloc: Global,
+        _playing: &Playing,
+        _entries: &[Entry],
+        said: Said,
+    ) -> Result<Nothing, NoMemory> {
+        drop(said);
         Ok(Nothing)
     }
 }
@@ -66,8 +83,14 @@ impl Keeps for Nothing {
 
     ghost keeps = { KeepsNothing };
 
-    fn keep(_alloc: Global, _playing: &Playing, entries: Vec<Entry>) -> Result<Nothing, NoMemory> {
+    fn keep(
+        _alloc: Global,
+        _playing: &Playing,
+        entries: Vec<Entry>,
+        said: Said,
+    ) -> Result<Nothing, NoMemory> {
         drop(entries);
+        drop(said);
         Ok(Nothing)
     }
 }
@@ -75,8 +98,13 @@ impl Keeps for Nothing {
 impl Says for Summary {
     ghost says = { IsSummaryOf };
 
-    fn say(alloc: Global, playing: &Playing, entries: &[Entry]) -> Result<Summary, NoMemory> {
-        let summary = playing.summary(alloc, entries)?;
+    fn say(
+        alloc: Global,
+        playing: &Playing,
+        entries: &[Entry],
+        said: Said,
+    ) -> Result<Summary, NoMemory> {
+        let summary = playing.summary(alloc, entries, said)?;
         Ok(summary)
     }
 }
@@ -88,9 +116,14 @@ impl Keeps for Summary {
 
     ghost keeps = { IsSummaryOf };
 
-    fn keep(alloc: Global, playing: &Playing, entries: Vec<Entry>) -> Result<Summary, NoMemory> {
-        let said = Summary::say(alloc, playing, entries.as_slice())?;
-        Ok(said)
+    fn keep(
+        alloc: Global,
+        playing: &Playing,
+        entries: Vec<Entry>,
+        said: Said,
+    ) -> Result<Summary, NoMemory> {
+        let summary = Summary::say(alloc, playing, entries.as_slice(), said)?;
+        Ok(summary)
     }
 }
 
@@ -117,8 +150,13 @@ impl<S: Says + Drop> Keeps for Whole<S> {
 
     ghost keeps = { IsWholeOfBlock S.says };
 
-    fn keep(alloc: Global, playing: &Playing, entries: Vec<Entry>) -> Result<Whole<S>, NoMemory> {
-        let said = S::say(alloc, playing, entries.as_slice())?;
+    fn keep(
+        alloc: Global,
+        playing: &Playing,
+        entries: Vec<Entry>,
+        said: Said,
+    ) -> Result<Whole<S>, NoMemory> {
+        let said = S::say(alloc, playing, entries.as_slice(), said)?;
         Ok(Whole {
             said,
             behaviours: playing.behaviours(),

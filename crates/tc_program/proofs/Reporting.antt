@@ -3,21 +3,16 @@ use Rattle.std.proofs.Common.{ℕ, ◌≡◌, ◌∙◌, All, Bool, false, List,
 use Rattle.std.specs.List.{flat_map}
 use Rattle.std.proofs.lemmas.List.{Elements.All-head, Elements.All-tail, append-nil}
 use Rattle.tc_blocks.specs.declared.{block.Block.Block, header.Kind.Kind}
-use Rattle.tc_blocks.specs.Prelude.{history_of}
 use Rattle.tc_command.specs.declared.task.{Choice.Choice, ReportForm.ReportForm}
-use Rattle.tc_report.specs.declared.{results.Finished.Finished, results.Results.Results, summary.Summary.Summary}
-use Rattle.tc_report.specs.Prelude.{block_summary, case_summary, blocks_text}
+use Rattle.tc_report.specs.declared.{results.Finished.Finished, results.Results.Results}
+use Rattle.tc_report.specs.Prelude.{block_summary, blocks_text, written_summary}
 use Rattle.tc_report.proofs.Lemmas.Telling.{one_same}
 use Rattle.tc_answer.specs.declared.{fault.RunFault.RunFault, reply.Answer.Answer}
 use Rattle.tc_judge.specs.Prelude.{IsChecked, RefusesBlocks, ChoosesEach, counting, is_chosen, AnswersCases}
 use Rattle.tc_judge.specs.{Inside.block_name, Inside.each, Inside.is_picked, Report.IsReport}
 use Rattle.tc_judge.proofs.Lemmas.{answer_of, none_illegal}
 use Rattle.tc_program.specs.{Inside.WasRun, Inside.WereRun, Inside.legal_case, WrittenHistories.AreFoundLegal, WrittenHistories.found_legal}
-use Rattle.tc_program.proofs.WrittenHistories.{after, are_right, block_of, blocks_of, evidence_of, said_of_written, same_entries}
-
--- what the forms say of a block
-abbrev summary_at : Block → Summary
-summary_at = λ b. block_summary (history_of b)
+use Rattle.tc_program.proofs.WrittenHistories.{after, are_right, block_of, blocks_of, evidence_of, said_of_written}
 
 -- all blocks are picked
 filter_each : (blocks : List Block) → filter each blocks ≡ blocks
@@ -31,16 +26,15 @@ each_chosen P choice all so =
     (subst (λ f. P choice.last (λ b. is_picked [] f (block_name b) b.verdict)) all.1
     (subst (λ o. P choice.last (λ b. is_picked o choice.failed (block_name b) b.verdict)) all.0 so))
 
-summary_written : (kind : Kind) (line : ℕ) (f : Finished) → WasRun kind f → summary_at (block_of kind line f) ≡ case_summary f
-summary_written kind line f ran =
-    one_same f (history_of (block_of kind line f)) (record { name = refl; entries = same_entries kind f; report = ran.report })
+summary_written : (kind : Kind) (line : ℕ) (f : Finished) → WasRun kind f → block_summary (block_of kind line f) ≡ written_summary kind f
+summary_written kind line f ran = one_same kind f (block_of kind line f) (record { name = refl; lines = refl; report = ran.report })
 
-summaries_written : (kind : Kind) (line : ℕ) (fs : List Finished) → All (WasRun kind) fs → map summary_at (blocks_of kind line fs) ≡ map case_summary fs
+summaries_written : (kind : Kind) (line : ℕ) (fs : List Finished) → All (WasRun kind) fs → map block_summary (blocks_of kind line fs) ≡ map (written_summary kind) fs
 summaries_written kind line [] all = refl
 summaries_written kind line (f ∷ fs) all =
     let first = summary_written kind line f (All-head (WasRun kind) f fs all) in
     let rest = summaries_written kind (after kind line f) fs (All-tail (WasRun kind) f fs all) in
-    ap (λ s. s ∷ map summary_at (blocks_of kind (after kind line f) fs)) first ∙ ap (λ l. case_summary f ∷ l) rest
+    ap (λ s. s ∷ map block_summary (blocks_of kind (after kind line f) fs)) first ∙ ap (λ l. written_summary kind f ∷ l) rest
 
 module _ (kind : Kind) (r : Results) (ran : WereRun kind r) where
   checked_so : (a : Answer) → IsChecked false each (blocks_text kind r) a.out a.status → a.told ≡ [] → a ≡ found_legal r
@@ -52,11 +46,11 @@ module _ (kind : Kind) (r : Results) (ran : WereRun kind r) where
 
   -- the report of what a run wrote: none of it is illegal
   reported_so : (form : ReportForm) (a : Answer) → IsReport form (blocks_text kind r) (blocks_of kind 1 r.finished) (filter each (blocks_of kind 1 r.finished)) [] [] a
-      → AnswersCases form (blocks_text kind r) [] (map case_summary r.finished) a
+      → AnswersCases form (blocks_text kind r) [] (map (written_summary kind) r.finished) a
   reported_so form a (IsReport.legal legal is) =
       let blocks = blocks_of kind 1 r.finished in
       subst (λ l. AnswersCases form (blocks_text kind r) [] l a)
-      (append-nil (map summary_at (filter each blocks)) ∙ (ap (map summary_at) (filter_each blocks) ∙ summaries_written kind 1 r.finished ran.each)) is
+      (append-nil (map block_summary (filter each blocks)) ∙ (ap (map block_summary) (filter_each blocks) ∙ summaries_written kind 1 r.finished ran.each)) is
   reported_so form a (IsReport.illegal line first is) =
       absurd (none_illegal (blocks_of kind 1 r.finished) line (are_right kind 1 r.finished ran.each) first)
 
@@ -67,7 +61,7 @@ module _ (kind : Kind) (r : Results) (ran : WereRun kind r) where
   refused_so fault refused = absurd refused
 
   -- what `check` and `report` make of it
-  pub found_so : AreFoundLegal (blocks_text kind r) r
+  pub found_so : AreFoundLegal kind (blocks_text kind r) r
   found_so = record {
     checked_so = λ choice explains a all is. checked_so a (each_chosen (λ l t. IsChecked l t (blocks_text kind r) a.out a.status) choice all is.0.0) is.0.1;
     reported_so = λ form choice explains a all is.

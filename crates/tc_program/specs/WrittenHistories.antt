@@ -6,7 +6,8 @@ use Rattle.tc_rules.specs.Prelude.{IsBehaviours}
 use Rattle.tc_campaign.specs.Prelude.{Outline}
 use Rattle.tc_exec.specs.Prelude.{IsCaseReport}
 use Rattle.tc_command.specs.declared.task.{Choice.Choice, ReportForm.ReportForm, Task.Task}
-use Rattle.tc_report.specs.Prelude.{case_summary}
+use Rattle.tc_blocks.specs.declared.header.Kind.{Kind}
+use Rattle.tc_report.specs.Prelude.{written_summary}
 use Rattle.tc_answer.specs.declared.{fault.RunFault.RunFault, reply.Answer.Answer}
 use Rattle.tc_judge.specs.Prelude.{AnswersCases, ChoosesEach, RefusesBlocks, legal_line}
 use Rattle.tc_program.specs.Made.{IsMade}
@@ -22,10 +23,11 @@ pub record AreReported (cases : List Outline) (r : Results) : Type 0 where
 abbrev pub found_legal : Results → Answer
 found_legal r = record { out = flat_map (λ f. legal_line f.name (length f.report.history) f.report.verdict) r.finished; told = []; status = 0 }
 
--- this text of the results is checked and reported so, whatever else is asked for, and refused only if memory runs out
-pub record AreFoundLegal (text : List ℕ) (r : Results) : Type 0 where
+-- this text of the results, of this kind, is checked and reported so, whatever else is asked for, and refused only if memory
+-- runs out
+pub record AreFoundLegal (kind : Kind) (text : List ℕ) (r : Results) : Type 0 where
   pub checked_so : (choice : Choice) (explains : Bool) (a : Answer) → ChoosesEach choice → IsMade (Task.Check choice explains) text (Ok a)
       → a ≡ found_legal r
   pub reported_so : (form : ReportForm) (choice : Choice) (explains : Bool) (a : Answer) → ChoosesEach choice
-      → IsMade (Task.Report form choice explains) text (Ok a) → AnswersCases form text [] (map case_summary r.finished) a
+      → IsMade (Task.Report form choice explains) text (Ok a) → AnswersCases form text [] (map (written_summary kind) r.finished) a
   pub refused_so : (fault : RunFault) → RefusesBlocks false [] text fault → fault ≡ RunFault.NoMemory

@@ -56,9 +56,9 @@ fn were_run(results: &Results)
 /// It is refused only if memory runs out.
 pub fn written_is_legal(results: &Results)
     ensures histories { (cases : List Outline) → AreReported cases results.now
-        → AreFoundLegal (results_in_form Form.History (map (λ c. c.name) cases) results.now) results.now }
+        → AreFoundLegal Kind.History2 (results_in_form Form.History (map (λ c. c.name) cases) results.now) results.now }
     ensures evidence { (cases : List Outline) → AreReported cases results.now
-        → AreFoundLegal (results_in_form Form.Evidence (map (λ c. c.name) cases) results.now) results.now }
+        → AreFoundLegal Kind.Evidence (results_in_form Form.Evidence (map (λ c. c.name) cases) results.now) results.now }
 {
     were_run(results);
 }

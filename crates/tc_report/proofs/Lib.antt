@@ -3,4 +3,5 @@ pub mod Lemmas
 pub mod Counting
 pub mod Overalls
 pub mod Plain
+pub mod Waiting
 pub mod Writing

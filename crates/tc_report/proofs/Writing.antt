@@ -62,6 +62,9 @@ joined_two old first second a p = rw p (append_assoc old first second)
 pub joined : (old first second third a b : List ℕ) → a ≡ old ++ first → b ≡ a ++ second → b ++ third ≡ old ++ (first ++ (second ++ third))
 joined old first second third a b p q = rw (q, p) (append_assoc (old ++ first) second third ∙ append_assoc old first (second ++ third))
 
+pub joined_four : (old a b d e x y z : List ℕ) → x ≡ old ++ a → y ≡ x ++ b → z ≡ y ++ d → z ++ e ≡ old ++ (a ++ (b ++ (d ++ e)))
+joined_four old a b d e x y z p q r = rw (r, q, p) (append_assoc ((old ++ a) ++ b) d e ∙ (append_assoc (old ++ a) b (d ++ e) ∙ append_assoc old a (b ++ (d ++ e))))
+
 pub joined_five : (old a b d f e x y z w : List ℕ) → x ≡ old ++ a → y ≡ x ++ b → z ≡ y ++ d → w ≡ z ++ f
     → w ++ e ≡ old ++ (a ++ (b ++ (d ++ (f ++ e))))
 joined_five old a b d f e x y z w p q r s =

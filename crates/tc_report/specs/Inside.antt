@@ -1,12 +1,12 @@
 -- What the functions inside say, which no public clause names.
-use Rattle.std.specs.Prelude.{ℕ, ◌≡◌, ◌+◌, ◌==◌, Bool, true, false, MatchOption, None, Option, List, [], ◌∷◌, ◌++◌, codes, filter, if◌then◌else◌, length, map, nat_lt, not, slice_get}
-use Rattle.std.specs.{Global.Vec, Io.KnownBytes.Appends, List.enumerate_from, List.flat_map, List.join_with_byte, Option.option_and_then, Option.option_map_or}
+use Rattle.std.specs.Prelude.{ℕ, ◌≡◌, ◌+◌, ◌==◌, Bool, true, false, MatchOption, None, Option, List, [], ◌∷◌, ◌++◌, codes, filter, if◌then◌else◌, length, map, nat_lt, not}
+use Rattle.std.specs.{Global.Vec, Io.KnownBytes.Appends, List.enumerate_from, List.flat_map, List.join_with_byte, Option.option_map_or}
 use Rattle.csv.specs.declared.writer.Writer.{Writer}
 use Rattle.csv.specs.Writing.{default_writer, writer_setup, fields_written, has_written, writer_under, writer_pending}
 use Rattle.tc_stream.specs.Prelude.{AppendsPrefix}
 use Rattle.tc_rules.specs.Prelude.{Comp, Entry, name_in, name_of, created, is_parked, Verdict, level_of}
 use Rattle.tc_blocks.specs.declared.{header.Kind.Kind, line.Line.Line as BlockLine}
-use Rattle.tc_report.specs.{Blocks.blocks_text, Blocks.name_lines, Cause.cause_text, Cause.named_text, Csv.columns_text, Csv.csv_of, Live.opening_text, Live.part_text, Observers.AreTaken, Progress.AreLinesOf, Progress.failed_lines, Progress.time_text, Report.report_text, Report.shown_entry, Report.tally_of_cases, Status.counted_as, Status.verdict_status, Summary.case_summary, SummaryText.listed, declared.cause.Cause.Cause, declared.fault.OutFault.OutFault, declared.live_form.LiveForm.LiveForm, declared.progress.Progress.Progress, declared.results.Finished.Finished, declared.results.Results.Results, declared.results.Tally.Tally, declared.summary.Summary.Summary}
+use Rattle.tc_report.specs.{Blocks.blocks_text, Blocks.name_lines, Csv.columns_text, Csv.csv_of, Live.opening_text, Live.part_text, InWords.component_text, InWords.name_at, InWords.named_entry, Observers.AreTaken, Progress.AreLinesOf, Progress.failed_lines, Progress.time_text, Report.report_text, Report.tally_of_cases, Status.counted_as, Status.verdict_status, Summary.case_summary, SummaryText.listed, declared.fault.OutFault.OutFault, declared.live_form.LiveForm.LiveForm, declared.naming.Names.Names, declared.progress.Progress.Progress, declared.results.Finished.Finished, declared.results.Results.Results, declared.results.Tally.Tally, declared.said.Said.Said, declared.summary.Summary.Summary}
 
 -- the bytes in memory, and then those that the writer holds back
 abbrev pub written_by : Writer (Vec ℕ) → List ℕ
@@ -50,6 +50,12 @@ made_name e = option_map_or (λ (c : Comp). name_in e.op ∷ []) (created e.op e
 abbrev pub case_lines : Kind → Finished → List BlockLine
 case_lines kind f = name_lines kind f ++ map BlockLine.Entry f.report.history
 
+-- what was said, with one line more after that many entries
+abbrev pub said_with : Said → ℕ → BlockLine → Said
+said_with s at (BlockLine.Named run name) = record s { names = s.names ++ record { run = run.0; name = name } ∷ [] }
+said_with s at (BlockLine.Remark run sentence) = record s { remarks = s.remarks ++ record { at = at; run = run; sentence = sentence } ∷ [] }
+said_with s at l = s
+
 -- how many of the test cases have the overall verdict v
 abbrev pub cases_of : Verdict → List Finished → ℕ
 cases_of v cases = length (filter (λ f. level_of f.report.verdict == level_of v) cases)
@@ -84,15 +90,13 @@ tally_with t v = record {
   error = t.error + one_if (level_of v == level_of Verdict.Error);
 }
 
--- the line of a finished test case of which this decided the verdict, after its front
-abbrev pub rest_by : Option Cause → Option (ℕ × ℕ) → Finished → List ℕ
-rest_by cause time f =
-    codes " " ++ (f.name ++ (codes " " ++ (name_of f.report.verdict ++ (time_text time
-    ++ (option_map_or (λ (c : Cause). codes ": " ++ cause_text c) cause [] ++ codes "\n")))))
+-- the line of a finished test case with this reason, after its front
+abbrev pub rest_by : List ℕ → Option (ℕ × ℕ) → Finished → List ℕ
+rest_by why time f = codes " " ++ (f.name ++ (codes " " ++ (name_of f.report.verdict ++ (time_text time ++ (why ++ codes "\n")))))
 
 -- the line that names it again, if it has failed
-abbrev pub failed_by : Option Cause → Finished → List ℕ
-failed_by cause f = if nat_lt 0 (verdict_status f.report.verdict) then codes "failed:" ++ rest_by cause None f else []
+abbrev pub failed_by : List ℕ → Finished → List ℕ
+failed_by why f = if nat_lt 0 (verdict_status f.report.verdict) then codes "failed:" ++ rest_by why None f else []
 
 module _ {O E C : Type 0} where
   -- a line was printed or not, and maybe one is kept
@@ -120,8 +124,8 @@ abbrev pub is_shown : Entry → Bool
 is_shown e = not (is_parked e.reply)
 
 -- what is shown of an entry, deeper in
-abbrev pub inner_call : Entry → List ℕ
-inner_call e = codes "  " ++ shown_entry e
+abbrev pub inner_call : Names → Entry → List ℕ
+inner_call names e = codes "  " ++ named_entry names e
 
 -- a test case with a status other than 0
 abbrev pub has_failed : Summary → Bool
@@ -133,4 +137,4 @@ numbers_with v locals = map (λ p. p.0) (filter (λ p. level_of p.1 == level_of 
 
 -- one of them, and its name if it has one
 abbrev pub member_text : List (Option (List ℕ)) → ℕ → List ℕ
-member_text names comp = named_text (option_and_then (λ n. n) (slice_get names comp)) comp
+member_text names comp = component_text comp (name_at names comp)

@@ -1,5 +1,9 @@
 -- The definitions that the contracts of this crate cite.
 pub mod Cause
+pub mod Meaning
+pub mod InWords
+pub mod Said
+pub mod Waits
 pub mod Summary
 pub mod Status
 pub mod Progress

@@ -3,7 +3,8 @@ use Rattle.std.specs.Prelude.{ℕ, ◌≡◌, ◌+◌, nat_lt, if◌then◌else�
 use Rattle.std.specs.{Fmt.decimal, Io.KnownBytes.Appends, Io.KnownBytes.Keeps, List.flat_map, Option.option_map_or}
 use Rattle.tc_stream.specs.Prelude.{AppendsPrefix}
 use Rattle.tc_rules.specs.Prelude.{name_of}
-use Rattle.tc_report.specs.{Cause.cause_of, Cause.cause_text, Status.verdict_status, declared.cause.Cause.Cause, declared.fault.OutFault.OutFault, declared.progress.Progress.Progress, declared.results.CaseEnd.CaseEnd, declared.results.Finished.Finished}
+use Rattle.tc_blocks.specs.declared.header.Kind.{Kind}
+use Rattle.tc_report.specs.{Cause.cause_of, Cause.cause_text, Status.verdict_status, Summary.names_of, Summary.said_of, declared.cause.Cause.Cause, declared.fault.OutFault.OutFault, declared.naming.Names.Names, declared.progress.Progress.Progress, declared.results.CaseEnd.CaseEnd, declared.results.Finished.Finished}
 
 -- a place among these names, and how many there are
 abbrev pub case_place : List (List ℕ) → ℕ → List ℕ
@@ -17,11 +18,18 @@ begun_line names at = option_map_or (λ name. case_place names at ++ (codes " " 
 abbrev pub time_text : Option (ℕ × ℕ) → List ℕ
 time_text time = option_map_or (λ (t : ℕ × ℕ). codes " " ++ (decimal t.0 ++ (codes "." ++ (drop 1 (decimal (1000 + t.1)) ++ codes " s")))) time []
 
+-- the names that are said of a finished test case
+abbrev pub case_names : Finished → Names
+case_names f = names_of (CaseEnd.Over f.report.verdict) f.report.history (said_of Kind.Evidence f).names
+
+-- what decided the verdict of a finished test case, if it is one worse than pass
+abbrev pub after_verdict : Finished → List ℕ
+after_verdict f = option_map_or (λ (c : Cause). codes ": " ++ cause_text (case_names f) c) (cause_of (CaseEnd.Over f.report.verdict) [] f.report.history) []
+
 -- the line of a finished test case: its name and overall verdict, how long it took, and what decided the verdict
 abbrev pub finished_line : List ℕ → Option (ℕ × ℕ) → Finished → List ℕ
 finished_line front time f =
-    front ++ (codes " " ++ (f.name ++ (codes " " ++ (name_of f.report.verdict ++ (time_text time
-    ++ (option_map_or (λ (c : Cause). codes ": " ++ cause_text c) (cause_of (CaseEnd.Over f.report.verdict) f.report.history) [] ++ codes "\n"))))))
+    front ++ (codes " " ++ (f.name ++ (codes " " ++ (name_of f.report.verdict ++ (time_text time ++ (after_verdict f ++ codes "\n"))))))
 
 -- the lines that name those again that have failed: where the status for the verdict is not 0
 abbrev pub failed_lines : List Finished → List ℕ

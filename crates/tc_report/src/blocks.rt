@@ -51,8 +51,8 @@ fn append_namings(out: &mut Vec<u8>, names: &[Name]) -> Result<(), NoMemory>
     Ok(())
 }
 
-// The names of the behaviours of a finished test case.
-fn names_of(case: &Finished) -> &[Name]
+/// The names of the behaviours of a finished test case.
+pub(crate) fn names_of_case(case: &Finished) -> &[Name]
     ensures names { result.now ≡ take case.now.report.behaviours case.now.names }
     ensures few { length result.now ≤ u16.MAX }
 {
@@ -68,7 +68,7 @@ fn append_names(out: &mut Vec<u8>, kind: Kind, case: &Finished) -> Result<(), No
         ++ flat_map (λ l. with_lf (line_text l)) (name_lines kind case.now)) }
 {
     match kind {
-        Kind::Evidence => append_namings(out, names_of(case)),
+        Kind::Evidence => append_namings(out, names_of_case(case)),
         Kind::History1 | Kind::History2 => Ok(()),
     }
 }

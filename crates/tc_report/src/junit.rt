@@ -7,13 +7,16 @@ ghost use Rattle.tc_report.specs.Junit as spec;
 
 use crate::cause::{Cause, append_cause};
 use crate::fault::OutFault;
+use crate::meaning::append_meaning;
+use crate::naming::{Names, append_named_entries};
 use crate::output::write_made;
-use crate::report::{append_entries, append_locals};
+use crate::report::append_locals;
 use crate::results::{CaseEnd, Results};
 use crate::status::{counted_as, verdict_status};
 use crate::summary::{Summary, summaries_of_results};
 use std::alloc::Global;
 use std::io::Write;
+use tc_blocks::Sentence;
 use tc_entry::{Name, NoMemory, Verdict};
 use tc_text::{append_number, append_text};
 use tc_verdict::name as name_of;
@@ -62,7 +65,8 @@ fn append_counts(out: &mut Vec<u8>, cases: &[Summary]) -> Result<(), NoMemory>
 {
     append_attribute(out, " tests=\"", cases.len())?;
     append_attribute(out, " failures=\"", with_status(cases, 1))?;
-    append_attribute(out, " errors=\"", with_status(cases, 2))
+    append_attribute(out, " errors=\"", with_status(cases, 2))?;
+    append_attribute(out, " skipped=\"", with_verdict(cases, Verdict::None))
 }
 
 // The name of the suite, by the one that was given.
@@ -85,7 +89,7 @@ fn append_suite_tag(out: &mut Vec<u8>, suite: &[u8]) -> Result<(), NoMemory>
     append_text(out, "\"")
 }
 
-// Appends the first tags; that of the suite also counts the test cases that are skipped.
+// Appends the first tags.
 #[tactic(auto, unfolding(crate::specs::Junit::head_text))]
 fn append_head(out: &mut Vec<u8>, suite: &[u8], cases: &[Summary]) -> Result<(), NoMemory>
     ensures { OnOk result (out.new.items ≡ out.old.items ++ spec.head_text suite.now cases.now) }
@@ -96,8 +100,7 @@ fn append_head(out: &mut Vec<u8>, suite: &[u8], cases: &[Summary]) -> Result<(),
     )?;
     append_counts(out, cases)?;
     append_suite_tag(out, suite)?;
-    append_counts(out, cases)?;
-    append_attribute(out, " skipped=\"", with_verdict(cases, Verdict::None))
+    append_counts(out, cases)
 }
 
 // Appends the program's version.
@@ -110,25 +113,80 @@ fn append_version(out: &mut Vec<u8>, version: &str) -> Result<(), NoMemory>
     append_text(out, "\"/>\n</properties>\n")
 }
 
+// Appends a byte as XML has it.
+fn append_byte(out: &mut Vec<u8>, byte: u8) -> Result<(), NoMemory>
+    ensures { OnOk result (out.new.items ≡ out.old.items ++ spec.escaped_byte byte) }
+{
+    match byte {
+        b'"' => append_text(out, "&quot;"),
+        b'&' => append_text(out, "&amp;"),
+        b'<' => append_text(out, "&lt;"),
+        b'>' => append_text(out, "&gt;"),
+        _ => {
+            out.push(byte)?;
+            Ok(())
+        }
+    }
+}
+
+// Appends bytes as XML has them.
+fn append_escaped(out: &mut Vec<u8>, bytes: &[u8]) -> Result<(), NoMemory>
+    ensures { OnOk result (out.new.items ≡ out.old.items ++ spec.escaped bytes.now) }
+{
+    for byte in bytes {
+        append_byte(out, *byte)?;
+    }
+    Ok(())
+}
+
+// Appends a sentence that was said.
+fn append_sentence(out: &mut Vec<u8>, said: &Sentence) -> Result<(), NoMemory>
+    ensures { OnOk result (out.new.items ≡ out.old.items ++ (codes ": &quot;" ++ (spec.escaped said.now ++ codes "&quot;"))) }
+{
+    append_text(out, ": &quot;")?;
+    append_escaped(out, said.bytes())?;
+    append_text(out, "&quot;")
+}
+
+// Appends what was said right before and right after the entry that decided.
+fn append_said(out: &mut Vec<u8>, said: &[Sentence]) -> Result<(), NoMemory>
+    ensures { OnOk result (out.new.items ≡ out.old.items ++ spec.quoted_text said.now) }
+{
+    for sentence in said {
+        append_sentence(out, sentence)?;
+    }
+    Ok(())
+}
+
+// Appends what decided the verdict, and why by those that ran the test case.
+fn append_decided(out: &mut Vec<u8>, names: &Names, cause: &Cause) -> Result<(), NoMemory>
+    ensures { OnOk result (out.new.items ≡ out.old.items ++ spec.decided_element names.now cause.now) }
+{
+    append_cause(out, names, cause)?;
+    append_meaning(out, cause)?;
+    append_said(out, cause.said.as_slice())
+}
+
 // Appends the element of a verdict that is worse than pass, between its first text and its last tag.
 #[tactic(auto, unfolding(crate::specs::Junit::verdict_element))]
 fn append_verdict_element(
     out: &mut Vec<u8>,
+    names: &Names,
     first: &str,
     verdict: Verdict,
     cause: &Option<Cause>,
     last: &str,
 ) -> Result<(), NoMemory>
-    ensures { OnOk result (out.new.items ≡ out.old.items ++ spec.verdict_element first.now verdict cause.now last.now) }
+    ensures { OnOk result (out.new.items ≡ out.old.items ++ spec.verdict_element names.now first.now verdict cause.now last.now) }
 {
     append_text(out, first)?;
     match cause {
         Some(cause) => {
-            append_cause(out, cause)?;
+            append_decided(out, names, cause)?;
             append_text(out, "\">\n")?;
-            append_cause(out, cause)?;
+            append_decided(out, names, cause)?;
             append_text(out, "\n")?;
-            append_entries(out, cause.log.as_slice())?;
+            append_named_entries(out, names, cause.log.as_slice())?;
         }
         None => {
             append_text(out, "verdict ")?;
@@ -143,25 +201,26 @@ fn append_verdict_element(
 #[tactic(auto, unfolding(crate::specs::Junit::end_element))]
 fn append_verdict_end(
     out: &mut Vec<u8>,
+    names: &Names,
     verdict: Verdict,
     cause: &Option<Cause>,
 ) -> Result<(), NoMemory>
-    ensures { OnOk result (out.new.items ≡ out.old.items ++ spec.end_element (CaseEnd.Over verdict) cause.now) }
+    ensures { OnOk result (out.new.items ≡ out.old.items ++ spec.end_element names.now (CaseEnd.Over verdict) cause.now) }
 {
     match verdict {
         Verdict::None => append_text(out, "<skipped/>\n"),
         Verdict::Pass => Ok(()),
         Verdict::Inconc => {
             let first = "<failure type=\"inconc\" message=\"";
-            append_verdict_element(out, first, verdict, cause, "</failure>\n")
+            append_verdict_element(out, names, first, verdict, cause, "</failure>\n")
         }
         Verdict::Fail => {
             let first = "<failure type=\"fail\" message=\"";
-            append_verdict_element(out, first, verdict, cause, "</failure>\n")
+            append_verdict_element(out, names, first, verdict, cause, "</failure>\n")
         }
         Verdict::Error => {
             let first = "<error type=\"error\" message=\"";
-            append_verdict_element(out, first, verdict, cause, "</error>\n")
+            append_verdict_element(out, names, first, verdict, cause, "</error>\n")
         }
     }
 }
@@ -170,13 +229,14 @@ fn append_verdict_end(
 #[tactic(auto, unfolding(crate::specs::Junit::end_element))]
 fn append_end_element(
     out: &mut Vec<u8>,
+    names: &Names,
     ending: CaseEnd,
     cause: &Option<Cause>,
 ) -> Result<(), NoMemory>
-    ensures { OnOk result (out.new.items ≡ out.old.items ++ spec.end_element ending cause.now) }
+    ensures { OnOk result (out.new.items ≡ out.old.items ++ spec.end_element names.now ending cause.now) }
 {
     match ending {
-        CaseEnd::Over(verdict) => append_verdict_end(out, verdict, cause),
+        CaseEnd::Over(verdict) => append_verdict_end(out, names, verdict, cause),
         CaseEnd::Unfinished => append_text(
             out,
             "<error type=\"unfinished\" message=\"the test case is not over\"/>\n",
@@ -221,7 +281,7 @@ fn append_element(out: &mut Vec<u8>, suite: &[u8], case: &Summary) -> Result<(),
     ensures { OnOk result (out.new.items ≡ out.old.items ++ spec.case_element suite.now case.now) }
 {
     append_name_tag(out, suite, &case.name)?;
-    append_end_element(out, case.ending, &case.cause)?;
+    append_end_element(out, &case.names, case.ending, &case.cause)?;
     append_locals_element(out, case.locals.as_slice())
 }
 

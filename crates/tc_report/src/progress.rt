@@ -1,12 +1,15 @@
 //! What is printed about test cases as they begin and finish.
 ghost use Rattle.std.specs.Prelude.{ℕ, List, Option, ◌≡◌, ◌+◌, ◌++◌, ◌∷◌, [], true, None, IfOk, OnOk, OnErr, codes, drop};
-ghost use Rattle.std.specs.{Fmt.decimal, Io.KnownBytes.Appends, Option.option_map_or};
+ghost use Rattle.std.specs.{Fmt.decimal, Io.KnownBytes.Appends};
 ghost use Rattle.tc_rules.specs.Prelude.{name_of as spec_name};
 ghost use Rattle.tc_stream.specs.Prelude.{AppendsPrefix};
-ghost use Rattle.tc_report.specs.{Cause.cause_text, Inside.OnlyPrints, Inside.failed_by, Inside.rest_by, Progress.HasTold, Progress.IsToldBy, Progress.TellsProgress, Progress.begun_line, Progress.failed_lines, Progress.finished_line, Progress.case_place, Progress.time_text, declared.cause.Cause.Cause as AnyCause};
+ghost use Rattle.tc_report.specs.{Cause.cause_text, Inside.OnlyPrints, Inside.failed_by, Inside.rest_by, Progress.HasTold, Progress.IsToldBy, Progress.TellsProgress, Progress.begun_line, Progress.case_names, Progress.failed_lines, Progress.finished_line, Progress.case_place, Progress.time_text, Progress.after_verdict};
 
+use crate::blocks::names_of_case;
 use crate::cause::{Cause, append_cause, cause_of};
 use crate::fault::OutFault;
+use crate::names::names_of;
+use crate::naming::namings_of;
 use crate::observer::Observer;
 use crate::output::print;
 use crate::results::{CaseEnd, Finished};
@@ -82,16 +85,28 @@ fn append_time(alloc: Global, out: &mut Vec<u8>, time: Option<(u64, u32)>) -> Re
     append_text(out, " s")
 }
 
-// Appends what decided the verdict, if it is one worse than pass, and LF.
-fn append_why(out: &mut Vec<u8>, cause: &Option<Cause>) -> Result<(), NoMemory>
-    ensures { OnOk result (out.new.items ≡ out.old.items
-        ++ (option_map_or (λ (c : AnyCause). codes ": " ++ cause_text c) cause.now [] ++ codes "\n")) }
+// What is said of this case, which decided the verdict of the test case.
+fn cause_line(alloc: Global, case: &Finished, cause: &Cause) -> Result<Vec<u8>, NoMemory>
+    ensures { IfOk result (λ v. v.items ≡ codes ": " ++ cause_text (case_names case.now) cause.now) }
 {
-    if let Some(cause) = cause {
-        append_text(out, ": ")?;
-        append_cause(out, cause)?;
+    let runs = namings_of(alloc, names_of_case(case))?;
+    let ending = CaseEnd::Over(case.report.verdict);
+    let names = names_of(alloc, ending, case.report.history.as_slice(), runs)?;
+    let mut text = Vec::new(alloc);
+    append_text(&mut text, ": ")?;
+    append_cause(&mut text, &names, cause)?;
+    Ok(text)
+}
+
+// What decided the verdict of the test case, if it is one worse than pass.
+fn why(alloc: Global, case: &Finished) -> Result<Vec<u8>, NoMemory>
+    ensures { IfOk result (λ v. v.items ≡ after_verdict case.now) }
+{
+    let ending = CaseEnd::Over(case.report.verdict);
+    match cause_of(alloc, ending, &[], case.report.history.as_slice())? {
+        Some(cause) => cause_line(alloc, case, &cause),
+        None => Ok(Vec::new(alloc)),
     }
-    append_text(out, "\n")
 }
 
 // Appends the name and the verdict of the test case.
@@ -105,19 +120,20 @@ fn append_told(out: &mut Vec<u8>, case: &Finished) -> Result<(), NoMemory>
     append_text(out, name_of(case.report.verdict))
 }
 
-// Appends the line of the test case, of which this decided the verdict, after its front.
+// Appends the line of the test case, with this reason, after its front.
 fn append_line(
     alloc: Global,
     out: &mut Vec<u8>,
     case: &Finished,
     time: Option<(u64, u32)>,
-    cause: &Option<Cause>,
+    why: &[u8],
 ) -> Result<(), NoMemory>
-    ensures { OnOk result (out.new.items ≡ out.old.items ++ rest_by cause.now time case.now) }
+    ensures { OnOk result (out.new.items ≡ out.old.items ++ rest_by why.now time case.now) }
 {
     append_told(out, case)?;
     append_time(alloc, out, time)?;
-    append_why(out, cause)
+    out.extend_from_slice(why)?;
+    append_text(out, "\n")
 }
 
 // Appends the line that names the test case again, if it has failed.
@@ -125,15 +141,15 @@ fn append_failed(
     alloc: Global,
     out: &mut Vec<u8>,
     case: &Finished,
-    cause: &Option<Cause>,
+    why: &[u8],
 ) -> Result<(), NoMemory>
-    ensures { OnOk result (out.new.items ≡ out.old.items ++ failed_by cause.now case.now) }
+    ensures { OnOk result (out.new.items ≡ out.old.items ++ failed_by why.now case.now) }
 {
     if verdict_status(case.report.verdict) == 0 {
         return Ok(());
     }
     append_text(out, "failed:")?;
-    append_line(alloc, out, case, None, cause)
+    append_line(alloc, out, case, None, why)
 }
 
 /// Reports each test case by a line as it begins and by one as it finishes, and passes it on to another observer, which
@@ -252,19 +268,19 @@ impl<'a, O: Observer, E: Write, C: Clock> Progress<'a, O, E, C> {
         &mut self,
         case: &Finished,
         time: Option<(u64, u32)>,
-        cause: &Option<Cause>,
+        why: &[u8],
     ) -> Result<(), OutFault>
         ensures all { OnOk result (Appends (E.contents self.old.writer.now) (E.contents self.new.writer.now)
-            (case_place self.old.names.now self.old.told ++ rest_by cause.now time case.now)) }
+            (case_place self.old.names.now self.old.told ++ rest_by why.now time case.now)) }
         ensures part { OnErr result (AppendsPrefix (E.contents self.old.writer.now) (E.contents self.new.writer.now)
-            (case_place self.old.names.now self.old.told ++ rest_by cause.now time case.now)) }
-        ensures failed { OnOk result (self.new.failed.now.items ≡ self.old.failed.now.items ++ failed_by cause.now case.now) }
+            (case_place self.old.names.now self.old.told ++ rest_by why.now time case.now)) }
+        ensures failed { OnOk result (self.new.failed.now.items ≡ self.old.failed.now.items ++ failed_by why.now case.now) }
         ensures only { OnlyPrints self.old self.new }
     {
         let mut line = Vec::new(self.alloc);
         append_place(&mut line, self.told, self.names)?;
-        append_line(self.alloc, &mut line, case, time, cause)?;
-        append_failed(self.alloc, self.failed, case, cause)?;
+        append_line(self.alloc, &mut line, case, time, why)?;
+        append_failed(self.alloc, self.failed, case, why)?;
         print(self.writer, line.as_slice())
     }
 
@@ -279,12 +295,11 @@ impl<'a, O: Observer, E: Write, C: Clock> Progress<'a, O, E, C> {
         ensures only { OnlyPrints self.old self.new }
         ensures count { IfOk result (λ told. told ≡ self.old.told + 1) }
     {
-        let ending = CaseEnd::Over(case.report.verdict);
-        let cause = cause_of(self.alloc, ending, case.report.history.as_slice())?;
+        let why = why(self.alloc, case)?;
         let Some(told) = self.told.checked_add(1) else {
             return Err(OutFault::NoMemory);
         };
-        self.print_case(case, time, &cause)?;
+        self.print_case(case, time, why.as_slice())?;
         Ok(told)
     }
 

@@ -1,11 +1,15 @@
 //! What reports say of a test case.
 ghost use Rattle.std.specs.Prelude.{◌≡◌, ◌++◌, IfOk, OnOk, List, drop, map, reverse};
 ghost use Rattle.tc_rules.specs.Prelude.{Entry as AnyEntry, StandsFor};
-ghost use Rattle.tc_report.specs.{Summary.aborted_summary, Summary.bare_summary as spec_bare, Summary.case_end, Summary.case_summary, Summary.results_summaries, Summary.summary_of, Summary.summary_with as spec_with, declared.results.CaseEnd.TheVariants.NotRun};
+ghost use Rattle.tc_blocks.specs.declared.header.Kind.{Kind};
+ghost use Rattle.tc_report.specs.{Summary.aborted_summary, Summary.bare_summary as spec_bare, Summary.case_end, Summary.case_summary, Summary.results_summaries, Summary.said_of as spec_said, Summary.summary_of, Summary.summary_with as spec_with, declared.results.CaseEnd.TheVariants.NotRun};
 
+use crate::blocks::names_of_case;
 use crate::cause::{Cause, cause_of};
-use crate::names::names_of;
+use crate::names::{names_of, no_names};
+use crate::naming::{Names, Naming, namings_of};
 use crate::results::{CampaignEnd, CaseEnd, Finished, Results};
+use crate::said::Said;
 use std::alloc::Global;
 use tc_entry::{Entry, Name, NoMemory, Sequence, Verdict};
 use tc_rules::{CaseState, locals_of};
@@ -17,13 +21,32 @@ pub struct Summary {
     pub name: Name,
     /// The local verdicts, that of the main component first.
     pub locals: Sequence<Verdict>,
-    /// The names of the components that have one, that of the main component first, if the test case is not over or its
-    /// verdict is worse than pass.
-    pub names: Sequence<Option<Name>>,
+    /// The names of its components and behaviours, if it is not over or its verdict is worse than pass.
+    pub names: Names,
     /// How it ended.
     pub ending: CaseEnd,
     /// What decided its verdict, if it is over and its verdict is worse than pass.
     pub cause: Option<Cause>,
+}
+
+// The names among what is said.
+fn names_said(said: Said) -> Vec<Naming>
+    ensures { result.items ≡ said.names }
+{
+    let Said { names, remarks } = said;
+    drop(remarks);
+    names.into_vec()
+}
+
+// What evidence of a finished test case says next to its entries.
+fn said_of(alloc: Global, case: &Finished) -> Result<Said, NoMemory>
+    ensures { IfOk result (λ said. said ≡ spec_said Kind.Evidence case.now) }
+{
+    let names = namings_of(alloc, names_of_case(case))?;
+    Ok(Said {
+        names: Sequence::new(names),
+        remarks: Sequence::new(Vec::new(alloc)),
+    })
 }
 
 // How a test case ended whose history left this state.
@@ -37,38 +60,41 @@ fn end_of_state(state: &CaseState) -> CaseEnd
     }
 }
 
-// The summary of the test case of this name, with these local verdicts, this end and this history.
+// The summary of the test case of this name, with these local verdicts, this end and this history, next to which this is
+// said.
 fn summary_with(
     alloc: Global,
     name: &Name,
     locals: Vec<Verdict>,
     ending: CaseEnd,
     history: &[Entry],
+    said: Said,
 ) -> Result<Summary, NoMemory>
-    ensures { IfOk result (λ s. s ≡ spec_with name.now locals.items ending history.now) }
+    ensures { IfOk result (λ s. s ≡ spec_with name.now locals.items ending history.now said) }
 {
-    let names = names_of(alloc, ending, history)?;
-    let cause = cause_of(alloc, ending, history)?;
+    let cause = cause_of(alloc, ending, said.remarks.as_slice(), history)?;
+    let names = names_of(alloc, ending, history, names_said(said))?;
     Ok(Summary {
         name: name.copy(),
         locals: Sequence::new(locals),
-        names: Sequence::new(names),
+        names,
         ending,
         cause,
     })
 }
 
-/// The summary of the test case of this name with this history, which left this state.
+/// The summary of the test case of this name with this history, which left this state, and with what is said next to it.
 pub fn summary_of_state(
     alloc: Global,
     name: &Name,
     state: &CaseState,
     history: &[Entry],
+    said: Said,
 ) -> Result<Summary, NoMemory>
-    ensures { StandsFor state.now (reverse history.now) → IfOk result (λ s. s ≡ summary_of name.now history.now) }
+    ensures { StandsFor state.now (reverse history.now) → IfOk result (λ s. s ≡ summary_of name.now history.now said) }
 {
     let locals = locals_of(alloc, state)?;
-    summary_with(alloc, name, locals, end_of_state(state), history)
+    summary_with(alloc, name, locals, end_of_state(state), history, said)
 }
 
 /// The summary of a finished test case.
@@ -79,7 +105,9 @@ pub fn summary_of_case(alloc: Global, case: &Finished) -> Result<Summary, NoMemo
     let mut locals = Vec::new(alloc);
     locals.extend_from_slice(report.locals.as_slice())?;
     let ending = CaseEnd::Over(report.verdict);
-    summary_with(alloc, &case.name, locals, ending, report.history.as_slice())
+    let said = said_of(alloc, case)?;
+    let history = report.history.as_slice();
+    summary_with(alloc, &case.name, locals, ending, history, said)
 }
 
 /// The summary of the test case of this name that ended so, without a local verdict.
@@ -89,7 +117,7 @@ pub fn bare_summary(alloc: Global, ending: CaseEnd, name: &Name) -> Summary
     Summary {
         name: name.copy(),
         locals: Sequence::new(Vec::new(alloc)),
-        names: Sequence::new(Vec::new(alloc)),
+        names: no_names(alloc),
         ending,
         cause: None,
     }

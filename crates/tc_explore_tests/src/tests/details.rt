@@ -46,7 +46,7 @@ fn a_race_side_by_side(rt: HostRuntime) -> Result<(), Fail> {
     let scripts = race(&rt, rt.alloc())?;
     let text = details(&rt, rt.alloc(), scripts.as_slice())?;
     let start =
-        "  none: mtc none, 1 none\n  fail: mtc none, 1 fail\n  none and fail: alike for 4 entries\n";
+        "  none: mtc none, 1 none\n  fail: mtc none, 1 fail\n  fail: run 1 on 1: setverdict fail -> ok\n  none and fail: alike for 4 entries\n";
     let part =
         "  none                                 | fail\n  0 finish -> ok                       | 1 setverdict fail -> ok\n";
     have_race(&rt, text.as_slice(), start, part)
@@ -105,7 +105,7 @@ fn who_waits_for_whom(rt: HostRuntime) -> Result<(), Fail> {
     let waiting = vec![in alloc; wait_killed(P)]?;
     scripts.push(script_of(&rt, 1, waiting))?;
     let wanted =
-        "  error: mtc error, 1 pump none, 2 none\n  stuck: run 0 on mtc waits for done of 2, not started\n  stuck: run 1 on 1 pump waits for killed of 2, not started\n  not seen: run 1 from step 1 of 1 on: wait killed #1\n";
+        "  error: mtc error, 1 pump none, 2 none\n  error: run 0 on mtc: wait done 2 -> error stuck: no run can continue\n  stuck: run 0 on mtc waits for done of 2, not started\n  stuck: run 1 on 1 pump waits for killed of 2, not started\n  not seen: run 1 from step 1 of 1 on: wait killed #1\n";
     are_details(&rt, alloc, scripts.as_slice(), wanted)
 }
 

@@ -1,10 +1,12 @@
 -- What was printed of test cases as they finished, test case by test case.
-use Rattle.std.proofs.Common.{ℕ, ◌≡◌, ◌∙◌, ◌+◌, arith, nat_lt, Bool, true, false, List, [], ◌∷◌, ◌++◌, Option, Some, None, Result, Ok, Err, OnOk, OnErr, codes, filter, if◌then◌else◌, length, refl, sym, ap, subst, append_assoc, map, reverse}
+use Rattle.std.proofs.Common.{ℕ, ◌≡◌, ◌∙◌, ◌+◌, arith, nat_lt, Bool, true, false, List, [], ◌∷◌, ◌++◌, Option, Some, None, Result, Ok, Err, OnOk, OnErr, codes, filter, if◌then◌else◌, length, refl, sym, ap, ap₂, subst, append_assoc, map, reverse, take}
 use Rattle.std.proofs.lemmas.List.{Concat.flat_map-append, Elements.filter-append, append-nil, length-append}
-use Rattle.std.specs.{Io.KnownBytes.Appends, Io.KnownBytes.Keeps, List.AllZip, List.flat_map}
+use Rattle.std.specs.{Io.KnownBytes.Appends, Io.KnownBytes.Keeps, List.AllZip, List.enumerate_from, List.flat_map}
 use Rattle.tc_stream.specs.Prelude.{AppendsPrefix}
-use Rattle.tc_blocks.specs.declared.history_block.History.{History}
-use Rattle.tc_report.specs.{Cause.cause_of, Inside.IsEndedAt, Inside.IsSoFar, Inside.failed_by, Observers.AreTaken, Progress.HasTold, Progress.AreLinesOf, Progress.IsToldBy, Progress.TellsProgress, Progress.begun_line, Progress.failed_lines, Progress.finished_line, Progress.case_place, Status.verdict_status, Summary.IsBlockOf, Summary.SummariesOfHistories, Summary.block_summary, Summary.case_end, Summary.case_summary, declared.fault.OutFault.OutFault, declared.progress.Progress.Progress, declared.results.CaseEnd.CaseEnd, declared.results.Finished.Finished}
+use Rattle.tc_blocks.specs.Prelude.{entries_of}
+use Rattle.tc_blocks.specs.declared.{block.Block.Block, header.Kind.Kind, line.Line.Line}
+use Rattle.tc_report.specs.{Inside.IsEndedAt, Inside.IsSoFar, Inside.failed_by, Observers.AreTaken, Progress.HasTold, Progress.AreLinesOf, Progress.IsToldBy, Progress.TellsProgress, Progress.begun_line, Progress.failed_lines, Progress.finished_line, Progress.case_place, Progress.after_verdict, Status.verdict_status, Blocks.name_lines, Inside.namings, Inside.said_with, Said.named_in, Said.remarks_from, Said.said_in, Summary.IsBlockOf, Summary.SummariesOfBlocks, Summary.block_summary, Summary.case_end, Summary.said_of, Summary.summary_of, Summary.written_summary, declared.fault.OutFault.OutFault, declared.progress.Progress.Progress, declared.results.CaseEnd.CaseEnd, declared.results.Finished.Finished, declared.naming.Naming.Naming, declared.said.Remark.Remark, declared.said.Said.Said}
+use Rattle.tc_rules.specs.Prelude.{Entry}
 use Rattle.tc_report.proofs.Writing.{appends_both, prefix_behind, prefix_longer}
 
 nothing : (o : Option (List ℕ)) → Appends o o []
@@ -68,7 +70,7 @@ failed_more fs f =
     ∙ flat_map-append (finished_line (codes "failed:") None) (filter p fs) (filter p (f ∷ []))
 
 -- of one, it is the line that names it again
-pub failed_one : (f : Finished) → failed_by (cause_of (CaseEnd.Over f.report.verdict) f.report.history) f ≡ failed_lines (f ∷ [])
+pub failed_one : (f : Finished) → failed_by (after_verdict f) f ≡ failed_lines (f ∷ [])
 failed_one f = go (nat_lt 0 (verdict_status f.report.verdict))
   where
     line : List ℕ
@@ -214,16 +216,96 @@ module _ {O E C : Type 0} (contents : E → Option (List ℕ)) (takes : O → Fi
         (one.2 ∙ others.2.0, one.3 ∙ others.2.1, one.4 ∙ others.2.2),
       )
 
-pub one_same : (f : Finished) (b : History) → IsBlockOf f b → block_summary b ≡ case_summary f
-one_same f b is =
+named_entries : (es : List Entry) → flat_map named_in (map Line.Entry es) ≡ []
+named_entries [] = refl
+named_entries (e ∷ es) = named_entries es
+
+named_all : (run : ℕ) (names : List (List ℕ)) (es : List Entry) → flat_map named_in (namings run names ++ map Line.Entry es) ≡ map (λ p. record { run = p.0; name = p.1 }) (enumerate_from run names)
+named_all run [] es = named_entries es
+named_all run (n ∷ ns) es = ap (λ (l : List Naming). record { run = run; name = n } ∷ l) (named_all (run + 1) ns es)
+
+entries_silent : (at : ℕ) (es : List Entry) → remarks_from at (map Line.Entry es) ≡ []
+entries_silent at [] = refl
+entries_silent at (e ∷ es) = entries_silent (at + 1) es
+
+no_remarks : (at run : ℕ) (names : List (List ℕ)) (es : List Entry) → remarks_from at (namings run names ++ map Line.Entry es) ≡ []
+no_remarks at run [] es = entries_silent at es
+no_remarks at run (n ∷ ns) es = no_remarks at (run + 1) ns es
+
+only_entries : (es : List Entry) → entries_of (map Line.Entry es) ≡ es
+only_entries [] = refl
+only_entries (e ∷ es) = ap (λ (l : List Entry). e ∷ l) (only_entries es)
+
+after_namings : (run : ℕ) (names : List (List ℕ)) (es : List Entry) → entries_of (namings run names ++ map Line.Entry es) ≡ es
+after_namings run [] es = only_entries es
+after_namings run (n ∷ ns) es = after_namings (run + 1) ns es
+
+abbrev said_mk : List Naming → List Remark → Said
+said_mk names remarks = record { names = names; remarks = remarks }
+
+-- what a block that a run writes says
+said_so : (run : ℕ) (names : List (List ℕ)) (es : List Entry)
+    → said_in (namings run names ++ map Line.Entry es) ≡ said_mk (map (λ p. record { run = p.0; name = p.1 }) (enumerate_from run names)) []
+said_so run names es = ap₂ said_mk (named_all run names es) (no_remarks 0 run names es)
+
+said_written : (kind : Kind) (f : Finished) → said_in (name_lines kind f ++ map Line.Entry f.report.history) ≡ said_of kind f
+said_written Kind.Evidence f = said_so 0 (take f.report.behaviours f.names) f.report.history
+said_written Kind.History1 f = said_so 0 [] f.report.history
+said_written Kind.History2 f = said_so 0 [] f.report.history
+
+-- the entries of such a block are those of the test case
+pub entries_written : (kind : Kind) (f : Finished) → entries_of (name_lines kind f ++ map Line.Entry f.report.history) ≡ f.report.history
+entries_written Kind.Evidence f = after_namings 0 (take f.report.behaviours f.names) f.report.history
+entries_written Kind.History1 f = after_namings 0 [] f.report.history
+entries_written Kind.History2 f = after_namings 0 [] f.report.history
+
+pub one_same : (kind : Kind) (f : Finished) (b : Block) → IsBlockOf kind f b → block_summary b ≡ written_summary kind f
+one_same kind f b is =
     let ended : case_end (reverse f.report.history) ≡ CaseEnd.Over f.report.verdict = rw (is.report.over, is.report.verdict) refl in
-    rw (is.name, is.entries, is.report.locals, ended) refl
+    let said = ap said_in is.lines ∙ said_written kind f in
+    let entries = ap entries_of is.lines ∙ entries_written kind f in
+    ap (λ (x : Said). summary_of b.header.name (entries_of b.lines) x) said
+    ∙ (ap (λ (es : List Entry). summary_of b.header.name es (said_of kind f)) entries
+    ∙ (ap (λ (n : List ℕ). summary_of n f.report.history (said_of kind f)) is.name ∙ rw (is.report.locals, ended) refl))
 
-all_same : (fs : List Finished) (bs : List History) → AllZip IsBlockOf fs bs → map block_summary bs ≡ map case_summary fs
-all_same [] [] each = refl
-all_same [] (b ∷ bs) each = absurd each
-all_same (f ∷ fs) [] each = absurd each
-all_same (f ∷ fs) (b ∷ bs) each = rw (one_same f b each.0, all_same fs bs each.1) refl
+all_same : (kind : Kind) (fs : List Finished) (bs : List Block) → AllZip (IsBlockOf kind) fs bs → map block_summary bs ≡ map (written_summary kind) fs
+all_same kind [] [] each = refl
+all_same kind [] (b ∷ bs) each = absurd each
+all_same kind (f ∷ fs) [] each = absurd each
+all_same kind (f ∷ fs) (b ∷ bs) each = rw (one_same kind f b each.0, all_same kind fs bs each.1) refl
 
-pub summaries_of_histories : SummariesOfHistories
-summaries_of_histories r bs each = all_same r.finished bs each
+pub summaries_of_blocks : SummariesOfBlocks
+summaries_of_blocks kind r bs each = all_same kind r.finished bs each
+
+-- ---- what is said next to entries, and one line more
+
+remarks_more : (at : ℕ) (ls : List Line) (l : Line) → remarks_from at (ls ++ l ∷ []) ≡ remarks_from at ls ++ remarks_from (at + length (entries_of ls)) (l ∷ [])
+remarks_more at [] l = let same : at ≡ at + 0 = omega arith in ap (λ k. remarks_from k (l ∷ [])) same
+remarks_more at (Line.Entry e ∷ ls) l =
+    let same : (at + 1) + length (entries_of ls) ≡ at + length (e ∷ entries_of ls) = omega arith in
+    remarks_more (at + 1) ls l ∙ ap (λ k. remarks_from (at + 1) ls ++ remarks_from k (l ∷ [])) same
+remarks_more at (Line.Named run name ∷ ls) l = remarks_more at ls l
+remarks_more at (Line.Remark run said ∷ ls) l = ap (λ (rs : List Remark). record { at = at; run = run; sentence = said } ∷ rs) (remarks_more at ls l)
+remarks_more at (Line.Refused run said ∷ ls) l = remarks_more at ls l
+
+named_last : (ls : List Line) (l : Line) → flat_map named_in (ls ++ l ∷ []) ≡ flat_map named_in ls ++ named_in l
+named_last ls l = flat_map-append named_in ls (l ∷ []) ∙ ap (λ (x : List Naming). flat_map named_in ls ++ x) (append-nil (named_in l))
+
+-- a line that is neither a name nor a remark
+silent_more : (ls : List Line) (l : Line) → named_in l ≡ [] → remarks_from (0 + length (entries_of ls)) (l ∷ []) ≡ [] → said_in (ls ++ l ∷ []) ≡ said_in ls
+silent_more ls l nameless still =
+    ap₂ said_mk (named_last ls l ∙ (ap (λ (x : List Naming). flat_map named_in ls ++ x) nameless ∙ append-nil (flat_map named_in ls)))
+    (remarks_more 0 ls l ∙ (ap (λ (x : List Remark). remarks_from 0 ls ++ x) still ∙ append-nil (remarks_from 0 ls)))
+
+pub said_more : (ls : List Line) (l : Line) → said_in (ls ++ l ∷ []) ≡ said_with (said_in ls) (length (entries_of ls)) l
+said_more ls (Line.Named run name) = ap₂ said_mk (named_last ls (Line.Named run name)) (remarks_more 0 ls (Line.Named run name) ∙ append-nil (remarks_from 0 ls))
+said_more ls (Line.Entry e) = silent_more ls (Line.Entry e) refl refl
+said_more ls (Line.Remark run said) =
+    let same : 0 + length (entries_of ls) ≡ length (entries_of ls) = omega arith in
+    ap₂ said_mk (named_last ls (Line.Remark run said) ∙ append-nil (flat_map named_in ls))
+    (remarks_more 0 ls (Line.Remark run said) ∙ ap (λ k. remarks_from 0 ls ++ remarks_from k (Line.Remark run said ∷ [])) same)
+said_more ls (Line.Refused run said) = silent_more ls (Line.Refused run said) refl refl
+
+-- an entry adds nothing to it
+pub entry_said : {said : Said} (ls : List Line) (e : Entry) → said ≡ said_in ls → said ≡ said_in (ls ++ Line.Entry e ∷ [])
+entry_said ls e is = is ∙ sym (said_more ls (Line.Entry e))

@@ -1,6 +1,6 @@
 use Rattle.std.proofs.Common.{◌≡◌, ◌++◌, take}
 use Rattle.std.specs.List.{flat_map}
-use Rattle.tc_explored.specs.Waits.{waits_text}
+use Rattle.tc_report.specs.Prelude.{waits_text}
 use Rattle.tc_explored.proofs.details.append_all_waits.Given as goal
 
 abbrev pub invariant-loop-witness : goal.invariant-loop-witness

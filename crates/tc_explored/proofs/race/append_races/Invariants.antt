@@ -4,4 +4,4 @@ use Rattle.tc_explored.specs.Race.{race}
 use Rattle.tc_explored.proofs.race.append_races.Given as goal
 
 abbrev pub invariant-loop-other : goal.invariant-loop-other
-invariant-loop-other l = l.out.items ≡ l.fn.out.items ++ flat_map (race l.witness) (take l.other-index l.others)
+invariant-loop-other l = l.out.items ≡ l.fn.out.items ++ flat_map (race l.behaviours l.witness) (take l.other-index l.others)

@@ -12,5 +12,5 @@ returns g c blocks b line verdict played stood =
       name = c.name.ensures ∙ ap (λ h. h.name) played.0.0;
       verdict = verdict;
       judgement = c.judge.ensures b played.0 line verdict;
-      kept = c.in_ok-kept.ensures b played.0 played.1;
+      kept = c.in_ok-kept.ensures b played.0 played.1 played.2;
     }))

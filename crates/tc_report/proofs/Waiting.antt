@@ -1,0 +1,38 @@
+-- The lines of runs that wait, one after another, and what is in front of a legal history.
+use Rattle.std.proofs.Common.{ℕ, zero, suc, ◌≡◌, ◌∙◌, ◌+◌, Bool, true, false, if◌then◌else◌, Option, Some, List, [], ◌∷◌, ◌++◌, sym, ap, append_assoc, arith, subst}
+use Rattle.std.specs.List.{flat_map, range_with_len}
+use Rattle.std.proofs.lemmas.List.{flat_map_more}
+use Rattle.tc_rules.specs.Prelude.{Entry, IsLegal}
+use Rattle.tc_report.specs.Waits.{before_stuck, says_stuck}
+
+range-more : (a n : ℕ) → range_with_len a (suc n) ≡ range_with_len a n ++ (a + n) ∷ []
+range-more a zero = grind arith
+range-more a (suc n) = grind (arith, range-more (a + 1) n)
+
+-- what is made of each number, and of one more
+pub next_of : (f : ℕ → List ℕ) (n : ℕ) (front a b : List ℕ) → a ≡ front ++ flat_map f (range_with_len 0 n) → b ≡ a ++ f n →
+    b ≡ front ++ flat_map f (range_with_len 0 (n + 1))
+next_of f n front a b so more =
+    let one : n + 1 ≡ suc n = omega arith in
+    let same : 0 + n ≡ n = omega arith in
+    let next = ap (range_with_len 0) one ∙ (range-more 0 n ∙ ap (λ x. range_with_len 0 n ++ x ∷ []) same) in
+    more ∙ (ap (λ l. l ++ f n) so ∙ (flat_map_more f front (range_with_len 0 n) n ∙ ap (λ l. front ++ flat_map f l) (sym next)))
+
+pub two : (a p q x y : List ℕ) → x ≡ a ++ p → y ≡ x ++ q → y ≡ a ++ (p ++ q)
+two a p q x y h k = k ∙ (ap (λ l. l ++ q) h ∙ append_assoc a p q)
+
+pub three : (a p q r x y z : List ℕ) → x ≡ a ++ p → y ≡ x ++ q → z ≡ y ++ r → z ≡ a ++ (p ++ (q ++ r))
+three a p q r x y z h k l = two a p (q ++ r) x z h (two x q r y z k l)
+
+pub four : (a p q r s w x y z : List ℕ) → w ≡ a ++ p → x ≡ w ++ q → y ≡ x ++ r → z ≡ y ++ s → z ≡ a ++ (p ++ (q ++ (r ++ s)))
+four a p q r s w x y z h k l m = two a p (q ++ (r ++ s)) w z h (three w q r s x y z k l m)
+
+by_test : (n : ℕ) (b : Bool) (past front : List Entry) (earlier : Option (List Entry)) → IsLegal n past → (earlier ≡ Some front → IsLegal n front)
+    → (if b then Some past else earlier) ≡ Some front → IsLegal n front
+by_test n true past front earlier legal rest same = let it : past ≡ front = cc in subst (λ l. IsLegal n l) it legal
+by_test n false past front earlier legal rest same = rest same
+
+-- what comes before the reply that no run can continue
+pub stuck_legal : (n : ℕ) (past front : List Entry) → IsLegal n past → before_stuck past ≡ Some front → IsLegal n front
+stuck_legal n [] front legal is = absurd cc
+stuck_legal n (e ∷ past) front legal is = by_test n (says_stuck e.reply) past front (before_stuck past) legal.1 (λ h. stuck_legal n past front legal.1 h) is
