@@ -20,20 +20,21 @@ EXPLAIN = "says more of the fault of a refused text\n"
 NO_EXPLAIN = "says no more of it, also at a terminal\n"
 # A line for each option, as it is in the help.
 ALL_OPTIONS = ("runs the campaign of a script, and writes its report\n",
-               "  --csv                writes the report as CSV\n",
-               "  --history            writes the histories of the test cases\n",
-               "  --evidence           writes the histories with the names of behaviours\n",
-               "  --junit              writes the report as a JUnit suite\n",
-               "  --suite <NAME>       calls the JUnit suite NAME instead of ttrun\n",
-               "  --live               writes each test case as it finishes\n",
-               "  --progress           reports each test case on standard error\n",
-               "  --stop-on <VERDICT>  stops after a test case with this verdict or worse\n",
-               "  --list               prints the names of the test cases, and runs none\n",
-               "  --only <NAME>        runs this test case; may be given again, for others\n",
-               "  --shard <K/N>        runs the K-th of N shards of the test cases\n",
-               "  --failed             leaves out what passed by evidence after the script\n",
-               "  --last               counts only the last history of each name\n",
-               "  --explain            " + EXPLAIN, "  --no-explain         " + NO_EXPLAIN,
+               "  --csv                    writes the report as CSV\n",
+               "  --history                writes the histories of the test cases\n",
+               "  --evidence               writes the histories with the names of behaviours\n",
+               "  --junit                  writes the report as a JUnit suite\n",
+               "  --suite <NAME>           calls the JUnit suite NAME instead of ttrun\n",
+               "  --times                  writes the time of each test case into the suite\n",
+               "  --live                   writes each test case as it finishes\n",
+               "  --progress [<failures>]  reports test cases, or failures, on standard error\n",
+               "  --stop-on <VERDICT>      stops after a test case with this verdict or worse\n",
+               "  --list                   prints the names of the test cases, and runs none\n",
+               "  --only <NAME>            runs this test case; may be given again, for others\n",
+               "  --shard <K/N>            runs the K-th of N shards of the test cases\n",
+               "  --failed                 leaves out what passed by evidence after the script\n",
+               "  --last                   counts only the last history of each name\n",
+               "  --explain                " + EXPLAIN, "  --no-explain             " + NO_EXPLAIN,
                "Standard input is a script: ttrun run < FILE. Standard output is the report.\n"
                "With --failed it is a script, and after it histories or evidence of its test\n"
                "cases: cat FILE EVIDENCE | ttrun run --failed runs those that are missing, are\n"
@@ -44,6 +45,7 @@ ALL_OPTIONS = ("runs the campaign of a script, and writes its report\n",
                "Status: 0 for none and pass, 1 for inconc and fail, 2 for error, 3 for an\nabort or a refusal.\n")
 EXPLORE = ("looks for every overall verdict that a test case can have\n",
            "  --history      writes a history for each verdict that was found\n",
+           "  --evidence     writes these histories with the names of behaviours\n",
            "  --details      says where schedules part and who waits for whom\n",
            "  --locals       says which local verdicts are not always the same\n",
            "  --states <N>   looks at N states of a test case at most\n",
@@ -57,6 +59,7 @@ EXPLORE = ("looks for every overall verdict that a test case can have\n",
            "N is from 1 to 1000000, and 100000 without --states. --only, --shard and\n--failed choose test cases as those of run do, with --last too.\n",
            "Status: 0 if each test case has one verdict, 1 if one has several, 3 if a\nsearch met its limit, or for a refusal.\n")
 REPORT = ("reads histories, and writes them in one of these forms\n",
+          "  --text          writes the text report\n",
           "  --csv           writes a table as CSV\n", "  --junit         writes a JUnit suite\n",
           "  --suite <NAME>  calls the JUnit suite NAME instead of ttrun\n",
           "  --html          writes a page for a browser\n",
@@ -127,10 +130,12 @@ MISTAKES = """\
 a value is required for '{valued}' but none was supplied
     explore --states, run --only, run --only --list, run --shard, run --stop-on, run --stop-on --csv, run --stop-on --live, run --junit --suite,
     check --script --shard, check --only, explore --only
-one of the arguments '--csv', '--junit', '--html' and '--summary' is needed
+one of the arguments '--text', '--csv', '--junit', '--html' and '--summary' is needed
     report, report --, report --explain, report --suite a, report --only a, report --failed, report --script --only a
 the argument '--suite' needs '--junit'
     report --csv --suite a, report --suite 7 --summary, run --suite a, run --suite 7 --stop-on no, run --list --suite a
+the argument '--times' needs '--junit'
+    run --times, run --csv --times --live, run --list --times
 the argument '--last' needs '--failed'
     run --last, run --list --last, explore --last, explore --last --only a
 the arguments '--shard', and '--only' with '--html', need '--script'
@@ -145,12 +150,12 @@ the argument '{twice}' cannot be used multiple times
     run --history --history, run --junit --junit, run --list --list, run --live --live, run --progress --progress, run --shard 1/2 --shard 1/2,
     run --stop-on pass --stop-on pass
 unexpected value 'yes' for '{option}' found; no more were expected
-    run --csv=yes, run --junit=yes, run --list=yes, run --live=yes, run --progress=yes
+    run --csv=yes, run --junit=yes, run --list=yes, run --live=yes
 unrecognized subcommand '{last}'
     '', Run, chec, frobnicate, help a.script, help more, help run check, list, repla, version
 unexpected argument '{last}' found
     check --summary, run --summary, -- run, --csv, --explain, --frobnicate, --junit, --list, --live, --progress, -x, check --csv, check --evidence,
-    check --html, check --junit, check --live, check --progress, check more, explore --csv, explore --evidence, explore --progress, explore more,
+    check --html, check --junit, check --live, check --progress, check more, explore --csv, explore --progress, explore more,
     replay --list, replay --live, replay more, report --evidence, report --history, report --live, report more, serve --explain, serve --no-explain,
     serve --evidence, serve --history, serve more, run '', run -, run -- --csv, run -- --live, report --chart, run --chart, run --cs, run --x.y,
     run --a/b, run --csv check, run --details, run --html, run --liv, run --live more, run --only a b, run --version, run -V, run -c, run check,
@@ -172,6 +177,10 @@ unexpected argument '-c' found
 # Two options that are not taken together, in the order in which they are said, and command lines that have both.
 CONFLICTS = """\
 list junit: run --list --junit --suite a, run --list --junit
+text csv: report --csv --text, report --text --junit --csv
+text junit: report --junit --text
+text html: report --html --text
+text summary: report --summary --text
 csv summary: report --csv --summary
 html summary: report --summary --html
 junit summary: report --summary --junit --suite a
@@ -180,6 +189,8 @@ explain no-explain: check --explain --no-explain, check --no-explain --script --
 script failed: check --failed --script, report --csv --script --failed
 history details: explore --details --history, explore --locals --details --history, explore --history --states=1 --details
 history locals: explore --locals --history
+evidence details: explore --details --evidence
+evidence locals: explore --locals --evidence --only a
 csv junit: report --csv --junit, report --explain --csv --junit, report --junit --csv, run --junit --csv
 csv html: report --html --csv
 junit html: report --html --junit
@@ -189,7 +200,7 @@ csv evidence: run --csv --evidence, run --evidence --csv
 csv history: run --csv --history, run --csv --history --junit, run --csv --history --stop-on no, run --csv --live --history, run --history --csv,
     run --history --stop-on pass --csv, run --live --csv --history
 list csv: run --csv --list --only a, run --list --csv
-history evidence: run --evidence --history, run --history --evidence, run --live --evidence --history
+history evidence: explore --evidence --history, run --evidence --history, run --history --evidence, run --live --evidence --history
 evidence junit: run --evidence --junit, run --junit --evidence
 list evidence: run --evidence --list, run --list --evidence
 history junit: run --history --junit, run --junit --history
@@ -201,7 +212,7 @@ list stop-on: run --list --stop-on fail
 """
 
 # Options with a value, as a refusal shows them.
-SHOWN = {"--suite": "--suite <NAME>", "--only": "--only <NAME>", "--shard": "--shard <K/N>", "--states": "--states <N>",
+SHOWN = {"--suite": "--suite <NAME>", "--progress": "--progress [<failures>]", "--only": "--only <NAME>", "--shard": "--shard <K/N>", "--states": "--states <N>",
          "--stop-on": "--stop-on <VERDICT>"}
 
 
@@ -240,6 +251,7 @@ NAMED = text("testcase t;behaviour main;end;end")
 
 SUITE = "--suite takes 1 to 32 letters, digits or _, a letter first"
 STATES = "--states takes a number from 1 to 1000000"
+PROGRESS = "--progress takes failures, or no value"
 
 # Of several faults the first is printed: of the shard, of a word that is no name, of the suite, of the stopping rule, of the
 # text, and then of the names.
@@ -272,6 +284,7 @@ ORDERED: List[Tuple[str, bytes, str]] = [
 NAMELESS: List[Tuple[str, Tuple[str, ...]]] = [
     (STOP_ON, ("run --stop-on ", "run --stop-on -", "run --stop-on=--csv", "run --stop-on=--live", "run --stop-on run", "run --stop-on help",
                "run --stop-on no --only a")),
+    (PROGRESS, ("run --progress=yes", "run --progress= --only a", "run --csv --progress all", "run --progress a.script --csv")),
     (SHARD, ("run --list --shard 0/1", "run --shard 1/02", "run --shard=many", "run --only a --shard= --only 1", "run --stop-on fail --shard 3/2",
              "run --stop-on no --shard 3/2")),
     (SUITE, ("run --junit --suite=", "run --junit --suite 1", "run --suite a-b --junit", "report --junit --suite all",

@@ -7,7 +7,7 @@ use Rattle.clap.specs.declared.error.kind.ErrorKind.TheVariants.{ArgumentConflic
 use Rattle.clap.specs.declared.parser.matches.ValueSource.{ValueSource}
 use Rattle.clap.specs.declared.parser.matches.ValueSource.TheVariants.{CommandLine}
 use Rattle.tc_entry.specs.Prelude.{IsName, IsPattern}
-use Rattle.tc_command.specs.{Command.IsGood, Command.IsRuleOf, Command.IsShardOf, Command.IsStatesOf, Command.cases_app, Command.ttrun, declared.command.Subcommand.Subcommand, declared.read.Refused.Refused, declared.read.TheConstants.CHECK_APART, declared.read.TheConstants.EXPLORE_APART, declared.read.TheConstants.OTHERS_APART, declared.read.TheConstants.REPORT_APART, declared.read.TheConstants.RUN_APART, declared.task.Choice.Choice, declared.task.ExploreOptions.ExploreOptions, declared.task.Form.Form, declared.task.ReportForm.ReportForm, declared.task.RunOptions.RunOptions, declared.task.Task.Task, declared.word.WordFault.WordFault}
+use Rattle.tc_command.specs.{Command.IsGood, Command.IsProgressOf, Command.IsRuleOf, Command.IsShardOf, Command.IsStatesOf, Command.cases_app, Command.ttrun, declared.command.Subcommand.Subcommand, declared.read.Refused.Refused, declared.read.TheConstants.APART, declared.read.TheConstants.HISTORY_NEEDS, declared.read.TheConstants.SCRIPT_NEEDS, declared.task.Choice.Choice, declared.task.ExploreOptions.ExploreOptions, declared.task.Form.Form, declared.task.ReportForm.ReportForm, declared.task.RunOptions.RunOptions, declared.task.Task.Task, declared.word.WordFault.WordFault}
 
 -- the value comes from the arguments, and is no default
 abbrev pub is_from_words : Option ValueSource → Bool
@@ -29,20 +29,20 @@ subcommand_named name =
     else (if bytes_eq name (codes "replay") then Subcommand.Replay
     else (if bytes_eq name (codes "explore") then Subcommand.Explore
     else (if bytes_eq name (codes "report") then Subcommand.Report
-    else (if bytes_eq name (codes "serve") then Subcommand.Serve else Subcommand.Run))))
+    else (if bytes_eq name (codes "model") then Subcommand.Model
+    else (if bytes_eq name (codes "serve") then Subcommand.Serve else Subcommand.Run)))))
 
 -- the subcommand and its options; no subcommand is `run` without options
 abbrev pub command_line_of : Option (Text × List Row) → Subcommand × List Row
 command_line_of None = (Subcommand.Run, [])
 command_line_of (Some p) = (subcommand_named p.0, p.1)
 
--- pairs of options of this subcommand that exclude each other
-abbrev pub apart : Subcommand → List (Text × Text)
-apart Subcommand.Run = map (λ p. (p.0.now, p.1.now)) RUN_APART
-apart Subcommand.Explore = map (λ p. (p.0.now, p.1.now)) EXPLORE_APART
-apart Subcommand.Report = map (λ p. (p.0.now, p.1.now)) REPORT_APART
-apart Subcommand.Check = map (λ p. (p.0.now, p.1.now)) CHECK_APART
-apart subcommand = map (λ p. (p.0.now, p.1.now)) OTHERS_APART
+-- the subcommand reads histories, which may have a script before them
+abbrev pub reads_histories : Subcommand → Bool
+reads_histories Subcommand.Check = true
+reads_histories Subcommand.Report = true
+reads_histories Subcommand.Model = true
+reads_histories subcommand = false
 
 -- the form that the options of `run` ask for
 abbrev pub form_of : List Row → Form
@@ -55,35 +55,38 @@ form_of rows =
 -- the form that the options of `report` ask for, if they ask for one
 abbrev pub report_form_of : List Row → Option ReportForm
 report_form_of rows =
-    if is_given rows (codes "csv") then Some ReportForm.Csv
+    if is_given rows (codes "text") then Some ReportForm.Text
+    else (if is_given rows (codes "csv") then Some ReportForm.Csv
     else (if is_given rows (codes "junit") then Some (ReportForm.Junit (first_of (codes "suite") rows))
     else (if is_given rows (codes "html") then Some ReportForm.Html
-    else (if is_given rows (codes "summary") then Some ReportForm.Summary else None)))
+    else (if is_given rows (codes "summary") then Some ReportForm.Summary else None))))
 
--- a shard is chosen, or what is on a page, and there is no script
-abbrev pub lacks_script : List Row → Bool
-lacks_script rows = (is_given rows (codes "shard") || (is_given rows (codes "only") && is_given rows (codes "html"))) && not (is_given rows (codes "script"))
+-- the first option of the pair is given, and the second is, or is not
+abbrev pub gives_pair : Bool → List Row → Text × Text → Bool
+gives_pair with rows p = is_given rows p.0 && (if with then is_given rows p.1 else not (is_given rows p.1))
 
--- a suite is named, and there is no report of it
-abbrev pub lacks_junit : List Row → Bool
-lacks_junit rows = is_given rows (codes "suite") && not (is_given rows (codes "junit"))
+-- a shard of histories is chosen, or what is on a page, and there is no script
+abbrev pub lacks_script : Subcommand → List Row → Bool
+lacks_script subcommand rows =
+    reads_histories subcommand && ((is_given rows (codes "shard") || (is_given rows (codes "only") && is_given rows (codes "html"))) && not (is_given rows (codes "script")))
 
--- only the last blocks count, and nothing is left out by them
-abbrev pub lacks_failed : List Row → Bool
-lacks_failed rows = is_given rows (codes "last") && not (is_given rows (codes "failed"))
+-- a form is needed, and none is given
+abbrev pub lacks_form : Subcommand → List Row → Bool
+lacks_form Subcommand.Report rows = is_none (report_form_of rows)
+lacks_form subcommand rows = false
 
--- options are given without one that they need: their script, a form of the report, the report that a suite is of, or --failed
+-- the pairs of which the first option needs the second
+abbrev pub needs : Subcommand → List (Text × Text)
+needs subcommand = map (λ p. (p.0.now, p.1.now)) (if reads_histories subcommand then HISTORY_NEEDS else SCRIPT_NEEDS)
+
+-- options are given without one that they need
 abbrev pub lacks_option : Subcommand → List Row → Bool
-lacks_option Subcommand.Check rows = lacks_script rows || lacks_junit rows
-lacks_option Subcommand.Report rows = lacks_script rows || (is_none (report_form_of rows) || lacks_junit rows)
-lacks_option Subcommand.Run rows = lacks_junit rows || lacks_failed rows
-lacks_option Subcommand.Explore rows = lacks_junit rows || lacks_failed rows
-lacks_option subcommand rows = lacks_junit rows
+lacks_option subcommand rows = lacks_script subcommand rows || (lacks_form subcommand rows || list_any (gives_pair false rows) (needs subcommand))
 
 -- why options are refused; none if they are taken
 abbrev pub option_faults : Subcommand × List Row → Kinds
 option_faults line =
-    if list_any (λ p. is_given line.1 p.0 && is_given line.1 p.1) (apart line.0) then ArgumentConflict ∷ []
+    if list_any (gives_pair true line.1) (map (λ p. (p.0.now, p.1.now)) APART) then ArgumentConflict ∷ []
     else (if lacks_option line.0 line.1 then MissingRequiredArgument ∷ [] else [])
 
 -- faults are explained: if that is asked for, and at a terminal unless it is declined
@@ -106,12 +109,15 @@ pub record AsksRun (at_terminal : Bool) (rows : List Row) (o : RunOptions) : Typ
   pub form : o.form ≡ form_of rows
   pub live : o.live ≡ is_given rows (codes "live")
   pub progress : o.progress ≡ is_given rows (codes "progress")
+  pub failures : IsProgressOf (first_of (codes "progress") rows) o.failures
+  pub times : o.times ≡ is_given rows (codes "times")
   pub stop_on : IsRuleOf (first_of (codes "stop-on") rows) o.stop_on
   pub choice : AsksFor at_terminal rows o.choice o.explains
 
 -- the options ask for such an exploration
 pub record AsksExplore (at_terminal : Bool) (rows : List Row) (o : ExploreOptions) : Type 0 where
   pub histories : o.histories ≡ is_given rows (codes "history")
+  pub evidence : o.evidence ≡ is_given rows (codes "evidence")
   pub details : o.details ≡ is_given rows (codes "details")
   pub locals : o.locals ≡ is_given rows (codes "locals")
   pub states : IsStatesOf (first_of (codes "states") rows) o.states
@@ -121,6 +127,7 @@ pub record AsksExplore (at_terminal : Bool) (rows : List Row) (o : ExploreOption
 abbrev pub Asks : Bool → Subcommand × List Row → Task → Type 0
 Asks at (Subcommand.Check, rows) (Task.Check c explains) = (is_given rows (codes "script") ≡ false) × AsksFor at rows c explains
 Asks at (Subcommand.Check, rows) (Task.Compare None c explains) = (is_given rows (codes "script") ≡ true) × AsksFor at rows c explains
+Asks at (Subcommand.Model, rows) (Task.Model c explains) = AsksFor at rows c explains
 Asks at (Subcommand.Replay, rows) (Task.Replay explains) = explains ≡ is_explained at rows
 Asks at (Subcommand.Report, rows) (Task.Report f c explains) = (is_given rows (codes "script") ≡ false) × (report_form_of rows ≡ Some f) × AsksFor at rows c explains
 Asks at (Subcommand.Report, rows) (Task.Compare (Some f) c explains) = (is_given rows (codes "script") ≡ true) × (report_form_of rows ≡ Some f) × AsksFor at rows c explains
@@ -135,12 +142,14 @@ abbrev pub HasGoodChoice : List Row → Type 0
 HasGoodChoice rows = IsGood IsShardOf (first_of (codes "shard") rows) × All IsPattern (option_values (codes "only") rows)
 
 -- a value of these options names nothing, and it is the first: that of --shard, then those of --only, then that of
--- --suite, and then that of --stop-on or --states
+-- --suite, and then that of --stop-on or --states, and last that of --progress
 abbrev pub HasBadWord : List Row → WordFault → Type 0
 HasBadWord rows WordFault.Shard = IsGood IsShardOf (first_of (codes "shard") rows) → ⊥
 HasBadWord rows WordFault.Only = IsGood IsShardOf (first_of (codes "shard") rows) × (All IsPattern (option_values (codes "only") rows) → ⊥)
 HasBadWord rows WordFault.Suite = HasGoodChoice rows × (IfSome (first_of (codes "suite") rows) IsName → ⊥)
 HasBadWord rows WordFault.StopOn = HasGoodChoice rows × IfSome (first_of (codes "suite") rows) IsName × (IsGood IsRuleOf (first_of (codes "stop-on") rows) → ⊥)
+HasBadWord rows WordFault.Progress =
+    HasGoodChoice rows × IfSome (first_of (codes "suite") rows) IsName × IsGood IsRuleOf (first_of (codes "stop-on") rows) × (IsGood IsProgressOf (first_of (codes "progress") rows) → ⊥)
 HasBadWord rows WordFault.States = HasGoodChoice rows × (IsGood IsStatesOf (first_of (codes "states") rows) → ⊥)
 
 -- What a line is read as, in which the command finds these faults: the task that it asks for, or clap's error. Its kind is that

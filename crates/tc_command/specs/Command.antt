@@ -1,5 +1,5 @@
 -- The program's command as a command line reads it: its subcommands, their options, and the values of these.
-use Rattle.std.specs.Prelude.{List, [], ◌∷◌, ◌++◌, Some, true, codes, fold, ℕ, ◌≡◌, ◌≤◌, ◌<◌, ◌+◌, ◌^◌, IsSomeAnd, MatchOption, Option, None}
+use Rattle.std.specs.Prelude.{Bool, false, List, [], ◌∷◌, ◌++◌, Some, true, codes, fold, ℕ, ◌≡◌, ◌≤◌, ◌<◌, ◌+◌, ◌^◌, IsSomeAnd, MatchOption, Option, None}
 use Rattle.clap.specs.Words.{App, Rule, Text, new_app, new_rule, with_rule, with_subcommand}
 use Rattle.clap.specs.declared.builder.action.ArgAction.TheVariants.{Append, Set, SetTrue}
 use Rattle.std.specs.Fmt.{decimal}
@@ -13,6 +13,10 @@ flag_rule name = record (new_rule name) { long = Some name; action = Some SetTru
 -- an option of this name, which takes one value
 abbrev pub word_rule : Text → Rule
 word_rule name = record (new_rule name) { long = Some name; action = Some Set; value_names = 1 }
+
+-- an option of this name, which takes one value or none
+abbrev pub maybe_word_rule : Text → Rule
+maybe_word_rule name = record (word_rule name) { range = Some (record { start_inclusive = 0; end_inclusive = 1 }) }
 
 -- an option of this name, which takes one value, and may be given several times
 abbrev pub words_rule : Text → Rule
@@ -30,7 +34,7 @@ choosing = flag_rule (codes "script") ∷ words_rule (codes "only") ∷ word_rul
 abbrev pub run_options : List Rule
 run_options =
     flag_rule (codes "csv") ∷ flag_rule (codes "history") ∷ flag_rule (codes "evidence") ∷ flag_rule (codes "junit")
-    ∷ word_rule (codes "suite") ∷ flag_rule (codes "live") ∷ flag_rule (codes "progress")
+    ∷ word_rule (codes "suite") ∷ flag_rule (codes "times") ∷ flag_rule (codes "live") ∷ maybe_word_rule (codes "progress")
     ∷ word_rule (codes "stop-on") ∷ flag_rule (codes "list") ∷ words_rule (codes "only") ∷ word_rule (codes "shard") ∷ []
 
 -- `run` has these and those of its script: which test cases, and whether a fault is explained
@@ -40,18 +44,22 @@ run = fold with_rule (new_app (codes "run")) (run_options ++ flag_rule (codes "f
 -- the options of `explore`
 abbrev pub explore : App
 explore = fold with_rule (new_app (codes "explore")) (
-    flag_rule (codes "history") ∷ flag_rule (codes "details") ∷ flag_rule (codes "locals") ∷ word_rule (codes "states")
+    flag_rule (codes "history") ∷ flag_rule (codes "evidence") ∷ flag_rule (codes "details") ∷ flag_rule (codes "locals") ∷ word_rule (codes "states")
     ∷ words_rule (codes "only") ∷ word_rule (codes "shard") ∷ flag_rule (codes "failed") ∷ flag_rule (codes "last") ∷ explaining)
 
 -- the options of `report`
 abbrev pub report : App
 report = fold with_rule (new_app (codes "report")) (
-    flag_rule (codes "csv") ∷ flag_rule (codes "junit") ∷ word_rule (codes "suite") ∷ flag_rule (codes "html") ∷ flag_rule (codes "summary")
+    flag_rule (codes "text") ∷ flag_rule (codes "csv") ∷ flag_rule (codes "junit") ∷ word_rule (codes "suite") ∷ flag_rule (codes "html") ∷ flag_rule (codes "summary")
     ∷ choosing)
 
 -- the options of `check`
 abbrev pub check : App
 check = fold with_rule (new_app (codes "check")) choosing
+
+-- the options of `model`
+abbrev pub model : App
+model = fold with_rule (new_app (codes "model")) (words_rule (codes "only") ∷ flag_rule (codes "failed") ∷ flag_rule (codes "last") ∷ explaining)
 
 -- the options of `replay`
 abbrev pub replay : App
@@ -61,11 +69,11 @@ replay = fold with_rule (new_app (codes "replay")) explaining
 abbrev pub with_version : App → App
 with_version app = record app { top = record app.top { has_version = true } }
 
--- the program's command prints its version, and has these six subcommands; `serve` has no option
+-- the program's command prints its version, and has these seven subcommands; `serve` has no option
 abbrev pub ttrun : App
 ttrun =
     fold (λ app sub. with_subcommand app sub.top) (with_version (new_app (codes "ttrun")))
-    (run ∷ new_app (codes "serve") ∷ explore ∷ check ∷ report ∷ replay ∷ [])
+    (run ∷ new_app (codes "serve") ∷ explore ∷ check ∷ report ∷ model ∷ replay ∷ [])
 
 -- the command of a program with test cases of its own prints its version too, and has the options of their run
 abbrev pub cases_app : App
@@ -87,6 +95,10 @@ IsShardOf = IsNamed IsShardWord
 abbrev pub IsRuleOf : Option Text → Option Verdict → Type 0
 IsRuleOf = IsNamed (λ word v. word ≡ name_of v)
 
+-- only failures are reported: if the value says so
+abbrev pub IsProgressOf : Option Text → Bool → Type 0
+IsProgressOf word only = MatchOption word (only ≡ false) (λ w. (w ≡ codes "failures") × (only ≡ true))
+
 -- that many states are looked at: those that the value names, from 1 to a million; without a value a hundred thousand
 abbrev pub IsStatesOf : Option Text → ℕ → Type 0
 IsStatesOf word n = MatchOption word (n ≡ 100000) (λ w. (1 ≤ n) × (n ≤ 1000000) × (w ≡ decimal n))
@@ -102,3 +114,4 @@ word_fault_text WordFault.States = codes "--states takes a number from 1 to 1000
 word_fault_text WordFault.Shard = codes "--shard takes K/N, with K from 1 to N"
 word_fault_text WordFault.Only = codes "--only takes the name of one of the test cases"
 word_fault_text WordFault.Suite = codes "--suite takes 1 to 32 letters, digits or _, a letter first"
+word_fault_text WordFault.Progress = codes "--progress takes failures, or no value"

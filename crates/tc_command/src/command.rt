@@ -19,7 +19,7 @@ No argument at all means run.
 
 Status of run, serve, replay and report: 0 for none and pass, 1 for inconc and
 fail, 2 for error.
-Status of check: 0 if each history is legal.
+Status of check and model: 0 if each history is legal, and has a model.
 Status of explore: 0 if each test case has one verdict, 1 if one has several.
 3 says that a test case was aborted, a history is not legal, or a search met
 its limit; or that the arguments or the input were refused, memory ran out, or
@@ -101,6 +101,16 @@ Status: 0 if each history is legal, and with --script no such line is printed;
 otherwise 3.",
 );
 
+// What the help says of `model`, and at its end.
+const MODEL_HELP: (&str, &str) = (
+    "writes scripts of which histories and evidence are courses",
+    "\
+Standard input is histories or evidence: ttrun model < FILE. Standard output
+is a script, which ttrun explore reads: a test case for each of them. --only,
+--failed and --last choose as those of check do.
+Status: 0 if each history is legal, and has a model; otherwise 3.",
+);
+
 // What the help says of `serve`, and at its end.
 const SERVE_HELP: (&str, &str) = (
     "answers moves line by line, and writes evidence of the test cases",
@@ -117,11 +127,13 @@ Status: 0 for none and pass, 1 for inconc and fail, 2 for error and for a test
 case that is not over, 3 for a refused line or a fault.",
 );
 
-// The values that an option takes, by what the help calls one: none, one, or one each time that the option is given.
+// The values that an option takes, by what the help calls one: none, one, none or one, or one each time that the option
+// is given.
 #[derive(Clone, Copy)]
 pub(crate) enum Takes {
     Nothing,
     Word(&'static str),
+    MaybeWord(&'static str),
     Words(&'static str),
 }
 
@@ -186,7 +198,7 @@ const SUITE: OptionRow = OptionRow(
 );
 
 /// The options of a run of test cases.
-pub(crate) const RUN_OPTIONS: [OptionRow; 11] = [
+pub(crate) const RUN_OPTIONS: [OptionRow; 12] = [
     OptionRow("csv", Takes::Nothing, "writes the report as CSV"),
     OptionRow(
         "history",
@@ -205,14 +217,19 @@ pub(crate) const RUN_OPTIONS: [OptionRow; 11] = [
     ),
     SUITE,
     OptionRow(
+        "times",
+        Takes::Nothing,
+        "writes the time of each test case into the suite",
+    ),
+    OptionRow(
         "live",
         Takes::Nothing,
         "writes each test case as it finishes",
     ),
     OptionRow(
         "progress",
-        Takes::Nothing,
-        "reports each test case on standard error",
+        Takes::MaybeWord("failures"),
+        "reports test cases, or failures, on standard error",
     ),
     OptionRow(
         "stop-on",
@@ -239,11 +256,16 @@ pub(crate) const RUN_OPTIONS: [OptionRow; 11] = [
 // The options of `run` that are of its script.
 const RUN_SCRIPT_OPTIONS: [OptionRow; 4] = [FAILED, LAST, EXPLAIN, NO_EXPLAIN];
 
-const EXPLORE_OPTIONS: [OptionRow; 10] = [
+const EXPLORE_OPTIONS: [OptionRow; 11] = [
     OptionRow(
         "history",
         Takes::Nothing,
         "writes a history for each verdict that was found",
+    ),
+    OptionRow(
+        "evidence",
+        Takes::Nothing,
+        "writes these histories with the names of behaviours",
     ),
     OptionRow(
         "details",
@@ -286,7 +308,10 @@ const CHECK_OPTIONS: [OptionRow; 7] = [
     NO_EXPLAIN,
 ];
 
-const REPORT_OPTIONS: [OptionRow; 12] = [
+const MODEL_OPTIONS: [OptionRow; 5] = [SCRIPT_ONLY, NOT_PASSED, LAST, EXPLAIN, NO_EXPLAIN];
+
+const REPORT_OPTIONS: [OptionRow; 13] = [
+    OptionRow("text", Takes::Nothing, "writes the text report"),
     OptionRow("csv", Takes::Nothing, "writes a table as CSV"),
     OptionRow("junit", Takes::Nothing, "writes a JUnit suite"),
     SUITE,
@@ -314,6 +339,10 @@ fn option_of<'a>(alloc: Global, row: OptionRow) -> Arg<'a>
     match takes {
         Takes::Nothing => option.action(ArgAction::SetTrue),
         Takes::Word(word) => option.value_name(word).action(ArgAction::Set),
+        Takes::MaybeWord(word) => option
+            .value_name(word)
+            .num_args(..=1)
+            .action(ArgAction::Set),
         Takes::Words(word) => option.value_name(word).action(ArgAction::Append),
     }
 }
@@ -362,16 +391,18 @@ pub(crate) enum Subcommand {
     Explore,
     Check,
     Report,
+    Model,
     Replay,
 }
 
 /// All of them.
-pub(crate) const SUBCOMMANDS: [Subcommand; 6] = [
+pub(crate) const SUBCOMMANDS: [Subcommand; 7] = [
     Subcommand::Run,
     Subcommand::Serve,
     Subcommand::Explore,
     Subcommand::Check,
     Subcommand::Report,
+    Subcommand::Model,
     Subcommand::Replay,
 ];
 
@@ -384,6 +415,7 @@ impl Subcommand {
             Subcommand::Explore => "explore",
             Subcommand::Check => "check",
             Subcommand::Report => "report",
+            Subcommand::Model => "model",
             Subcommand::Replay => "replay",
         }
     }
@@ -396,6 +428,7 @@ impl Subcommand {
             Subcommand::Explore => "ttrun explore",
             Subcommand::Check => "ttrun check",
             Subcommand::Report => "ttrun report",
+            Subcommand::Model => "ttrun model",
             Subcommand::Replay => "ttrun replay",
         }
     }
@@ -411,6 +444,7 @@ fn subcommand_of<'a>(alloc: Global, subcommand: Subcommand) -> Result<Command<'a
         Subcommand::Explore => offered(alloc, "explore", EXPLORE_HELP, &EXPLORE_OPTIONS),
         Subcommand::Check => offered(alloc, "check", CHECK_HELP, &CHECK_OPTIONS),
         Subcommand::Report => offered(alloc, "report", REPORT_HELP, &REPORT_OPTIONS),
+        Subcommand::Model => offered(alloc, "model", MODEL_HELP, &MODEL_OPTIONS),
         Subcommand::Replay => offered(alloc, "replay", REPLAY_HELP, &[EXPLAIN, NO_EXPLAIN]),
     }
 }

@@ -20,6 +20,8 @@ pub enum Form {
 /// In which form histories are reported.
 #[derive(Debug, Drop, PartialEq, Eq)]
 pub enum ReportForm {
+    /// The text report.
+    Text,
     /// A table, as CSV.
     Csv,
     /// A test suite of JUnit's XML, with the name of `--suite`.
@@ -53,6 +55,10 @@ pub struct RunOptions {
     pub live: bool,
     /// Whether each test case is reported as it finishes.
     pub progress: bool,
+    /// Whether of these only the failed ones are reported.
+    pub failures: bool,
+    /// Whether the JUnit suite has the time that each test case took.
+    pub times: bool,
     /// The stopping rule: a test case with this verdict, or a worse one, is the last.
     pub stop_on: Option<Verdict>,
     /// Which test cases are run.
@@ -66,6 +72,8 @@ pub struct RunOptions {
 pub struct ExploreOptions {
     /// Whether the histories of the witnesses are written.
     pub histories: bool,
+    /// Whether they are written with the names of behaviours.
+    pub evidence: bool,
     /// Whether details are printed.
     pub details: bool,
     /// Whether local verdicts are printed.
@@ -109,6 +117,11 @@ pub enum Task {
     /// Report the chosen histories in this form.
     Report {
         form: ReportForm,
+        choice: Choice,
+        explains: bool,
+    },
+    /// Write the models of the chosen histories.
+    Model {
         choice: Choice,
         explains: bool,
     },

@@ -84,6 +84,8 @@ fn options(alloc: Global, live: bool, progress: bool) -> RunOptions {
         form: Form::Text,
         live,
         progress,
+        failures: false,
+        times: false,
         stop_on: None,
         choice: Choice {
             only: Vec::new(alloc),

@@ -40,6 +40,9 @@ ttrun run --stop-on fail --live --history => run --history --live --stop-on=fail
 ttrun run --progress => run --progress
 ttrun run --csv --progress --live --stop-on fail => run --csv --live --progress --stop-on=fail
 ttrun run --junit --progress => run --junit --progress
+ttrun run --csv --progress=failures => run --csv --progress=failures
+ttrun run --progress failures --only a => run --progress=failures --only=a
+ttrun run --times --progress --junit => run --junit --times --progress
 ttrun run --only a => run --only=a
 ttrun run --only b --only=a --only b => run --only=b --only=a --only=b
 ttrun run --shard 1/2 --csv => run --csv --shard=1/2
@@ -68,10 +71,14 @@ ttrun check --script --last => check --script --last
 ttrun check --script --explain => check --script --explain
 ttrun check --script => check --script
 ttrun check --shard 2/3 --script --only b --only a => check --script --only=b --only=a --shard=2/3
+ttrun model => model
+ttrun model --failed --last --only a --explain => model --only=a --failed --last --explain
 ttrun replay --explain => replay --explain
 ttrun report --explain --junit => report --junit --explain
 ttrun report --explain --script --csv --only a* => report --csv --script --only=a* --explain
 ttrun report --csv => report --csv
+ttrun report --text => report --text
+ttrun report --script --only a --text => report --text --script --only=a
 ttrun report --junit => report --junit
 ttrun report --junit --suite=A_1 => report --junit --suite=A_1
 ttrun report --summary => report --summary
@@ -90,6 +97,7 @@ ttrun explore => explore --states=100000
 ttrun explore --history => explore --history --states=100000
 ttrun explore --states 7 => explore --states=7
 ttrun explore --states=1000000 --history => explore --history --states=1000000
+ttrun explore --evidence --states 7 => explore --evidence --states=7
 ttrun explore --details => explore --details --states=100000
 ttrun explore --states 7 --details => explore --details --states=7
 ttrun explore --locals => explore --locals --states=100000
@@ -119,6 +127,8 @@ ttrun report --no-explain --csv => report --csv
 ttrun report --script --csv => report --csv --script --explain
 ttrun explore => explore --states=100000 --explain
 ttrun explore --no-explain => explore --states=100000
+ttrun model => model --explain
+ttrun model --no-explain --last => model --last
 ttrun serve => serve";
 
 fn append_if(out: &mut String, is_given: bool, option: &str) -> Result<(), AllocError> {
@@ -176,7 +186,9 @@ fn append_rule(out: &mut String, options: &RunOptions) -> Result<(), AllocError>
 fn append_run(out: &mut String, options: &RunOptions) -> Result<(), Fail> {
     append_form(out, &options.form)?;
     append_if(out, options.live, " --live")?;
+    append_if(out, options.times, " --times")?;
     append_if(out, options.progress, " --progress")?;
+    append_if(out, options.failures, "=failures")?;
     append_rule(out, options)?;
     append_choice(out, &options.choice)?;
     append_explains(out, options.explains)
@@ -193,6 +205,7 @@ fn append_list(out: &mut String, choice: &Choice) -> Result<(), Fail> {
 
 fn append_report(out: &mut String, form: &ReportForm) -> Result<(), Fail> {
     match form {
+        ReportForm::Text => Ok(out.push_str("report --text")?),
         ReportForm::Csv => Ok(out.push_str("report --csv")?),
         ReportForm::Junit(suite) => {
             out.push_str("report --junit")?;
@@ -225,6 +238,7 @@ fn append_chosen(out: &mut String, choice: &Choice, explains: bool) -> Result<()
 fn append_explore(out: &mut String, options: &ExploreOptions) -> Result<(), Fail> {
     out.push_str("explore")?;
     append_if(out, options.histories, " --history")?;
+    append_if(out, options.evidence, " --evidence")?;
     append_if(out, options.details, " --details")?;
     append_if(out, options.locals, " --locals")?;
     write!(out, " --states={}", options.states)?;
@@ -247,6 +261,10 @@ fn append_task(out: &mut String, task: &Task) -> Result<(), Fail> {
         } => {
             append_script(out, form, choice)?;
             append_explains(out, *explains)
+        }
+        Task::Model { choice, explains } => {
+            out.push_str("model")?;
+            append_chosen(out, choice, *explains)
         }
         Task::Run(options) => append_run(out, options),
         Task::Serve => Ok(out.push_str("serve")?),
