@@ -59,7 +59,7 @@ WITHOUT_ALLOCATOR = ("SlowReader::new", "InputFault::text", "WriteFault::text", 
 UNTRIED: Tuple[Exempt, ...] = (
     (WITHOUT_ALLOCATOR, "they are handed no allocator"),
     (("CountedReader::new", "CountedWriter::new", "NarrowWriter::new", "LiveWriter::new", "Progress::new", "Script::new", "ScriptJob::new",
-      "Kept::into_results", "bare_summary", "Standing::opening", "Answer::silent", "refuse_with"), "they put together what they are handed"),
+      "Kept::into_results", "bare_summary", "Choice::all", "Standing::opening", "Answer::silent", "refuse_with"), "they put together what they are handed"),
     (("Progress::begin", "Progress::take", "LiveWriter::take"),
      "the sweeps of the whole program refuse what they write: they have no answer for that, and the end of the run has"),
     (("write_whole", "write_counted", "write_abort", "CountedReader::read", "CountedWriter::write"),

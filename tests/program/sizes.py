@@ -1,7 +1,8 @@
 """The largest inputs, one more than each limit, and what is refused because memory or threads ran out."""
+import subprocess
 from typing import Iterator, List, Tuple
 
-from case import Case, SomeText, Timed, as_lines, joined, refused
+from case import Case, Judgement, SomeText, Timed, as_lines, joined, refused
 from rows import CSV_HEADER, case_of_verdict, counts_of, csv_of_verdict, evidence_of_verdict, history_of_verdict, text
 from texts import MOST_BYTES_OF_A_HISTORY, MOST_BYTES_OF_A_LIST, MOST_BYTES_OF_A_SCRIPT
 
@@ -69,6 +70,30 @@ def longest() -> Iterator[Case]:
                                      ("script", ("run",), MOST_BYTES_OF_A_SCRIPT, f"line {MOST_BYTES_OF_A_SCRIPT + 1}: text ends too early")):
         yield refused(f"a_{name}_that_never_ends", words, b"\n" * (most + 1), TOO_LONG, stays_open=True)
         yield refused(f"a_{name}_of_line_feeds", words, b"\n" * most, fault)
+
+
+def long_texts() -> Iterator[Case]:
+    """Texts of any length, in which each history has the length of a text that is not one."""
+    history, legal = longest_history()
+    begun, line = b"history 2 t 1\n", b"0 # x\n"
+    yield Case("a_long_text", ("check", "--long", "--only", "t*"), history * 2 + begun + b"end none\n", legal * 2 + b"legal t 0 none\n")
+    for name, given in (("history_one_byte_longer", history.replace(b" t", b" tt", 1)), ("history_that_never_ends", history[:-9] + line * 2),
+                        ("line_that_never_ends", b"x" * (len(history) + 1))):
+        yield refused(f"a_{name}_in_a_long_text", ("check", "--long"), begun + b"end none\n" + given, TOO_LONG)
+    yield refused("a_bad_line_of_a_long_text", ("report", "--csv", "--long"), history * 2 + b"x\n", f"line {2 * history.count(10) + 1}: bad first line")
+
+
+def faults_of_a_long_text(program: str, *words: str) -> List[str]:
+    """300 MB of histories go through a pipe, in less memory than one of them has bytes; no terminal explains a fault."""
+    block, count = longest_evidence(), 19
+    with subprocess.Popen(["sh", "-c", 'ulimit -v 14000; exec "$@"', "sh", program, *words, "--long"], stdin=subprocess.PIPE,
+                          stdout=subprocess.PIPE) as running:
+        assert running.stdin
+        for _ in range(count):
+            running.stdin.write(block)
+        output = running.communicate()[0]
+    found = (output.count(b"legal t 0 none\n"), output.count(b"t,1,1,0,0,0,0,unfinished"))
+    return [] if count in found and running.returncode == (0 if "check" in words else 2) else [f"status {running.returncode}, {output[:200]!r}"]
 
 
 def many_behaviours(count: int) -> bytes:
@@ -275,4 +300,9 @@ def unaffordable() -> Iterator[Case]:
 
 def cases() -> List[Case]:
     """All of them, except for the search of many states."""
-    return [*longest(), *counted(), *long_report(), *long_case(), *most_components(), *a_thousand(), *unaffordable()]
+    return [*longest(), *long_texts(), *counted(), *long_report(), *long_case(), *most_components(), *a_thousand(), *unaffordable()]
+
+
+def judgements(_: int) -> List[Judgement]:
+    return [Judgement(joined("a_text_of_300_megabytes", *words), f"ttrun {' '.join(words)} --long < (300 MB)", faults_of_a_long_text, words)
+            for words in (("check",), ("report", "--csv"))]

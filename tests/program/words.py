@@ -65,14 +65,15 @@ REPORT = ("reads histories, and writes them in one of these forms\n",
           "  --only <NAME>   chooses this test case; may be given again, for others\n",
           "  --shard <K/N>   awaits the K-th of N shards of the test cases\n",
           "  --failed        leaves out what has the verdict none or pass\n",
-          "  --last          counts only the last history of each name\n", "  --explain       " + EXPLAIN,
+          "  --last          counts only the last history of each name\n",
+          "  --long          takes a text of any length, and explains no fault\n", "  --explain       " + EXPLAIN,
           "  --no-explain    " + NO_EXPLAIN,
           "Standard input is histories or evidence: ttrun report --csv < FILE. Nothing is\n"
           "written to standard output if one of them is not legal. --only and --failed\n"
           "choose as those of check do, with --last too, but not for --html. With\n"
           "--script the input is what check --script reads, and --only and --shard choose\n"
           "as there. Test cases that are missing come last, and the lines of check\n"
-          "--script go to standard error.\n",
+          "--script go to standard error. --long is as for check, but not for --html.\n",
           "Status: 0 for none and pass, 1 for inconc and fail, 2 for error and for a test\n"
           "case that is not over, 3 if a history is not legal, for such a line, or for a\nrefusal.\n")
 CHECK = ("replays histories and evidence, and says which are legal\n",
@@ -80,11 +81,13 @@ CHECK = ("replays histories and evidence, and says which are legal\n",
          "  --only <NAME>  chooses this test case; may be given again, for others\n",
          "  --shard <K/N>  awaits the K-th of N shards of the test cases\n",
          "  --failed       leaves out what has the verdict none or pass\n",
-         "  --last         counts only the last history of each name\n", "  --explain      " + EXPLAIN,
+         "  --last         counts only the last history of each name\n",
+         "  --long         takes a text of any length, and explains no fault\n", "  --explain      " + EXPLAIN,
          "  --no-explain   " + NO_EXPLAIN,
          "Standard input is histories or evidence: ttrun check < FILE. Standard output\n"
          "has a line for each, and none after the first that is not legal. --only, as\n"
-         "for run, and --failed leave out lines of legal ones. With --last only the last\nof each name counts.\n"
+         "for run, and --failed leave out lines of legal ones. With --last only the last\nof each name counts."
+         " With --long the text may have any length, and each\nhistory up to 16 MiB. It is not taken with --script.\n"
          "With --script the input is a script, and after it histories or evidence of its\n"
          "test cases: cat FILE EVIDENCE | ttrun check --script. With --only and --shard,\n"
          "as for run, it is as if the script had only these test cases. --failed is not\n"
@@ -185,6 +188,9 @@ csv html: report --html --csv
 junit html: report --html --junit
 html failed: report --failed --html, report --html --failed --only a
 html last: report --last --html, report --html --script --last
+long explain: check --explain --long, report --csv --long --explain
+long html: report --html --long
+long script: check --script --long, report --long --script --csv --last
 csv evidence: run --csv --evidence, run --evidence --csv
 csv history: run --csv --history, run --csv --history --junit, run --csv --history --stop-on no, run --csv --live --history, run --history --csv,
     run --history --stop-on pass --csv, run --live --csv --history

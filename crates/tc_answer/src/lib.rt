@@ -24,7 +24,7 @@ pub use choosing::{choose, have_all, is_asked};
 pub use fault::{RunFault, append_place, fault_line, line_with, of_input};
 pub use giving::give_answer;
 pub use input::read_text;
-pub use limits::{HISTORY_LIMIT, SCRIPT_LIMIT};
+pub use limits::{HISTORY_LIMIT, LONG_LIMIT, SCRIPT_LIMIT};
 pub use outcome::{Outcome, REFUSED};
 pub use page::html_page;
 pub use parts::split_script;

@@ -153,6 +153,13 @@ end_consumed before now after limit left bytes so none =
 pub whole_input : {H : Type 0} (stands : List Block → H → Type 0) (before now : Option (List ℕ)) (limit left : ℕ) (bytes : List ℕ) (read : Result H TextFault) → IsConsumed before now limit left bytes → IsAtEnd now → IsReadInto stands bytes read → IsRead limit before (λ text. IsReadInto stands text read)
 whole_input stands before now limit left bytes read so end is = (bytes, let counted = so.counted in omega (arith, counted), given_all before now bytes so.consumed end, is)
 
+-- an input of which more bytes than that are consumed has more
+pub more_than : (before now : Option (List ℕ)) (limit left most : ℕ) (bytes : List ℕ) → IsConsumed before now limit left bytes → most + left < limit → IfSome before (λ xs. most < length xs)
+more_than None now limit left most bytes so more = tt
+more_than (Some x) None limit left most bytes so more = absurd so.consumed
+more_than (Some x) (Some y) limit left most bytes so more =
+    let counted = so.counted in let is = ap length so.consumed in omega (arith, counted, more, is, length-append bytes y)
+
 -- a fault in the bytes so far, whatever the rest of the input is
 pub refused_input : {H O : Type 0} (stands : List Block → H → Type 0) (opens : ℕ → Header → List Line → O → Type 0) (before now after : Option (List ℕ)) (limit left : ℕ) (reading : Reading H O) (unfinished part bytes rest : List ℕ) (fault : TextFault) → reading.only_histories ≡ false →
     IsPending stands opens bytes reading unfinished → RefusesPart stands opens reading unfinished part fault → IsConsumed before now limit left (bytes ++ part) → length rest ≤ left → Consumes now after rest → IsAtEnd after → IsRead limit before (λ text. IsReadInto stands text (Err fault))

@@ -233,3 +233,7 @@ RefusesIn {H} {O} stands opens before part fault = RefusesPart stands opens befo
 -- the number of the next line and the bytes that are kept: together they grow at most by the bytes that come
 abbrev pub reach : {H O : Type 0} → Pending H O → ℕ
 reach {H} {O} p = p.reading.line + length p.unfinished.items
+
+-- the most bytes that a block has, with those that are kept
+abbrev pub most_bytes : {H O : Type 0} → Pending H O → ℕ
+most_bytes {H} {O} p = p.sizes.longest + length p.unfinished.items

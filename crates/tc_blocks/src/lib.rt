@@ -14,6 +14,7 @@ mod parts;
 mod read;
 mod reading;
 mod sentence;
+mod sizes;
 mod source;
 mod taking;
 mod write;

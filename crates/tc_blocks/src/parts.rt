@@ -7,6 +7,7 @@ use crate::header::take_first_line;
 use crate::met::MetRuns;
 use crate::read::take_lines;
 use crate::reading::{OpenBlock, Reading};
+use crate::sizes::Sizes;
 use crate::taking::TakesEvidence;
 use std::alloc::Global;
 use tc_text::{TextFault, TextKind};
@@ -105,18 +106,23 @@ fn take_some<'a, H: TakesEvidence + Drop>(
 pub(crate) fn take_part<H: TakesEvidence + Drop>(
     alloc: Global,
     reading: &mut Reading<H>,
+    sizes: &mut Sizes,
     text: &[u8],
 ) -> Result<(), TextFault>
     requires room { reading.old.line + length text.now ≤ usize.MAX }
+    requires sizes { sizes.old.longest + length text.now ≤ usize.MAX }
     requires known { IsKnown reading.old.block }
     ensures read { OnOk result (GoesOn H.stands H.opens reading.old text.now reading.new []) }
     ensures room { OnOk result (reading.new.line ≤ reading.old.line + length text.now) }
+    ensures sizes { OnOk result (sizes.new.longest ≤ sizes.old.longest + length text.now) }
     ensures known { OnOk result (IsKnown reading.new.block) }
     ensures fault { IfErr result (Refuses H.stands H.opens reading.old text.now) }
 {
     let mut rest = text;
     while !rest.is_empty() {
-        rest = take_some(alloc, reading, rest)?;
+        let left = take_some(alloc, reading, rest)?;
+        sizes.add(rest.len() - left.len(), reading.block.is_some());
+        rest = left;
     }
     Ok(())
 }

@@ -9,6 +9,7 @@ use crate::met::MetRuns;
 use crate::note::take_note;
 use crate::parts::{finish, take_part};
 use crate::reading::Reading;
+use crate::sizes::Sizes;
 use crate::taking::TakesEvidence;
 use crate::{History, take_end_line, take_entry_line, take_short_line};
 use std::alloc::Global;
@@ -134,7 +135,7 @@ fn read_into<H: TakesEvidence + Drop>(
     ensures fault { IfErr result (λ e. IsFault (IsFirst only_histories) text.now e) }
 {
     let mut reading = Reading::new(alloc, only_histories);
-    take_part(alloc, &mut reading, text)?;
+    take_part(alloc, &mut reading, &mut Sizes::none(), text)?;
     finish(reading)
 }
 

@@ -2,10 +2,11 @@
 ghost use Rattle.std.specs.Prelude.{◌≡◌, ◌≢◌, ◌<◌, ◌≤◌, ◌+◌, ◌-◌, ◌++◌, ℕ, List, length, slice_index, false, IfOk, IfErr, IfSome, OnOk, IsErrOf, MatchResult};
 ghost use Rattle.std.specs.Io.KnownBytes.{Consumes, IsAtEnd};
 ghost use Rattle.tc_stream.specs.Prelude.{IsRead};
-ghost use Rattle.tc_blocks.specs.{Inside.IsKnown, Inside.IsPending, Inside.IsReadInto, Inside.RefusesIn, Inside.TakesIn, Inside.reach, Text.AreEvidence, Text.HoldsOfBlocks, Text.IsFault, Text.IsHeader, declared.block.Block.Block};
+ghost use Rattle.tc_blocks.specs.{Inside.IsKnown, Inside.IsPending, Inside.IsReadInto, Inside.RefusesIn, Inside.TakesIn, Inside.most_bytes, Inside.reach, Text.AreEvidence, Text.HoldsOfBlocks, Text.IsFault, Text.IsHeader, declared.block.Block.Block};
 
 use crate::parts::{finish, take_part};
 use crate::reading::Reading;
+use crate::sizes::Sizes;
 use crate::taking::TakesEvidence;
 use std::alloc::Global;
 use std::io::Read;
@@ -20,6 +21,7 @@ const PART: usize = 32768;
 #[derive(Drop)]
 struct Pending<H: TakesEvidence + Drop> {
     reading: Reading<H>,
+    sizes: Sizes,
     unfinished: Vec<u8>,
 }
 
@@ -52,9 +54,11 @@ fn take_bytes<H: TakesEvidence + Drop>(
     part: &[u8],
 ) -> Result<(), TextFault>
     requires room { reach pending.old + length part.now ≤ usize.MAX }
+    requires sizes { most_bytes pending.old + length part.now ≤ usize.MAX }
     requires known { IsKnown pending.old.reading.block }
     ensures read { OnOk result (TakesIn H.stands H.opens pending.old part.now pending.new) }
     ensures room { OnOk result (reach pending.new ≤ reach pending.old + length part.now) }
+    ensures sizes { OnOk result (most_bytes pending.new ≤ most_bytes pending.old + length part.now) }
     ensures known { OnOk result (IsKnown pending.new.reading.block) }
     ensures same { OnOk result (pending.new.reading.only_histories ≡ pending.old.reading.only_histories) }
     ensures fault { IfErr result (RefusesIn H.stands H.opens pending.old part.now) }
@@ -66,7 +70,12 @@ fn take_bytes<H: TakesEvidence + Drop>(
     }
     let (lines, rest) = part.split_at(end);
     keep(&mut pending.unfinished, lines)?;
-    take_part(alloc, &mut pending.reading, pending.unfinished.as_slice())?;
+    take_part(
+        alloc,
+        &mut pending.reading,
+        &mut pending.sizes,
+        pending.unfinished.as_slice(),
+    )?;
     pending.unfinished.clear();
     keep(&mut pending.unfinished, rest)?;
     Ok(())
@@ -75,6 +84,7 @@ fn take_bytes<H: TakesEvidence + Drop>(
 // What the blocks of all the bytes make, if these are those of blocks.
 fn finish_bytes<H: TakesEvidence + Drop>(alloc: Global, pending: Pending<H>) -> Result<H, TextFault>
     requires room { reach pending ≤ usize.MAX }
+    requires sizes { most_bytes pending ≤ usize.MAX }
     requires known { IsKnown pending.reading.block }
     requires any { pending.reading.only_histories ≡ false }
     ensures { (bytes : List ℕ) → IsPending H.stands H.opens bytes pending.reading pending.unfinished.items
@@ -82,9 +92,10 @@ fn finish_bytes<H: TakesEvidence + Drop>(alloc: Global, pending: Pending<H>) -> 
 {
     let Pending {
         mut reading,
+        mut sizes,
         unfinished,
     } = pending;
-    match take_part(alloc, &mut reading, unfinished.as_slice()) {
+    match take_part(alloc, &mut reading, &mut sizes, unfinished.as_slice()) {
         Ok(()) => finish(reading),
         Err(fault) => Err(fault),
     }
@@ -106,23 +117,27 @@ fn skip<R: Read>(reader: &mut R, room: &mut [u8], limit: usize) -> Result<(), In
 }
 
 /// What the blocks of the input make, histories and evidence in any order, otherwise its first fault; NoMemory may come
-/// instead. The input is read to its end, at most `limit` bytes, also after a fault.
+/// instead. The input is read to its end, at most `limit` bytes, also after a fault. Each block has at most as many bytes
+/// as the second limit says.
 ///
 /// Only one part of the input is in memory at a time, and a line that is not finished.
 pub fn read_evidence_from<R: Read, H: TakesEvidence + Drop>(
     alloc: Global,
     reader: &mut R,
     limit: usize,
+    block_limit: usize,
 ) -> Result<Result<H, TextFault>, InputFault>
-    requires { limit < usize.MAX }
+    requires most { limit < usize.MAX }
+    requires block { block_limit ≤ limit }
     ensures read { IfOk result (λ read. IsRead limit (R.remaining reader.old) (λ text. MatchResult read
         (λ made. HoldsOfBlocks text (λ all. H.stands all made))
         (λ e. IsFault IsHeader text e × ((all : List Block) → AreEvidence text all → e ≡ TextFault.NoMemory)))) }
     ensures end { OnOk result (IsAtEnd (R.remaining reader.new)) }
-    ensures long { IsErrOf result InputFault.TooLong → IfSome (R.remaining reader.old) (λ xs. limit < length xs) }
+    ensures long { IsErrOf result InputFault.TooLong → IfSome (R.remaining reader.old) (λ xs. block_limit < length xs) }
 {
     let mut pending = Pending {
         reading: Reading::new(alloc, false),
+        sizes: Sizes::none(),
         unfinished: Vec::new(alloc),
     };
     let mut room = [0; PART];
@@ -132,6 +147,9 @@ pub fn read_evidence_from<R: Read, H: TakesEvidence + Drop>(
         if let Err(fault) = take_bytes(alloc, &mut pending, &room[..count]) {
             skip(reader, &mut room, left)?;
             return Ok(Err(fault));
+        }
+        if block_limit < pending.sizes.longest_with(pending.unfinished.len()) {
+            return Err(InputFault::TooLong);
         }
     }
     Ok(finish_bytes(alloc, pending))

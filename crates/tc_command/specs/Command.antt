@@ -24,7 +24,8 @@ explaining = flag_rule (codes "explain") ∷ flag_rule (codes "no-explain") ∷ 
 
 -- the options of each command that reads histories: their script, which of them, and whether a fault is explained
 abbrev pub choosing : List Rule
-choosing = flag_rule (codes "script") ∷ words_rule (codes "only") ∷ word_rule (codes "shard") ∷ flag_rule (codes "failed") ∷ flag_rule (codes "last") ∷ explaining
+choosing = flag_rule (codes "script") ∷ words_rule (codes "only") ∷ word_rule (codes "shard") ∷ flag_rule (codes "failed") ∷ flag_rule (codes "last")
+    ∷ flag_rule (codes "long") ∷ explaining
 
 -- the options of a run of test cases: its forms, as it finishes, how it is stopped, and which test cases
 abbrev pub run_options : List Rule

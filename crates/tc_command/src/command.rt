@@ -64,7 +64,7 @@ written to standard output if one of them is not legal. --only and --failed
 choose as those of check do, with --last too, but not for --html. With
 --script the input is what check --script reads, and --only and --shard choose
 as there. Test cases that are missing come last, and the lines of check
---script go to standard error.
+--script go to standard error. --long is as for check, but not for --html.
 Status: 0 for none and pass, 1 for inconc and fail, 2 for error and for a test
 case that is not over, 3 if a history is not legal, for such a line, or for a
 refusal.",
@@ -87,7 +87,8 @@ const CHECK_HELP: (&str, &str) = (
 Standard input is histories or evidence: ttrun check < FILE. Standard output
 has a line for each, and none after the first that is not legal. --only, as
 for run, and --failed leave out lines of legal ones. With --last only the last
-of each name counts.
+of each name counts. With --long the text may have any length, and each
+history up to 16 MiB. It is not taken with --script.
 With --script the input is a script, and after it histories or evidence of its
 test cases: cat FILE EVIDENCE | ttrun check --script. With --only and --shard,
 as for run, it is as if the script had only these test cases. --failed is not
@@ -177,6 +178,12 @@ const LAST: OptionRow = OptionRow(
     "last",
     Takes::Nothing,
     "counts only the last history of each name",
+);
+
+const LONG: OptionRow = OptionRow(
+    "long",
+    Takes::Nothing,
+    "takes a text of any length, and explains no fault",
 );
 
 const SUITE: OptionRow = OptionRow(
@@ -276,17 +283,18 @@ const EXPLORE_OPTIONS: [OptionRow; 10] = [
     NO_EXPLAIN,
 ];
 
-const CHECK_OPTIONS: [OptionRow; 7] = [
+const CHECK_OPTIONS: [OptionRow; 8] = [
     SCRIPT,
     SCRIPT_ONLY,
     SCRIPT_SHARD,
     NOT_PASSED,
     LAST,
+    LONG,
     EXPLAIN,
     NO_EXPLAIN,
 ];
 
-const REPORT_OPTIONS: [OptionRow; 12] = [
+const REPORT_OPTIONS: [OptionRow; 13] = [
     OptionRow("csv", Takes::Nothing, "writes a table as CSV"),
     OptionRow("junit", Takes::Nothing, "writes a JUnit suite"),
     SUITE,
@@ -301,6 +309,7 @@ const REPORT_OPTIONS: [OptionRow; 12] = [
     SCRIPT_SHARD,
     NOT_PASSED,
     LAST,
+    LONG,
     EXPLAIN,
     NO_EXPLAIN,
 ];

@@ -1,4 +1,8 @@
 //! What the program can be asked for.
+ghost use Rattle.std.specs.Prelude.{[]};
+ghost use Rattle.tc_command.specs.Asked.{Chooses};
+
+use std::alloc::Global;
 use tc_entry::{Name, Pattern, Shard};
 use tc_verdict::Verdict;
 
@@ -42,6 +46,23 @@ pub struct Choice {
     pub failed: bool,
     /// Whether of the blocks of one name only the last counts.
     pub last: bool,
+    /// Whether the text of histories may have any length.
+    pub long: bool,
+}
+
+impl Choice {
+    /// All of them.
+    pub fn all(alloc: Global) -> Choice
+        ensures { Chooses [] result }
+    {
+        Choice {
+            only: Vec::new(alloc),
+            shard: None,
+            failed: false,
+            last: false,
+            long: false,
+        }
+    }
 }
 
 /// How a campaign is run.

@@ -8,7 +8,7 @@ use Rattle.tc_blocks.specs.Prelude.{entries_of, LinesAreLegal, overall_of, AreEv
 use Rattle.tc_command.specs.declared.task.Choice.{Choice}
 use Rattle.tc_stream.specs.Prelude.{IsRead}
 use Rattle.tc_answer.specs.Prelude.{have_names, IsUnread, RefusesText, is_asked}
-use Rattle.tc_answer.specs.declared.{fault.RunFault.RunFault, reply.Answer.Answer}
+use Rattle.tc_answer.specs.declared.{fault.RunFault.RunFault, limits.TheConstants.HISTORY_LIMIT, limits.TheConstants.LONG_LIMIT, reply.Answer.Answer}
 use Rattle.tc_report.specs.Prelude.{verdict_status}
 use Rattle.tc_reader.specs.Prelude.{is_text, Word}
 
@@ -34,9 +34,9 @@ is_passing v = verdict_status v == 0
 abbrev pub is_chosen : Choice → Block → Bool
 is_chosen choice b = is_asked choice.only.items b.header.name && not (choice.failed && is_passing b.verdict)
 
--- the choice leaves out no block
+-- the choice leaves out no block, and takes no text of any length
 abbrev pub ChoosesEach : Choice → Type 0
-ChoosesEach choice = (choice.only.items ≡ []) × (choice.failed ≡ false) × (choice.last ≡ false)
+ChoosesEach choice = (choice.only.items ≡ []) × (choice.failed ≡ false) × (choice.last ≡ false) × (choice.long ≡ false)
 
 -- the line of a legal block: its name, how many entries it has, its verdict
 abbrev pub legal_line : List ℕ → ℕ → Verdict → List ℕ
@@ -107,7 +107,11 @@ IsSilent Is a = Is a.out a.status × (a.told ≡ [])
 abbrev pub IsMadeOfBlocks : Choice → List ℕ → (Answer → Type 0) → Result Answer RunFault → Type 0
 IsMadeOfBlocks choice text Is made = MatchResult made (λ a. Is a × NameBlocks choice.last choice.only.items text) (RefusesBlocks choice.last choice.only.items text)
 
--- the input was read, and this is made of its text; or it was not, and the fault says why
-abbrev pub IsMadeOfInput : ℕ → Option (List ℕ) → (List ℕ → Result Answer RunFault → Type 0) → Result Answer RunFault → Type 0
-IsMadeOfInput limit input Made made =
-    IsRead limit input (λ text. Made text made) ⊎ ((fault : RunFault) × (made ≡ Err fault) × IsUnread limit input fault)
+-- how many bytes the text of histories may have, if it is a long one or not
+abbrev pub histories_limit : Bool → ℕ
+histories_limit long = if long then LONG_LIMIT else HISTORY_LIMIT
+
+-- the input was read, up to a limit, and this is made of its text; or it was not, up to another, and the fault says why
+abbrev pub IsMadeOfInput : ℕ → ℕ → Option (List ℕ) → (List ℕ → Result Answer RunFault → Type 0) → Result Answer RunFault → Type 0
+IsMadeOfInput limit unread input Made made =
+    IsRead limit input (λ text. Made text made) ⊎ ((fault : RunFault) × (made ≡ Err fault) × IsUnread unread input fault)

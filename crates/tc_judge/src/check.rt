@@ -1,25 +1,22 @@
 //! The subcommand `check`.
 ghost use Rattle.std.specs.Prelude.{◌≡◌, List, ℕ, if◌then◌else◌, is_some};
 ghost use Rattle.tc_answer.specs.declared.limits.TheConstants.{HISTORY_LIMIT};
-ghost use Rattle.tc_judge.specs.{Check.IsChecked, Check.IsMadeOfBlocks, Check.IsMadeOfInput, Check.IsSilent, Inside.AreJudgedIn, Inside.first_illegal as spec_first, Check.is_chosen};
+ghost use Rattle.tc_judge.specs.{Check.IsChecked, Check.IsMadeOfBlocks, Check.IsMadeOfInput, Check.IsSilent, Inside.AreJudgedIn, Check.histories_limit, Check.is_chosen};
 
 use crate::judged::{Judged, first_illegal, judge_input, judge_text};
 use crate::kept::{Keeps, Nothing};
 use crate::lines::{name_blocks, printed_lines};
+use crate::playing::Judgement;
 use std::alloc::Global;
 use std::io::Read;
 use tc_answer::{Answer, REFUSED, RunFault};
 use tc_command::Choice;
 
-/// The status if all blocks are legal, and if one is not.
-pub(crate) fn checked_status<K: Drop>(blocks: &[Judged<K>]) -> u8
-    ensures { result ≡ (if is_some (spec_first blocks.now) then 3 else 0) }
+/// The status of blocks, by the first that is not legal.
+pub(crate) fn checked_status(illegal: Option<Judgement>) -> u8
+    ensures { result ≡ (if is_some illegal then 3 else 0) }
 {
-    if first_illegal(blocks).is_some() {
-        REFUSED
-    } else {
-        0
-    }
+    if illegal.is_some() { REFUSED } else { 0 }
 }
 
 // What `check` makes of the blocks of a text.
@@ -32,11 +29,12 @@ fn checked<K: Keeps + Drop>(
         → IsMadeOfBlocks choice.now text (IsSilent (IsChecked choice.now.last (is_chosen choice.now) text)) result }
 {
     let only = choice.only.as_slice();
-    if !name_blocks(only, blocks) {
+    let illegal = first_illegal(blocks);
+    if !name_blocks(only, blocks, illegal) {
         return Err(RunFault::Only);
     }
     let out = printed_lines(alloc, blocks, only, choice.failed)?;
-    Ok(Answer::silent(alloc, out, checked_status(blocks)))
+    Ok(Answer::silent(alloc, out, checked_status(illegal)))
 }
 
 /// What `check` makes of the blocks of a text that count: which of the chosen are legal, up to the first of all that is not,
@@ -54,9 +52,9 @@ pub fn check_input<R: Read>(
     choice: &Choice,
     reader: &mut R,
 ) -> Result<Answer, RunFault>
-    ensures { IsMadeOfInput HISTORY_LIMIT (R.remaining reader.old)
+    ensures { IsMadeOfInput (histories_limit choice.now.long) HISTORY_LIMIT (R.remaining reader.old)
         (λ text made. IsMadeOfBlocks choice.now text (IsSilent (IsChecked choice.now.last (is_chosen choice.now) text)) made) result }
 {
-    let blocks = judge_input::<R, Nothing>(alloc, choice.last, reader)?;
+    let blocks = judge_input::<R, Nothing>(alloc, choice, reader)?;
     checked(alloc, choice, blocks.as_slice())
 }

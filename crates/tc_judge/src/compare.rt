@@ -4,8 +4,7 @@ ghost use Rattle.std.specs.List.{AllZip, flat_map};
 ghost use Rattle.tc_entry.specs.declared.limits.TheConstants.{BEHAVIOURS};
 ghost use Rattle.tc_blocks.specs.declared.block.Block.{Block};
 ghost use Rattle.tc_reader.specs.Prelude.{CampaignView};
-ghost use Rattle.tc_answer.specs.Prelude.{script_part};
-ghost use Rattle.tc_answer.specs.Inside.{AreReady, IsCaseOf};
+ghost use Rattle.tc_answer.specs.Inside.{IsCaseOf};
 ghost use Rattle.tc_judge.specs.{Compared.IsCheckedAgainst, Compared.IsCourseOf, Compared.IsReportedAgainst, Compared.RefusesAgainst, Compared.note, Compared.place_in, Compared.wrong_text, Inside.AddsIfMissing, Inside.AreComparable, Inside.AreMissing, Inside.Finds, Inside.IsJudgedBlock, Inside.IsWhole, Inside.IsWholeOfBlock, Inside.Judges, Inside.SaysNext, Inside.StandsBeside, declared.compare.Wrong.TheVariants.Missing};
 
 use crate::check::checked_status;
@@ -251,20 +250,6 @@ pub(crate) fn compare<S: Says + Drop>(
     Ok(Comparison { notes, missing })
 }
 
-/// The chosen test cases of the script that is before the blocks.
-#[tactic(auto, using(crate::proofs::Beside::script_refused))]
-pub(crate) fn chosen_before(
-    alloc: Global,
-    choice: &Choice,
-    text: &[u8],
-) -> Result<Vec<Case<Script>>, RunFault>
-    ensures ready { IfOk result (λ v. AreReady choice.now (script_part text.now) v.items) }
-    ensures refused { IfErr result (RefusesAgainst choice.now text.now) }
-{
-    let (script, _) = split_script(text);
-    chosen_cases(alloc, script, choice)
-}
-
 /// What `check --script` makes of a script with histories and evidence after it: what `check` makes of these, and then what
 /// is wrong with them as courses of the chosen test cases of the script. The status is 3 if something is.
 #[tactic(auto, using(crate::proofs::Beside::refusing_rules))]
@@ -272,14 +257,15 @@ pub fn compare_text(alloc: Global, choice: &Choice, text: &[u8]) -> Result<Answe
     ensures done { IfOk result (λ a. IsCheckedAgainst choice.now text.now a.out a.status × (a.told ≡ [])) }
     ensures refused { IfErr result (RefusesAgainst choice.now text.now) }
 {
-    let ready = chosen_before(alloc, choice, text)?;
-    let (_, rest) = split_script(text);
+    let (script, rest) = split_script(text);
+    let ready = chosen_cases(alloc, script, choice)?;
     let blocks = judge_text::<Whole<Nothing>>(alloc, choice.last, rest)?;
+    let illegal = first_illegal(blocks.as_slice());
     let mut out = printed_lines(alloc, blocks.as_slice(), &[], false)?;
     let Comparison { notes, missing } = compare(alloc, ready, blocks.as_slice())?;
     drop(missing);
     out.extend_from_slice(notes.as_slice())?;
-    let status = noted_status(notes.as_slice(), checked_status(blocks.as_slice()));
+    let status = noted_status(notes.as_slice(), checked_status(illegal));
     Ok(Answer::silent(alloc, out, status))
 }
 
@@ -295,8 +281,8 @@ pub fn report_compared(
     ensures done { IfOk result (IsReportedAgainst form.now choice.now text.now) }
     ensures refused { IfErr result (RefusesAgainst choice.now text.now) }
 {
-    let ready = chosen_before(alloc, choice, text)?;
-    let (_, rest) = split_script(text);
+    let (script, rest) = split_script(text);
+    let ready = chosen_cases(alloc, script, choice)?;
     let blocks = judge_text::<Whole<Summary>>(alloc, choice.last, rest)?;
     let illegal = first_illegal(blocks.as_slice());
     let Comparison { notes, missing } = compare(alloc, ready, blocks.as_slice())?;

@@ -1,11 +1,11 @@
 //! The blocks of a text, each of which is judged: what all that reads histories and evidence is made of.
-ghost use Rattle.std.specs.Prelude.{◌≡◌, ◌<◌, ◌++◌, ◌⊎◌, IfOk, IfErr, IfSome, OnOk, false, length, map, position, true};
+ghost use Rattle.std.specs.Prelude.{◌≡◌, ◌<◌, ◌≤◌, ◌++◌, ◌⊎◌, IfOk, IfErr, IfSome, OnOk, false, length, map, position, true};
 ghost use Rattle.std.specs.List.{AllZip};
 ghost use Rattle.tc_stream.specs.Prelude.{IsRead};
 ghost use Rattle.tc_reader.specs.Prelude.{is_text};
 ghost use Rattle.tc_answer.specs.Prelude.{IsUnread};
 ghost use Rattle.tc_answer.specs.declared.limits.TheConstants.{HISTORY_LIMIT};
-ghost use Rattle.tc_judge.specs.{Check.RefusesHistory, Inside.AreJudgedIn, Inside.IsJudgedBlock, Inside.IsRecorded, Inside.PutsNext, Inside.first_illegal as spec_first, Inside.judged_name, Inside.recorded_in, Check.that_count};
+ghost use Rattle.tc_judge.specs.{Check.RefusesHistory, Check.histories_limit, Inside.AreJudgedIn, Inside.IsJudgedBlock, Inside.IsRecorded, Inside.PutsNext, Inside.first_illegal as spec_first, Inside.judged_name, Inside.recorded_in, Check.that_count};
 
 use crate::kept::Keeps;
 use crate::passed::add_name;
@@ -13,8 +13,9 @@ use crate::playing::{Judgement, Playing};
 use indexmap::IndexSet;
 use std::alloc::Global;
 use std::io::Read;
-use tc_answer::{HISTORY_LIMIT, RunFault, of_input};
+use tc_answer::{HISTORY_LIMIT, LONG_LIMIT, RunFault, of_input};
 use tc_blocks::{Header, Line, TakesEvidence, read_evidence_from, read_evidence_into};
+use tc_command::Choice;
 use tc_entry::Name;
 use tc_rules::{Entry, NoMemory, Reply, Run, Verdict};
 use tc_text::ShortOp;
@@ -204,16 +205,26 @@ fn judge_all<K: Keeps + Drop>(alloc: Global, text: &[u8]) -> Result<Vec<Judged<K
     Ok(blocks_of(judging))
 }
 
+// How many bytes the text of histories may have, if it is a long one or not.
+fn text_limit(long: bool) -> usize
+    ensures is { result ≡ histories_limit long }
+    ensures most { result < usize.MAX }
+    ensures least { HISTORY_LIMIT ≤ result }
+{
+    if long { LONG_LIMIT } else { HISTORY_LIMIT }
+}
+
 // The same of the text of an input, of which only a part is in memory at a time; or why the input was not read.
 fn judge_all_input<R: Read, K: Keeps + Drop>(
     alloc: Global,
+    long: bool,
     reader: &mut R,
 ) -> Result<Vec<Judged<K>>, RunFault>
-    ensures judged { IfOk result (λ v. IsRead HISTORY_LIMIT (R.remaining reader.old) (λ text. AreJudgedIn K.keeps false text v.items)) }
+    ensures judged { IfOk result (λ v. IsRead (histories_limit long) (R.remaining reader.old) (λ text. AreJudgedIn K.keeps false text v.items)) }
     ensures refused { IfErr result (λ fault. IsUnread HISTORY_LIMIT (R.remaining reader.old) fault
-        ⊎ IsRead HISTORY_LIMIT (R.remaining reader.old) (λ text. RefusesHistory text fault)) }
+        ⊎ IsRead (histories_limit long) (R.remaining reader.old) (λ text. RefusesHistory text fault)) }
 {
-    match read_evidence_from(alloc, reader, HISTORY_LIMIT) {
+    match read_evidence_from(alloc, reader, text_limit(long), HISTORY_LIMIT) {
         Ok(Ok(judging)) => Ok(blocks_of(judging)),
         Ok(Err(fault)) => Err(RunFault::from(fault)),
         Err(fault) => Err(of_input(fault)),
@@ -237,13 +248,13 @@ pub(crate) fn judge_text<K: Keeps + Drop>(
 /// The same of an input, of which only a part is in memory at a time; or why it was not read.
 pub(crate) fn judge_input<R: Read, K: Keeps + Drop>(
     alloc: Global,
-    last: bool,
+    choice: &Choice,
     reader: &mut R,
 ) -> Result<Vec<Judged<K>>, RunFault>
-    ensures judged { IfOk result (λ v. IsRead HISTORY_LIMIT (R.remaining reader.old) (λ text. AreJudgedIn K.keeps last text v.items)) }
+    ensures judged { IfOk result (λ v. IsRead (histories_limit choice.now.long) (R.remaining reader.old) (λ text. AreJudgedIn K.keeps choice.now.last text v.items)) }
     ensures refused { IfErr result (λ fault. IsUnread HISTORY_LIMIT (R.remaining reader.old) fault
-        ⊎ IsRead HISTORY_LIMIT (R.remaining reader.old) (λ text. RefusesHistory text fault)) }
+        ⊎ IsRead (histories_limit choice.now.long) (R.remaining reader.old) (λ text. RefusesHistory text fault)) }
 {
-    let blocks = judge_all_input::<R, K>(alloc, reader)?;
-    Ok(counted(alloc, last, blocks)?)
+    let blocks = judge_all_input::<R, K>(alloc, choice.long, reader)?;
+    Ok(counted(alloc, choice.last, blocks)?)
 }

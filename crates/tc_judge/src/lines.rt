@@ -4,9 +4,9 @@ ghost use Rattle.std.specs.List.{list_any};
 ghost use Rattle.tc_answer.specs.Prelude.{have_names};
 ghost use Rattle.tc_text.specs.Prelude.{reply_text};
 ghost use Rattle.tc_rules.specs.Prelude.{matches, name_of};
-ghost use Rattle.tc_judge.specs.{Check.legal_line, Inside.first_illegal as spec_first, Inside.gives_text, Inside.illegal_line, Inside.is_picked as spec_picked, Inside.judged_name, Inside.line_by, Inside.made_line, Inside.printed};
+ghost use Rattle.tc_judge.specs.{Check.legal_line, Inside.gives_text, Inside.illegal_line, Inside.is_picked as spec_picked, Inside.judged_name, Inside.line_by, Inside.made_line, Inside.printed};
 
-use crate::judged::{Judged, first_illegal};
+use crate::judged::Judged;
 use crate::playing::Judgement;
 use std::alloc::Global;
 use tc_answer::{append_place, is_asked};
@@ -38,11 +38,15 @@ fn have_all<K: Drop>(blocks: &[Judged<K>], only: &[Pattern]) -> bool
     only.iter().all(|pattern| has_block(blocks, pattern))
 }
 
-/// Whether each of the patterns matches the name of a block, or a block is not legal.
-pub(crate) fn name_blocks<K: Drop>(only: &[Pattern], blocks: &[Judged<K>]) -> bool
-    ensures { result ≡ (is_some (spec_first blocks.now) || have_names judged_name only.now blocks.now) }
+/// Whether each of the patterns matches the name of a block, or there is one that is not legal.
+pub(crate) fn name_blocks<K: Drop>(
+    only: &[Pattern],
+    blocks: &[Judged<K>],
+    illegal: Option<Judgement>,
+) -> bool
+    ensures { result ≡ (is_some illegal || have_names judged_name only.now blocks.now) }
 {
-    first_illegal(blocks).is_some() || have_all(blocks, only)
+    illegal.is_some() || have_all(blocks, only)
 }
 
 // Appends the line of a legal block; if memory runs out, a part of it.

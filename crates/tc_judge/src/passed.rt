@@ -4,7 +4,6 @@ ghost use Rattle.tc_reader.specs.Prelude.{add, among};
 ghost use Rattle.tc_answer.specs.Inside.{AreReadyAs};
 ghost use Rattle.tc_judge.specs.{Compared.RefusesAgainst, Inside.AreReadyToRun, Inside.HasSeen, Inside.passes, Inside.shows_passed, Inside.with_failed, Compared.AreUnpassed, Compared.RefusesRun};
 
-use crate::compare::chosen_before;
 use crate::judged::{Judged, judge_text};
 use crate::kept::Nothing;
 use indexmap::IndexSet;
@@ -101,6 +100,7 @@ fn unpassed(ready: Vec<Case<Script>>, seen: &Seen) -> Vec<Case<Script>>
 }
 
 // The chosen test cases of the script but those that have passed by the evidence after it.
+#[tactic(auto, using(crate::proofs::Beside::refusing_rules))]
 fn unpassed_cases(
     alloc: Global,
     text: &[u8],
@@ -109,8 +109,8 @@ fn unpassed_cases(
     ensures are { IfOk result (λ v. AreReadyAs (AreUnpassed choice.now text.now) v.items) }
     ensures refused { IfErr result (RefusesAgainst choice.now text.now) }
 {
-    let ready = chosen_before(alloc, choice, text)?;
-    let (_, rest) = split_script(text);
+    let (script, rest) = split_script(text);
+    let ready = chosen_cases(alloc, script, choice)?;
     let blocks = judge_text::<Nothing>(alloc, choice.last, rest)?;
     let seen = seen_of(alloc, blocks.as_slice())?;
     Ok(unpassed(ready, &seen))

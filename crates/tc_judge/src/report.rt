@@ -4,7 +4,7 @@ ghost use Rattle.tc_answer.specs.declared.limits.TheConstants.{HISTORY_LIMIT};
 ghost use Rattle.tc_blocks.specs.declared.block.Block.{Block};
 ghost use Rattle.tc_report.specs.Prelude.{bare_summary as bare};
 ghost use Rattle.tc_report.specs.declared.results.CaseEnd.TheVariants.{Missing};
-ghost use Rattle.tc_judge.specs.{Check.IsMadeOfBlocks, Check.IsMadeOfInput, Inside.AreJudgedIn, Inside.IsSummaryOf, Inside.IsTextFor, Inside.Reports, Inside.illegal_line, Inside.is_picked as spec_picked, Inside.summary_by, Check.is_chosen, Report.AnswersCases, Report.IsForm, Report.IsReport, Report.IsReported, Report.unreported};
+ghost use Rattle.tc_judge.specs.{Check.IsMadeOfBlocks, Check.IsMadeOfInput, Inside.AreJudgedIn, Inside.IsSummaryOf, Inside.IsTextFor, Inside.Reports, Inside.illegal_line, Inside.is_picked as spec_picked, Inside.summary_by, Check.histories_limit, Check.is_chosen, Report.AnswersCases, Report.IsForm, Report.IsReport, Report.IsReported, Report.unreported};
 
 use crate::judged::{Judged, first_illegal, judge_input, judge_text};
 use crate::kept::Summarizes;
@@ -148,10 +148,10 @@ fn reported(
         → IsMadeOfBlocks choice.now given (IsReported form.now choice.now.last (is_chosen choice.now) given) result }
 {
     let only = choice.only.as_slice();
-    if !name_blocks(only, blocks.as_slice()) {
+    let illegal = first_illegal(blocks.as_slice());
+    if !name_blocks(only, blocks.as_slice(), illegal) {
         return Err(RunFault::Only);
     }
-    let illegal = first_illegal(blocks.as_slice());
     let chosen = picked(blocks, only, choice.failed);
     let answer = report_blocks(alloc, form, text, chosen, illegal, &[], Vec::new(alloc))?;
     Ok(answer)
@@ -179,9 +179,9 @@ pub fn report_input<R: Read>(
     reader: &mut R,
 ) -> Result<Answer, RunFault>
     requires { form.now ≢ ReportForm.Html }
-    ensures { IsMadeOfInput HISTORY_LIMIT (R.remaining reader.old)
+    ensures { IsMadeOfInput (histories_limit choice.now.long) HISTORY_LIMIT (R.remaining reader.old)
         (λ text made. IsMadeOfBlocks choice.now text (IsReported form.now choice.now.last (is_chosen choice.now) text) made) result }
 {
-    let blocks = judge_input::<R, Summary>(alloc, choice.last, reader)?;
+    let blocks = judge_input::<R, Summary>(alloc, choice, reader)?;
     reported(alloc, form, choice, &[], blocks)
 }

@@ -121,7 +121,7 @@ fn read_slowly(
     limit: u16,
 ) -> Result<Result<Sequence<Block>, TextFault>, InputFault> {
     let mut reader = SlowReader::new(bytes, fails_at);
-    read_evidence_from(alloc, &mut reader, usize::from(limit))
+    read_evidence_from(alloc, &mut reader, usize::from(limit), usize::from(limit))
 }
 
 fn comes_of(rt: &impl Abort, alloc: Global, row: &str, wanted: &str) -> Result<(), NoMemory> {

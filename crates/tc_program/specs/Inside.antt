@@ -16,7 +16,7 @@ use Rattle.tc_answer.specs.{Inside.IsCaseOf, declared.fault.RunFault.RunFault, d
 use Rattle.tc_judge.specs.Prelude.{IsMadeOfInput, legal_line}
 use Rattle.tc_command.specs.declared.{read.Refused.Refused, task.ExploreOptions.ExploreOptions, task.Task.Task}
 use Rattle.tc_run.specs.Prelude.{LeavesUnwritten}
-use Rattle.tc_program.specs.{Alone.IsNotBegun, Answer.IsRefused, Explained.explains, Explore.IsExplored, Explore.TellsLocals, Limits.limit_of, Made.IsMade, Program.IsDone, declared.explore.ExploredCase.ExploredCase, declared.replaying.Replaying.Replaying}
+use Rattle.tc_program.specs.{Alone.IsNotBegun, Answer.IsRefused, Explained.explains, Explore.IsExplored, Explore.TellsLocals, Limits.limit_of, Limits.text_limit, Made.IsMade, Program.IsDone, declared.explore.ExploredCase.ExploredCase, declared.replaying.Replaying.Replaying}
 
 -- the caller, and the call
 abbrev pub move_of : Entry → Move
@@ -115,4 +115,4 @@ ShowsNoTask contents w w' lines e e' why outcome = IsRefused why (held_streams c
 
 -- this was made of the input for a task, none of whose faults is explained
 abbrev pub IsMadeInParts : Task → Option (List ℕ) → Result Answer RunFault → Type 0
-IsMadeInParts task input made = IsMadeOfInput (limit_of task) input (IsMade task) made × (explains task ≡ false) × (task ≢ Task.Serve)
+IsMadeInParts task input made = IsMadeOfInput (text_limit task) (limit_of task) input (IsMade task) made × (explains task ≡ false) × (task ≢ Task.Serve)

@@ -7,7 +7,7 @@ use Rattle.tc_command.specs.declared.task.Task.{Task}
 use Rattle.tc_answer.specs.declared.{fault.RunFault.RunFault, reply.Answer.Answer}
 use Rattle.tc_judge.specs.Prelude.{AreToRun, IsChecked, IsCheckedAgainst, IsMadeOfBlocks, IsReported, IsReportedAgainst, IsSilent, RefusesAgainst, RefusesRun, is_chosen}
 use Rattle.tc_answer.specs.Prelude.{RefusesText, IsUnread, CaseView}
-use Rattle.tc_program.specs.{Explore.Explores, Limits.limit_of, Replay.Replays}
+use Rattle.tc_program.specs.{Explore.Explores, Limits.limit_of, Limits.text_limit, Replay.Replays}
 
 -- the answer is the list of the test cases that would be run: a line with the name of each
 abbrev pub IsListed : {C : Type 0} → (C → List ℕ) → (List C → Type 0) → Answer → Type 0
@@ -30,7 +30,7 @@ IsMade Task.Serve text made = ⊥
 -- fault. Then the writer failed, and a prefix of that is written; or the input is refused, and nothing is.
 abbrev pub Does : Task → Option (List ℕ) → Option (List ℕ) → Option (List ℕ) → Result ℕ RunFault → Type 0
 Does task input before after (Ok status) =
-    IsRead (limit_of task) input (λ text. (a : Answer) × IsMade task text (Ok a) × Appends before after a.out × (status ≡ a.status))
-Does task input before after (Err RunFault.Write) = IsRead (limit_of task) input (λ text. (a : Answer) × IsMade task text (Ok a) × AppendsPrefix before after a.out)
+    IsRead (text_limit task) input (λ text. (a : Answer) × IsMade task text (Ok a) × Appends before after a.out × (status ≡ a.status))
+Does task input before after (Err RunFault.Write) = IsRead (text_limit task) input (λ text. (a : Answer) × IsMade task text (Ok a) × AppendsPrefix before after a.out)
 Does task input before after (Err fault) =
-    (IsUnread (limit_of task) input fault ⊎ IsRead (limit_of task) input (λ text. IsMade task text (Err fault))) × Keeps before after
+    (IsUnread (limit_of task) input fault ⊎ IsRead (text_limit task) input (λ text. IsMade task text (Err fault))) × Keeps before after

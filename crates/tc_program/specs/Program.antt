@@ -7,7 +7,7 @@ use Rattle.tc_answer.specs.declared.{fault.RunFault.RunFault, outcome.Outcome.Ou
 use Rattle.tc_answer.specs.Prelude.{run_fault_line, IsUnread, Streams, IsPrintedRefusal, IsTold}
 use Rattle.tc_run.specs.Prelude.{AreScriptsBack, script_outline, IsScripted, RunsCases}
 use Rattle.tc_judge.specs.Prelude.{AreToRun}
-use Rattle.tc_program.specs.{Explained.IsExplained, Limits.limit_of, Made.IsMade, Serve.Serves}
+use Rattle.tc_program.specs.{Explained.IsExplained, Limits.limit_of, Limits.text_limit, Made.IsMade, Serve.Serves}
 
 -- what the program does with a task, by what the task makes of what is given, what is printed of its refusal, and what a
 -- run of it is
@@ -35,5 +35,5 @@ IsDone task text s outcome =
 abbrev pub IsCarriedOut : Task → Option (List ℕ) → Streams → Outcome → Type 0
 IsCarriedOut Task.Serve input s outcome = Serves input s outcome
 IsCarriedOut task input s outcome =
-    IsRead (limit_of task) input (λ text. IsDone task text s outcome)
+    IsRead (text_limit task) input (λ text. IsDone task text s outcome)
     ⊎ ((fault : RunFault) × IsUnread (limit_of task) input fault × Keeps s.before s.after × IsPrintedRefusal s.untold s.told (run_fault_line fault) outcome)

@@ -41,31 +41,6 @@ fn ready_cases<R: Wait + Copy + Send + 'static>(
     Ok(with_jobs(rt, alloc, cases)?)
 }
 
-// Runs the chosen test cases of the script that the text is, as the task, a run, asks for it.
-fn run_text<R, W: Write, E: Write>(
-    rt: &R,
-    alloc: Global,
-    task: &Task,
-    options: &RunOptions,
-    text: &[u8],
-    writer: &mut W,
-    errors: &mut E,
-) -> Outcome
-where
-    R: Threads + Wait + Clock + Copy + Send + 'static,
-    requires { task.now ≡ Run options.now }
-    ensures { IsDone task.now text.now (held_streams W.contents writer.old writer.new E.contents errors.old errors.new) result }
-{
-    let cases = match ready_cases(rt, alloc, text, &options.choice) {
-        Ok(cases) => cases,
-        Err(fault) => return refuse_text(alloc, errors, task, text, fault),
-    };
-    match run_cases(rt, alloc, cases, options, writer, errors) {
-        Ok(outcome) => outcome,
-        Err(fault) => refuse(alloc, errors, fault_of(fault)),
-    }
-}
-
 /// What is made of the text for a task that is no run.
 pub(crate) fn made_text(alloc: Global, task: &Task, text: &[u8]) -> Result<Answer, RunFault>
     requires no_run { (o : RunOptions) → task.now ≢ Run o }
@@ -106,16 +81,17 @@ where
     requires { task.now ≢ Serve }
     ensures { IsDone task.now text.now (held_streams W.contents writer.old writer.new E.contents errors.old errors.new) result }
 {
-    match task {
-        Task::Run(options) => run_text(rt, alloc, task, options, text, writer, errors),
-        _ => finish(
-            alloc,
-            task,
-            text,
-            made_text(alloc, task, text),
-            writer,
-            errors,
-        ),
+    let Task::Run(options) = task else {
+        let made = made_text(alloc, task, text);
+        return finish(alloc, task, text, made, writer, errors);
+    };
+    let cases = match ready_cases(rt, alloc, text, &options.choice) {
+        Ok(cases) => cases,
+        Err(fault) => return refuse_text(alloc, errors, task, text, fault),
+    };
+    match run_cases(rt, alloc, cases, options, writer, errors) {
+        Ok(outcome) => outcome,
+        Err(fault) => refuse(alloc, errors, fault_of(fault)),
     }
 }
 

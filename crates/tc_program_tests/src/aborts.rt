@@ -85,12 +85,7 @@ fn options(alloc: Global, live: bool, progress: bool) -> RunOptions {
         live,
         progress,
         stop_on: None,
-        choice: Choice {
-            only: Vec::new(alloc),
-            shard: None,
-            failed: false,
-            last: false,
-        },
+        choice: Choice::all(alloc),
         explains: false,
     }
 }

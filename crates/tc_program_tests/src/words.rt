@@ -64,6 +64,8 @@ ttrun check --only a --only=b* => check --only=a --only=b*
 ttrun check --failed --explain => check --failed --explain
 ttrun check --failed --only a => check --only=a --failed
 ttrun check --last => check --last
+ttrun check --long --failed => check --failed --long
+ttrun report --long --csv --only a => report --csv --only=a --long
 ttrun check --script --last => check --script --last
 ttrun check --script --explain => check --script --explain
 ttrun check --script => check --script
@@ -110,6 +112,8 @@ ttrun run --list => run --list --explain
 ttrun run --no-explain --list => run --list
 ttrun check => check --explain
 ttrun check --no-explain => check
+ttrun check --long => check --long
+ttrun report --summary --long --last => report --summary --last --long
 ttrun check --script => check --script --explain
 ttrun check --no-explain --script => check --script
 ttrun replay => replay --explain
@@ -143,7 +147,8 @@ fn append_choice(out: &mut String, choice: &Choice) -> Result<(), Fail> {
         write!(out, " --shard={number}/{}", shard.shards())?;
     }
     append_if(out, choice.failed, " --failed")?;
-    Ok(append_if(out, choice.last, " --last")?)
+    append_if(out, choice.last, " --last")?;
+    Ok(append_if(out, choice.long, " --long")?)
 }
 
 fn append_suite(out: &mut String, suite: &Option<Name>) -> Result<(), Fail> {

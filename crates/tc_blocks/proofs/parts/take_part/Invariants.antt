@@ -1,10 +1,11 @@
-use Rattle.std.proofs.Common.{length}
+use Rattle.std.proofs.Common.{◌+◌, ◌≤◌, length}
 use Rattle.tc_blocks.specs.Inside.{IsKnown}
 use Rattle.tc_blocks.proofs.PartByPart.{IsGoneOn}
 use Rattle.tc_blocks.proofs.parts.take_part.Given as goal
 
 abbrev pub invariant-loop-rest : goal.invariant-loop-rest
 invariant-loop-rest g l = IsGoneOn g.H.TakesEvidence.stands g.H.TakesEvidence.opens l.fn.reading l.text l.reading l.rest × IsKnown l.reading.block
+    × (l.sizes.longest + length l.rest ≤ l.fn.sizes.longest + length l.text)
 
 abbrev pub decreases-loop-rest : goal.decreases-loop-rest
 decreases-loop-rest g l = length l.rest

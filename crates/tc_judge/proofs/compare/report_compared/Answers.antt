@@ -1,13 +1,14 @@
 use Rattle.std.proofs.Common.{rules, ◌≡◌, ◌∙◌, ap, reverse, subst, sym}
 use Rattle.std.specs.List.{AllZip}
 use Rattle.tc_answer.specs.Prelude.{blocks_part}
+use Rattle.tc_answer.specs.Inside.{AreReady}
 use Rattle.tc_judge.specs.{Compared.missing, Inside.AreJudgedIn, Inside.IsJudgedBlock, Inside.IsSummaryOf, Inside.IsWholeOfBlock, Inside.first_illegal, Check.counting, Report.IsReport}
 use Rattle.tc_judge.proofs.Judging.{all_reports}
 use Rattle.tc_judge.proofs.compare.report_compared.Goals as goal
 
 pub returns-clause-done : goal.returns-clause-done
 returns-clause-done c =
-    let ready = c.in_ok-ready.ensures.ready in
+    let ready = subst (λ t. AreReady c.args.choice.now t c.in_ok-ready.ready.items) c.split_script.ensures.script c.in_ok-ready.ensures.chosen in
     let form = c.args.form.now in
     let part : c.split_script.result.1.now ≡ blocks_part c.args.text.now = search rules in
     let blocks = c.in_ok-blocks.blocks.items in

@@ -7,5 +7,5 @@ returns-clause-judged g c =
       read.0,
       read.1,
       read.2,
-      counted_judged g.K.Keeps.keeps c.args.last read.0 c.in_ok-blocks.blocks.items c.in_ok-counted.field-0.items read.3 c.in_ok-counted.ensures,
+      counted_judged g.K.Keeps.keeps c.args.choice.now.last read.0 c.in_ok-blocks.blocks.items c.in_ok-counted.field-0.items read.3 c.in_ok-counted.ensures,
     )

@@ -6,7 +6,7 @@ use Rattle.tc_judge.proofs.report.reported.Goals as goal
 pub returns-then-not-name_blocks : goal.returns-then-not-name_blocks
 returns-then-not-name_blocks c given fits are =
     names_lacking IsSummaryOf c.args.choice.now c.as_slice-only.result.now given c.args.blocks.items c.as_slice-only.ensures.value are
-    (rw c.as_slice.ensures.value at (sym c.name_blocks.ensures ∙ c.if-not-name_blocks.true))
+    (rw (c.first_illegal-illegal.ensures, c.as_slice.ensures.value, c.as_slice-2.ensures.value) at (sym c.name_blocks.ensures ∙ c.if-not-name_blocks.true))
 
 pub returns : goal.returns
 returns c given fits are =
@@ -16,7 +16,7 @@ returns c given fits are =
     let answer = c.in_ok-answer.answer in
     let same = c.as_slice-only.ensures.value in
     let picked = c.picked-chosen.ensures ∙ ap (λ o. filter (λ j. is_picked o choice.failed j.name j.verdict) blocks) same in
-    let first = c.first_illegal-illegal.ensures ∙ ap first_illegal c.as_slice-2.ensures.value in (
+    let first = c.first_illegal-illegal.ensures ∙ ap first_illegal c.as_slice.ensures.value in (
       record {
         blocks = are.blocks;
         evidence = are.evidence;
@@ -29,5 +29,5 @@ returns c given fits are =
             (subst (λ js. Reports bs chosen (map (summary_by (λ s. s)) js) c.first_illegal-illegal.result) (sym picked)
             (picked_reports (is_picked choice.only.items choice.failed) bs blocks c.first_illegal-illegal.result (are.holds all is) first))));
       },
-      names_found IsSummaryOf choice c.as_slice-only.result.now given blocks same are (rw c.as_slice.ensures.value at (sym c.name_blocks.ensures ∙ c.if-not-name_blocks.false)),
+      names_found IsSummaryOf choice c.as_slice-only.result.now given blocks same are (rw (c.first_illegal-illegal.ensures, c.as_slice.ensures.value, c.as_slice-2.ensures.value) at (sym c.name_blocks.ensures ∙ c.if-not-name_blocks.false)),
     )
