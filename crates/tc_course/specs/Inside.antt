@@ -1,5 +1,5 @@
 -- What only the code needs: parts of what is known of a run, and what is kept of the runs of a course.
-use Rattle.std.specs.Prelude.{ℕ, ◌+◌, ◌&&◌, if◌then◌else◌, Bool, false, Option, List, ◌≡◌, ◌==◌, ◌<◌, length, slice_index_or}
+use Rattle.std.specs.Prelude.{ℕ, ◌+◌, ◌++◌, ◌&&◌, if◌then◌else◌, Bool, false, Option, List, ◌≡◌, ◌==◌, ◌<◌, length, slice_index_or}
 use Rattle.std.specs.Option.{option_map_or}
 use Rattle.tc_rules.specs.Prelude.{Comp, Entry, Op, Reply, ends_pass, Case, past_of}
 use Rattle.tc_step.specs.declared.step.Step.{Step}
@@ -54,3 +54,7 @@ pub record IsCounted (t : Case) (counts : List ℕ) : Type 0 where
 abbrev pub CountsOn : Entry → List ℕ → List ℕ → Type 0
 CountsOn e before after =
     (b : ℕ) → b < length before → slice_index_or after b 0 ≡ one_more_if (e.caller.0 == b) e (slice_index_or before b 0)
+
+-- these components begin the list
+abbrev pub BeginsWith : List Comp → List Comp → Type 0
+BeginsWith first all = (more : List Comp) × (all ≡ first ++ more)
