@@ -18,6 +18,8 @@ SECONDS = {"filskeam_limit": (LIMIT, "the seconds that a test case may take if i
 def pytest_addoption(parser: pytest.Parser) -> None:
     group = parser.getgroup("filskeam", "test cases judged by ttrun serve")
     group.addoption("--filskeam-evidence", metavar="FILE", help="writes the evidence of all test cases to FILE")
+    group.addoption("--filskeam-luck", nargs="?", const="mark", choices=("mark", "fail"),
+                    help="marks, or fails, each test with a test case whose verdict depends on the order of its calls")
     parser.addini("filskeam_program", "the program ttrun; a path is that from the root folder of the tests", default="")
     for name, (default, text) in SECONDS.items():
         parser.addini(name, f"{text} ({default:g})", default=str(default))
@@ -55,12 +57,24 @@ def pytest_configure(config: pytest.Config) -> None:
             raise pytest.UsageError(f"--filskeam-evidence: {error}") from error
 
 
+def program_of(config: pytest.Config) -> str:
+    program = config.getini("filskeam_program")
+    return os.path.join(config.rootpath, program) if os.path.dirname(program) else program
+
+
+def luck(result: Result, program: str) -> str:
+    """The verdicts that the calls of the test case have in other orders, if there are more than one; or why that is not known."""
+    try:
+        found = result.verdicts(program)
+    except ValueError as error:
+        return str(error)
+    return f"in another order of the same calls: {', '.join(found)}" if len(found) > 1 else ""
+
+
 @pytest.fixture(scope="session")
 def filskeam_server(request: pytest.FixtureRequest) -> Generator[Server, None, None]:
     config = request.config
-    program = config.getini("filskeam_program")
-    if os.path.dirname(program):
-        program = os.path.join(config.rootpath, program)
+    program = program_of(config)
     with Server([program, "serve"] if program else None, evidence_file(config), seconds(config, "filskeam_grace")) as server:
         yield server
 
@@ -71,6 +85,8 @@ def filskeam(request: pytest.FixtureRequest, filskeam_server: Server) -> Generat
 
     def note(result: Result) -> None:
         said = {"verdict": result.verdict, "why": result.why, "evidence": result.place}
+        if request.config.getoption("--filskeam-luck"):
+            said["luck"] = luck(result, program_of(request.config))
         request.node.user_properties.extend((f"{result.name}.{what}", text) for what, text in said.items() if text)
 
     bench = Bench(filskeam_server, request.node.name, seconds(request.config, "filskeam_limit"), note)
@@ -90,6 +106,9 @@ def hold_overlooked(bench: Optional[Bench]) -> None:
 def pytest_runtest_call(item: pytest.Item) -> None:
     """Comes after the test itself, if that has passed."""
     hold_overlooked(getattr(item, BENCH, None))
+    lucky = [text for name, text in item.user_properties if name.endswith(".luck") and text.startswith("in another order")]
+    if lucky and item.config.getoption("--filskeam-luck") == "fail":
+        pytest.fail("\n".join(lucky), pytrace=False)
 
 
 @pytest.hookimpl(hookwrapper=True)
@@ -97,5 +116,7 @@ def pytest_runtest_makereport(item: pytest.Item) -> Generator[None, Any, None]:
     """Shows who, why and the last entries of each test case of a test that failed. So their verdicts need no second failure."""
     outcome = yield
     report, bench = outcome.get_result(), getattr(item, BENCH, None)
+    lucky = [(name, text) for name, text in item.user_properties if name.endswith(".luck")]
+    report.sections += [(f"filskeam: {name}", text) for name, text in lucky if report.when == "call"]
     if report.failed and bench:
         report.sections += [(f"filskeam: {it.name} ended with {it.verdict}", it.report()) for it in bench.results]

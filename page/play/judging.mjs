@@ -121,10 +121,13 @@ export async function judge(text, input = text) {
   if (isAsked()) end();
   $("#go").textContent = task.name;
   $("#states").disabled = task !== TASKS.script;
+  $("#model").hidden = task !== TASKS.histories;
   begin(took => tell(task.says, took));
   await task.act();
   if (turn === state.turn) state.answered = turn;
 }
+// The script of the models of the histories that are there, and what is said of those that have none.
+export const modelled = async () => await answerTo("model") ?? { output: "", errors: "" };
 // Ends the task that runs. If that searched for the witnesses, what was found before stays.
 export function stop() {
   state.answered = state.turn += 1;

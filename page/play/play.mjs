@@ -2,7 +2,7 @@
 import { $, app, goTo, on } from "../app.mjs";
 import { choose, find, unfold } from "../view.mjs";
 import { link, linked, setAddress } from "./address.mjs";
-import { judge, state, stop } from "./judging.mjs";
+import { judge, modelled, state, stop } from "./judging.mjs";
 import { listenToEditor } from "./editor.mjs";
 import { chooseExample, fillExamples, notice, pasted, takeFile, takeFirst, takeOwn, typed } from "./given.mjs";
 const WAIT = 250;  // ms after a key
@@ -45,12 +45,20 @@ function drag(event) {
   document.body.classList.toggle("dragged", type === "dragover" && hasFiles);
   if (type === "drop" && dataTransfer.files.length) { leave(); takeFile(dataTransfer.files); }
 }
+// The histories are replaced by the script of their models, which is explored at once; of those that have none is said why.
+async function model() {
+  const { output, errors } = await modelled();
+  leave();
+  if (output) takeOwn({ text: output });
+  if (errors) notice(errors.trimEnd());
+}
 function listen() {
   on($("#text"), "input", () => { notice(""); if (linked() !== undefined) setAddress(""); typed(WAIT); });
   on($("#text"), "paste", pasted);
   on($("#example"), "change", () => { leave(); chooseExample(); });
   for (const [button, type] of [["#go", "click"], ["#states", "change"]]) on($(button), type, () => judge(...current()));
   on($("#stop"), "click", stop);
+  on($("#model"), "click", model);
   on($("#link"), "click", async () => notice(await link(current()[0])));
   on($("#about"), "click", () => $("#proved").showModal());
   on($("#open"), "click", () => { $("#file").value = ""; $("#file").click(); });

@@ -5,6 +5,7 @@ import re
 from dataclasses import dataclass
 from typing import Dict, List, NamedTuple, Optional, Sequence, Tuple, Union
 
+from .program import answered
 from .words import told
 
 VERDICTS = ("none", "pass", "inconc", "fail", "error")
@@ -166,6 +167,16 @@ class Result:
         entries = self.evidence.splitlines()
         lines += ["evidence:" if len(entries) <= most else f"evidence, the last {most} of {len(entries)} lines:"]
         return "\n".join(lines + [f"  {it}" for it in entries[max(len(entries) - most, 0):]])
+
+
+    def model(self, program: str = "") -> str:
+        """The script of which this test case is a complete course. Raises `ValueError`, with the line and the reason, if there is none."""
+        return answered(self.evidence, "model", program=program)
+
+    def verdicts(self, program: str = "") -> List[str]:
+        """The verdicts that the same calls have in any order. Raises `ValueError` as `model` does."""
+        found = answered(self.model(program), "explore", program=program).split()[1:]
+        return [it for it in found if it in VERDICTS]
 
 
 class EvidenceFile:

@@ -28,6 +28,18 @@ def find_program() -> str:
     return found
 
 
+def answered(text: str, *words: str, program: str = "") -> str:
+    """What the program answers to these arguments for this input. Raises `ValueError` with what it says, if that is why it has none."""
+    command = [program or find_program(), *words]
+    try:
+        ran = subprocess.run(command, input=text, capture_output=True, encoding="latin-1", check=False)
+    except OSError as error:
+        raise NoProgram(f"{command[0]} cannot be started: {error.strerror}") from error
+    if not ran.stdout:
+        raise ValueError(ran.stderr.strip() or f"{' '.join(command)} ended with status {ran.returncode}")
+    return ran.stdout
+
+
 class Program:
     """A server that runs: lines go in, lines come out."""
 
