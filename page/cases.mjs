@@ -40,3 +40,22 @@ export function alike(one, other) {
   const part = one.places.findIndex((place, nth) => one.list[place].text !== other.list[other.places[nth]]?.text);
   return part < 0 ? one.places.length : part;
 }
+// What ended the run of an entry, if the entry is replied so.
+function endOf({ list, lanes }, entry) {
+  const phases = entry?.reply === "ended" ? lanes.get(entry.on)?.phases ?? [] : [];
+  const begun = phases.findLastIndex(({ phase, run }) => phase === "running" && run === entry.run);
+  return list[phases[begun + 1]?.at]?.text;
+}
+// For each run of two opened cases the first of its calls that differ, and what ended the run before a call that is replied so.
+// Waits that were parked are left out.
+export function partings(one, other) {
+  const games = [one, other], all = games.map(({ list, places }) => places.map(place => list[place]));
+  const spelled = entry => entry ? `${entry.operation.replace("wake", "wait")} -> ${entry.reply}` : "not made";
+  return [...new Set(all.flat().map(({ run }) => run))].sort((left, right) => left - right).flatMap(run => {
+    const calls = all.map(entries => entries.filter(entry => entry.run === run && entry.reply !== "parked"));
+    const at = [...calls[0], null].findIndex((entry, nth) => spelled(entry) !== spelled(calls[1][nth]));
+    const ends = calls.map((own, side) => [["left", "right"][side], endOf(games[side], own[at])]).filter(([, text]) => text);
+    return at < 0 ? [] : `run ${one.which(run)}: call ${at + 1}: ${calls.map(own => spelled(own[at])).join(" | ")}` +
+      ends.map(([side, text]) => `; ${side}: before it ${text}`).join("");
+  });
+}

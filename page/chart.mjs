@@ -2,7 +2,7 @@
 import { VERDICTS } from "./reading.mjs";
 import { countWhile, nameOf } from "./lanes.mjs";
 import { countAsked, filterOf, isDeciding, rowsOf } from "./rows.mjs";
-import { shapeOfRow } from "./shapes.mjs";
+import { meaningOf, shapeOfRow } from "./shapes.mjs";
 import { cut, escaped, lookOf, svg, twoLines, widthOf } from "./drawing.mjs";
 export const ROW = 28, HEAD = 56;
 const GUTTER = 66, FOOT = 90, LOW = 20;  // the least room for the numbers of lines; how far below the top of a row its arrow is
@@ -104,12 +104,16 @@ export class Chart {
       `<g class="${lookOf(status)}">${svg.rect(begin, y + 44, width, 24, "box", 4)}` +
       `${svg.text(begin + width / 2, y + 56, told, "strong")}</g>`;
   }
+  // The words of an entry, with what its error means.
+  titleOf(entry) {
+    return entry.error ? `${entry.text}: ${meaningOf(this.game, entry)}` : entry.text;
+  }
   // A row: its picture, its lines in the text, and its words at the edge if its life line is not visible.
   row(row, place, y) {
     const { list, who } = this.game, { gutter } = this, { left, right } = this.window, entry = list[row.first];
     const x = this.xs.get(entry.on) ?? left + gutter, number = this.numberOf(row);
     const tint = isDeciding(this.game, row) ? "on-why" : place === this.chosen ? "on-selected" : "";
-    const title = row.seen.map(index => list[index].text).join("\n"), shape = shapeOfRow(this.game, row);
+    const title = row.seen.map(index => this.titleOf(list[index])).join("\n"), shape = shapeOfRow(this.game, row);
     const label = shape.form === "create" ? `${shape.label} ${who(shape.to)}` : shape.label;
     const say = cut(`${who(entry.on)}: ${label}`, right - left - gutter - 24);
     const edge = x > right ? svg.text(right - 8, y + 9, `${say} \u203a`, "halo dim small", "end")

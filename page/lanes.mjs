@@ -42,9 +42,11 @@ function noteWait(lane, entry, at) {
 // The case of a summary: its entries and remarks in one list, and `places`, the indices of the entries in it. A change at an
 // entry holds after it, and a change at -1 from the beginning. `overAt` is the entry that ended the case, `part` the first one
 // that differs from another case, `on` of an entry the component of its run, `at` its place. If a run asks for its verdict
-// again and gets the same, `asked` is where it began to ask. `who`, `which` and `ran` give names.
+// again and gets the same, `asked` is where it began to ask. `who`, `which` and `ran` give names. `lineByLine` of a summary gives
+// the entries other lines than those of its text.
 export function openCase(text, summary) {
   const table = new Table(), list = [], places = [], lanes = new Map(), lasts = new Map(), { names } = summary;
+  const lineOf = summary.lineByLine?.();
   const who = number => nameOf(number, lanes.get(number)?.name), which = run => named(run, names.get(run));
   const ran = number => [...lanes.get(number).runs].filter(run => names.has(run)).map(run => `run ${which(run)}`).join(", ");
   const game = { ...summary, list, places, lanes, overAt: null, part: -1, who, which, ran };
@@ -53,6 +55,7 @@ export function openCase(text, summary) {
     const at = list.push(entry) - 1, wasOver = table.isOver, on = table.runs.get(entry.run), last = lasts.get(entry.run);
     Object.assign(entry, { on: lanes.has(on) ? on : null, at, asked: at });
     if (entry.said) return;
+    if (lineOf) entry.line = lineOf(entry);
     if (entry.verb === "getverdict" && last?.verb === "getverdict" && last.reply === entry.reply) entry.asked = last.asked;
     lasts.set(entry.run, entry);
     places.push(at);

@@ -1,6 +1,6 @@
 // The view: the chart of one case, or the charts of two side by side, which scroll together.
 import { $, $$, app, chip, counted, goTo, on, when } from "./app.mjs";
-import { alike } from "./cases.mjs";
+import { alike, partings } from "./cases.mjs";
 import { Chart, HEAD, ROW } from "./chart.mjs";
 import { decidingOf } from "./rows.mjs";
 import { escaped } from "./drawing.mjs";
@@ -36,6 +36,7 @@ function caseFrame(cases, games, part) {
     ${others.map(choice).join("")}</select>`)}
     ${when(!two, `<span class="push"></span>${button("save", "SVG", "saves this chart as a picture")}
     ${button("mermaid", "Mermaid", "shows the text of this chart for Mermaid")}`)}</div></div>
+    ${when(two, `<pre class="partings" aria-label="where the calls of each run part">${escaped(partings(...games).join("\n"))}</pre>`)}
     <div class="case ${when(two, "two")}">${cases.map(pane).join("")}<aside class="state"></aside></div>`;
 }
 export function showCases(cases) {
@@ -120,6 +121,7 @@ export function choose(pane, place) {
   if (x < left + chart.gutter + 20 || x > left + scroll.clientWidth - 40) scroll.scrollLeft = x - scroll.clientWidth / 2;
   draw(pane);
   showStates();
+  app.chosen?.(chart.game.list[chart.rows[chart.chosen]?.first]);
 }
 export function unfold({ chart }) {
   const row = chart.rows[chart.chosen];

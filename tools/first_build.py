@@ -193,6 +193,8 @@ class Builder:
     def __init__(self, top: str, program: str) -> None:
         self.top, self.program = top, program
         every = uses_of(top)
+        with open(f"{top}/crates.txt", encoding="utf-8") as file:
+            self.is_library = f"\n{program} staticlib:" in file.read()
         self.uses = {it: every[it] for it in with_below(every, program)}
         self.chains = chains_of(self.uses, lambda it: bytes_of(f"{top}/crates/{it}"))
         self.room = f"{top}/crates/{program}/out/building"
@@ -319,9 +321,10 @@ class Builder:
         return status
 
     def build_program(self) -> int:
-        """Builds the program in the checkout, and runs it once for its help."""
+        """Builds the program in the checkout, and runs it once for its help; or builds a static library, which is not run."""
         jobs = self.jobs_for(self.program, self.lanes)
-        self.begin(self.program, jobs, ["run", "--jobs", str(jobs), "--", "--help"], f"{self.top}/crates/{self.program}")
+        words = ["lib", "--jobs", str(jobs)] if self.is_library else ["run", "--jobs", str(jobs), "--", "--help"]
+        self.begin(self.program, jobs, words, f"{self.top}/crates/{self.program}")
         status = 0
         while self.running:
             status = self.follow()

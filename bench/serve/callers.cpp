@@ -1,13 +1,17 @@
-// Calls of the C++ client: `callers N CALLS COMMAND..` prints the seconds that N behaviours at once need for CALLS calls in all.
+// Calls of the C++ client, over a server or in process: `callers N CALLS COMMAND..` prints the seconds that N behaviours at once need for CALLS calls in all.
 #include <iostream>
 #include <string>
 #include <vector>
 
 #include "filskeam.hpp"
 
-int main(int count, char** words) {
+int main([[maybe_unused]] int count, char** words) {
     const int callers = std::stoi(words[1]), calls = std::stoi(words[2]) / callers;
+#ifdef IN_PROCESS
+    filskeam::Server server{filskeam::InProcess{}};
+#else
     filskeam::Server server(std::vector<std::string>(words + 3, words + count));
+#endif
     server.run("warm", [](filskeam::Run&) {});
     const auto began = std::chrono::steady_clock::now();
     auto result = server.run("t_calls", [callers, calls](filskeam::Run& run) {

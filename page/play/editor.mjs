@@ -3,13 +3,15 @@ import { $, on, when } from "../app.mjs";
 import { escaped } from "../drawing.mjs";
 import { widthIn } from "./fault.mjs";
 const LINE = 19, PAD = 8;  // dots, as in play.css
-let fault = null;
+let fault = null, chosen = null;
 function place() {
   const area = $("#text"), { scrollTop, scrollLeft } = area, first = Math.floor(scrollTop / LINE);
   const count = area.value.split("\n").length, shown = Math.min(count - first, Math.ceil(area.clientHeight / LINE) + 1);
   $("#numbers").textContent = Array.from({ length: Math.max(shown, 0) }, (_, nth) => first + nth + 1).join("\n");
   $("#numbers").style.transform = `translateY(${first * LINE - scrollTop}px)`;
-  const mark = $("#mark");
+  const mark = $("#mark"), row = $("#row");
+  row.hidden = !chosen || (chosen - 1) * LINE < scrollTop - LINE;
+  row.style.top = `${PAD + (chosen - 1) * LINE - scrollTop}px`;
   mark.hidden = !fault?.line || (fault.line - 1) * LINE < scrollTop - LINE;
   if (mark.hidden) return;
   mark.style.top = `${PAD + (fault.line - 1) * LINE - scrollTop}px`;
@@ -33,6 +35,13 @@ export function showFault(found, ofText = true, hasReturns = false) {
   act("#plain", () => $("#text").dispatchEvent(new Event("input")));
   place();
 }
+// Marks the line of what is chosen in the chart, and shows it.
+export function markLine(line) {
+  const area = $("#text"), { scrollTop, clientHeight } = area, top = (line - 1) * LINE;
+  chosen = line;
+  if (line && !area.matches(":focus") && (top < scrollTop || top > scrollTop + clientHeight - 2 * LINE)) area.scrollTop = Math.max(0, top - 3 * LINE);
+  place();
+}
 // Chooses the word at the fault, or its line.
 function choosePlace({ line, column, ...rest }) {
   const area = $("#text"), lines = area.value.split("\n").slice(0, line), last = lines.at(-1) ?? "";
@@ -49,6 +58,7 @@ function putWord(word) {
 export function setText(text) {
   $("#text").value = text;
   $("#text").scrollTop = 0;
+  chosen = null;
   showFault(null);
 }
 export function listenToEditor() {

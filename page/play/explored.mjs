@@ -2,6 +2,7 @@
 import { VERDICTS } from "../reading.mjs";
 import { chip, counted, when } from "../app.mjs";
 import { escaped } from "../drawing.mjs";
+import { inScript } from "./lines.mjs";
 const FIRST = new RegExp(`^(\\w+)((?: (?:${VERDICTS.join("|")}))*) (complete|undecided after \\d+ states(?:: limit of (?:states|memory))?)$`);
 // Each test case with its verdicts, how its search ended, the lines below it, and the place of its first witness.
 export function readExplored(output) {
@@ -29,8 +30,8 @@ export function exploredRows(rows, hasWitnesses) {
 // The row whose witness has this number.
 export const rowOf = (rows, id) => rows.findLast(({ from }) => from <= id);
 // The lines of a row that say why: who waits for whom, and what no schedule carries out. The rest is as it is printed.
-export function whyOf({ lines, verdicts }) {
-  const of = word => lines.filter(line => line.startsWith(`  ${word}: `)).map(line => `<li>${escaped(line.slice(word.length + 4))}`);
+export function whyOf({ lines, verdicts }, behaviours) {
+  const of = word => lines.filter(line => line.startsWith(`  ${word}: `)).map(line => `<li>${escaped(inScript(behaviours, line.slice(word.length + 4)))}`);
   const stuck = of("stuck"), unseen = of("not seen");
   return when(stuck.length, `<div><b>No run can continue</b> at the end of <i>error</i>:<ul>${stuck.join("")}</ul></div>`) +
     when(unseen.length, `<div><b>No schedule comes to</b><ul>${unseen.join("")}</ul></div>`) +

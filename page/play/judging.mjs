@@ -8,6 +8,7 @@ import { ask, end, isAsked } from "./asking.mjs";
 import { isView, setAddress } from "./address.mjs";
 import { showFault } from "./editor.mjs";
 import { faultIn, sortOf } from "./fault.mjs";
+import { behavioursOf, lineByLine } from "./lines.mjs";
 import { exploredRows, firstToShow, markShown, readExplored, rowOf, whyOf, witnessesOf } from "./explored.mjs";
 const SOON = 400;  // ms after which a task is told of, and what is shown of an older text is pale
 const TITLE = "ttrun in a page";
@@ -15,7 +16,7 @@ const TITLE = "ttrun in a page";
 // `answered` the last one that was answered, `later` the timer of one that is not asked about yet. `rows` is what was found of a
 // script, `found` the answer with it, `first` the cases that are shown at first. `isOld` is whether what is shown is of an older
 // text. `since` and `timer` are of the task that runs.
-export const state = { text: "", input: "", turn: 0, answered: 0, later: null, rows: [], found: null, first: [], isOld: false, since: 0,
+export const state = { text: "", input: "", turn: 0, answered: 0, later: null, rows: [], behaviours: new Map(), found: null, first: [], isOld: false, since: 0,
   timer: null };
 function tell(head, took = "") {
   if ($("#head").innerHTML !== head) $("#head").innerHTML = head;  // which is read aloud when it changes
@@ -67,7 +68,7 @@ async function searchScript() {
   if (!found) return;
   if (found.status === null || found.errors) { refuse(found); return; }
   forget();
-  Object.assign(state, { found, rows: readExplored(found.output) });
+  Object.assign(state, { found, rows: readExplored(found.output), behaviours: behavioursOf(state.text) });
   tellFound();
   $("#rows").innerHTML = `<table>${exploredRows(state.rows, false)}</table>`;
   begin(took => tellFound(`; searching again for the witnesses, ${took}`));
@@ -76,15 +77,24 @@ async function searchScript() {
   done();
   tellFound();
   addSource("witnesses", drawn.output);
+  for (const one of app.cases) takeLines(one);
   const isWhole = app.cases.length === witnessesOf(state.rows);
   if (!isWhole) showFault(faultIn(drawn.errors || "no witnesses came"), false);
   $("#rows").innerHTML = `<table>${exploredRows(state.rows, isWhole)}</table>`;
   show(isWhole ? firstToShow(state.rows) : []);
 }
+// The rows of a witness have the lines of the script, and its runs the names of their behaviours.
+function takeLines(one) {
+  const behaviours = state.behaviours.get(one.name) ?? [];
+  one.names = new Map(behaviours.map(({ name }, run) => [run, name]));
+  one.lineByLine = () => lineByLine(behaviours);
+  if (one.why) one.why.behaviour = behaviours[one.why.run]?.name ?? null;
+}
 function tellFound(more = "") {
   const { status, took } = state.found;
-  const several = state.rows.filter(({ verdicts }) => verdicts.length > 1).length, open = state.rows.filter(row => row.ending !== "complete").length;
-  tell(open ? `${counted(open, "search", "searches")} met the limit` : several ?
+  const count = holds => state.rows.filter(holds).length, several = count(({ verdicts }) => verdicts.length > 1);
+  const open = count(({ ending }) => ending !== "complete"), wrong = count(({ verdicts }) => verdicts.join() === "error");
+  tell(open ? `${counted(open, "search", "searches")} met the limit` : wrong ? `${counted(wrong, "test case")} with no verdict but error` : several ?
     `${counted(several, "test case")} with more than one verdict` : "Each test case has one verdict", `status ${status}, in ${inTime(took)}${more}`);
 }
 async function checkHistories() {
@@ -148,5 +158,5 @@ app.show = () => {
   if (cases.length) showCases(cases); else if (app.cases.length) showTable();
   document.title = `${when(cases.length, `${cases[0]?.name}, `)}${TITLE}`;
   const row = cases.length && state.rows.length ? rowOf(state.rows, cases[0].id) : null;
-  $("#why").innerHTML = row ? whyOf(row) : "";
+  $("#why").innerHTML = row ? whyOf(row, state.behaviours.get(row.name)) : "";
 };

@@ -3,7 +3,7 @@ import { $, app, goTo, on } from "../app.mjs";
 import { choose, find, unfold } from "../view.mjs";
 import { link, linked, setAddress } from "./address.mjs";
 import { judge, state, stop } from "./judging.mjs";
-import { listenToEditor } from "./editor.mjs";
+import { listenToEditor, markLine } from "./editor.mjs";
 import { chooseExample, fillExamples, notice, pasted, takeFile, takeFirst, takeOwn, typed } from "./given.mjs";
 const WAIT = 250;  // ms after a key
 const STEPS = { j: 1, ArrowDown: 1, k: -1, ArrowUp: -1, PageDown: 15, PageUp: -15, Home: -Infinity, End: Infinity };
@@ -67,6 +67,7 @@ function takeAddress() {
   notice(text === null ? "The link cannot be read: it was cut or changed on its way." : "");
   if (text === undefined) app.show(); else if (text !== null) takeOwn({ text });
 }
+app.chosen = entry => markLine(entry?.line ?? null);
 fillExamples();
 listenToEditor();
 listen();

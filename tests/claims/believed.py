@@ -15,7 +15,7 @@ HEADLINE = (("tc_exec", "run_case"), ("tc_exec", "run_case_with"), ("tc_campaign
 # What a type keeps of the histories that it represents. Clauses only pass it on: a new state represents no entries, each call adds its
 # entry, and each answer is about every list that is represented. So they say the same whatever it is, and nobody has to believe it.
 PASSED_ON = {("tc_rules.specs.Standing", "StandsFor")}
-USE = re.compile(r"^\s*(?:unfoldable )?(?:pub )?(?:ghost )?use (?:Rattle\.)?([\w.]+?)(?:\.\{([^}]*)\}|\.(\S+) as (\w+)| as (\w+));?\s*$")
+USE = re.compile(r"^\s*(?:unfoldable )?(?:pub )?(?:ghost )?use (?:Rattle\.)?([\w.]+?)(?:\.(\{.*\})|\.(\S+) as (\w+)| as (\w+));?\s*$")
 HEAD = re.compile(r"^(?:(?:abbrev|unfoldable|pub|record|data) )*")
 WORD = re.compile(r"[^\s(){}\[\],;:]+")
 
@@ -32,6 +32,18 @@ class Definition(NamedTuple):
     lines: int
 
 
+def listed_names(listed: str, below: str = "") -> Iterator[str]:
+    """The names of an import's braces, those of inner braces with the path before them."""
+    depth, begin = 0, 0
+    for at, letter in enumerate(listed + ","):
+        depth += (letter == "{") - (letter == "}")
+        if letter != "," or depth:
+            continue
+        path, inner, rest = listed[begin:at].strip().partition(".{")
+        begin = at + 1
+        yield from listed_names(rest[:-1], f"{below}{path}.") if inner else [below + path] if path else []
+
+
 class Imports:
     """What the words of a file mean by its imports."""
 
@@ -43,8 +55,8 @@ class Imports:
             if not found:
                 continue
             module, listed, last, by, other = found.groups()
-            for name in (listed or "").split(","):
-                old, _, new = name.strip().partition(" as ")
+            for name in listed_names((listed or "{}")[1:-1]):
+                old, _, new = name.partition(" as ")
                 below, _, own = old.rpartition(".")
                 self.names[(new or own).strip("◌")] = (f"{module}.{below}".rstrip("."), own.strip("◌"))
             if by or other:
@@ -233,22 +245,28 @@ def files_of(crate: str) -> Iterator[str]:
         yield from (it for it in files_below(f"crates/{crate}", ending) if "/out/" not in it and "/must-fail/" not in it)
 
 
+def imported(path: str) -> Set[Place]:
+    """What the imports of a file name: modules, and names in them."""
+    imports = Imports(text_of(path))
+    return {*imports.names.values(), *((module, "") for module in imports.modules.values())}
+
+
 def cited_inside() -> Iterator[str]:
-    """Proofs of a crate that another cites, and that are no lemma made for it."""
+    """Proofs of a crate that another cites, and that are neither a lemma made for it nor what the toolchain makes of a type."""
     for crate in sorted(crates()):
         for path in files_of(crate):
-            for other, cited in re.findall(r"(?m)^\s*(?:ghost )?use Rattle\.(tc_\w+)\.proofs\.(\{[^}]*\}|[\w.]+)", text_of(path)):
-                for module in cited.strip("{}").split(","):
-                    if other != crate and not module.strip().startswith("Lemmas."):
-                        yield f"{path}: {other}.proofs.{module.strip(' .')}"
+            for module, _ in sorted(imported(path)):
+                other, _, cited = module.partition(".proofs.")
+                if cited and other.startswith("tc_") and other != crate and not cited.startswith("Lemmas") and not cited.endswith("TheSendSync"):
+                    yield f"{path}: {module}"
 
 
 def cited_of(crate: str) -> Dict[str, Set[str]]:
     """What the files of a crate import of the Prelude of each other crate."""
     found: Dict[str, Set[str]] = {}
-    for path in files_of(crate):
-        for other, listed in re.findall(r"use Rattle\.(tc_\w+)\.specs\.Prelude\.\{([^}]*)\}", text_of(path)):
-            found.setdefault(other, set()).update(it.strip().split(" as ")[0] for it in listed.split(","))
+    for module, name in (it for path in files_of(crate) for it in imported(path)):
+        if module.endswith(".specs.Prelude") and name:
+            found.setdefault(module.split(".")[0], set()).add(name)
     return found
 
 
@@ -260,12 +278,12 @@ def passed_on() -> Iterator[str]:
             cited.setdefault(other, set()).update(names if other != crate else ())
     for crate in libraries():
         specs = [it for it in files_below(f"crates/{crate}/specs", ".antt") if "/Inside" not in it and not it.endswith(("/Lib.antt", "/Prelude.antt"))]
-        named = {it for path in specs for it in re.findall(r"use Rattle\.(tc_\w+)\.specs\.Prelude\.", text_of(path))} - {crate}
+        named = {module.split(".")[0] for path in specs for module, _ in imported(path) if re.match(r"tc_\w+\.specs\.Prelude$", module)} - {crate}
         passed = set(re.findall(r"(?m)^pub use Rattle\.(tc_\w+)\.specs\.Prelude as", text_of(f"crates/{crate}/specs/Lib.antt")))
         yield from (f"crates/{crate}/specs/Lib.antt: it does not pass on {it}" for it in sorted(named - passed))
         prelude = f"crates/{crate}/specs/Prelude.antt"
         if os.path.isfile(os.path.join(TOP, prelude)):
-            offered_names = {it.strip().split(".")[-1] for listed in re.findall(r"\{([^}]*)\}", text_of(prelude)) for it in listed.split(",")}
+            offered_names = {name for _, name in imported(prelude)} - {""}
             yield from (f"{prelude}: no other crate cites {it}" for it in sorted(offered_names - cited.get(crate, set())))
 
 

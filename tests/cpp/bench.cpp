@@ -362,7 +362,7 @@ void speed(Server& server) {
 
 }  // namespace
 
-int main(int count, char** words_given) {
+int main([[maybe_unused]] int count, char** words_given) {
     const std::map<std::string, void (*)(Server&)> cases = {
         {"raises", raises}, {"watchdog", watchdog}, {"late", late}, {"ends", ends}, {"errs", errs}, {"whys", whys}, {"calls", calls}, {"seconds", seconds}, {"waits", waits}, {"stops", stops},
         {"misses", misses}, {"checks", checks}, {"stalls", stalls}, {"limits", limits}, {"words", words}, {"loses", loses}, {"random", random_cases}, {"reports", reports}, {"leaves", leaves}, {"meets", meets}, {"speed", speed},
@@ -370,7 +370,11 @@ int main(int count, char** words_given) {
     int status = 0;
     {
         const char* file = std::getenv("EVIDENCE");
-        Server server(std::vector<std::string>(words_given + 2, words_given + count), file != nullptr ? file : "", grace);
+#ifdef IN_PROCESS
+        Server server(filskeam::InProcess{}, file != nullptr ? file : "", grace);
+#else
+        Server server(filskeam::Pipe{{words_given + 2, words_given + count}}, file != nullptr ? file : "", grace);
+#endif
         cases.at(words_given[1])(server);
         status = server.close();
     }

@@ -3,6 +3,9 @@
 
 usage: tests/cpp/run.py [--server COMMAND] [--only WORD] [--list]
 
+With --server "library FOLDER", as ./ttrun --library prints it, the tests run over the table in the benches' own process, except
+those that are about a server.
+
 The benches are in tests/cpp/bench.cpp; without a compiler of C++ the tests fail, without CMake or GoogleTest some are skipped.
 The last line is 'N passed, M failed', with ', K skipped' after it if there are some; the status is 0 if nothing failed,
 otherwise 1. With the variable FILSKEAM_CPP the client is taken from that folder.
@@ -55,6 +58,12 @@ for line in sys.stdin.buffer:
 
 # The evidence of a test case that sets one verdict.
 NEXT = "evidence 1 t_next 256\nbehaviour 0 main\n0 setverdict pass -> ok\n0 finish -> ok\nend pass\n"
+# The tests that are about a server in a process of its own, or no bench.
+OF_PIPES = ("the_examples_run", "a_project_finds_the_client", "without_a_compiler_nothing_passes", "a_status_that_no_server_has",
+            "news_between_a_question_and_its_answer", "a_case_past_its_limit_is_no_pass", "a_server_that_ends_or_writes_nonsense",
+            "a_result_says_who_and_why")
+# What a bench is linked with for the table in its own process.
+IN_PROCESS: List[str] = []
 # What starts a server, and writes the number of its process into a file.
 NAMED = ("sh", "-c", 'echo $$ > "$SERVER_PROCESS"; exec "$@"', "sh")
 
@@ -112,7 +121,7 @@ class Place(ServerRoom):
 
     def build(self, compiler: str, source: str, *flags: str) -> str:
         target = self.path(os.path.basename(source).rpartition(".")[0])
-        printed(compiler, *FLAGS, *flags, source, "-o", target)
+        printed(compiler, *FLAGS, *flags, source, *IN_PROCESS, "-o", target)
         return target
 
     def verdicts(self, name: str) -> List[Tuple[str, str]]:
@@ -406,7 +415,7 @@ def no_thread_races_with_another(place: Place) -> str:
             except Fault:
                 continue
             other.build(compiler, BENCH, "-fsanitize=thread")
-            for name in ("leaves", "raises", "watchdog", "late", "ends", "stops", "waits", "loses", "random", "meets"):
+            for name in ("leaves", "raises", "watchdog", "late", "ends", "stops", "waits", *["loses"] * (not IN_PROCESS), "random", "meets"):
                 other.bench(name, stub("echo evidence 1 t 256; exec sleep 1000") if name == "loses" else (), TSAN_OPTIONS="halt_on_error=1")
             found.append(compiler)
     if not found:
@@ -438,17 +447,18 @@ def calls_in_a_second(place: Place) -> str:
 
 def main() -> int:
     holding.load(__name__)
-    parser = holding.parser("tests the C++ client of ttrun serve")
-    holding.add_server(parser)
-    given = parser.parse_args()
-    names = holding.chosen(given)
+    given, [names] = holding.chosen(holding.words_of_clients("tests the C++ client of ttrun serve"), (TESTS, 0))
+    command = holding.command_of(given)
+    if command[0] == "library":
+        names = [it for it in names if it not in OF_PIPES]
+        IN_PROCESS[:] = ["-DIN_PROCESS", os.path.join(command[1], "libfilskeam.a")]
     if not shutil.which("c++"):
         print(f"there is no compiler of C++: nothing is known of the C++ client\n0 passed, {len(names)} failed")
         return 1
     with tempfile.TemporaryDirectory(prefix="filskeam-cpp-") as room:
-        place = Place(room, holding.command_of(given))
+        place = Place(room, command)
         place.build("c++", BENCH)
-        return holding.told(holding.judged(it, place) for it in names)
+        return holding.status_of(holding.judged(it, place) for it in names)
 
 
 if __name__ == "__main__":

@@ -41,7 +41,7 @@ UNREFUSED: Tuple[Exempt, ...] = (
 )
 # What these are handed holds no allocator, so that they can ask for no memory; memory.py looks at their heads.
 WITHOUT_ALLOCATOR = ("SlowReader::new", "InputFault::text", "WriteFault::text", "Shard::new", "Shard::place", "Shard::shards", "Shard::has",
-                     "WordFault::text", "Step::operation", "Place::map", "GroupPlace::map", "TargetPlace::map", "Places::new", "Places::push",
+                     "WordFault::text", "Step::operation", "Places::new", "Places::push",
                      "Places::as_slice", "Script::is_script", "ScriptKind::text", "read_reference", "is_comment", "is_word", "Keyword::text",
                      "read_keyword", "tc_reader::read_name", "Lines::new", "Lines::next", "awaited_line", "of_input", "fault_of",
                      "split_script", "deciding_entry", "component_of", "name_of", "Refusal::text", "Pattern::read", "Pattern::bytes",
@@ -66,7 +66,10 @@ UNTRIED: Tuple[Exempt, ...] = (
      "the memory that their reader or writer takes is its own"),
     (("Job::call", "ScriptJob::call"), "they make the calls of their behaviour"),
     (("Kept::take", "Sequence::begin"), "run_campaign and read_evidence make them"),
-    (("tc_answer",), "it makes answer_alone, and has no answer but its text if memory runs out"),
+    (("filskeam_answer",), "it makes answer_alone, and has no answer but its text if memory runs out"),
+    (("filskeam_open", "filskeam_play", "filskeam_would", "filskeam_overall", "filskeam_is_over", "filskeam_history", "filskeam_close",
+      "filskeam_is_open", "tc_table::would", "tc_table::play", "tc_table::history", "HeldCase::is_open", "HeldCase::take", "HeldCase::put"),
+     "tests/embed/memory.c makes them, and refuses each growth in turn"),
     (("CaseState::comp_of", "Table::parked"), "close_case and the calls on a pass make them"),
     (("Campaign::take_first", "CaseScript::take_first", "Script::steps", "Script::parameters"), "run makes them, and each of its growths is refused"),
     (("Sentence::bytes", "MetRuns::add_line", "explored_status", "level", "is_found", "steps_of", "next_call", "CaseState::parked", "CaseState::active_on", "Course::known", "Course::turn",

@@ -4,7 +4,7 @@ import { pathToFileURL } from "node:url";
 
 const folder = `${pathToFileURL(process.argv[2]).href}/`;
 const from = name => import(`${folder}${name}.mjs`);
-const { VERDICTS } = await from("reading"), { alike, readHistories } = await from("cases"), { lastAt, openCase } = await from("lanes");
+const { VERDICTS } = await from("reading"), { alike, partings, readHistories } = await from("cases"), { lastAt, openCase } = await from("lanes");
 const { countAsked, filterOf, rowsOf } = await from("rows"), { orderOf, tableRows, tallies } = await from("nights");
 const { shapeOf } = await from("shapes"), { mermaidOf } = await from("mermaid");
 
@@ -67,7 +67,7 @@ const asked = {
     const { cases, fault } = readHistories(text), games = cases.map(summary => openCase(text, summary));
     return { cases: plain(cases), fault: fault && [fault.line, fault.kind], texts: games.map(game => game.list.map(entry => entry.text)),
       ends: games.map(game => game.overAt), shapes: games.map(game => game.list.map((entry, index) => shapeOf(game, entry, index))),
-      alike: games.map(game => alike(games[0], game)), ran: games.map(game => [...game.lanes.keys()].map(number => [number, game.ran(number)])),
+      alike: games.map(game => alike(games[0], game)), partings: games.map(game => partings(games[0], game)), ran: games.map(game => [...game.lanes.keys()].map(number => [number, game.ran(number)])),
       states: games.map(game => Array.from({ length: game.list.length + 1 }, (_, count) => statesOf(game, count))),
       rows: games.map(game => allRows(game).map(row => row.last)), asked: games.map(askedIn),
       mermaid: games.map(game => mermaidOf(game, allRows(game), [...game.lanes.keys()])) };

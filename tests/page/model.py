@@ -11,8 +11,9 @@ import evidence_texts
 from histories import EXAMPLES, KINDS, TOP, deciding, entry_of, legal_case, random_block, random_legal, states, tables
 from evidence_texts import evidence_of
 from harness import Ran, call, hold, same
+from details import parting_lines, plain_call
 from table import VERDICTS, Table
-from texts import Entry
+from texts import Entry, legal_blocks as legal_blocks_of
 
 FAULTS = ("bad first line", "bad entry", "text ends too early")
 
@@ -201,6 +202,25 @@ def it_tells_where_two_cases_part(context: Context) -> str:
     return f"{len(answer['texts'])} cases, alike for {sorted(met)} entries"
 
 
+# On the component of run 1, which a stop ended, run 2 ends before run 1 makes its call; or run 1 was faster.
+RESTARTED = "".join(f"history 2 t 3\n0 create alive -> made 1\n0 start 1 1 -> ok\n{first}0 stop 1 -> ok\n0 start 1 2 -> ok\n2 finish -> ok\n"
+                    f"{last}0 finish -> ok\nend {verdict}\n"
+                    for first, last, verdict in (("", "1 setverdict fail -> ended\n", "none"), ("1 setverdict fail -> ok\n", "", "fail")))
+
+
+def it_tells_where_each_run_parts(context: Context) -> str:
+    """The first call of each run that differs from the first case's, and what ended the run, as `explore --details` has it without names."""
+    rng, met = random.Random(context.seed + 5), Counter()
+    texts = [RESTARTED, *("".join(random_legal(rng, "t") for _ in range(3)) for _ in range(200))]
+    for text, told in zip(texts, ask(context, "games", texts)):
+        first, *others = legal_blocks_of(text.encode())
+        wanted = [[], *([it[2:] for it in parting_lines(first, other, plain_call)] for other in others)]
+        same(wanted, told["partings"], text)
+        met.update(words for line in sum(wanted, []) for words in (": call ", "before it", "not made") if words in line)
+    hold(all(met[it] >= 5 for it in (": call ", "before it", "not made")), met)
+    return f"{len(texts)} pairs of cases: {dict(met)}"
+
+
 def it_makes_the_table_of_several_files(context: Context) -> str:
     """A row for each name, with all its verdicts, what changed, what it opens, and the orders of the rows; of one file a row a case."""
     rng = random.Random(context.seed + 5)
@@ -255,5 +275,5 @@ def it_writes_mermaid(context: Context) -> str:
     return f"{count} statements"
 
 
-TESTS = (it_concludes_as_the_table_does, it_shows_each_entry_of_what_can_be_read, it_tells_where_two_cases_part,
+TESTS = (it_concludes_as_the_table_does, it_shows_each_entry_of_what_can_be_read, it_tells_where_two_cases_part, it_tells_where_each_run_parts,
          it_makes_the_table_of_several_files, it_folds_without_loss, it_writes_mermaid)

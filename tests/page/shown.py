@@ -264,7 +264,15 @@ def it_shows_one_case(context: Context, browser: Browser) -> str:
         browser.holds([len(lines), 1], "['.rows[role=listbox] [role=option] title', '[role=option][aria-selected=true]'].map(one => $$(one).length)")
     # the entry that made the verdict is shown, whatever is not
     to_case(browser, "t_supervised"), browser.js("focusOn(1)")
-    browser.holds(True, "app.pane.chart.rows.some(row => row.first === app.pane.chart.game.why.index)")
+    shown = "[game.why.index, game.overAt].map(at => chart.rows.some(row => row.first <= at && at <= row.last))"
+    browser.holds([True, True], f"(({{ chart, chart: {{ game }} }}) => {shown})(app.pane)")
+    said = "evidence 1 t 2\n0 # begun\n0 getverdict -> none\n0 running 9 -> error no-component\n0 # ended\n0 finish -> ended\nend error\n"
+    browser.open(page_of(context, "hidden", said)), browser.go("#/t")
+    for option in ("questions", "ended", "remarks"):
+        browser.click(f"[data-option={option}]")
+    browser.holds(["0 running 9 -> error no-component"], "app.pane.chart.rows.map(row => app.pane.chart.game.list[row.first].text)")
+    for option in ("questions", "ended", "remarks"):
+        browser.click(f"[data-option={option}]")
     # what each dynamic error means
     errors = [f"0 start 1 {at} -> error {it}\n" for at, it in [*((2, it) for it in ERRORS), (1, "no-behaviour")]]
     browser.open(page_of(context, "errors", f"history 2 t 9\n0 create -> made 1\n0 start 1 1 -> ok\n{''.join(errors)}end error\n")), browser.go("#/t")

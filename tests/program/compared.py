@@ -85,6 +85,8 @@ CHOSEN: List[Tuple[str, str, str, str, int]] = [
     ("the_last_of_an_unknown_name", "--last", f"{OF_A};{OF_B};{OF_C};{OF_D};{OF_D}", f"{LEGAL_A};{LEGAL_B};{LEGAL_C};legal d 2 none;unknown d", 3),
     ("one_that_is_not_legal_before_the_last", "--last", f"{OF_A.replace('end pass', 'end fail')};{OF_B};{OF_C};{OF_A}",
      f"{LEGAL_A};{LEGAL_B};{LEGAL_C}", 0),
+    ("the_last_of_a_chosen_name", "--last --only a", f"{LESS_A};{OF_A}", LEGAL_A, 0),
+    ("the_last_of_a_chosen_name_is_no_course", "--only a --last", f"{OF_A};{LESS_A}", "legal a 1 none;no course a", 3),
     ("the_last_of_a_shard", "--last --shard 1/2", f"{LESS_A};{OF_C};{OF_A}", f"{LEGAL_A};{LEGAL_C}", 0),
     ("the_last_shard_of_two_names", "--only a --only c --shard 2/2", OF_C, LEGAL_C, 0),
     ("the_first_shard_of_two_names", "--only a --only c --shard 1/2", OF_C, f"{LEGAL_C};unknown c;missing a", 3),

@@ -27,6 +27,8 @@ TABLES: List[Tuple[str, str, str, str, str, int]] = [
     ("twice", "", f"{OF_A};{OF_A};{OF_B};{OF_C}", f"{A};{A};{B};{C}", "twice a", 3),
     ("the_last_of_a_name", "--last", f"{LESS_A};{OF_B};{OF_C};{OF_A}", f"{A};{B};{C}", "", 1),
     ("the_last_of_a_name_and_one_is_missing", "--last", f"{LESS_A};{OF_C};{OF_A}", f"{A};{C};b,{MISSING}", "missing b", 3),
+    ("the_last_of_a_chosen_name", "--last --only a", f"{LESS_A};{OF_A}", A, "", 0),
+    ("the_last_of_a_shard", "--shard 1/2 --last", f"{LESS_A};{OF_C};{OF_A}", f"{A};{C}", "", 0),
     ("in_the_wrong_order", "", f"{OF_C};{OF_A};{OF_B}", f"{C};{A};{B}", "out of order a;out of order b", 3),
     ("of_no_test_case", "", f"{OF_A};{OF_B};{OF_C.replace(' c ', ' d ')}", f"{A};{B};{C.replace('c', 'd', 1)};c,{MISSING}", "unknown d;missing c", 3),
     ("no_course", "", f"{LESS_A};{OF_B};{OF_C}", f"a,1,1,0,0,0,0,none;{B};{C}", "no course a", 3),

@@ -3,7 +3,7 @@ steps that no schedule carries out are held to a plain search in `random_courses
 import random
 from collections import Counter
 from itertools import takewhile, zip_longest
-from typing import Iterator, List
+from typing import Callable, Iterator, List
 
 from case import Judgement, answer, below
 from random_courses import drawn_campaign
@@ -38,6 +38,33 @@ def table_after(block: Block, entries: List[Entry]) -> Table:
 def locals_line(block: Block) -> str:
     components = table_after(block, block.entries).components
     return f"  {block.verdict}: {', '.join(f'{called(block, at)} {it.verdict}' for at, it in enumerate(components))}"
+
+
+def plain_call(_: Block, entry: Entry) -> str:
+    return f"{entry.op.text().replace('wake', 'wait')} -> {entry.reply}"
+
+
+def end_text(side: str, block: Block, run: int, calls: List[Entry]) -> str:
+    """What ended a run whose next call is replied so."""
+    table = Table(block.behaviours)
+    is_ended = calls and calls[0].reply == "ended"
+    for entry in block.entries[:block.entries.index(calls[0])] if is_ended else []:
+        was_active = table.is_going_on(run)
+        table.play(entry.caller, entry.op)
+        if was_active and not table.is_going_on(run):
+            return f"; {side}: before it {entry.text()}"
+    return ""
+
+
+def parting_lines(one: Block, other: Block, spelled: Callable[[Block, Entry], str] = plain_call) -> Iterator[str]:
+    """For each run the first of its calls that differ."""
+    for run in sorted({it.caller for it in one.entries + other.entries}):
+        left, right = ([it for it in block.entries if it.caller == run and it.reply != "parked"] for block in (one, other))
+        same = alike(*([plain_call(one, it) for it in calls] for calls in (left, right)))
+        sides = ((one, left[same:]), (other, right[same:]))
+        first, second = (spelled(block, calls[0]) if calls else "not made" for block, calls in sides)
+        ends = "".join(end_text(side, block, run, calls) for side, (block, calls) in zip(("left", "right"), sides))
+        yield from [f"  run {run}: call {same + 1}: {first} | {second}{ends}"] * (len(left) > same or len(right) > same)
 
 
 def race_lines(one: Block, other: Block) -> List[str]:

@@ -37,6 +37,8 @@ LISTS: List[Tuple[str, str, str, str]] = [
     ("twice_and_the_last_is_legal", "--last", f"{BAD_A};{OF_A};{OF_C}", "b"),
     ("twice_and_the_last_is_not_legal", "--last", f"{OF_A};{OF_C};{PASS_OF_B};{BAD_A}", "a"),
     ("all_passed_at_last", "--last", f"{FAILED_A};{OF_B};{OF_C};{OF_A};{PASS_OF_B}", ""),
+    ("some_names_at_last", "--last --only a --only b", f"{OF_A};{FAILED_A};{PASS_OF_B}", "a"),
+    ("a_shard_at_last", "--shard 1/2 --last", f"{FAILED_A};{OF_C};{OF_A}", ""),
     ("of_some_names", "--only a --only b", OF_A, "b"),
     ("of_a_name_that_passed", "--only a", f"{OF_A};{OF_B}", ""),
     ("of_a_shard", "--shard 1/2", OF_C, "a"),
@@ -108,7 +110,8 @@ def cases() -> List[Case]:
     found += [refused(f"failed_{it}_{name}", (*words, *(("--list",) if it == "listed" else ())), given, fault)
               for it in ("run", "listed") for name, given, fault in REFUSED]
     found += [refused(f"failed_of_a_part_{name}", (*words, *chosen.split()), given, fault) for name, chosen, given, fault in REFUSED_CHOICES]
-    return [*found, of_a_long_text()]
+    given = text(f"{SCRIPT};{FAILED_A};{PASS_OF_B};{OF_A}")
+    return [*found, of_a_long_text(), Case("explored_at_last", ("explore", "--failed", "--last"), given, b"c none complete\n")]
 
 
 def judgements(seed: int) -> List[Judgement]:

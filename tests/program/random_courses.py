@@ -143,9 +143,9 @@ def every_verdict_is_told(program: str, seed: int) -> Iterator[str]:
         assert is_read, f"lines that are not understood: {ran.output[:500]!r}, {ran.errors!r}"
         unseen = lines_told(answer(program, text, "explore", "--details").output, "  not seen: ")
         local = answer(program, text, "explore", "--locals")
-        is_race = any(len(verdicts_in(it)) > 1 for it in found.values())
-        if (ran.status, local.status) != (is_race, is_race):
-            yield f"status: wanted {int(is_race)}, came {ran.status}, and with --locals {local.status}"
+        status = 2 if ["error"] in map(verdicts_in, found.values()) else int(any(len(verdicts_in(it)) > 1 for it in found.values()))
+        if (ran.status, local.status) != (status, status):
+            yield f"status: wanted {status}, came {ran.status}, and with --locals {local.status}"
         locals_of = lines_told(local.output, "  local ")
         for case in campaign:
             faults = faults_of_case(case, found[case.name], unseen[case.name], locals_of[case.name], met)

@@ -21,7 +21,7 @@ from examples import TOP
 
 # The modules of tests, each with the fewest that it may have. Those that a seed makes are not counted.
 MODULES = {
-    "rows": 150, "scripts": 100, "words": 62, "devices": 77, "sizes": 57, "terminal": 34, "live": 40, "progress": 32, "examples": 42,
+    "rows": 150, "scripts": 100, "words": 62, "devices": 77, "sizes": 57, "terminal": 34, "live": 40, "progress": 32, "examples": 41,
     "reports": 30, "unrun": 6, "evidence_rows": 145, "compared": 59, "compared_reports": 34, "failed": 50, "chosen_rows": 61,
     "chosen_blocks": 31, "explain": 430, "documents_run": 2, "car_window": 3, "choosing": 0, "details": 0, "random_moves": 0,
     "random_scripts": 0, "random_courses": 0}

@@ -55,7 +55,8 @@ def longest() -> Iterator[Case]:
     yield Case("longest_evidence", ("check",), longest_evidence(), b"legal t 0 none\n")
     for name, whole in (("history", history), ("evidence", longest_evidence())):
         last = whole.count(b"\n")
-        yield refused(f"the_longest_{name}_with_a_bad_last_line", ("check",), whole[:-2] + b"x\n", f"line {last}: bad entry")
+        for words in (("check",), ("report", "--csv")):
+            yield refused(joined(f"the_longest_{name}_with_a_bad_last_line", *words), words, whole[:-2] + b"x\n", f"line {last}: bad entry")
     block = b"history 2 t 1\n0 finish -> ok\nend none\n"
     count = MOST_BYTES_OF_A_HISTORY // len(block)
     yield Case("most_blocks", ("check",), block * count, b"legal t 1 none\n" * count)

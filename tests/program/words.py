@@ -12,7 +12,7 @@ COMMANDS = ("run", "serve", "check", "replay", "explore", "report", "\n  ttrun r
             "Each command reads standard input and writes standard output:\n",
             "Status of run, serve, replay and report: 0 for none and pass, 1 for inconc and\nfail, 2 for error.\n",
             "Status of check: 0 if each history is legal.\n",
-            "Status of explore: 0 if each test case has one verdict, 1 if one has several.\n",
+            "Status of explore: 0 if each test case has one verdict, 1 if one has several,\n2 if one has no verdict but error.\n",
             "3 says that a test case was aborted, a history is not legal, or a search met\nits limit;"
             " or that the arguments or the input were refused, memory ran out, or\n"
             "standard input or output failed: standard error says which.\n")
@@ -55,7 +55,7 @@ EXPLORE = ("looks for every overall verdict that a test case can have\n",
            "Standard input is a script: ttrun explore < FILE. Standard output is a line\n"
            "for each test case: its name, the verdicts found, and how the search ended.\n"
            "N is from 1 to 1000000, and 100000 without --states. --only, --shard and\n--failed choose test cases as those of run do, with --last too.\n",
-           "Status: 0 if each test case has one verdict, 1 if one has several, 3 if a\nsearch met its limit, or for a refusal.\n")
+           "Status: 0 if each test case has one verdict, 1 if one has several, 2 if one\nhas no verdict but error, 3 if a search met its limit, or for a refusal.\n")
 REPORT = ("reads histories, and writes them in one of these forms\n",
           "  --csv           writes a table as CSV\n", "  --junit         writes a JUnit suite\n",
           "  --suite <NAME>  calls the JUnit suite NAME instead of ttrun\n",
@@ -329,8 +329,8 @@ HALF_TOLD = DEAD_TOLD[: DEAD_TOLD.index(b"  not seen")].replace(b"complete", b"u
 KILLED = text("testcase t;behaviour main;create p named worker;start p w;setverdict fail;kill p;end;behaviour w;setverdict pass;end;end")
 KILLED_TOLD = b"t fail complete\n  local 1 worker: none or pass\n"
 # The main component waits for the end of one that is stopped, and stays alive.
-STOPPED = text("testcase t;behaviour main;create p alive;start p w;wait done p;wait killed p;end;behaviour w;end;end")
-STOPPED_TOLD = text("t error complete;  error: mtc error, 1 none;  stuck: run 0 on mtc waits for killed of 1, stopped")
+STOPPED = text("testcase u;behaviour main;create p alive;start p w;wait done p;wait killed p;end;behaviour w;end;end")
+STOPPED_TOLD = text("u error complete;  error: mtc error, 1 none;  stuck: run 0 on mtc waits for killed of 1, stopped")
 # Component 3 has the name x or y, whichever is created first.
 NAMED_BY_ORDER = text("testcase t;behaviour main;create p;create q;start p one;start q two;wait done all;end;"
                       "behaviour one;create c named x;start c three;end;behaviour two;create c named y;end;"
@@ -352,8 +352,10 @@ EXPLORED: List[Tuple[str, str, bytes, Wanted, int]] = [
     ("three_states_are_complete", "--states 3", LOOSE, b"t none fail complete\n", 1),
     ("the_worst_verdict_is_found_first", "--states 3", MAKING, b"t none fail undecided after 3 states: limit of states\n", 3),
     ("a_race_is_told_complete", "", RACE, b"t none fail complete\n", 1),
-    ("steps_behind_a_wait_are_dead", "--details", DEAD, DEAD_TOLD, 0),
-    ("a_stopped_component_is_waited_for", "--details", STOPPED, STOPPED_TOLD, 0),
+    ("steps_behind_a_wait_are_dead", "--details", DEAD, DEAD_TOLD, 2),
+    ("a_stopped_component_is_waited_for", "--details", STOPPED, STOPPED_TOLD, 2),
+    ("only_an_error_next_to_a_race", "", LOOSE + STOPPED, b"t none fail complete\nu error complete\n", 2),
+    ("half_a_search_next_to_an_error", "--states 1", STOPPED + LOOSE, SomeText(("u error", "t none fail undecided")), 3),
     ("a_long_race_is_cut", "--details", LONG, LONG_TOLD, 1),
     ("no_step_is_dead", "--details", PLAIN, b"t pass complete\n  pass: mtc none, 1 pass\n", 0),
     ("no_step_is_told_dead_by_half_a_search", "--details --states 1", DEAD, HALF_TOLD, 3),

@@ -29,7 +29,7 @@ class Place(ServerRoom):
     reached: List[str] = field(default_factory=list)
 
     def server(self, **more: object) -> Server:
-        return Server(**{"command": self.command, "grace": GRACE, **more})
+        return Server(**{"command": None if self.command[0] == "library" else self.command, "grace": GRACE, **more})
 
     def run(self, name: str, main: Behaviour, timeout: float = SECONDS, **more: object) -> Result:
         """The result of a test case on a server of its own."""

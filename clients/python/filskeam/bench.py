@@ -11,6 +11,7 @@ from typing import Callable, Dict, List, NoReturn, Optional, Sequence, Set, Tupl
 
 from .errors import DynamicError, Ended, Refused, ServerEnded
 from .evidence import VERDICTS, EvidenceFile, Findings, Line, Raised, Result, ends_case, may_halt, parsed, suits
+from .library import InProcess, find_library
 from .program import Program, find_program
 from .words import Behaviour, Group, component_word, name_of, name_word, plain_text, told
 
@@ -147,12 +148,12 @@ class Run:
                 return False
 
     def _remark(self, text: object) -> List[str]:
-        plain = plain_text(text)
+        plain = plain_text(text) if text != "" else ""
         return [f"{self.number} # {plain}"] if plain else []
 
     def _check_caller(self) -> None:
         """Whether this thread may call. A run that knows of its end asks the table no more."""
-        if threading.current_thread() is not self.thread:
+        if self.thread is None or threading.get_ident() != self.thread.ident:
             raise RuntimeError(f"the calls of {self} are its own thread's: another may only log")
         if self._has_ended:
             raise Ended(f"{self} has ended")
@@ -185,12 +186,12 @@ class Run:
         return wanted != "" if line.kind == "!" else line.text == wanted and suits(wanted, line.reply)
 
     def _take(self, line: Line) -> None:
-        if line.kind == "!":
-            self._answer(Refused(f"the server refused a line of {self}: {line.text}"))
-        elif line.kind == "->" and line.reply == "parked":
+        if line.kind == "->" and line.reply == "parked":
             self._is_parked = True
         elif line.kind == "->":
             self._answer(line.reply)
+        elif line.kind == "!":
+            self._answer(Refused(f"the server refused a line of {self}: {line.text}"))
 
     def _answer(self, answer: Union[str, BaseException]) -> None:
         self._asked, self._is_parked = "", False
@@ -237,13 +238,14 @@ class Case:
         with Server() as server:
             return server._judge(self)
 
-    def _play(self, program: Program, grace: float) -> None:
+    def _play(self, program: Union[Program, InProcess], grace: float) -> None:
         """Runs the main behaviour, and closes the test case once it is over, late, or interrupted."""
         self._program, self._grace = program, grace
         main = self._new_run(self.main, 0)
         self._send(f"case {self.name} {MOST_BEHAVIOURS}", *self._naming(main))
         reader = threading.Thread(target=self._read, name=f"{self.name} reader", daemon=True)
-        reader.start()
+        if isinstance(program, Program):
+            reader.start()
         reason = "the bench was interrupted"
         try:
             self._begin(main, functools.partial(self.main, main))
@@ -254,7 +256,8 @@ class Case:
             self._await(lambda: not self._going_on(), grace)
             self._hung = tuple(map(str, dict.fromkeys([*self._late, *self._going_on()])))
             self._close()
-            reader.join(grace)
+            if isinstance(program, Program):
+                reader.join(grace)
 
     def _result(self) -> Result:
         findings = Findings(self._lines)
@@ -326,7 +329,9 @@ class Case:
                 raise ServerEnded(self._fault)
             if self._is_closed:
                 raise Ended("the test case is closed")
-            self._program.write("".join(f"{line}\n" for line in lines).encode(), seconds)
+            self._keep_own(self._program.exchange(lines, seconds))
+        except (MemoryError, ValueError) as error:  # of the table in this process
+            self._lose(told(error))
         finally:
             self._sending.release()
 
@@ -339,12 +344,16 @@ class Case:
                 line = self._program.read()
                 if line is None:
                     self._lose(self._program.how_it_ended())
-                elif not self._take(line):
-                    self._program.kill()
-                    self._lose(f"the server wrote what it may not write here: {line[:100]!r}")
+                else:
+                    self._hear(line)
         except BaseException as error:  # as no memory: nobody may wait for an answer that nobody reads
             self._program.kill()
             self._lose(f"the client cannot read on: {told(error)}")
+
+    def _hear(self, line: str) -> None:
+        if not self._take(line):
+            self._program.kill()
+            self._lose(f"the server wrote what it may not write here: {line[:100]!r}")
 
     def _take(self, text: str) -> bool:
         line = parsed(text)
@@ -356,16 +365,22 @@ class Case:
         else:
             is_right = line.kind in ("behaviour", "#") or run._expects(line)
         if is_right:
-            self._lines.append(text)
-            self._spread(line, run, text)
+            self._keep(line, run, text)
         return is_right
 
-    def _spread(self, line: Optional[Line], run: Optional[Run], text: str) -> None:
-        """Reports a line: first to all runs what it changes, then to its run the answer."""
-        if text.startswith("end ") or line is not None and may_halt(line):
+    def _keep_own(self, lines: Sequence[Tuple[Optional[Line], str]]) -> None:
+        """Keeps what the table in this process has answered, which no other program can have written."""
+        for line, text in lines:
+            self._keep(line, self._runs[line.run] if line else None, text)
+
+    def _keep(self, line: Optional[Line], run: Optional[Run], text: str) -> None:
+        """Keeps a line, and reports it: first to all runs what it changes, then to its run the answer."""
+        self._lines.append(text)
+        is_ended = line is None and text.startswith("end ")
+        if is_ended or line is not None and may_halt(line):
             with self._news:
                 self._changes += 1
-                self._is_ended = text.startswith("end ")
+                self._is_ended = is_ended
                 self._is_over = self._is_over or line is not None and ends_case(line)
                 self._news.notify_all()
         if line is not None and run is not None:
@@ -408,7 +423,7 @@ class Case:
         """Asks for the last line. A server that does not write it is killed."""
         if self._sending.acquire(timeout=self._grace):
             self._is_closed = True
-            self._program.write(b"end\n", self._grace)
+            self._keep_own(self._program.exchange(["end"], self._grace))
             self._sending.release()
         if not self._await(lambda: self._is_ended or self._fault, self._grace):
             self._lose("the server does not answer")
@@ -416,18 +431,21 @@ class Case:
 
 
 class Server:
-    """`ttrun serve`, which judges test cases one after the other. If it has ended, the next test case starts it again."""
+    """What judges test cases one after the other: the table in this process if the library filskeam is found, otherwise `ttrun serve`.
+
+    If that has ended, the next test case starts it again."""
 
     def __init__(self, command: Optional[Sequence[str]] = None, evidence: Optional[str] = None, grace: float = GRACE, append: bool = False) -> None:
-        """The command is `ttrun serve`, unless another is given. The file gets the evidence of each test case. It is emptied first, unless `append`.
+        """A command is started as `ttrun serve` is, whether there is a library or not. The file gets the evidence of each test case. It is emptied first, unless `append`.
 
         A behaviour that does not return for `grace` seconds after the end of its test case is abandoned: its thread keeps running."""
-        self._command = list(command) if command is not None else [find_program(), "serve"]
+        self._library = find_library() if command is None else None
+        self._command = list(command) if command is not None else [] if self._library else [find_program(), "serve"]
         self._file = EvidenceFile(evidence, append) if evidence is not None else None
         self._grace = min(grace, threading.TIMEOUT_MAX)
         # The names of its test cases so far.
         self.names: Set[str] = set()
-        self._program: Optional[Program] = None
+        self._program: Union[Program, InProcess, None] = None
         self._status = 0
         self._judging = threading.Lock()
 
@@ -454,7 +472,7 @@ class Server:
             raise RuntimeError(f"{_OWN.run} cannot run test case {case.name}: a test case is run outside of behaviours")
         with self._judging:
             self.names.add(case.name)
-            self._program = self._program or Program(self._command, self._grace)
+            self._program = self._program or (InProcess(self._library) if self._library else Program(self._command, self._grace))
             try:
                 case._play(self._program, self._grace)
             finally:

@@ -57,7 +57,7 @@ def ends_case(line: Line) -> bool:
 
 def may_halt(line: Line) -> bool:
     """Whether somebody may have been stopped by this entry, or be done."""
-    return line.reply.startswith("error ") or line.text.partition(" ")[0] in ("finish", "stop", "kill", "stopcase") and line.reply == "ok"
+    return line.reply == "ok" and line.text.partition(" ")[0] in ("finish", "stop", "kill", "stopcase") or line.reply.startswith("error ")
 
 
 class Findings:

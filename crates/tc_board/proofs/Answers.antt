@@ -1,10 +1,8 @@
 -- What one more answer does to the answers of a hand.
-use Rattle.std.proofs.Common.{◌≡◌, ◌≢◌, ◌⊎◌, ℕ, Bool, true, false, if◌then◌else◌, nat_lt, List, [], ◌∷◌, ◌++◌, map, refl, sym, ap, ◌∙◌, subst, ⊎_elim, arith}
-use Rattle.std.proofs.lemmas.List.{take-append-le, take_at, append-nil}
+use Rattle.std.proofs.{Common.{◌≡◌, ◌≢◌, ◌⊎◌, ℕ, Bool, true, false, if◌then◌else◌, nat_lt, List, [], ◌∷◌, ◌++◌, map, refl, sym, ap, ◌∙◌, subst, ⊎_elim, arith}, lemmas.List.{take-append-le, take_at, append-nil}}
 use Rattle.tc_entry.specs.Prelude.{UserVerdict, level_of, worse, worst, given}
 use Rattle.tc_verdict.proofs.Lemmas.Order.{worst-more}
-use Rattle.tc_board.specs.{Answers.FindsWorst, Answers.NeverShut, Answers.StaysShut, Answers.taken, Answers.worst_answer, declared.answer.Answer.Answer, declared.answer.Answer.TheVariants.Found, declared.answer.Answer.TheVariants.Met, declared.answer.Answer.TheVariants.Shut, declared.answer.Answer.TheVariants.Taken}
-use Rattle.tc_board.proofs.Lookup.{got_end}
+use Rattle.tc_board.{specs.{Answers.{FindsWorst, NeverShut, StaysShut, taken, worst_answer}, declared.answer.Answer.Answer, declared.answer.Answer.TheVariants.{Found, Met, Shut, Taken}}, proofs.Lookup.got_end}
 
 taken-end : (answers : List Answer) (x : Answer) → taken (answers ++ x ∷ []) ≡ taken answers ++ taken (x ∷ [])
 taken-end [] x = refl

@@ -2,11 +2,9 @@
 use Rattle.std.proofs.Common.{◌≡◌, ◌≢◌, ℕ, ◌<◌, ◌==◌, if◌then◌else◌, Bool, true, false, List, [], ◌∷◌, ◌++◌, length, set, get_or, inl, inr, refl, sym, ap, ◌∙◌, subst, ⊎_elim, arith, max, length-set}
 use mathlib.Core.Option.{none, some}
 use lib.ListN.{get_elem?}
-use Rattle.atomic_table.specs.Table.{step, keeps, stepped, Allows}
-use Rattle.atomic_table.proofs.Lists.{at_set, set_here}
+use Rattle.atomic_table.{specs.Table.{step, keeps, stepped, Allows}, proofs.Lists.{at_set, set_here}}
 use Rattle.tc_entry.specs.Prelude.{UserVerdict, level_of, given}
-use Rattle.tc_board.specs.{Answers.worst_answer, Inside.Seats.hand_view, Inside.Seats.list, Inside.Steps.Seated, Inside.Steps.get_answer, Inside.Steps.set_answer, Inside.Steps.was_got, Inside.Steps.was_met, Inside.Steps.was_set, Inside.Table.Holds, Inside.Table.Knows, Inside.Table.Row, Inside.Table.row, Rule.Fits, declared.answer.Answer.Answer, declared.answer.Answer.TheVariants.Found, declared.answer.Answer.TheVariants.Met, declared.answer.Answer.TheVariants.Shut, declared.answer.Answer.TheVariants.Taken, declared.record.Record.Record, declared.record.Record.TheVariants.Closed, declared.record.Record.TheVariants.Open, declared.record.Record.TheVariants.Unbegun, declared.rule.View.View}
-use Rattle.tc_board.proofs.{Answers.finds-end, Answers.never-end, Answers.rank_in, Answers.stays-end, Answers.worst_of-other, Answers.worst_of-taken, Lookup.at_length, Numbers.begun_closed, Numbers.begun_open, Numbers.get_closed, Numbers.get_open, Numbers.max-closed, Numbers.max-worse, Numbers.rank_less, Numbers.set_closed, Numbers.set_open, Numbers.verdict_of-rank, Rows.Board, Rows.hand_knows, Rows.lists_stand, Rows.no_other, Rows.stands_on, Rows.still_knows, Rows.words_fit}
+use Rattle.tc_board.{specs.{Answers.worst_answer, Inside.Seats.{hand_view, list}, Inside.Steps.{Seated, get_answer, set_answer, was_got, was_met, was_set}, Inside.Table.{Holds, Knows, Row, row}, Rule.Fits, declared.answer.Answer.Answer, declared.answer.Answer.TheVariants.{Found, Met, Shut, Taken}, declared.record.Record.Record, declared.record.Record.TheVariants.{Closed, Open, Unbegun}, declared.rule.View.View}, proofs.{Answers.{finds-end, never-end, rank_in, stays-end, worst_of-other, worst_of-taken}, Lookup.at_length, Numbers.{begun_closed, begun_open, get_closed, get_open, max-closed, max-worse, rank_less, set_closed, set_open, verdict_of-rank}, Rows.{Board, hand_knows, lists_stand, no_other, stands_on, still_knows, words_fit}}}
 
 -- a hand's answers and its word change, and they fit the record as before
 hand_step : (s : Board) (id k : ℕ) (before after : List Answer) (word : ℕ) → Holds s → get_elem? s.views id ≡ some (hand_view k before) → ((r : Record) → Fits r before (get_or s.words k 0) → Fits r after word)

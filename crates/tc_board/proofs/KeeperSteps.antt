@@ -1,15 +1,11 @@
 -- The steps of the keeper keep the rule: open, close, the look at a word, and taking back a hand.
-use Rattle.std.proofs.Common.{◌≡◌, ℕ, ◌+◌, ◌<◌, true, List, [], ◌∷◌, ◌++◌, length, set, get_or, refl, sym, ap, ◌∙◌, subst, ⊎_elim, bit_or, length-set, Contains}
-use Rattle.std.specs.Prelude.{slice_get, Some}
-use Rattle.std.proofs.lemmas.List.{map-set, set-get_or}
+use Rattle.std.{proofs.{Common.{◌≡◌, ℕ, ◌+◌, ◌<◌, true, List, [], ◌∷◌, ◌++◌, length, set, get_or, refl, sym, ap, ◌∙◌, subst, ⊎_elim, bit_or, length-set, Contains}, lemmas.List.{map-set, set-get_or}}, specs.Prelude.{slice_get, Some}}
 use mathlib.Core.Option.{none, some, some-injective, some-ne-none}
 use native.Mathlib.Decide.{ℕ_discrete}
 use lib.ListN.{get_elem?}
-use Rattle.atomic_table.specs.Table.{step, keeps, stepped, Allows, Joins}
-use Rattle.atomic_table.proofs.Lists.{at_longer, at_set, set_here, set_else, set_again, at_map, at_last}
+use Rattle.atomic_table.{specs.Table.{step, keeps, stepped, Allows, Joins}, proofs.Lists.{at_longer, at_set, set_here, set_else, set_again, at_map, at_last}}
 use Rattle.tc_entry.specs.Prelude.{UserVerdict, level_of, given}
-use Rattle.tc_board.specs.{Answers.worst_answer, Inside.Seats.hand_view, Inside.Seats.keeper_view, Inside.Seats.list, Inside.Seats.spent_view, Inside.Seats.taken_back, Inside.Steps.Counts, Inside.Steps.Seated, Inside.Steps.verdict_of, Inside.Steps.was_closed, Inside.Steps.was_opened, Inside.Steps.was_seen, Inside.Steps.with_record, Inside.Table.Holds, Inside.Table.IsAt, Inside.Table.Knows, Inside.Table.Row, Inside.Table.record_of, Inside.Table.row, Keeper.carried_by, Keeper.carried_in, Rule.AnswersAgree, Rule.Fits, declared.answer.Answer.Answer, declared.answer.AnswerList.AnswerList, declared.record.Record.Record, declared.record.Record.TheVariants.Closed, declared.record.Record.TheVariants.Open, declared.record.Record.TheVariants.Unbegun, declared.rule.View.View}
-use Rattle.tc_board.proofs.{Answers.never-stays, Answers.rank_in, Lookup.at_end, Lookup.at_length, Lookup.at_map_back, Lookup.contained_at, Lookup.elem_got, Numbers.or-closed, Numbers.rank_less, Numbers.verdict_of-rank, Rows.Board, Rows.lists_stand, Rows.never, Rows.no_other, Rows.other_run, Rows.same_records, Rows.stands_on, Rows.stays_at, Rows.still_knows, Rows.words_fit, Rows.words_stay}
+use Rattle.tc_board.{specs.{Answers.worst_answer, Inside.Seats.{hand_view, keeper_view, list, spent_view, taken_back}, Inside.Steps.{Counts, Seated, verdict_of, was_closed, was_opened, was_seen, with_record}, Inside.Table.{Holds, IsAt, Knows, Row, record_of, row}, Keeper.{carried_by, carried_in}, Rule.{AnswersAgree, Fits}, declared.answer.Answer.Answer, declared.answer.AnswerList.AnswerList, declared.record.Record.Record, declared.record.Record.TheVariants.{Closed, Open, Unbegun}, declared.rule.View.View}, proofs.{Answers.{never-stays, rank_in}, Lookup.{at_end, at_length, at_map_back, contained_at, elem_got}, Numbers.{or-closed, rank_less, verdict_of-rank}, Rows.{Board, lists_stand, never, no_other, other_run, same_records, stands_on, stays_at, still_knows, words_fit, words_stay}}}
 
 -- a record and its word change, and each list that fitted fits
 keeper_step : (s : Board) (id k : ℕ) (v : View) (r r' : Record) (word : ℕ) → Holds s → get_elem? s.views id ≡ some v → v.is_keeper ≡ true → get_elem? v.records k ≡ some r

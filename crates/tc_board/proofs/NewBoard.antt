@@ -2,12 +2,9 @@
 use Rattle.std.proofs.Common.{◌≡◌, ◌≢◌, ℕ, zero, suc, ◌+◌, ◌-◌, ◌<◌, ◌≤◌, List, [], ◌∷◌, ◌++◌, map, length, set, get_or, replicate, refl, sym, ap, ◌∙◌, subst, ⊎_elim, arith, length-set}
 use mathlib.Core.Option.{some, some-injective, some-ne-none}
 use lib.ListN.{get_elem?}
-use Rattle.atomic_table.specs.Table.{opening, Splits}
-use Rattle.atomic_table.specs.Seated.{TableId}
-use Rattle.atomic_table.proofs.Lists.{at_longer, at_set, set_here, at_last}
+use Rattle.atomic_table.{specs.{Table.{opening, Splits}, Seated.TableId}, proofs.Lists.{at_longer, at_set, set_here, at_last}}
 use Rattle.tc_verdict.specs.declared.user_verdict.UserVerdict.TheVariants.{None}
-use Rattle.tc_board.specs.{Answers.FindsWorst, Answers.NeverShut, Board.first_answers, Board.first_record, Board.first_records, Board.new_hand, Board.new_hands, Hand.HandView, Inside.Seats.answers_of, Inside.Seats.first_lists, Inside.Seats.hand_view, Inside.Seats.keeper_view, Inside.Seats.left_over, Inside.Seats.list, Inside.Seats.opening_view, Inside.Seats.split_off, Inside.Steps.Seated, Inside.Table.Holds, Inside.Table.Knows, Inside.Table.Row, Inside.Table.Stands, Inside.Table.record_of, Inside.Table.row, Rule.AnswersAgree, Rule.Fits, Rule.word_of, declared.answer.Answer.Answer, declared.answer.Answer.TheVariants.Met, declared.answer.AnswerList.AnswerList, declared.record.Record.Record, declared.rule.View.View}
-use Rattle.tc_board.proofs.{Lookup.at_end, Lookup.at_length, Rows.hand_knows, Rows.lists_stand, Rows.same_records, Rows.stands_on, Rows.stays_at, Rows.still_knows, Rows.words_stay}
+use Rattle.tc_board.{specs.{Answers.{FindsWorst, NeverShut}, Board.{first_answers, first_record, first_records, new_hand, new_hands}, Hand.HandView, Inside.Seats.{answers_of, first_lists, hand_view, keeper_view, left_over, list, opening_view, split_off}, Inside.Steps.Seated, Inside.Table.{Holds, Knows, Row, Stands, record_of, row}, Rule.{AnswersAgree, Fits, word_of}, declared.answer.Answer.Answer, declared.answer.Answer.TheVariants.Met, declared.answer.AnswerList.AnswerList, declared.record.Record.Record, declared.rule.View.View}, proofs.{Lookup.{at_end, at_length}, Rows.{hand_knows, lists_stand, same_records, stands_on, stays_at, still_knows, words_stay}}}
 
 first_rows : ℕ → ℕ → List Row
 first_rows k zero = []

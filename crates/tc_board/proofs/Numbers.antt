@@ -1,10 +1,7 @@
 -- The numbers in the words.
-use Rattle.std.proofs.Common.{◌≡◌, ℕ, zero, suc, ◌+◌, ◌<◌, ◌==◌, if◌then◌else◌, nat_lt, true, false, Some, IfSome, refl, sym, ap, ◌∙◌, arith, max, bit_or}
-use Rattle.std.specs.Prelude.{Option, None as nothing}
-use Rattle.std.proofs.lemmas.Bool.Decides.{nat_tests}
+use Rattle.std.{proofs.{Common.{◌≡◌, ℕ, zero, suc, ◌+◌, ◌<◌, ◌==◌, if◌then◌else◌, nat_lt, true, false, Some, IfSome, refl, sym, ap, ◌∙◌, arith, max, bit_or}, lemmas.Bool.Decides.nat_tests}, specs.Prelude.{Option, None as nothing}}
 use Rattle.tc_entry.specs.Prelude.{Verdict, UserVerdict, level_of, worse, given}
-use Rattle.tc_verdict.specs.declared.user_verdict.UserVerdict.TheVariants.{None, Pass, Inconc, Fail}
-use Rattle.tc_verdict.proofs.Lemmas.Order.{level-worse}
+use Rattle.tc_verdict.{specs.declared.user_verdict.UserVerdict.TheVariants.{None, Pass, Inconc, Fail}, proofs.Lemmas.Order.level-worse}
 use Rattle.tc_board.specs.{Hand.answer_to_get, Inside.Steps.get_answer, Inside.Steps.set_answer, Inside.Steps.verdict_of, declared.answer.Answer.TheVariants.Found, declared.answer.Answer.TheVariants.Shut, declared.answer.Answer.TheVariants.Taken}
 
 pub verdict_of-rank : (v : UserVerdict) → verdict_of (level_of (given v)) ≡ v

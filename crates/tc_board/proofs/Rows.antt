@@ -1,13 +1,10 @@
 -- The rule of the table if one row changes: what the other rows, words and seats keep.
-use Rattle.std.proofs.Common.{◌≡◌, ◌≢◌, ℕ, zero, suc, ◌<◌, true, false, true≢false, List, [], ◌∷◌, map, length, set, get_or, refl, sym, ap, ◌∙◌, subst, ⊎_elim, arith, get_or-set_same, get_or-set_other}
-use Rattle.std.proofs.lemmas.List.{map-set}
+use Rattle.std.proofs.{Common.{◌≡◌, ◌≢◌, ℕ, zero, suc, ◌<◌, true, false, true≢false, List, [], ◌∷◌, map, length, set, get_or, refl, sym, ap, ◌∙◌, subst, ⊎_elim, arith, get_or-set_same, get_or-set_other}, lemmas.List.map-set}
 use mathlib.Core.Option.{some, some-injective, some-ne-none}
 use native.Mathlib.Decide.{ℕ_discrete}
 use lib.ListN.{get_elem?}
-use Rattle.atomic_table.specs.Table.{State}
-use Rattle.atomic_table.proofs.Lists.{at_set, set_here, set_else, set_again, at_map}
-use Rattle.tc_board.specs.{Inside.Seats.hand_view, Inside.Seats.list, Inside.Table.Holds, Inside.Table.IsAt, Inside.Table.Knows, Inside.Table.Row, Inside.Table.Stands, Inside.Table.record_of, Inside.Table.row, Rule.Fits, declared.answer.Answer.Answer, declared.answer.AnswerList.AnswerList, declared.record.Record.Record, declared.rule.View.View}
-use Rattle.tc_board.proofs.Lookup.{at_length}
+use Rattle.atomic_table.{specs.Table.State, proofs.Lists.{at_set, set_here, set_else, set_again, at_map}}
+use Rattle.tc_board.{specs.{Inside.Seats.{hand_view, list}, Inside.Table.{Holds, IsAt, Knows, Row, Stands, record_of, row}, Rule.Fits, declared.answer.Answer.Answer, declared.answer.AnswerList.AnswerList, declared.record.Record.Record, declared.rule.View.View}, proofs.Lookup.at_length}
 
 -- a board's table as plain data
 abbrev pub Board : Type 0

@@ -1,6 +1,5 @@
 -- The laws of the rule.
-use Rattle.std.proofs.Common.{◌≡◌, None, refl, sym, ap, ◌∙◌}
-use Rattle.std.specs.Prelude.{slice_get}
+use Rattle.std.{proofs.Common.{◌≡◌, None, refl, sym, ap, ◌∙◌}, specs.Prelude.slice_get}
 use Rattle.tc_board.specs.{Rule.OpenIsNeverShut, Rule.ShutIsClosed, declared.record.Record.TheVariants.Closed, declared.record.Record.TheVariants.Open, declared.record.Record.TheVariants.Unbegun}
 
 pub open_is_never_shut : OpenIsNeverShut

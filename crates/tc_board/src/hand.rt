@@ -27,8 +27,7 @@ pub struct Hand {
 
 impl Model for Hand {
     ghost use Rattle.std.specs.Prelude.{◌≡◌, ◌<◌, []};
-    ghost use Rattle.tc_board.specs.Hand.{HandView};
-    ghost use Rattle.tc_board.specs.Inside.Seats.{hand_view, answers_of};
+    ghost use Rattle.tc_board.specs.{Hand.HandView, Inside.Seats.{hand_view, answers_of}};
 
     ghost Value = { HandView };
 

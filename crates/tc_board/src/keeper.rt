@@ -18,8 +18,7 @@ pub struct Keeper {
 
 impl Model for Keeper {
     ghost use Rattle.std.specs.Prelude.{◌≡◌, length};
-    ghost use Rattle.tc_board.specs.Keeper.{KeeperView};
-    ghost use Rattle.tc_board.specs.Inside.Steps.{IsKeeper};
+    ghost use Rattle.tc_board.specs.{Keeper.KeeperView, Inside.Steps.IsKeeper};
 
     ghost Value = { KeeperView };
 
@@ -29,8 +28,7 @@ impl Model for Keeper {
 }
 
 impl Keeper {
-    ghost use Rattle.tc_board.specs.Rule.{AnswersAgree};
-    ghost use Rattle.tc_board.specs.Keeper.{CountsTaken, IsOpen, carried_by, recorded, gathered};
+    ghost use Rattle.tc_board.specs.{Rule.AnswersAgree, Keeper.{CountsTaken, IsOpen, carried_by, recorded, gathered}};
 
     /// Opens the word of a run, with the verdict that its component carries.
     pub fn begin(&mut self, board: &Board, run: Run, carried: UserVerdict)

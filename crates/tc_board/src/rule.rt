@@ -15,8 +15,7 @@ pub(crate) struct View {
 pub(crate) struct BoardRule;
 
 impl TableRule<(), View, u64> for BoardRule {
-    ghost use Rattle.tc_board.specs.Inside.Seats.{opening_view};
-    ghost use Rattle.tc_board.specs.Inside.Table.{Holds};
+    ghost use Rattle.tc_board.specs.{Inside.Seats.opening_view, Inside.Table.Holds};
 
     ghost holds = { λ _. Holds };
 

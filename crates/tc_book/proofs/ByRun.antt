@@ -1,14 +1,7 @@
 -- The logs of a case by the numbers of their runs, and what is left of them after a part of a history.
-use Rattle.std.proofs.Common.{ℕ, ◌≡◌, ◌<◌, ◌+◌, ◌==◌, ◌↔◌, if◌then◌else◌, true, List, [], ◌∷◌, ◌++◌, length, get_or, take, drop, set, refl, sym, ap, ◌∙◌, subst, arith, add-one, append_assoc, eq-eqb, inl, inr}
-use Rattle.std.specs.{Borrow.Bor, List.All}
-use Rattle.std.proofs.Math.Seq.{take-suc, get_or-append_seam}
-use Rattle.std.proofs.lemmas.{Bool.cases_eq, Bool.ne_eqb, List.Elements.filter-append, List.append-nil, List.append_cancel_left, List.get_or-set_other, List.get_or-set_same, List.get_or_append_left, List.length-append}
-use Rattle.tc_rules.specs.Prelude.{Entry, log_of, part, is_by}
-use Rattle.tc_rules.specs.declared.run_log.RunLog.{RunLog}
-use Rattle.tc_book.proofs.InPlace.{log_or, log_or-none, log_or-last}
-use Rattle.tc_rules.proofs.Lemmas.Differing.{parted}
-use Rattle.tc_book.specs.Passes.{LeftState}
-use Rattle.tc_book.proofs.Lemmas.PartOf.{part_end}
+use Rattle.std.{proofs.{Common.{ℕ, ◌≡◌, ◌<◌, ◌+◌, ◌==◌, ◌↔◌, if◌then◌else◌, true, List, [], ◌∷◌, ◌++◌, length, get_or, take, drop, set, refl, sym, ap, ◌∙◌, subst, arith, add-one, append_assoc, eq-eqb, inl, inr}, Math.Seq.{take-suc, get_or-append_seam}, lemmas.Bool.{cases_eq, ne_eqb}, lemmas.List.Elements.filter-append, lemmas.List.{append-nil, append_cancel_left, get_or-set_other, get_or-set_same, get_or_append_left, length-append}}, specs.{Borrow.Bor, List.All}}
+use Rattle.tc_rules.{specs.{Prelude.{Entry, log_of, part, is_by}, declared.run_log.RunLog.RunLog}, proofs.Lemmas.Differing.parted}
+use Rattle.tc_book.{proofs.{InPlace.{log_or, log_or-none, log_or-last}, Lemmas.PartOf.part_end}, specs.Passes.LeftState}
 
 -- once these logs too are put in their places, each run below n has its log
 abbrev pub HasAfter : List (List Entry) → List RunLog → ℕ → (ℕ → List Entry) → Type 0

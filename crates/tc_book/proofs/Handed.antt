@@ -1,9 +1,7 @@
 -- The answers of a hand, as an entry is added to its log.
-use Rattle.std.proofs.Common.{ℕ, ◌≡◌, ◌≢◌, true, false, List, [], ◌∷◌, ◌++◌, length, All, refl, ap, sym, ◌∙◌, append_assoc}
-use Rattle.std.proofs.lemmas.List.{Elements.All-append, Elements.All-cons, Elements.All-nil, append-nil}
+use Rattle.std.proofs.{Common.{ℕ, ◌≡◌, ◌≢◌, true, false, List, [], ◌∷◌, ◌++◌, length, All, refl, ap, sym, ◌∙◌, append_assoc}, lemmas.List.Elements.{All-append, All-cons, All-nil}, lemmas.List.append-nil}
 use Rattle.tc_rules.specs.Prelude.{UserVerdict, Verdict, given, Entry, Op, Reply, is_verdict_call}
-use Rattle.tc_board.specs.declared.answer.Answer.TheVariants.{Met, Found}
-use Rattle.tc_board.specs.Prelude.{HandView, taken}
+use Rattle.tc_board.specs.{declared.answer.Answer.TheVariants.{Met, Found}, Prelude.{HandView, taken}}
 use Rattle.tc_book.specs.{Hands.IsHandOf, Inside.IsOneAnswer, Hands.answer_in, Hands.answers_in, Hands.found_by, Inside.Says, Inside.Replies.suits, Inside.setting_in, Inside.settings}
 
 answers_end : (log : List Entry) (e : Entry) → answers_in (log ++ e ∷ []) ≡ answers_in log ++ answer_in e.op e.reply

@@ -1,10 +1,6 @@
 -- Lemmas on what the merge puts in its place, and on what it puts at the end.
-use Rattle.std.proofs.Common.{◌≡◌, ◌≢◌, ℕ, suc, ◌+◌, ◌<◌, ◌≤◌, ◌==◌, true, false, List, [], ◌∷◌, ◌++◌, length, get_or, take, reverse, refl, sym, ap, ◌∙◌, subst, add-one, append_assoc, eq-eqb, arith, inl, inr, zero, filter, max, if◌then◌else◌, set, replicate, ◌&&◌, not, Bool, Option, Some, None}
-use Rattle.std.specs.Borrow.{Bor}
-use Rattle.std.proofs.Math.Seq.{take-suc}
-use Rattle.std.proofs.lemmas.{Bool.cases_eq, Bool.cases_lt, Bool.ne_eqb, List.append-nil, List.reverse-append, List.get_or-replicate, List.get_or-set_other, List.get_or-set_same, List.length-replicate, List.length-set, List.Elements.filter-append, List.reverse-reverse}
-use Rattle.tc_rules.specs.Prelude.{Entry, calls_of, in_place, started, verdict_calls_after, late, is_late, log_of, runs_end, Run, is_ended, is_other, is_verdict_call, merge}
-use Rattle.tc_rules.specs.declared.run_log.RunLog.{RunLog}
+use Rattle.std.{proofs.{Common.{◌≡◌, ◌≢◌, ℕ, suc, ◌+◌, ◌<◌, ◌≤◌, ◌==◌, true, false, List, [], ◌∷◌, ◌++◌, length, get_or, take, reverse, refl, sym, ap, ◌∙◌, subst, add-one, append_assoc, eq-eqb, arith, inl, inr, zero, filter, max, if◌then◌else◌, set, replicate, ◌&&◌, not, Bool, Option, Some, None}, Math.Seq.take-suc, lemmas.Bool.{cases_eq, cases_lt, ne_eqb}, lemmas.List.{append-nil, reverse-append, get_or-replicate, get_or-set_other, get_or-set_same, length-replicate, length-set, reverse-reverse}, lemmas.List.Elements.filter-append}, specs.Borrow.Bor}
+use Rattle.tc_rules.specs.{Prelude.{Entry, calls_of, in_place, started, verdict_calls_after, late, is_late, log_of, runs_end, Run, is_ended, is_other, is_verdict_call, merge}, declared.run_log.RunLog.RunLog}
 use Rattle.tc_book.specs.Inside.Merging.{IsMovedOn, entries_of, head_at_start, Has}
 
 -- the log of run b, otherwise other entries

@@ -1,11 +1,9 @@
 -- Rules for what a book keeps, at the opening and after one more entry: its places are counted, and its replies suit.
-use Rattle.std.proofs.Common.{◌≡◌, ℕ, ◌+◌, ◌*◌, ◌<◌, ◌≤◌, Bool, true, false, List, [], ◌∷◌, length, set, replicate, arith, ◌==◌, ◌&&◌, ◌||◌, if◌then◌else◌, Option, Some, None, not, ap, refl, ◌∙◌, sym, ◌++◌, drop, reverse}
-use Rattle.std.proofs.lemmas.List.{Folds.sum_by-replicate, Sums.sum_by-cons, Sums.sum_by-set, get_or_past, length-replicate, reverse-append}
+use Rattle.std.proofs.{Common.{◌≡◌, ℕ, ◌+◌, ◌*◌, ◌<◌, ◌≤◌, Bool, true, false, List, [], ◌∷◌, length, set, replicate, arith, ◌==◌, ◌&&◌, ◌||◌, if◌then◌else◌, Option, Some, None, not, ap, refl, ◌∙◌, sym, ◌++◌, drop, reverse}, lemmas.List.Folds.sum_by-replicate, lemmas.List.Sums.{sum_by-cons, sum_by-set}, lemmas.List.{get_or_past, length-replicate, reverse-append}}
 use Rattle.tc_rules.specs.Prelude.{Run, Entry, Op, Reply, Fault, is_ended, is_fault, is_ok, holds, is_stuck, fault, answer, answer_unless, plain_answer, is_active, is_verdict_call, UserVerdict, Comp, Case, past_of}
 use Rattle.tc_entry.specs.declared.limits.TheConstants.{BEHAVIOURS}
 use Rattle.tc_board.specs.declared.record.Record.{Record}
-use Rattle.tc_book.specs.{Inside.IsKept, Inside.one_if, Inside.size_of, Inside.start_at, Inside.total, Inside.no_place, OpenCase.opening_place, OpenCase.places_at, Inside.Replies.suits, Words.WordsAgree, Inside.Words.carried_to, Inside.Words.carried_to_newest, declared.places.Places.Places}
-use Rattle.tc_book.proofs.Lemmas.Starting.{starts_below}
+use Rattle.tc_book.{specs.{Inside.{IsKept, one_if, size_of, start_at, total, no_place}, OpenCase.{opening_place, places_at}, Inside.Replies.suits, Words.WordsAgree, Inside.Words.{carried_to, carried_to_newest}, declared.places.Places.Places}, proofs.Lemmas.Starting.starts_below}
 
 pub one_at_most : (b : Bool) → one_if b ≤ 1
 one_at_most true = omega arith

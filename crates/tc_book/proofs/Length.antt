@@ -1,8 +1,6 @@
 -- A history is as long as its parts together.
-use Rattle.std.proofs.Common.{ℕ, ◌≡◌, ◌≢◌, ◌+◌, ◌≤◌, ◌==◌, cond, if◌then◌else◌, Bool, true, false, List, [], ◌∷◌, length, count_by, refl, ap, sym, ◌∙◌, eq-eqb, arith, subst, inl, inr}
-use Rattle.std.proofs.lemmas.{Bool.cases_eq, Bool.ne_eqb, List.Sums.sum_by-cons}
-use Rattle.tc_rules.specs.Prelude.{Entry, log_of, logged, is_by, part}
-use Rattle.tc_rules.specs.declared.run_log.RunLog.{RunLog}
+use Rattle.std.proofs.{Common.{ℕ, ◌≡◌, ◌≢◌, ◌+◌, ◌≤◌, ◌==◌, cond, if◌then◌else◌, Bool, true, false, List, [], ◌∷◌, length, count_by, refl, ap, sym, ◌∙◌, eq-eqb, arith, subst, inl, inr}, lemmas.Bool.{cases_eq, ne_eqb}, lemmas.List.Sums.sum_by-cons}
+use Rattle.tc_rules.specs.{Prelude.{Entry, log_of, logged, is_by, part}, declared.run_log.RunLog.RunLog}
 use Rattle.tc_book.proofs.PartOfMerge.{entries_by, part_same, part_miss}
 
 -- this is a log of run b

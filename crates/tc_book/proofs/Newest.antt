@@ -1,11 +1,8 @@
 -- The words after the newest entry, before any word is closed.
-use Rattle.std.proofs.Common.{ℕ, ◌≡◌, ◌<◌, ◌&&◌, not, Bool, true, false, Some, None, List, [], ◌∷◌, ◌++◌, drop, reverse, refl, ap, sym, ◌∙◌, subst, inl, inr}
-use Rattle.std.proofs.lemmas.{Bool.cases_eq, List.reverse-append}
-use Rattle.tc_rules.specs.Prelude.{Run, UserVerdict, Comp, Entry, Op, Reply, comp_of, halts, start_in, is_active, may_halt, IsLegal}
-use Rattle.tc_rules.proofs.Lemmas.{Going.halted_by_entry, Going.others_halt_nothing, Going.started_by_entry, Sound.starts_fresh}
+use Rattle.std.proofs.{Common.{ℕ, ◌≡◌, ◌<◌, ◌&&◌, not, Bool, true, false, Some, None, List, [], ◌∷◌, ◌++◌, drop, reverse, refl, ap, sym, ◌∙◌, subst, inl, inr}, lemmas.Bool.cases_eq, lemmas.List.reverse-append}
+use Rattle.tc_rules.{specs.Prelude.{Run, UserVerdict, Comp, Entry, Op, Reply, comp_of, halts, start_in, is_active, may_halt, IsLegal}, proofs.{Lemmas.Going.{halted_by_entry, others_halt_nothing, started_by_entry}, Lemmas.Sound.starts_fresh}}
 use Rattle.tc_board.specs.declared.record.Record.{Record, TheVariants.Open}
-use Rattle.tc_book.specs.{Inside.Words.CanBegin, Inside.Words.WordsLag, Inside.Words.is_open, Inside.Words.with_start, Words.StayClosed, Words.WordsAgree, Words.carried, Inside.Words.carried_to, Inside.Words.carried_to_newest, Words.is_closed, Words.record_at}
-use Rattle.tc_book.proofs.{Lagging.after_entry, Lagging.can_begin, Lagging.entry, Lagging.same_test, Lagging.start, Settling.all_agree, Settling.at_other, Settling.open_means, Settling.stay_closed}
+use Rattle.tc_book.{specs.{Inside.Words.{CanBegin, WordsLag, is_open, with_start, carried_to, carried_to_newest}, Words.{StayClosed, WordsAgree, carried, is_closed, record_at}}, proofs.{Lagging.{after_entry, can_begin, entry, same_test, start}, Settling.{all_agree, at_other, open_means, stay_closed}}}
 
 both : (a h : Bool) → a ≡ true → h ≡ false → (a && not h) ≡ true
 both true false p q = refl

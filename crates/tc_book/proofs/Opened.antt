@@ -1,12 +1,8 @@
 -- The hands of a new board, dealt out one after the other, and the records of its words, as std's lists have them.
-use Rattle.std.proofs.Common.{ℕ, zero, suc, ◌≡◌, ◌+◌, ◌-◌, ◌<◌, List, [], length, get_or, refl, ap, ◌∙◌, arith, ◌≤◌, ◌==◌, true, false, Some, ◌∷◌, set, replicate}
-use Rattle.std.specs.List.{remove}
+use Rattle.std.{proofs.{Common.{ℕ, zero, suc, ◌≡◌, ◌+◌, ◌-◌, ◌<◌, List, [], length, get_or, refl, ap, ◌∙◌, arith, ◌≤◌, ◌==◌, true, false, Some, ◌∷◌, set, replicate}, lemmas.Bool.Decides.nat_tests, lemmas.Option.slice_get-get_or}, specs.{List.remove, Prelude.slice_get}}
 use Rattle.atomic_table.specs.Seated.{TableId}
-use Rattle.std.specs.Prelude.{slice_get}
-use Rattle.std.proofs.lemmas.{Bool.Decides.nat_tests, Option.slice_get-get_or}
-use Rattle.tc_board.specs.Prelude.{HandView, new_hand, new_hands, first_record, first_records, IsOpen, carried_by, carried_in}
+use Rattle.tc_board.specs.{Prelude.{HandView, new_hand, new_hands, first_record, first_records, IsOpen, carried_by, carried_in}, declared.record.Record.Record, declared.record.Record.TheVariants.{Closed, Open, Unbegun}}
 use Rattle.tc_rules.specs.Prelude.{comp_of, phase, is_active, UserVerdict}
-use Rattle.tc_board.specs.declared.record.Record.{Record, TheVariants.Closed, TheVariants.Open, TheVariants.Unbegun}
 use Rattle.tc_book.specs.{Inside.Words.is_open, Inside.Words.opening, Words.IsWordOf, Words.WordsAgree, Words.carried, Words.record_at}
 
 pub length_hands : (board : TableId) (k n : ℕ) → length (new_hands board k n) ≡ n

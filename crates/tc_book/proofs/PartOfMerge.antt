@@ -1,11 +1,7 @@
 -- Each log is its run's part of the merge.
-use Rattle.std.proofs.Common.{◌≡◌, ◌≢◌, ℕ, zero, suc, ◌<◌, ◌≤◌, ◌==◌, ◌&&◌, if◌then◌else◌, Bool, true, false, Option, Some, None, is_some, List, [], ◌∷◌, ◌++◌, drop, filter, reverse, refl, sym, ap, ◌∙◌, subst, append_assoc, eq-eqb, arith, ◌⊎◌, inl, inr}
-use Rattle.std.specs.List.{All}
-use Rattle.std.proofs.lemmas.{Bool.cases_eq, Bool.cases_lt, Bool.ne_eqb, List.Elements.filter-append, List.append-nil, List.reverse-append, List.reverse-reverse}
-use Rattle.tc_rules.specs.Prelude.{Run, Comp, Entry, Op, is_ended, is_ok, comp_of, first_some, starts_run, is_other, is_late, is_verdict_call, verdict_calls_after, calls_of, started, started_run, in_place, late, log_of, runs_end, merge, is_by, part}
-use Rattle.tc_rules.specs.declared.run_log.RunLog.{RunLog}
-use Rattle.tc_book.specs.{Inside.Merging.head_at_start, OneCase.AreOfOneCase, OneCase.AreStartedOnce, OneCase.all_started}
-use Rattle.tc_book.proofs.InPlace.{calls_more, calls_same, log_of-beyond}
+use Rattle.std.{proofs.{Common.{◌≡◌, ◌≢◌, ℕ, zero, suc, ◌<◌, ◌≤◌, ◌==◌, ◌&&◌, if◌then◌else◌, Bool, true, false, Option, Some, None, is_some, List, [], ◌∷◌, ◌++◌, drop, filter, reverse, refl, sym, ap, ◌∙◌, subst, append_assoc, eq-eqb, arith, ◌⊎◌, inl, inr}, lemmas.Bool.{cases_eq, cases_lt, ne_eqb}, lemmas.List.Elements.filter-append, lemmas.List.{append-nil, reverse-append, reverse-reverse}}, specs.List.All}
+use Rattle.tc_rules.specs.{Prelude.{Run, Comp, Entry, Op, is_ended, is_ok, comp_of, first_some, starts_run, is_other, is_late, is_verdict_call, verdict_calls_after, calls_of, started, started_run, in_place, late, log_of, runs_end, merge, is_by, part}, declared.run_log.RunLog.RunLog}
+use Rattle.tc_book.{specs.{Inside.Merging.head_at_start, OneCase.{AreOfOneCase, AreStartedOnce, all_started}}, proofs.InPlace.{calls_more, calls_same, log_of-beyond}}
 
 -- the part of a history by run b, as it computes
 abbrev pub entries_by : List Entry → ℕ → List Entry

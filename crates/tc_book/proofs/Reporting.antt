@@ -1,14 +1,7 @@
 -- What a report says of a case that is over.
-use Rattle.std.proofs.Common.{ℕ, zero, suc, ◌≡◌, ◌≢◌, ◌+◌, ◌<◌, ◌≤◌, ◌==◌, cond, Bool, true, false, Option, Some, None, is_some, List, [], ◌∷◌, ◌++◌, length, reverse, map, filter, count_by, refl, ap, sym, ◌∙◌, arith, add-one, eq-eqb, inl, inr}
-use Rattle.std.proofs.lemmas.{Bool.cases_eq, Bool.cases_lt, Bool.ne_eqb, List.Sums.sum_by-append, List.append-nil, List.get_or_append_left, List.length-map, List.reverse-reverse}
-use Rattle.std.proofs.Math.Seq.{get_or-append_seam}
-use Rattle.tc_rules.specs.Prelude.{worst, Comp, Entry, comps, comp_of, first_some, is_over, local, overall, IsLegal, IsAllOver, is_by, is_other, log_of, merge, logged, part, log_if, logs_below, started_on, Kept, StandsFor, IsOneHistory}
-use Rattle.tc_rules.proofs.Lemmas.{Deciding.and_left, Deciding.and_right, Deciding.equal_if, Differing.later_legal, Numbered.numbered, Over.all_over, Standing.stands_legal}
-use Rattle.tc_rules.specs.declared.{closed.Closed.Closed, run_log.RunLog.RunLog}
-use Rattle.tc_book.proofs.Length.{is_log_of}
-use Rattle.tc_book.proofs.{Length.long_by_parts, InPlace.log_or, InPlace.log_or-last, InPlace.log_or-none}
-use Rattle.tc_book.specs.{OneCase.all_started, Inside.KnowsParts, Inside.KnowsStarts, Inside.comp_by, Inside.log_on, Inside.logs_from, Inside.start_at}
-use Rattle.tc_book.proofs.{Lemmas.PartOf.comp_known, Skipping.filter-reverse}
+use Rattle.std.proofs.{Common.{ℕ, zero, suc, ◌≡◌, ◌≢◌, ◌+◌, ◌<◌, ◌≤◌, ◌==◌, cond, Bool, true, false, Option, Some, None, is_some, List, [], ◌∷◌, ◌++◌, length, reverse, map, filter, count_by, refl, ap, sym, ◌∙◌, arith, add-one, eq-eqb, inl, inr}, lemmas.Bool.{cases_eq, cases_lt, ne_eqb}, lemmas.List.Sums.sum_by-append, lemmas.List.{append-nil, get_or_append_left, length-map, reverse-reverse}, Math.Seq.get_or-append_seam}
+use Rattle.tc_rules.{specs.{Prelude.{worst, Comp, Entry, comps, comp_of, first_some, is_over, local, overall, IsLegal, IsAllOver, is_by, is_other, log_of, merge, logged, part, log_if, logs_below, started_on, Kept, StandsFor, IsOneHistory}, declared.closed.Closed.Closed, declared.run_log.RunLog.RunLog}, proofs.{Lemmas.Deciding.{and_left, and_right, equal_if}, Lemmas.Differing.later_legal, Lemmas.Numbered.numbered, Lemmas.Over.all_over, Lemmas.Standing.stands_legal}}
+use Rattle.tc_book.{proofs.{Length.{is_log_of, long_by_parts}, InPlace.{log_or, log_or-last, log_or-none}, Lemmas.PartOf.comp_known, Skipping.filter-reverse}, specs.{OneCase.all_started, Inside.{KnowsParts, KnowsStarts, comp_by, log_on, logs_from, start_at}}}
 
 first_none : (o p : Option Comp) → first_some o p ≡ None → o ≡ None
 first_none None p h = refl

@@ -1,6 +1,5 @@
 -- Words that are closed one after the other.
-use Rattle.std.proofs.Common.{ℕ, ◌≡◌, ◌≢◌, ◌+◌, ◌<◌, Bool, true, false, Option, Some, None, List, length, length-set, get_or-set_other, get_or-set_same, set, below_more, refl, ap, sym, ◌∙◌, subst, arith, inl, inr}
-use Rattle.std.proofs.lemmas.Bool.{cases_eq}
+use Rattle.std.proofs.{Common.{ℕ, ◌≡◌, ◌≢◌, ◌+◌, ◌<◌, Bool, true, false, Option, Some, None, List, length, length-set, get_or-set_other, get_or-set_same, set, below_more, refl, ap, sym, ◌∙◌, subst, arith, inl, inr}, lemmas.Bool.cases_eq}
 use Rattle.tc_rules.specs.Prelude.{Run, UserVerdict, Comp, Entry, comp_of, is_active}
 use Rattle.tc_board.specs.declared.record.Record.{Record, TheVariants.Closed, TheVariants.Open, TheVariants.Unbegun}
 use Rattle.tc_book.specs.{Inside.Words.Lags, Inside.Words.WordsLag, Inside.Words.is_open, Inside.Words.opening, Words.IsWordOf, Words.StayClosed, Words.WordsAgree, Words.carried, Words.closing, Words.is_closed, Words.left_by, Words.record_at, Words.run_before}

@@ -1,9 +1,7 @@
 -- What each run was started with, by the entries that are none of a verdict call.
-use Rattle.std.proofs.Common.{ℕ, ◌≡◌, not, if◌then◌else◌, Bool, true, false, Option, None, List, [], ◌∷◌, ◌++◌, reverse, filter, refl, ap, sym, ◌∙◌, cond}
-use Rattle.std.proofs.lemmas.List.{Elements.filter-append, append-nil, reverse-append}
+use Rattle.std.proofs.{Common.{ℕ, ◌≡◌, not, if◌then◌else◌, Bool, true, false, Option, None, List, [], ◌∷◌, ◌++◌, reverse, filter, refl, ap, sym, ◌∙◌, cond}, lemmas.List.Elements.filter-append, lemmas.List.{append-nil, reverse-append}}
 use Rattle.tc_rules.specs.Prelude.{Comp, Entry, Op, Reply, is_ok, first_some, is_other, is_verdict_call}
-use Rattle.tc_book.specs.{Inside.KnowsStarts, OpenCase.start_of, OpenCase.started_with}
-use Rattle.tc_book.proofs.Lemmas.Starting.{no_more}
+use Rattle.tc_book.{specs.{Inside.KnowsStarts, OpenCase.{start_of, started_with}}, proofs.Lemmas.Starting.no_more}
 
 if_none : (ok : Bool) → (if ok then (let o : Option (Comp × List Comp) = None in o) else None) ≡ None
 if_none true = refl

@@ -1,8 +1,6 @@
 -- A quiet entry wakes nobody.
-use Rattle.std.proofs.Common.{ℕ, ◌≡◌, ◌&&◌, not, if◌then◌else◌, Bool, true, false, Option, Some, None, [], ◌∷◌, reverse, refl, ap, subst, sym, ◌∙◌}
-use Rattle.std.proofs.lemmas.List.{reverse-append}
-use Rattle.tc_rules.specs.Prelude.{Run, Entry, Op, Reply, is_ok, first_some, IsLegal, keeps_phases, lets_go_on}
-use Rattle.tc_rules.proofs.Lemmas.Quiet.{quiet_wakes_nobody}
+use Rattle.std.proofs.{Common.{ℕ, ◌≡◌, ◌&&◌, not, if◌then◌else◌, Bool, true, false, Option, Some, None, [], ◌∷◌, reverse, refl, ap, subst, sym, ◌∙◌}, lemmas.List.reverse-append}
+use Rattle.tc_rules.{specs.Prelude.{Run, Entry, Op, Reply, is_ok, first_some, IsLegal, keeps_phases, lets_go_on}, proofs.Lemmas.Quiet.quiet_wakes_nobody}
 use Rattle.tc_book.specs.{OpenCase.OpenCase, OpenCase.open_past, OpenCase.reply_to, OpenCase.with_entry, OpenCase.start_of, OpenCase.started_with, Inside.starts_with, OpenCase.NobodyWakes}
 
 both : (a b : Bool) → a ≡ true → b ≡ true → (a && b) ≡ true

@@ -1,12 +1,7 @@
 -- A merged history, as its entries are walked one after the other.
-use Rattle.std.proofs.Common.{ℕ, ◌≡◌, ◌∙◌, ◌<◌, ◌+◌, ◌&&◌, ◌++◌, ◌∷◌, ◌↔◌, if◌then◌else◌, true, is_some, List, [], All, length, reverse, get_or, take, drop, refl, sym, ap, subst, add-one}
-use Rattle.std.specs.Borrow.{Bor}
-use Rattle.std.proofs.Math.Seq.{take-suc, take-length}
-use Rattle.std.proofs.lemmas.List.{reverse-append}
-use Rattle.tc_rules.specs.Prelude.{Entry, Kept, StandsFor, TakesIn, IsLegal, comp_of, is_by}
-use Rattle.tc_rules.proofs.Lemmas.{Deciding.and_left, Deciding.and_right, Differing.later_legal, Differing.parted, Standing.legal_for}
-use Rattle.tc_book.specs.{OneCase.all_started, Inside.CanFollow, Inside.IsWalk}
-use Rattle.tc_book.proofs.ByRun.{AreLeft, left_all, left_next, none_left}
+use Rattle.std.{proofs.{Common.{ℕ, ◌≡◌, ◌∙◌, ◌<◌, ◌+◌, ◌&&◌, ◌++◌, ◌∷◌, ◌↔◌, if◌then◌else◌, true, is_some, List, [], All, length, reverse, get_or, take, drop, refl, sym, ap, subst, add-one}, Math.Seq.{take-suc, take-length}, lemmas.List.reverse-append}, specs.Borrow.Bor}
+use Rattle.tc_rules.{specs.Prelude.{Entry, Kept, StandsFor, TakesIn, IsLegal, comp_of, is_by}, proofs.{Lemmas.Deciding.{and_left, and_right}, Lemmas.Differing.{later_legal, parted}, Lemmas.Standing.legal_for}}
+use Rattle.tc_book.{specs.{OneCase.all_started, Inside.{CanFollow, IsWalk}}, proofs.ByRun.{AreLeft, left_all, left_next, none_left}}
 
 -- what is known after this beginning of a history was walked
 pub record IsWalked (n : ℕ) (all rests : List (Bor (List Entry))) (s : Kept) (h : List Entry) : Type 0 where

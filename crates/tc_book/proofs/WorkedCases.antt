@@ -1,9 +1,6 @@
 -- A worked case, computed from the definitions.
-use Rattle.std.proofs.Common.{ℕ, zero, suc, ◌<◌, ◌≡◌, ◌==◌, if◌then◌else◌, Bool, true, false, Some, None, List, [], ◌∷◌, ◌++◌, filter, get_or, length, reverse, refl, sym, ap, subst, arith, ◌∙◌}
-use Rattle.std.specs.List.{All, AllByRecursion}
-use Rattle.std.proofs.lemmas.Bool.{ne_eqb}
-use Rattle.tc_rules.specs.Prelude.{Run, UserVerdict, Comp, Entry, Op, Reply, comp_of, is_late, exists, phase, running, alive, done, killed, holds, is_stuck, all_exist, start_fault, components, fault, is_active, answer, IsLegal, local, overall, is_other, log_of, merge, late, part, Verdict, Group}
-use Rattle.tc_rules.specs.declared.run_log.RunLog.{RunLog}
+use Rattle.std.{proofs.{Common.{ℕ, zero, suc, ◌<◌, ◌≡◌, ◌==◌, if◌then◌else◌, Bool, true, false, Some, None, List, [], ◌∷◌, ◌++◌, filter, get_or, length, reverse, refl, sym, ap, subst, arith, ◌∙◌}, lemmas.Bool.ne_eqb}, specs.List.{All, AllByRecursion}}
+use Rattle.tc_rules.specs.{Prelude.{Run, UserVerdict, Comp, Entry, Op, Reply, comp_of, is_late, exists, phase, running, alive, done, killed, holds, is_stuck, all_exist, start_fault, components, fault, is_active, answer, IsLegal, local, overall, is_other, log_of, merge, late, part, Verdict, Group}, declared.run_log.RunLog.RunLog}
 use Rattle.tc_book.specs.OneCase.{AreOfOneCase}
 
 abbrev entry : ℕ → Op → Reply → Entry

@@ -1,9 +1,7 @@
 -- When a case may be closed: what came back is whole, and the close of each word counted the log of its run.
 use Rattle.std.specs.Prelude.{◌≡◌, List, [], map, ℕ, ◌<◌, ◌==◌, Bool, true, None, length, reverse, All, count_by, sum_by}
-use Rattle.tc_rules.specs.Prelude.{given, Entry, comp_of, is_over, IsLegal, merge, part}
-use Rattle.tc_board.specs.Prelude.{worst_answer}
-use Rattle.tc_board.specs.declared.record.Record.{Record, TheVariants.Closed, TheVariants.Unbegun}
-use Rattle.tc_rules.specs.declared.run_log.RunLog.{RunLog}
+use Rattle.tc_rules.specs.{Prelude.{given, Entry, comp_of, is_over, IsLegal, merge, part}, declared.run_log.RunLog.RunLog}
+use Rattle.tc_board.specs.{Prelude.worst_answer, declared.record.Record.Record, declared.record.Record.TheVariants.{Closed, Unbegun}}
 use Rattle.tc_book.specs.{Hands.answers_in, OneCase.all_started, OpenCase.OpenCase, OpenCase.start_of, Passes.LeftState, Words.record_at}
 
 -- the word was closed, and its close counted the carried verdict and exactly the settings of this log that were taken

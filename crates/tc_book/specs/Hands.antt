@@ -1,8 +1,7 @@
 -- The answers that the hand of a pass had, by the verdict entries of its log.
 use Rattle.std.specs.Prelude.{ℕ, ◌≡◌, true, List, [], ◌∷◌, ◌++◌, length, All}
 use Rattle.tc_rules.specs.Prelude.{Verdict, Entry, Op, Reply, is_verdict_call, UserVerdict}
-use Rattle.tc_board.specs.declared.answer.Answer.{Answer, TheVariants.Found, TheVariants.Met, TheVariants.Shut, TheVariants.Taken}
-use Rattle.tc_board.specs.Prelude.{HandView}
+use Rattle.tc_board.specs.{declared.answer.Answer.Answer, declared.answer.Answer.TheVariants.{Found, Met, Shut, Taken}, Prelude.HandView}
 
 -- a verdict that was found; error is never in a word
 abbrev pub found_by : Verdict → List Answer

@@ -3,13 +3,10 @@ pub mod Merging
 pub mod Replies
 pub mod Waiting
 pub mod Words
-use Rattle.std.specs.Prelude.{ℕ, zero, suc, ◌++◌, ◌∷◌, ◌≡◌, ◌+◌, ◌≤◌, ◌<◌, ◌==◌, ◌↔◌, Bool, if◌then◌else◌, option_map, Option, Some, None, List, [], length, map, filter, reverse, sum_by, slice_index_or, All, true, false, ◌||◌, not, is_some}
-use Rattle.std.specs.{Borrow.Bor, Option.option_and_then, Option.option_map_or}
+use Rattle.std.specs.{Prelude.{ℕ, zero, suc, ◌++◌, ◌∷◌, ◌≡◌, ◌+◌, ◌≤◌, ◌<◌, ◌==◌, ◌↔◌, Bool, if◌then◌else◌, option_map, Option, Some, None, List, [], length, map, filter, reverse, sum_by, slice_index_or, All, true, false, ◌||◌, not, is_some}, Borrow.Bor, Option.{option_and_then, option_map_or}}
 use Rattle.tc_entry.specs.declared.limits.TheConstants.{BEHAVIOURS}
-use Rattle.tc_rules.specs.declared.{awaited.Awaited.Awaited, closed.CloseFault.CloseFault, run_log.RunLog.RunLog}
-use Rattle.tc_rules.specs.Prelude.{Comp, Entry, Op, Reply, IsLegal, answer, comp_of, ends_case, started_on, waiting, part, is_by, is_other, is_verdict_call, log_of, merge, Run, UserVerdict, is_over, is_parked, start, Kept, StandsFor, Target}
-use Rattle.tc_board.specs.Prelude.{HandView, answered}
-use Rattle.tc_board.specs.declared.{answer.Answer.Answer, record.Record.Record}
+use Rattle.tc_rules.specs.{declared.awaited.Awaited.Awaited, declared.closed.CloseFault.CloseFault, declared.run_log.RunLog.RunLog, Prelude.{Comp, Entry, Op, Reply, IsLegal, answer, comp_of, ends_case, started_on, waiting, part, is_by, is_other, is_verdict_call, log_of, merge, Run, UserVerdict, is_over, is_parked, start, Kept, StandsFor, Target}}
+use Rattle.tc_board.specs.{Prelude.{HandView, answered}, declared.answer.Answer.Answer, declared.record.Record.Record}
 use Rattle.tc_book.specs.{Closing.IsOneEach, Closing.IsWhole, OneCase.all_started, Closing.merged, Closing.run_log, Hands.answer_in, OpenCase.AreOthers, OpenCase.OpenCase, OpenCase.WouldPark, OpenCase.has_leave, OpenCase.has_wake, OpenCase.open_past, OpenCase.reply_to, OpenCase.start_of, Passes.LeftState, Passes.ended_by, Passes.entry_of, Words.WordsAgree, declared.logged_book.Started.Started, declared.places.Places.Places, declared.until.Lack.Lack, declared.until.Until.Until}
 
 -- one if it is so

@@ -1,7 +1,6 @@
 -- When a history without verdict entries and logs come from one case.
 use Rattle.std.specs.Prelude.{ℕ, ◌≡◌, ◌&&◌, Bool, true, Some, None, is_some, List, [], ◌∷◌, ◌++◌, filter, reverse, All}
-use Rattle.tc_rules.specs.Prelude.{Run, Entry, comp_of, is_other, is_late, log_of, started, part}
-use Rattle.tc_rules.specs.declared.run_log.RunLog.{RunLog}
+use Rattle.tc_rules.specs.{Prelude.{Run, Entry, comp_of, is_other, is_late, log_of, started, part}, declared.run_log.RunLog.RunLog}
 
 -- the caller of each entry was started before it: run 0 from the opening
 abbrev pub all_started : List Entry → Bool

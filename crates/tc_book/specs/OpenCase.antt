@@ -1,6 +1,5 @@
 -- What contracts see of a book: the places that it keeps, what each run was started with, and the runs that an entry wakes.
-use Rattle.std.specs.Prelude.{ℕ, ◌≡◌, ◌++◌, ◌∷◌, [], if◌then◌else◌, Bool, true, false, List, reverse, set, slice_index_or, ◌==◌, Option, Some, None}
-use Rattle.std.specs.Option.{option_and_then, option_or}
+use Rattle.std.specs.{Prelude.{ℕ, ◌≡◌, ◌++◌, ◌∷◌, [], if◌then◌else◌, Bool, true, false, List, reverse, set, slice_index_or, ◌==◌, Option, Some, None}, Option.{option_and_then, option_or}}
 use Rattle.tc_rules.specs.Prelude.{Run, Entry, Op, Reply, is_verdict_call, answer, is_parked, Comp, is_ok, start, Target, is_over}
 use Rattle.tc_board.specs.declared.record.Record.{Record}
 use Rattle.tc_book.specs.declared.places.Places.{Places}

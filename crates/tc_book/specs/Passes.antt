@@ -1,6 +1,5 @@
 -- What contracts see of a pass and of what it leaves, and what its calls add to its log.
-use Rattle.std.specs.Prelude.{◌≡◌, ◌++◌, ◌∷◌, [], ◌⊎◌, Bool, true, false, Option, Some, None, MatchOption, List, Result, Ok, Err, ℕ, codes}
-use Rattle.std.specs.List.{list_any}
+use Rattle.std.specs.{Prelude.{◌≡◌, ◌++◌, ◌∷◌, [], ◌⊎◌, Bool, true, false, Option, Some, None, MatchOption, List, Result, Ok, Err, ℕ, codes}, List.list_any}
 use Rattle.tc_rules.specs.Prelude.{Run, Comp, Entry, Op, Target, Reply, ends_pass, memory_text, fault_name}
 use Rattle.tc_book.specs.declared.halt.Halt.{Halt}
 

@@ -1,7 +1,6 @@
 -- The words of the verdict board next to a history without verdict entries: what was done with the word of each run.
 -- `past` lists the entries so far, the newest first, and `words` has the record of each run's word, by its number.
-use Rattle.std.specs.Prelude.{ℕ, ◌≡◌, ◌<◌, if◌then◌else◌, Bool, true, false, Option, Some, None, is_some, List, [], ◌∷◌, length, slice_index_or}
-use Rattle.std.specs.Option.{option_and_then, option_map_or}
+use Rattle.std.specs.{Prelude.{ℕ, ◌≡◌, ◌<◌, if◌then◌else◌, Bool, true, false, Option, Some, None, is_some, List, [], ◌∷◌, length, slice_index_or}, Option.{option_and_then, option_map_or}}
 use Rattle.tc_rules.specs.Prelude.{Run, UserVerdict, Comp, Entry, comp_of, started_on, last_run, is_active}
 use Rattle.tc_board.specs.declared.record.Record.{Record, TheVariants.Closed, TheVariants.Open, TheVariants.Unbegun}
 

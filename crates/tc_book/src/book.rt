@@ -1,6 +1,5 @@
 //! What the lock of a case holds.
-ghost use Rattle.std.specs.Prelude.{◌≡◌, ◌≤◌, ◌≢◌, ◌++◌, ◌∷◌, ℕ, List, [], Some, None, IfOk, OnErr, OnOk, IfSome, IfNone, OnSome, IsTrue, IsFalse, true, false, length, replicate};
-ghost use Rattle.std.specs.Arc.{arc_value};
+ghost use Rattle.std.specs.{Prelude.{◌≡◌, ◌≤◌, ◌≢◌, ◌++◌, ◌∷◌, ℕ, List, [], Some, None, IfOk, OnErr, OnOk, IfSome, IfNone, OnSome, IsTrue, IsFalse, true, false, length, replicate}, Arc.arc_value};
 ghost use Rattle.tc_entry.specs.declared.limits.TheConstants.{BEHAVIOURS};
 ghost use Rattle.tc_rules.specs.Prelude.{IsLegal, is_verdict_call};
 ghost use Rattle.tc_board.specs.Prelude.{new_keeper};
@@ -37,8 +36,7 @@ pub struct Book {
 
 impl Model for Book {
     ghost use Rattle.std.specs.Prelude.{reverse};
-    ghost use Rattle.tc_book.specs.OpenCase.{OpenCase};
-    ghost use Rattle.tc_book.specs.Inside.{IsKept};
+    ghost use Rattle.tc_book.specs.{OpenCase.OpenCase, Inside.IsKept};
 
     ghost Value = { OpenCase };
 

@@ -1,6 +1,5 @@
 //! The opening and the close of a case.
-ghost use Rattle.std.specs.Prelude.{◌≡◌, ◌<◌, ◌≤◌, ◌+◌, ◌-◌, ℕ, [], IfOk, Err, length, slice_index_or};
-ghost use Rattle.std.specs.{Arc.arc_value, Vec.vec_capacity, Vec.vec_len};
+ghost use Rattle.std.specs.{Prelude.{◌≡◌, ◌<◌, ◌≤◌, ◌+◌, ◌-◌, ℕ, [], IfOk, Err, length, slice_index_or}, Arc.arc_value, Vec.{vec_capacity, vec_len}};
 ghost use Rattle.tc_entry.specs.declared.limits.TheConstants.{BEHAVIOURS};
 ghost use Rattle.tc_board.specs.Prelude.{new_hand, new_hands, new_keeper};
 ghost use Rattle.tc_rules.specs.Prelude.{Run, IsOneHistory};

@@ -1,8 +1,7 @@
 //! The book under the lock. Whatever is added to its history is added to the log of its caller in the same call.
 ghost use Rattle.std.specs.Prelude.{◌≡◌, ◌≢◌, ◌≤◌, ◌+◌, ◌||◌, true, false, IfOk, OnOk, OnErr, IfErr, IfSome, IfNone, OnSome, IsTrue, IsFalse, Some, None, [], Err, All, is_none, not};
 ghost use Rattle.tc_rules.specs.Prelude.{IsLegal, IsOneHistory, is_ended, is_fault, is_ok, is_verdict_call};
-ghost use Rattle.tc_board.specs.Prelude.{answered};
-ghost use Rattle.tc_board.specs.declared.answer.Answer.TheVariants.{Met};
+ghost use Rattle.tc_board.specs.{Prelude.answered, declared.answer.Answer.TheVariants.Met};
 ghost use Rattle.tc_rules.specs.History as history;
 ghost use Rattle.tc_book.specs.{Closing.IsAgreed, Closing.IsMerged, Closing.IsOneEach, Closing.merged, Inside.IsAwaitedIn, Inside.StaysParked, Inside.goes_on, Inside.is_closed, Inside.wakes, Inside.with_own, OpenCase.AreOthers, OpenCase.NobodyWakes, OpenCase.has_leave, OpenCase.has_wake, OpenCase.open_past, OpenCase.places_after, OpenCase.reply_to, OpenCase.with_entry, OpenCase.without_leave, OpenCase.without_wake, Inside.Replies.suits};
 ghost use Rattle.tc_book.specs.OpenCase as cases;

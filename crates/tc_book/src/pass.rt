@@ -22,8 +22,7 @@ pub struct Pass {
 
 impl Model for Pass {
     ghost use Rattle.std.specs.Prelude.{◌<◌, ◌≤◌};
-    ghost use Rattle.tc_book.specs.Passes.{PassState};
-    ghost use Rattle.tc_book.specs.Inside.Waiting.{waiting_places};
+    ghost use Rattle.tc_book.specs.{Passes.PassState, Inside.Waiting.waiting_places};
 
     ghost Value = { PassState };
 

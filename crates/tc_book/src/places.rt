@@ -1,6 +1,5 @@
 //! The places in the history that are kept for each run.
-ghost use Rattle.std.specs.Prelude.{◌≡◌, ◌+◌, ◌≤◌, set};
-ghost use Rattle.std.specs.Vec.{vec_len};
+ghost use Rattle.std.specs.{Prelude.{◌≡◌, ◌+◌, ◌≤◌, set}, Vec.vec_len};
 ghost use Rattle.tc_entry.specs.declared.limits.TheConstants.{BEHAVIOURS};
 ghost use Rattle.tc_book.specs.{Inside.size_of, Inside.total, OpenCase.places_at};
 

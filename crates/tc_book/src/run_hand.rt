@@ -1,8 +1,6 @@
 //! The hand of a run, with an owner of its board.
-ghost use Rattle.std.specs.Prelude.{◌≡◌, ◌≢◌, [], true, MatchBool};
-ghost use Rattle.std.specs.Arc.{arc_value};
-ghost use Rattle.tc_board.specs.Prelude.{answered};
-ghost use Rattle.tc_board.specs.declared.answer.Answer.TheVariants.{Met};
+ghost use Rattle.std.specs.{Prelude.{◌≡◌, ◌≢◌, [], true, MatchBool}, Arc.arc_value};
+ghost use Rattle.tc_board.specs.{Prelude.answered, declared.answer.Answer.TheVariants.Met};
 ghost use Rattle.tc_rules.specs.Prelude.{Op};
 ghost use Rattle.tc_book.specs.{Inside.Says, Inside.Replies.suits};
 
@@ -20,8 +18,7 @@ pub(crate) struct RunHand {
 }
 
 impl Model for RunHand {
-    ghost use Rattle.std.specs.Prelude.{◌≡◌};
-    ghost use Rattle.std.specs.Arc.{arc_value};
+    ghost use Rattle.std.specs.{Prelude.◌≡◌, Arc.arc_value};
     ghost use Rattle.tc_board.specs.Prelude.{HandView};
 
     ghost Value = { HandView };

@@ -1,9 +1,7 @@
 //! The lock and the conditions of a case: each entry but those of verdict calls is added in one hold.
-ghost use Rattle.std.specs.Prelude.{◌≡◌, ◌≢◌, ◌≤◌, ◌<◌, ◌+◌, ◌||◌, true, false, IfOk, OnOk, OnErr, IfErr, IfSome, IfNone, IsTrue, Err, All, is_none, length};
-ghost use Rattle.std.specs.Sync.Mutex.{mutex_guard_value};
+ghost use Rattle.std.specs.{Prelude.{◌≡◌, ◌≢◌, ◌≤◌, ◌<◌, ◌+◌, ◌||◌, true, false, IfOk, OnOk, OnErr, IfErr, IfSome, IfNone, IsTrue, Err, All, is_none, length}, Sync.Mutex.mutex_guard_value};
 ghost use Rattle.tc_rules.specs.Prelude.{IsOneHistory, IsLegal, is_ended, is_fault, is_ok, is_verdict_call};
-ghost use Rattle.tc_board.specs.Prelude.{answered};
-ghost use Rattle.tc_board.specs.declared.answer.Answer.TheVariants.{Met};
+ghost use Rattle.tc_board.specs.{Prelude.answered, declared.answer.Answer.TheVariants.Met};
 ghost use Rattle.tc_book.specs.{Closing.IsAgreed, Closing.IsMerged, Closing.IsOneEach, Closing.IsWhole, Closing.merged, Inside.Waiting.waiting_places, Inside.goes_on, Inside.is_closed, Inside.with_own, OpenCase.AreOthers, OpenCase.has_leave, OpenCase.open_past, Inside.Replies.suits};
 
 use crate::book::Book;

@@ -1,6 +1,5 @@
 //! The ticket of a run that is not yet started.
-ghost use Rattle.std.specs.Prelude.{◌≡◌, ◌<◌, [], None, IfOk, IfErr};
-ghost use Rattle.std.specs.Vec.{vec_len, vec_capacity};
+ghost use Rattle.std.specs.{Prelude.{◌≡◌, ◌<◌, [], None, IfOk, IfErr}, Vec.{vec_len, vec_capacity}};
 ghost use Rattle.tc_book.specs.Inside.Waiting.{waiting_places};
 
 use crate::left::Left;
@@ -23,11 +22,9 @@ pub struct Ticket {
 }
 
 impl Model for Ticket {
-    ghost use Rattle.std.specs.Prelude.{◌≡◌, ◌<◌, []};
-    ghost use Rattle.std.specs.Vec.{vec_len, vec_capacity};
+    ghost use Rattle.std.specs.{Prelude.{◌≡◌, ◌<◌, []}, Vec.{vec_len, vec_capacity}};
     ghost use Rattle.tc_rules.specs.Prelude.{Run};
-    ghost use Rattle.tc_book.specs.Inside.{IsNewHand};
-    ghost use Rattle.tc_book.specs.Inside.Waiting.{waiting_places};
+    ghost use Rattle.tc_book.specs.{Inside.IsNewHand, Inside.Waiting.waiting_places};
 
     ghost Value = { Run };
 

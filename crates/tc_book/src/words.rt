@@ -1,9 +1,7 @@
 //! The keeper of a board, next to the component table of its case.
-ghost use Rattle.std.specs.Prelude.{◌≡◌, ◌<◌, ◌≤◌, ◌+◌, [], IfOk, true, drop, set, length};
-ghost use Rattle.std.specs.Arc.{arc_value};
+ghost use Rattle.std.specs.{Prelude.{◌≡◌, ◌<◌, ◌≤◌, ◌+◌, [], IfOk, true, drop, set, length}, Arc.arc_value};
 ghost use Rattle.tc_rules.specs.Prelude.{past_of};
-ghost use Rattle.tc_board.specs.Prelude.{new_keeper};
-ghost use Rattle.tc_board.specs.declared.record.Record.TheVariants.{Unbegun, Open as IsOpen, Closed as IsClosed};
+ghost use Rattle.tc_board.specs.{Prelude.new_keeper, declared.record.Record.TheVariants.{Unbegun, Open as IsOpen, Closed as IsClosed}};
 ghost use Rattle.tc_rules.specs.Laws as laws;
 ghost use Rattle.tc_book.specs.{Inside.Words.CanBegin, Inside.Words.WordsLag, Inside.Words.opening, Inside.Words.with_start, Words.StayClosed, Words.WordsAgree};
 ghost use Rattle.tc_book.specs.Words as rules;
@@ -26,8 +24,7 @@ pub struct Words {
 }
 
 impl Model for Words {
-    ghost use Rattle.std.specs.Prelude.{◌≡◌, List};
-    ghost use Rattle.std.specs.Arc.{arc_value};
+    ghost use Rattle.std.specs.{Prelude.{◌≡◌, List}, Arc.arc_value};
     ghost use Rattle.tc_board.specs.declared.record.Record.{Record};
 
     ghost Value = { List Record };

@@ -1,8 +1,7 @@
 -- The options among the words, as the matches hold them.
 use Rattle.std.proofs.Common.{ℕ, ◌≡◌, ◌∙◌, ◌+◌, ◌<◌, ◌++◌, ◌∷◌, refl, All, ap, get_or, length, map, subst, sym, take, Option, Some, None, List, []}
 use Rattle.std.proofs.lemmas.List.{Elements.All-push, get_or-map, length-map, map-append, take_more}
-use Rattle.std.proofs.Math.Bool.{or-false}
-use Rattle.std.specs.Prelude.{find, option_map, option_and_then, unwrap_or, ◌||◌, Bool, false, is_none, true}
+use Rattle.std.specs.Prelude.{find, option_map, option_and_then, unwrap_or, ◌||◌, Bool, false, if◌then◌else◌, is_none, true}
 use Rattle.std.specs.{Borrow.Bor, Str.bytes_eq}
 use Rattle.clap.specs.Facts.{Entry}
 use Rattle.clap.specs.Matches.{first_value, matched_of, raw_values}
@@ -10,8 +9,9 @@ use Rattle.clap.specs.Walk.{Row, Text, first_of, row_of, rows_of, texts}
 use Rattle.clap.specs.declared.parser.matches.Found.{Found}
 use Rattle.clap.specs.declared.parser.matches.MatchedArg.{MatchedArg}
 use Rattle.clap.proofs.WalkLemmas.{find_row, first_value-rows, raw_values-rows}
+use Rattle.clap.specs.declared.error.kind.ErrorKind.TheVariants.{ArgumentConflict, MissingRequiredArgument}
 use Rattle.tc_entry.specs.Prelude.{IsPattern}
-use Rattle.tc_command.specs.{Asked.lacks_junit, Asked.lacks_option, Asked.lacks_script, Asked.option_values, Asked.report_form_of, Inside.lacks_failed_of, Inside.lacks_form, Inside.lacks_script_of, declared.command.Subcommand.Subcommand}
+use Rattle.tc_command.specs.{Asked.lacks_script, Asked.option_faults, Asked.option_values, Asked.report_form_of, declared.command.Subcommand.Subcommand}
 
 -- the source of an option's value, by its row
 pub source_of : (f : Found) (id : Text) → option_and_then (λ (a : MatchedArg). a.source) (matched_of f id)
@@ -51,20 +51,12 @@ names_more words i d within so one =
 pub name_at : (words : List (Bor Text)) (i : ℕ) (d : Bor Text) → i < length words → All IsPattern (map (λ w. w.now) words) → IsPattern (get_or words i d).now
 name_at words i d within all = subst IsPattern (get_or-map (λ (w : Bor Text). w.now) words i d d.now within) (all i d.now (subst (λ n. i < n) (sym (length-map words (λ (w : Bor Text). w.now))) within))
 
--- which option is lacking, whatever the subcommand is
-pub lacks_rules : (s : Subcommand) (rows : List Row) → lacks_option s rows ≡ lacks_script_of s rows || (lacks_form s rows || (lacks_junit rows || lacks_failed_of s rows))
-lacks_rules Subcommand.Run rows = refl
-lacks_rules Subcommand.Serve rows = sym (or-false (lacks_junit rows))
-lacks_rules Subcommand.Explore rows = refl
-lacks_rules Subcommand.Check rows = ap (λ b. lacks_script rows || b) (sym (or-false (lacks_junit rows)))
-lacks_rules Subcommand.Report rows = ap (λ b. lacks_script rows || (is_none (report_form_of rows) || b)) (sym (or-false (lacks_junit rows)))
-lacks_rules Subcommand.Replay rows = sym (or-false (lacks_junit rows))
-
--- a report that lacks no option has a form
-pub has_form : (s : Subcommand) (rows : List Row) → s ≡ Subcommand.Report → lacks_option s rows ≡ false → is_none (report_form_of rows) ≡ false
-has_form s rows is taken = go (lacks_script rows) (is_none (report_form_of rows)) (lacks_junit rows) (subst (λ t. lacks_option t rows ≡ false) is taken)
+-- a report with no fault of its options has a form
+pub has_form : (s : Subcommand) (rows : List Row) → s ≡ Subcommand.Report → option_faults (s, rows) ≡ [] → is_none (report_form_of rows) ≡ false
+has_form s rows is none = go _ (lacks_script Subcommand.Report rows) (is_none (report_form_of rows)) _ (subst (λ t. option_faults (t, rows) ≡ []) is none)
   where
-    go : (a b d : Bool) → (a || (b || d)) ≡ false → b ≡ false
-    go true b d h = absurd (cc h)
-    go false true d h = absurd (cc h)
-    go false false d h = refl
+    go : (apart a b d : Bool) → (if apart then ArgumentConflict ∷ [] else (if a || (b || d) then MissingRequiredArgument ∷ [] else [])) ≡ [] → b ≡ false
+    go true a b d h = absurd cc
+    go false true b d h = absurd cc
+    go false false true d h = absurd cc
+    go false false false d h = refl

@@ -31,14 +31,8 @@ module _ (at : Bool) (found : Kinds) (line given : Subcommand × List Row) (none
   pub refusal_read : (refusal : Refusal) (refused : Refused) → IsRefusedBy line refusal → IsToldBy refusal refused → IsReadAs at found given (Err refused)
   refusal_read (Refusal.Conflict first second) (Refused.Line e) why told = subst (λ k. HasKind k e) (sym (faults_are ∙ why)) (inr (inl told))
   refusal_read (Refusal.Conflict first second) (Refused.Word f) why told = absurd told
-  refusal_read Refusal.NoForm (Refused.Line e) why told = subst (λ k. HasKind k e) (sym (faults_are ∙ why)) (inr (inl told))
-  refusal_read Refusal.NoForm (Refused.Word f) why told = absurd told
-  refusal_read Refusal.NoScript (Refused.Line e) why told = subst (λ k. HasKind k e) (sym (faults_are ∙ why)) (inr (inl told))
-  refusal_read Refusal.NoScript (Refused.Word f) why told = absurd told
-  refusal_read Refusal.NoJunit (Refused.Line e) why told = subst (λ k. HasKind k e) (sym (faults_are ∙ why)) (inr (inl told))
-  refusal_read Refusal.NoJunit (Refused.Word f) why told = absurd told
-  refusal_read Refusal.NoFailed (Refused.Line e) why told = subst (λ k. HasKind k e) (sym (faults_are ∙ why)) (inr (inl told))
-  refusal_read Refusal.NoFailed (Refused.Word f) why told = absurd told
+  refusal_read (Refusal.Lack lack) (Refused.Line e) why told = subst (λ k. HasKind k e) (sym (faults_are ∙ why)) (inr (inl told))
+  refusal_read (Refusal.Lack lack) (Refused.Word f) why told = absurd told
   refusal_read (Refusal.Word fault) (Refused.Line e) why told = absurd told
   refusal_read (Refusal.Word fault) (Refused.Word f) why told = (faults_are ∙ why.0, subst (λ g. HasBadWord given.1 g) (sym told) (subst (λ l. HasBadWord l.1 fault) line_is why.1))
   refusal_read Refusal.NoMemory refused why told = absurd told

@@ -7,7 +7,7 @@ use Rattle.clap.specs.declared.error.kind.ErrorKind.TheVariants.{ArgumentConflic
 use Rattle.clap.specs.declared.parser.matches.ValueSource.{ValueSource}
 use Rattle.clap.specs.declared.parser.matches.ValueSource.TheVariants.{CommandLine}
 use Rattle.tc_entry.specs.Prelude.{IsName, IsPattern}
-use Rattle.tc_command.specs.{Command.IsGood, Command.IsRuleOf, Command.IsShardOf, Command.IsStatesOf, Command.cases_app, Command.ttrun, declared.command.Subcommand.Subcommand, declared.read.Refused.Refused, declared.read.TheConstants.CHECK_APART, declared.read.TheConstants.EXPLORE_APART, declared.read.TheConstants.OTHERS_APART, declared.read.TheConstants.REPORT_APART, declared.read.TheConstants.RUN_APART, declared.task.Choice.Choice, declared.task.ExploreOptions.ExploreOptions, declared.task.Form.Form, declared.task.ReportForm.ReportForm, declared.task.RunOptions.RunOptions, declared.task.Task.Task, declared.word.WordFault.WordFault}
+use Rattle.tc_command.specs.{Command.IsGood, Command.IsRuleOf, Command.IsShardOf, Command.IsStatesOf, Command.cases_app, Command.ttrun, declared.command.Subcommand.Subcommand, declared.read.Refused.Refused, declared.read.TheConstants.APART, declared.read.TheConstants.HISTORY_NEEDS, declared.read.TheConstants.SCRIPT_NEEDS, declared.task.Choice.Choice, declared.task.ExploreOptions.ExploreOptions, declared.task.Form.Form, declared.task.ReportForm.ReportForm, declared.task.RunOptions.RunOptions, declared.task.Task.Task, declared.word.WordFault.WordFault}
 
 -- the value comes from the arguments, and is no default
 abbrev pub is_from_words : Option ValueSource → Bool
@@ -36,13 +36,11 @@ abbrev pub command_line_of : Option (Text × List Row) → Subcommand × List Ro
 command_line_of None = (Subcommand.Run, [])
 command_line_of (Some p) = (subcommand_named p.0, p.1)
 
--- pairs of options of this subcommand that exclude each other
-abbrev pub apart : Subcommand → List (Text × Text)
-apart Subcommand.Run = map (λ p. (p.0.now, p.1.now)) RUN_APART
-apart Subcommand.Explore = map (λ p. (p.0.now, p.1.now)) EXPLORE_APART
-apart Subcommand.Report = map (λ p. (p.0.now, p.1.now)) REPORT_APART
-apart Subcommand.Check = map (λ p. (p.0.now, p.1.now)) CHECK_APART
-apart subcommand = map (λ p. (p.0.now, p.1.now)) OTHERS_APART
+-- the subcommand reads histories, which may have a script before them
+abbrev pub reads_histories : Subcommand → Bool
+reads_histories Subcommand.Check = true
+reads_histories Subcommand.Report = true
+reads_histories subcommand = false
 
 -- the form that the options of `run` ask for
 abbrev pub form_of : List Row → Form
@@ -60,30 +58,32 @@ report_form_of rows =
     else (if is_given rows (codes "html") then Some ReportForm.Html
     else (if is_given rows (codes "summary") then Some ReportForm.Summary else None)))
 
--- a shard is chosen, or what is on a page, and there is no script
-abbrev pub lacks_script : List Row → Bool
-lacks_script rows = (is_given rows (codes "shard") || (is_given rows (codes "only") && is_given rows (codes "html"))) && not (is_given rows (codes "script"))
+-- the first option of the pair is given, and the second is, or is not
+abbrev pub gives_pair : Bool → List Row → Text × Text → Bool
+gives_pair with rows p = is_given rows p.0 && (if with then is_given rows p.1 else not (is_given rows p.1))
 
--- a suite is named, and there is no report of it
-abbrev pub lacks_junit : List Row → Bool
-lacks_junit rows = is_given rows (codes "suite") && not (is_given rows (codes "junit"))
+-- a shard of histories is chosen, or what is on a page, and there is no script
+abbrev pub lacks_script : Subcommand → List Row → Bool
+lacks_script subcommand rows =
+    reads_histories subcommand && ((is_given rows (codes "shard") || (is_given rows (codes "only") && is_given rows (codes "html"))) && not (is_given rows (codes "script")))
 
--- only the last blocks count, and nothing is left out by them
-abbrev pub lacks_failed : List Row → Bool
-lacks_failed rows = is_given rows (codes "last") && not (is_given rows (codes "failed"))
+-- a form is needed, and none is given
+abbrev pub lacks_form : Subcommand → List Row → Bool
+lacks_form Subcommand.Report rows = is_none (report_form_of rows)
+lacks_form subcommand rows = false
 
--- options are given without one that they need: their script, a form of the report, the report that a suite is of, or --failed
+-- the pairs of which the first option needs the second
+abbrev pub needs : Subcommand → List (Text × Text)
+needs subcommand = map (λ p. (p.0.now, p.1.now)) (if reads_histories subcommand then HISTORY_NEEDS else SCRIPT_NEEDS)
+
+-- options are given without one that they need
 abbrev pub lacks_option : Subcommand → List Row → Bool
-lacks_option Subcommand.Check rows = lacks_script rows || lacks_junit rows
-lacks_option Subcommand.Report rows = lacks_script rows || (is_none (report_form_of rows) || lacks_junit rows)
-lacks_option Subcommand.Run rows = lacks_junit rows || lacks_failed rows
-lacks_option Subcommand.Explore rows = lacks_junit rows || lacks_failed rows
-lacks_option subcommand rows = lacks_junit rows
+lacks_option subcommand rows = lacks_script subcommand rows || (lacks_form subcommand rows || list_any (gives_pair false rows) (needs subcommand))
 
 -- why options are refused; none if they are taken
 abbrev pub option_faults : Subcommand × List Row → Kinds
 option_faults line =
-    if list_any (λ p. is_given line.1 p.0 && is_given line.1 p.1) (apart line.0) then ArgumentConflict ∷ []
+    if list_any (gives_pair true line.1) (map (λ p. (p.0.now, p.1.now)) APART) then ArgumentConflict ∷ []
     else (if lacks_option line.0 line.1 then MissingRequiredArgument ∷ [] else [])
 
 -- faults are explained: if that is asked for, and at a terminal unless it is declined

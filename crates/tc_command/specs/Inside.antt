@@ -1,55 +1,17 @@
 -- What only the reading of the arguments needs: no public clause rests on a word of this file.
-use Rattle.std.specs.Borrow.{Bor}
-use Rattle.std.specs.Prelude.{◌≡◌, ◌∷◌, ◌&&◌, [], Bool, List, codes, false, is_none, true}
+use Rattle.std.specs.Prelude.{◌≡◌, ◌∷◌, [], Bool, List, codes, false}
 use Rattle.clap.specs.Words.{App, Row, Rule, Text, app_of, kind_of, new_app, with_rule, with_subcommand}
 use Rattle.clap.specs.declared.builder.command.Command.{Command}
 use Rattle.clap.specs.declared.builder.command.Command.TheViews.{out-Command}
 use Rattle.clap.specs.declared.error.kind.ErrorKind.TheVariants.{ArgumentConflict, MissingRequiredArgument}
-use Rattle.tc_command.specs.{Asked.Asks, Asked.HasBadWord, Asked.is_given, Asked.lacks_failed, Asked.lacks_script, Asked.option_faults, Asked.report_form_of, Command.check, Command.explore, Command.flag_rule, Command.replay, Command.report, Command.run, Command.word_rule, Command.words_rule, declared.command.OptionRow.OptionRow, declared.command.Subcommand.Subcommand, declared.command.Takes.Takes, declared.read.Refused.Refused, declared.refusal.Refusal.Refusal, declared.task.Task.Task, declared.word.WordFault.WordFault}
-
--- a script may come before histories, and there is none though one is needed
-abbrev pub lacks_script_of : Subcommand → List Row → Bool
-lacks_script_of Subcommand.Check rows = lacks_script rows
-lacks_script_of Subcommand.Report rows = lacks_script rows
-lacks_script_of subcommand rows = false
-
--- a form is needed, and none is given
-abbrev pub lacks_form : Subcommand → List Row → Bool
-lacks_form Subcommand.Report rows = is_none (report_form_of rows)
-lacks_form subcommand rows = false
-
--- an option is given to a run without the one that it needs
-abbrev pub lacks_failed_of : Subcommand → List Row → Bool
-lacks_failed_of Subcommand.Run rows = lacks_failed rows
-lacks_failed_of Subcommand.Explore rows = lacks_failed rows
-lacks_failed_of subcommand rows = false
+use Rattle.tc_command.specs.{Asked.Asks, Asked.HasBadWord, Asked.option_faults, Command.check, Command.explore, Command.flag_rule, Command.replay, Command.report, Command.run, Command.word_rule, Command.words_rule, declared.command.OptionRow.OptionRow, declared.command.Subcommand.Subcommand, declared.command.Takes.Takes, declared.read.Refused.Refused, declared.refusal.Refusal.Refusal, declared.task.Task.Task, declared.word.WordFault.WordFault}
 
 -- options are refused for this reason; if memory runs out, nothing is said about them
 abbrev pub IsRefusedBy : Subcommand × List Row → Refusal → Type 0
 IsRefusedBy line (Refusal.Conflict first second) = option_faults line ≡ ArgumentConflict ∷ []
-IsRefusedBy line Refusal.NoForm = option_faults line ≡ MissingRequiredArgument ∷ []
-IsRefusedBy line Refusal.NoScript = option_faults line ≡ MissingRequiredArgument ∷ []
-IsRefusedBy line Refusal.NoJunit = option_faults line ≡ MissingRequiredArgument ∷ []
-IsRefusedBy line Refusal.NoFailed = option_faults line ≡ MissingRequiredArgument ∷ []
+IsRefusedBy line (Refusal.Lack lack) = option_faults line ≡ MissingRequiredArgument ∷ []
 IsRefusedBy line (Refusal.Word fault) = (option_faults line ≡ []) × HasBadWord line.1 fault
 IsRefusedBy line Refusal.NoMemory = Unit {0}
-
--- both options of this pair are given
-abbrev pub gives_both : List Row → Bor Text × Bor Text → Bool
-gives_both rows p = is_given rows p.0.now && is_given rows p.1.now
-
--- two options clash, if some do
-abbrev pub IsClash : Bool → Refusal → Type 0
-IsClash some (Refusal.Conflict first second) = some ≡ true
-IsClash some refusal = ⊥
-
--- options are given without one that they need, if some are
-abbrev pub IsLack : Bool → Refusal → Type 0
-IsLack some Refusal.NoForm = some ≡ true
-IsLack some Refusal.NoScript = some ≡ true
-IsLack some Refusal.NoJunit = some ≡ true
-IsLack some Refusal.NoFailed = some ≡ true
-IsLack some refusal = ⊥
 
 -- a value is refused for this reason, or memory ran out
 abbrev pub IsBadWord : Type 0 → WordFault → Refusal → Type 0
@@ -70,10 +32,7 @@ IsTaken at_terminal line task = (option_faults line ≡ []) × Asks at_terminal 
 -- how the refusal is said: by an error of its kind, or as a value that names nothing
 abbrev pub IsToldBy : Refusal → Refused → Type 0
 IsToldBy (Refusal.Conflict first second) (Refused.Line e) = kind_of e ≡ ArgumentConflict
-IsToldBy Refusal.NoForm (Refused.Line e) = kind_of e ≡ MissingRequiredArgument
-IsToldBy Refusal.NoScript (Refused.Line e) = kind_of e ≡ MissingRequiredArgument
-IsToldBy Refusal.NoJunit (Refused.Line e) = kind_of e ≡ MissingRequiredArgument
-IsToldBy Refusal.NoFailed (Refused.Line e) = kind_of e ≡ MissingRequiredArgument
+IsToldBy (Refusal.Lack lack) (Refused.Line e) = kind_of e ≡ MissingRequiredArgument
 IsToldBy (Refusal.Word fault) (Refused.Word f) = f ≡ fault
 IsToldBy refusal refused = ⊥
 

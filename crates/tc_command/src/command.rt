@@ -20,7 +20,8 @@ No argument at all means run.
 Status of run, serve, replay and report: 0 for none and pass, 1 for inconc and
 fail, 2 for error.
 Status of check: 0 if each history is legal.
-Status of explore: 0 if each test case has one verdict, 1 if one has several.
+Status of explore: 0 if each test case has one verdict, 1 if one has several,
+2 if one has no verdict but error.
 3 says that a test case was aborted, a history is not legal, or a search met
 its limit; or that the arguments or the input were refused, memory ran out, or
 standard input or output failed: standard error says which.";
@@ -51,8 +52,8 @@ Standard input is a script: ttrun explore < FILE. Standard output is a line
 for each test case: its name, the verdicts found, and how the search ended.
 N is from 1 to 1000000, and 100000 without --states. --only, --shard and
 --failed choose test cases as those of run do, with --last too.
-Status: 0 if each test case has one verdict, 1 if one has several, 3 if a
-search met its limit, or for a refusal.",
+Status: 0 if each test case has one verdict, 1 if one has several, 2 if one
+has no verdict but error, 3 if a search met its limit, or for a refusal.",
 );
 
 // What the help says of `report`, and at its end.

@@ -1,12 +1,12 @@
 //! The arguments, and the task that they ask for.
-ghost use Rattle.std.specs.Prelude.{◌≡◌, ◌&&◌, ◌∷◌, All, IfOk, IfErr, IfSome, List, OnOk, Some, codes, false, map, option_copied, string_bytes, true};
+ghost use Rattle.std.specs.Prelude.{◌≡◌, ◌∷◌, [], All, IfOk, IfErr, IfSome, List, OnOk, Some, codes, false, is_err, is_some, map, option_copied, string_bytes, true};
 ghost use Rattle.std.specs.List.{list_any};
 ghost use Rattle.clap.specs.Words.{FailsBy, Row, app_of, fault_of, first_of, found_of, is_simple, is_simple_and_free, rows_of, subcommand_of, subcommand_rows_of};
 ghost use Rattle.tc_entry.specs.Prelude.{IsName, IsPattern};
-ghost use Rattle.tc_command.specs.{Asked.Asks, Asked.AsksRun, Asked.Chooses, Asked.IsReading, Asked.apart as spec_apart, Asked.command_line_of, Asked.form_of, Asked.is_explained, Asked.is_given, Asked.lacks_option, Asked.option_values, Asked.report_form_of, Asked.subcommand_named as spec_named, Command.IsGood, Command.IsShardOf, Command.ttrun, Inside.IsBadWord, Inside.IsClash, Inside.IsLack, Inside.IsRefusedBy, Inside.IsTaken, Inside.IsWordRefused, Inside.gives_both, Inside.lacks_failed_of as spec_lacks_failed, Inside.lacks_form as spec_lacks_form, Inside.lacks_script_of as spec_lacks, declared.command.Subcommand.TheVariants.Check, declared.command.Subcommand.TheVariants.Explore, declared.command.Subcommand.TheVariants.Report, declared.command.Subcommand.TheVariants.Run, declared.read.Refused.Refused};
+ghost use Rattle.tc_command.specs.{Asked.Asks, Asked.AsksRun, Asked.Chooses, Asked.IsReading, Asked.command_line_of, Asked.form_of, Asked.gives_pair, Asked.is_explained, Asked.is_given, Asked.lacks_form as spec_lacks_form, Asked.lacks_option, Asked.lacks_script as spec_lacks_script, Asked.needs as spec_needs, Asked.option_faults, Asked.option_values, Asked.report_form_of, Asked.subcommand_named as spec_named, Command.IsGood, Command.IsShardOf, Command.ttrun, Inside.IsBadWord, Inside.IsRefusedBy, Inside.IsTaken, Inside.IsWordRefused, declared.command.Subcommand.TheVariants.Check, declared.command.Subcommand.TheVariants.Explore, declared.command.Subcommand.TheVariants.Report, declared.command.Subcommand.TheVariants.Run, declared.read.Refused.Refused};
 
 use crate::command::{Subcommand, command};
-use crate::refusal::{Refusal, told_of};
+use crate::refusal::{Lack, Refusal, told_of};
 use crate::stray::with_tip;
 use crate::task::{Choice, ExploreOptions, Form, ReportForm, RunOptions, Task};
 use crate::word::{self, WordFault};
@@ -32,9 +32,9 @@ impl From<Error> for Refused {
     }
 }
 
-// Pairs of options that exclude each other, one table for each subcommand; the definition of what is refused has them
-// from here.
-const RUN_APART: [(&str, &str); 15] = [
+// Pairs of options that exclude each other. A subcommand that lacks one of them is never given both. The definition of
+// what is refused has this table and the next two from here.
+const APART: [(&str, &str); 25] = [
     ("explain", "no-explain"),
     ("csv", "history"),
     ("csv", "evidence"),
@@ -42,6 +42,16 @@ const RUN_APART: [(&str, &str); 15] = [
     ("history", "evidence"),
     ("history", "junit"),
     ("evidence", "junit"),
+    ("csv", "html"),
+    ("csv", "summary"),
+    ("junit", "html"),
+    ("junit", "summary"),
+    ("html", "summary"),
+    ("html", "failed"),
+    ("html", "last"),
+    ("script", "failed"),
+    ("history", "details"),
+    ("history", "locals"),
     ("list", "csv"),
     ("list", "history"),
     ("list", "evidence"),
@@ -52,42 +62,11 @@ const RUN_APART: [(&str, &str); 15] = [
     ("junit", "live"),
 ];
 
-const EXPLORE_APART: [(&str, &str); 3] = [
-    ("explain", "no-explain"),
-    ("history", "details"),
-    ("history", "locals"),
-];
+// Pairs of which the first option needs the second, where histories are read without a script.
+const HISTORY_NEEDS: [(&str, &str); 1] = [("suite", "junit")];
 
-const REPORT_APART: [(&str, &str); 10] = [
-    ("explain", "no-explain"),
-    ("csv", "junit"),
-    ("csv", "html"),
-    ("csv", "summary"),
-    ("junit", "html"),
-    ("junit", "summary"),
-    ("html", "summary"),
-    ("html", "failed"),
-    ("html", "last"),
-    ("script", "failed"),
-];
-
-const CHECK_APART: [(&str, &str); 2] = [("explain", "no-explain"), ("script", "failed")];
-
-const OTHERS_APART: [(&str, &str); 1] = [("explain", "no-explain")];
-
-// The pairs of this subcommand.
-fn apart(subcommand: Subcommand) -> &'static [(&'static str, &'static str)]
-    ensures { (rows : List Row) → list_any (gives_both rows) result.now
-        ≡ list_any (λ p. is_given rows p.0 && is_given rows p.1) (spec_apart subcommand) }
-{
-    match subcommand {
-        Subcommand::Run => &RUN_APART,
-        Subcommand::Explore => &EXPLORE_APART,
-        Subcommand::Report => &REPORT_APART,
-        Subcommand::Check => &CHECK_APART,
-        Subcommand::Replay | Subcommand::Serve => &OTHERS_APART,
-    }
-}
+// Such pairs of all other subcommands.
+const SCRIPT_NEEDS: [(&str, &str); 2] = [("suite", "junit"), ("last", "failed")];
 
 // Whether the arguments have this option.
 #[tactic(auto, using(crate::proofs::Options::source_of))]
@@ -97,20 +76,20 @@ fn has_option(matches: &ArgMatches<'_>, id: &str) -> bool
     matches!(matches.value_source(id), Some(ValueSource::CommandLine))
 }
 
-// That of no pair of options both are given.
-fn refuse_both(
+// The first of these pairs whose first option is given, with the second or without it.
+fn given_pair(
     options: &ArgMatches<'_>,
     pairs: &[(&'static str, &'static str)],
-) -> Result<(), Refusal>
-    ensures none { OnOk result (list_any (gives_both (rows_of (found_of options.now))) pairs.now ≡ false) }
-    ensures some { IfErr result (IsClash (list_any (gives_both (rows_of (found_of options.now))) pairs.now)) }
+    with: bool,
+) -> Option<(&'static str, &'static str)>
+    ensures { is_some result ≡ list_any (λ p. gives_pair with (rows_of (found_of options.now)) (p.0.now, p.1.now)) pairs.now }
 {
     for (first, second) in pairs {
-        if has_option(options, first) && has_option(options, second) {
-            return Err(Refusal::Conflict(first, second));
+        if has_option(options, first) && has_option(options, second) == with {
+            return Some((first, second));
         }
     }
-    Ok(())
+    None
 }
 
 // Whether faults are explained: if that is asked for, and at a terminal unless it is declined.
@@ -318,7 +297,7 @@ fn check_task(alloc: Global, options: &ArgMatches<'_>, at_terminal: bool) -> Res
 
 // Whether a shard is chosen, or what is on a page, and there is no script.
 fn lacks_script(subcommand: Subcommand, options: &ArgMatches<'_>) -> bool
-    ensures { result ≡ spec_lacks subcommand (rows_of (found_of options.now)) }
+    ensures { result ≡ spec_lacks_script subcommand (rows_of (found_of options.now)) }
 {
     match subcommand {
         Subcommand::Check | Subcommand::Report => {
@@ -345,37 +324,42 @@ fn lacks_form(subcommand: Subcommand, options: &ArgMatches<'_>) -> bool
     }
 }
 
-// Whether an option is given to a run without the one that it needs.
-fn lacks_failed(subcommand: Subcommand, options: &ArgMatches<'_>) -> bool
-    ensures { result ≡ spec_lacks_failed subcommand (rows_of (found_of options.now)) }
+// The pairs of this subcommand of which the first option needs the second.
+fn needs(subcommand: Subcommand) -> &'static [(&'static str, &'static str)]
+    ensures { (rows : List Row) → list_any (λ p. gives_pair false rows (p.0.now, p.1.now)) result.now
+        ≡ list_any (gives_pair false rows) (spec_needs subcommand) }
 {
     match subcommand {
-        Subcommand::Run | Subcommand::Explore => {
-            has_option(options, "last") && !has_option(options, "failed")
-        }
-        _ => false,
+        Subcommand::Check | Subcommand::Report => &HISTORY_NEEDS,
+        _ => &SCRIPT_NEEDS,
     }
 }
 
 // Refuses options without one that they need.
-#[tactic(auto, using(crate::proofs::Options::lacks_rules))]
-fn refuse_lack(subcommand: Subcommand, options: &ArgMatches<'_>) -> Result<(), Refusal>
-    ensures none { OnOk result (lacks_option subcommand (rows_of (found_of options.now)) ≡ false) }
-    ensures some { IfErr result (IsLack (lacks_option subcommand (rows_of (found_of options.now)))) }
+fn refuse_lack(subcommand: Subcommand, options: &ArgMatches<'_>) -> Result<(), Lack>
+    ensures { is_err result ≡ lacks_option subcommand (rows_of (found_of options.now)) }
 {
     if lacks_script(subcommand, options) {
-        return Err(Refusal::NoScript);
+        return Err(Lack::Script);
     }
     if lacks_form(subcommand, options) {
-        return Err(Refusal::NoForm);
+        return Err(Lack::Form);
     }
-    if has_option(options, "suite") && !has_option(options, "junit") {
-        return Err(Refusal::NoJunit);
+    match given_pair(options, needs(subcommand), false) {
+        Some((first, second)) => Err(Lack::Option(first, second)),
+        None => Ok(()),
     }
-    if lacks_failed(subcommand, options) {
-        return Err(Refusal::NoFailed);
+}
+
+// Refuses options that exclude each other, or lack one that they need.
+fn refuse(subcommand: Subcommand, options: &ArgMatches<'_>) -> Result<(), Refusal>
+    ensures none { OnOk result (option_faults (subcommand, rows_of (found_of options.now)) ≡ []) }
+    ensures some { IfErr result (IsRefusedBy (subcommand, rows_of (found_of options.now))) }
+{
+    match given_pair(options, &APART, true) {
+        Some((first, second)) => Err(Refusal::Conflict(first, second)),
+        None => Ok(refuse_lack(subcommand, options)?),
     }
-    Ok(())
 }
 
 /// What a subcommand with its options asks for.
@@ -389,8 +373,7 @@ pub(crate) fn subcommand_task(
     ensures taken { IfOk result (IsTaken at_terminal (subcommand, rows_of (found_of options.now))) }
     ensures refused { IfErr result (IsRefusedBy (subcommand, rows_of (found_of options.now))) }
 {
-    refuse_both(options, apart(subcommand))?;
-    refuse_lack(subcommand, options)?;
+    refuse(subcommand, options)?;
     match subcommand {
         Subcommand::Run => run_task(alloc, options, at_terminal),
         Subcommand::Explore => explore_task(alloc, options, at_terminal),

@@ -11,19 +11,24 @@ use clap::error::ErrorKind;
 use clap::{Command, Error};
 use std::alloc::{AllocError, AllocFailed, Global};
 
+/// What the given options lack.
+#[derive(Clone, Copy, Debug, PartialEq, Eq)]
+pub(crate) enum Lack {
+    /// A form of `report`.
+    Form,
+    /// The script of which a shard is chosen, or what is on a page.
+    Script,
+    /// With the first option, the second.
+    Option(&'static str, &'static str),
+}
+
 /// Why options ask for nothing.
 #[derive(Clone, Copy, Debug, PartialEq, Eq)]
 pub(crate) enum Refusal {
     /// Two options of which at most one may be given.
     Conflict(&'static str, &'static str),
-    /// `report` without a form.
-    NoForm,
-    /// A shard is chosen without a script, or what is on a page.
-    NoScript,
-    /// A suite is named without a JUnit report.
-    NoJunit,
-    /// A run is asked for the last blocks without `--failed`.
-    NoFailed,
+    /// An option without one that it needs.
+    Lack(Lack),
     /// The value of an option names nothing.
     Word(WordFault),
     /// Memory ran out.
@@ -43,6 +48,14 @@ impl<T: Drop> From<AllocFailed<T>> for Refusal {
 
     fn from(_: AllocFailed<T>) -> Refusal {
         Refusal::NoMemory
+    }
+}
+
+impl From<Lack> for Refusal {
+    ghost from_gives = { λ lack r. r ≡ Refusal.Lack lack };
+
+    fn from(lack: Lack) -> Refusal {
+        Refusal::Lack(lack)
     }
 }
 
@@ -68,10 +81,21 @@ fn conflict_error(
 }
 
 // The error that says what is needed, with the usage of the command.
-fn lack_error(command: &mut Command<'_>, text: &str) -> Result<Error, AllocError>
+fn lack_error(alloc: Global, command: &mut Command<'_>, lack: Lack) -> Result<Error, AllocError>
     ensures { IfOk result (λ e. kind_of e ≡ MissingRequiredArgument) }
 {
-    command.error(ErrorKind::MissingRequiredArgument, text)
+    let text = match lack {
+        Lack::Form => format!(in alloc;
+            "one of the arguments '--csv', '--junit', '--html' and '--summary' is needed"
+        )?,
+        Lack::Script => format!(in alloc;
+            "the arguments '--shard', and '--only' with '--html', need '--script'"
+        )?,
+        Lack::Option(first, second) => {
+            format!(in alloc; "the argument '--{first}' needs '--{second}'")?
+        }
+    };
+    command.error(ErrorKind::MissingRequiredArgument, text.as_str())
 }
 
 /// The refusal as it is said: as a value that names nothing, or by an error with the usage of the command.
@@ -86,22 +110,7 @@ pub(crate) fn told_by(
         Refusal::Conflict(first, second) => {
             Ok(Refused::Line(conflict_error(alloc, command, first, second)?))
         }
-        Refusal::NoForm => Ok(Refused::Line(lack_error(
-            command,
-            "one of the arguments '--csv', '--junit', '--html' and '--summary' is needed",
-        )?)),
-        Refusal::NoScript => Ok(Refused::Line(lack_error(
-            command,
-            "the arguments '--shard', and '--only' with '--html', need '--script'",
-        )?)),
-        Refusal::NoJunit => Ok(Refused::Line(lack_error(
-            command,
-            "the argument '--suite' needs '--junit'",
-        )?)),
-        Refusal::NoFailed => Ok(Refused::Line(lack_error(
-            command,
-            "the argument '--last' needs '--failed'",
-        )?)),
+        Refusal::Lack(lack) => Ok(Refused::Line(lack_error(alloc, command, lack)?)),
         Refusal::Word(fault) => Ok(Refused::Word(fault)),
         Refusal::NoMemory => Err(AllocError),
     }

@@ -1,7 +1,5 @@
 -- The places of a name that a pattern leads to.
-use Rattle.std.proofs.Common.{ℕ, ◌≡◌, ◌==◌, ◌+◌, ◌∙◌, ◌&&◌, ◌||◌, Bool, true, false, List, [], ◌∷◌, ap, arith, if◌then◌else◌, length, map, refl, slice_index_or, subst, suc, sym, true≢false}
-use Rattle.std.proofs.lemmas.{Bool.ne_eqb, Grind.common_steps}
-use Rattle.std.specs.{List.list_any, Str.bytes_eq}
+use Rattle.std.{proofs.{Common.{ℕ, ◌≡◌, ◌==◌, ◌+◌, ◌∙◌, ◌&&◌, ◌||◌, Bool, true, false, List, [], ◌∷◌, ap, arith, if◌then◌else◌, length, map, refl, slice_index_or, subst, suc, sym, true≢false}, lemmas.Bool.ne_eqb, lemmas.Grind.common_steps}, specs.{List.list_any, Str.bytes_eq}}
 use Rattle.tc_entry.specs.{Inside.any_of, Inside.behind, Inside.passed, Name.begins, Name.matches, Name.some_end}
 
 -- ---- how many places there are

@@ -1,6 +1,5 @@
 -- What a name of a test case or a behaviour is, and the patterns of names; the spelling is this project's own.
-use Rattle.std.specs.Prelude.{◌≢◌, ◌==◌, ◌||◌, ℕ, ◌≤◌, Bool, List, length, codes, IsTrue, All, IfSome, slice_get, ◌⊎◌, ◌&&◌, true, false, if◌then◌else◌, [], ◌∷◌}
-use Rattle.std.specs.{Char.is_ascii_alphabetic, Char.is_ascii_alphanumeric, List.list_any}
+use Rattle.std.specs.{Prelude.{◌≢◌, ◌==◌, ◌||◌, ℕ, ◌≤◌, Bool, List, length, codes, IsTrue, All, IfSome, slice_get, ◌⊎◌, ◌&&◌, true, false, if◌then◌else◌, [], ◌∷◌}, Char.{is_ascii_alphabetic, is_ascii_alphanumeric}, List.list_any}
 
 -- a byte that may be in a name: a letter, a digit or `_`
 abbrev pub is_name_byte : ℕ → Bool

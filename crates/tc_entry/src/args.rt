@@ -1,6 +1,5 @@
 //! The arguments of a Start.
-ghost use Rattle.std.specs.Prelude.{◌≡◌, ◌<◌, ◌≤◌, [], ◌∷◌, ◌++◌, length, IsTrue, ◌↔◌, nat_eq};
-ghost use Rattle.std.specs.{Bool.OnFalse, Bool.OnTrue, Cmp.Lexicographic.lists_equiv, Cmp.Lexicographic.lists_per, Cmp.Lexicographic.pointwise, Cmp.nat_eq_equiv, Cmp.on_equiv, Cmp.on_per, Cmp.partial_equiv_from_equiv, Ordering.on};
+ghost use Rattle.std.specs.{Prelude.{◌≡◌, ◌<◌, ◌≤◌, [], ◌∷◌, ◌++◌, length, IsTrue, ◌↔◌, nat_eq}, Bool.{OnFalse, OnTrue}, Cmp.Lexicographic.{lists_equiv, lists_per, pointwise}, Cmp.{nat_eq_equiv, on_equiv, on_per, partial_equiv_from_equiv}, Ordering.on};
 ghost use Rattle.tc_entry.specs.declared.limits.TheConstants.{ARGUMENTS};
 
 use crate::comp::{Comp, same_comps};

@@ -1,7 +1,5 @@
 //! The name of a test case, a behaviour or a component.
-ghost use Rattle.std.specs.Prelude.{◌≡◌, ◌↔◌, IsSome, IfSome, IsTrue, nat_eq};
-ghost use Rattle.std.proofs.Common.{rules};
-ghost use Rattle.std.specs.Cmp.{Lexicographic.nat_list_eq_equiv, Lexicographic.pointwise, Rules.hashing, partial_equiv_from_equiv};
+ghost use Rattle.std.{specs.{Prelude.{◌≡◌, ◌↔◌, IsSome, IfSome, IsTrue, nat_eq}, Cmp.Lexicographic.{nat_list_eq_equiv, pointwise}, Cmp.Rules.hashing, Cmp.partial_equiv_from_equiv}, proofs.Common.rules};
 ghost use Rattle.std.specs.Hash as fed;
 ghost use Rattle.tc_entry.specs.Name.{IsName, is_name_byte as is_allowed};
 

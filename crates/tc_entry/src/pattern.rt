@@ -1,6 +1,5 @@
 //! The patterns of names.
-ghost use Rattle.std.specs.Prelude.{◌≡◌, ◌==◌, ◌+◌, ◌<◌, ◌≤◌, ◌∷◌, ◌↔◌, ◌||◌, [], All, IsSome, IfSome, IsTrue, false, true, length, map, nat_eq};
-ghost use Rattle.std.specs.{Cmp.Lexicographic.nat_list_eq_equiv, Cmp.Lexicographic.pointwise, Cmp.partial_equiv_from_equiv, List.list_any};
+ghost use Rattle.std.specs.{Prelude.{◌≡◌, ◌==◌, ◌+◌, ◌<◌, ◌≤◌, ◌∷◌, ◌↔◌, ◌||◌, [], All, IsSome, IfSome, IsTrue, false, true, length, map, nat_eq}, Cmp.Lexicographic.{nat_list_eq_equiv, pointwise}, Cmp.partial_equiv_from_equiv, List.list_any};
 ghost use Rattle.tc_entry.specs.{Inside.any_of, Inside.behind, Inside.passed, Name.IsPattern, Name.IsWild, Name.is_name_byte as is_allowed, Name.matches as spec_matches, declared.pattern.TheConstants.PLACES};
 
 use crate::limits::NAME_BYTES;

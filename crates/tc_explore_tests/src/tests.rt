@@ -600,7 +600,7 @@ fn is_told<R: Abort>(
 ) -> Result<(), Fail> {
     let name = Name::read("t").ok_or("a name")?;
     let mut out = Vec::new(alloc);
-    append_line(&mut out, &name, explored)?;
+    append_line(alloc, &mut out, &name, explored)?;
     is(rt, "the line", out.as_slice(), line.as_bytes());
     is(rt, "the status", explored_status(explored), status);
     Ok(())

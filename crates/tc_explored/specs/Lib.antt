@@ -1,6 +1,5 @@
 -- The definitions that the contracts of this crate cite.
 pub mod Details
-pub mod Inside
 pub mod Line
 pub mod Prelude
 pub mod Race

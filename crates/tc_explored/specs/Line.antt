@@ -4,7 +4,7 @@ use Rattle.std.specs.{Fmt.decimal, List.flat_map, List.range_with_len, Option.op
 use Rattle.tc_rules.specs.Prelude.{Verdict, name_of}
 use Rattle.tc_blocks.specs.Prelude.{history_text}
 use Rattle.tc_course.specs.Prelude.{is_found, is_local}
-use Rattle.tc_course.specs.declared.found.{Ending.Ending, Explored.Explored, Limit.Limit, Locals.Locals}
+use Rattle.tc_course.specs.declared.{found.Ending.Ending, found.Explored.Explored, found.Limit.Limit, found.Locals.Locals, witness.Witness.Witness}
 use Rattle.tc_text.specs.Prelude.{shown_line}
 
 -- the verdicts of which this holds, from the best to the worst
@@ -16,11 +16,15 @@ abbrev pub if_complete : {A : Type 0} → Ending → A → A → A
 if_complete Ending.Complete first other = first
 if_complete (Ending.Undecided limit) first other = other
 
--- the status of a test case by the number of verdicts: 0 for one, 1 for more; 3 if none was found, or the search met its limit
+-- the status of a test case of which these were found: 0 for one verdict, or 2 if it is error; 1 for more; 3 for none
+abbrev pub found_status : List Witness → ℕ
+found_status found =
+    let count = length (verdicts_where (is_found found)) in
+    if count == 1 then (if is_found found Verdict.Error then 2 else 0) else if nat_lt 1 count then 1 else 3
+
+-- the same of all that a search found; 3 if it met its limit
 abbrev pub explored_status : Explored → ℕ
-explored_status e =
-    let count = length (verdicts_where (is_found e.found)) in
-    if_complete e.ending (if count == 1 then 0 else if nat_lt 1 count then 1 else 3) 3
+explored_status e = if_complete e.ending (found_status e.found) 3
 
 -- the limit that a search met
 abbrev pub limit_words : Limit → List ℕ

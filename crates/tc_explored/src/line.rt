@@ -1,10 +1,10 @@
 //! What is printed about a test case that was explored.
-ghost use Rattle.std.specs.Prelude.{◌≡◌, ◌==◌, ◌++◌, OnOk, if◌then◌else◌, nat_lt};
+ghost use Rattle.std.specs.Prelude.{◌≡◌, ◌==◌, ◌++◌, IfOk, OnOk, if◌then◌else◌, length, nat_lt};
 ghost use Rattle.tc_course.specs.Prelude.{is_found as is_found_among};
-ghost use Rattle.tc_explored.specs.Inside.{has};
 ghost use Rattle.tc_explored.specs.Line as line;
 
-use crate::verdicts::Verdicts;
+use crate::verdicts::{VERDICTS, append_names};
+use std::alloc::Global;
 use tc_blocks::write_block;
 use tc_course::{Ending, Explored, Limit, Witness, is_found};
 use tc_entry::Name;
@@ -13,16 +13,25 @@ use tc_verdict::{NoMemory, Verdict};
 
 // The verdicts that were found.
 #[tactic(auto, unfolding(crate::specs::Line::verdicts_where))]
-fn verdicts_of(found: &[Witness]) -> Verdicts
-    ensures { line.verdicts_where (has result) ≡ line.verdicts_where (is_found_among found.now) }
+fn verdicts_of(alloc: Global, found: &[Witness]) -> Result<Vec<Verdict>, NoMemory>
+    ensures { IfOk result (λ v. v.items ≡ line.verdicts_where (is_found_among found.now)) }
 {
-    Verdicts {
-        none: is_found(found, Verdict::None),
-        pass: is_found(found, Verdict::Pass),
-        inconc: is_found(found, Verdict::Inconc),
-        fail: is_found(found, Verdict::Fail),
-        error: is_found(found, Verdict::Error),
-    }
+    Ok(VERDICTS
+        .iter()
+        .copied()
+        .filter(|verdict| is_found(found, *verdict))
+        .collect(alloc)?)
+}
+
+// How many verdicts were found.
+#[tactic(auto, unfolding(crate::specs::Line::verdicts_where))]
+fn count_of(found: &[Witness]) -> usize
+    ensures { result ≡ length (line.verdicts_where (is_found_among found.now)) }
+{
+    VERDICTS
+        .iter()
+        .filter(|verdict| is_found(found, **verdict))
+        .count()
 }
 
 // The limit that a search met.
@@ -49,12 +58,17 @@ fn append_ending(out: &mut Vec<u8>, ending: Ending, states: usize) -> Result<(),
     }
 }
 
-// The status of a complete search by the number of verdicts that were found.
-fn count_status(count: u64) -> u8
-    ensures { result ≡ (if count == 1 then 0 else if nat_lt 1 count then 1 else 3) }
+// The status of a complete search that found these.
+fn found_status(found: &[Witness]) -> u8
+    ensures { result ≡ line.found_status found.now }
 {
+    let count = count_of(found);
     if count == 1 {
-        0
+        if is_found(found, Verdict::Error) {
+            2
+        } else {
+            0
+        }
     } else if 1 < count {
         1
     } else {
@@ -62,23 +76,30 @@ fn count_status(count: u64) -> u8
     }
 }
 
-/// The status of the test case: 0 if one verdict was found, 1 if more were; 3 if the search met its limit.
+/// The status of the test case: 0 if one verdict was found, or 2 if that is error, 1 if more were; 3 if the search met
+/// its limit.
 pub fn explored_status(explored: &Explored) -> u8
     ensures { result ≡ line.explored_status explored.now }
 {
     match explored.ending {
-        Ending::Complete => count_status(verdicts_of(explored.found.as_slice()).count()),
+        Ending::Complete => found_status(explored.found.as_slice()),
         Ending::Undecided(_) => 3,
     }
 }
 
 /// Appends the line of the test case: its name, the verdicts that were found, and how the search ended. If memory runs
 /// out, a part of it.
-pub fn append_line(out: &mut Vec<u8>, name: &Name, explored: &Explored) -> Result<(), NoMemory>
+pub fn append_line(
+    alloc: Global,
+    out: &mut Vec<u8>,
+    name: &Name,
+    explored: &Explored,
+) -> Result<(), NoMemory>
     ensures { OnOk result (out.new.items ≡ out.old.items ++ line.explored_line name.now explored.now) }
 {
+    let verdicts = verdicts_of(alloc, explored.found.as_slice())?;
     out.extend_from_slice(name.bytes())?;
-    verdicts_of(explored.found.as_slice()).append(out, " ")?;
+    append_names(out, " ", verdicts.as_slice())?;
     append_ending(out, explored.ending, explored.states)?;
     out.push(b'\n')?;
     Ok(())

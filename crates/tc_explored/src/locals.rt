@@ -1,13 +1,13 @@
 //! What is printed of the local verdicts that the components of a test case may have.
-ghost use Rattle.std.specs.Prelude.{◌≡◌, ◌≤◌, ◌+◌, ◌*◌, ◌/◌, ◌++◌, [], None, OnOk, codes, drop, length, option_copied, slice_index_or};
+ghost use Rattle.std.specs.Prelude.{◌≡◌, ◌≤◌, ◌+◌, ◌*◌, ◌/◌, ◌++◌, [], IfOk, None, OnOk, codes, drop, length, option_copied, slice_index_or};
 ghost use Rattle.std.specs.{Fmt.decimal, List.flat_map, List.range_with_len};
 ghost use Rattle.tc_course.specs.Prelude.{is_local};
 ghost use Rattle.tc_text.specs.Prelude.{shown_line};
-ghost use Rattle.tc_explored.specs.{Inside.has, Line.if_complete, Line.verdicts_where};
+ghost use Rattle.tc_explored.specs.{Line.if_complete, Line.verdicts_where};
 ghost use Rattle.tc_explored.specs.Line as spec;
 
 use crate::components::append_comp;
-use crate::verdicts::Verdicts;
+use crate::verdicts::{VERDICTS, append_names};
 use std::alloc::Global;
 use tc_course::{Ending, Locals, level};
 use tc_entry::Name;
@@ -16,17 +16,15 @@ use tc_verdict::{NoMemory, Verdict};
 
 // Which verdicts a component is found with.
 #[tactic(auto, unfolding(crate::specs::Line::verdicts_where))]
-fn verdicts_of(locals: &Locals, comp: usize) -> Verdicts
+fn verdicts_of(alloc: Global, locals: &Locals, comp: usize) -> Result<Vec<Verdict>, NoMemory>
     requires { comp * 5 ≤ length locals.now.found }
-    ensures { verdicts_where (has result) ≡ verdicts_where (is_local locals.now.found comp) }
+    ensures { IfOk result (λ v. v.items ≡ verdicts_where (is_local locals.now.found comp)) }
 {
-    Verdicts {
-        none: is_found_of(locals, comp, Verdict::None),
-        pass: is_found_of(locals, comp, Verdict::Pass),
-        inconc: is_found_of(locals, comp, Verdict::Inconc),
-        fail: is_found_of(locals, comp, Verdict::Fail),
-        error: is_found_of(locals, comp, Verdict::Error),
-    }
+    Ok(VERDICTS
+        .iter()
+        .copied()
+        .filter(|verdict| is_found_of(locals, comp, *verdict))
+        .collect(alloc)?)
 }
 
 // Whether a component is found with this verdict.
@@ -64,11 +62,11 @@ fn after_or(text: &[u8]) -> &[u8]
 }
 
 // Appends verdicts, with `or` between them; if memory runs out, a part of them.
-fn append_or(alloc: Global, out: &mut Vec<u8>, verdicts: Verdicts) -> Result<(), NoMemory>
-    ensures { OnOk result (out.new.items ≡ out.old.items ++ spec.or_text (verdicts_where (has verdicts))) }
+fn append_or(alloc: Global, out: &mut Vec<u8>, verdicts: &[Verdict]) -> Result<(), NoMemory>
+    ensures { OnOk result (out.new.items ≡ out.old.items ++ spec.or_text verdicts.now) }
 {
     let mut text = Vec::new(alloc);
-    verdicts.append(&mut text, " or ")?;
+    append_names(&mut text, " or ", verdicts)?;
     out.extend_from_slice(after_or(text.as_slice()))?;
     Ok(())
 }
@@ -84,15 +82,15 @@ fn append_line(
     requires { comp * 5 ≤ length locals.now.found }
     ensures { OnOk result (out.new.items ≡ out.old.items ++ spec.local_line locals.now comp) }
 {
-    let verdicts = verdicts_of(locals, comp);
-    if verdicts.count() <= 1 {
+    let verdicts = verdicts_of(alloc, locals, comp)?;
+    if verdicts.len() <= 1 {
         return Ok(());
     }
     let mut text = Vec::new(alloc);
     append_text(&mut text, " local")?;
     append_comp(&mut text, comp as u64, name_at(locals, comp))?;
     append_text(&mut text, ":")?;
-    append_or(alloc, &mut text, verdicts)?;
+    append_or(alloc, &mut text, verdicts.as_slice())?;
     append_shown(alloc, out, text.as_slice())
 }
 

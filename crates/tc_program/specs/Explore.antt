@@ -56,10 +56,10 @@ explored_text histories e = if histories then witnesses_text e.name e.behaviours
 abbrev pub has_status : ℕ → List ExploredCase → Bool
 has_status status explored = list_any (λ e. explored_status e.explored == status) explored
 
--- the status of test cases: 3 if a search did not come to its end, otherwise 1 if some test case has more verdicts than
--- one
+-- the status of test cases: 3 if a search did not come to its end, otherwise 2 if some test case has no verdict but error,
+-- otherwise 1 if some has more verdicts than one
 abbrev pub status_of_all : List ExploredCase → ℕ
-status_of_all explored = if has_status 3 explored then 3 else if has_status 1 explored then 1 else 0
+status_of_all explored = if has_status 3 explored then 3 else if has_status 2 explored then 2 else if has_status 1 explored then 1 else 0
 
 -- the test cases that are asked for were explored so, and this is what is written of them, with their status
 pub record Explores (o : ExploreOptions) (text out : List ℕ) (status : ℕ) : Type 0 where

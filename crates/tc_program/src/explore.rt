@@ -153,7 +153,7 @@ fn text_of(
         if histories {
             append_witnesses(&mut out, &case.name, case.behaviours, &case.explored)?;
         } else {
-            append_line(&mut out, &case.name, &case.explored)?;
+            append_line(alloc, &mut out, &case.name, &case.explored)?;
             out.extend_from_slice(case.details.as_slice())?;
         }
     }
@@ -175,6 +175,8 @@ fn status_of(explored: &[ExploredCase]) -> u8
 {
     if has_status(explored, 3) {
         3
+    } else if has_status(explored, 2) {
+        2
     } else if has_status(explored, 1) {
         1
     } else {
@@ -182,9 +184,9 @@ fn status_of(explored: &[ExploredCase]) -> u8
     }
 }
 
-/// What `explore` makes of a script: what was found of each test case that is asked for, and the status. That is 0 if
-/// each has one verdict, 1 if some has more, 3 if a search did not come to its end. Details are printed after the line
-/// of each test case.
+/// What `explore` makes of a script: what was found of each test case that is asked for, and the status. That is 3 if a
+/// search did not come to its end, 2 if some test case can only end with error, 1 if some has more verdicts than one,
+/// otherwise 0. Details are printed after the line of each test case.
 pub(crate) fn explore_text(
     alloc: Global,
     options: &ExploreOptions,

@@ -1,10 +1,6 @@
 -- What is counted over states.
-use Rattle.std.proofs.Common.{ℕ, zero, suc, ◌≡◌, ◌+◌, ◌<◌, ◌≤◌, ◌==◌, ◌&&◌, ◌||◌, not, if◌then◌else◌, nat_lt, Bool, true, false, is_some, List, [], ◌∷◌, ◌++◌, length, drop, get_or, refl, ap, sym, ◌∙◌, arith, length-append}
-use Rattle.std.specs.List.{list_any, list_all}
-use Rattle.std.proofs.Math.ListN.{set, length-set}
-use Rattle.std.proofs.lemmas.Bool.Decides.{nat_tests}
-use Rattle.tc_entry.specs.declared.limits.TheConstants.{COMPONENTS}
-use Rattle.tc_entry.specs.Prelude.{Verdict, worse, level_of}
+use Rattle.std.{proofs.{Common.{ℕ, zero, suc, ◌≡◌, ◌+◌, ◌<◌, ◌≤◌, ◌==◌, ◌&&◌, ◌||◌, not, if◌then◌else◌, nat_lt, Bool, true, false, is_some, List, [], ◌∷◌, ◌++◌, length, drop, get_or, refl, ap, sym, ◌∙◌, arith, length-append}, Math.ListN.{set, length-set}, lemmas.Bool.Decides.nat_tests}, specs.List.{list_any, list_all}}
+use Rattle.tc_entry.specs.{declared.limits.TheConstants.COMPONENTS, Prelude.{Verdict, worse, level_of}}
 use Rattle.tc_verdict.proofs.Lemmas.Order.{worse_later, worse_swap}
 use Rattle.tc_rules.specs.{Inside.Counts.IsCounted, Inside.Counts.bit, Inside.Counts.count_of, Inside.Counts.is_lapsed, Inside.Counts.made_state, Inside.Counts.main_state, Inside.States.all_alive, Inside.States.all_killed, Inside.States.any_alive, Inside.States.any_done, Inside.States.any_killed, Inside.States.any_running, Inside.States.none_lapsed, Inside.States.none_running, Inside.States.worst_local, Status.is_done, Status.is_killed, Status.is_running, declared.component_state.ComponentState.ComponentState}
 

@@ -1,12 +1,8 @@
 -- What the deciding entry says of the overall verdict.
-use Rattle.std.proofs.Common.{ℕ, ◌≡◌, ◌+◌, ◌<◌, ◌≤◌, ◌↔◌, ◌==◌, ◌||◌, if◌then◌else◌, nat_lt, Bool, true, false, Option, Some, None, List, [], ◌∷◌, ◌++◌, IfSome, length, map, take, get_or, reverse, refl, ap, subst, sym, ◌∙◌, arith, length-append}
-use Rattle.std.specs.{List.flat_map, Option.MatchOption}
-use Rattle.std.proofs.lemmas.{Bool.Decides.nat_tests, List.length-reverse, List.length-take-le, List.map-append, List.reverse-append, List.take_all, List.take_more}
-use Rattle.tc_entry.specs.Prelude.{Verdict, level_of, worse, worst, is_ended}
+use Rattle.std.{proofs.{Common.{ℕ, ◌≡◌, ◌+◌, ◌<◌, ◌≤◌, ◌↔◌, ◌==◌, ◌||◌, if◌then◌else◌, nat_lt, Bool, true, false, Option, Some, None, List, [], ◌∷◌, ◌++◌, IfSome, length, map, take, get_or, reverse, refl, ap, subst, sym, ◌∙◌, arith, length-append}, lemmas.Bool.Decides.nat_tests, lemmas.List.{length-reverse, length-take-le, map-append, reverse-append, take_all, take_more}}, specs.{List.flat_map, Option.MatchOption}}
+use Rattle.tc_entry.specs.{Prelude.{Verdict, level_of, worse, worst, is_ended}, declared.comp.Comp.Comp, declared.entry.Entry.Entry, declared.op.Op.Op, declared.reply.Reply.Reply}
 use Rattle.tc_verdict.proofs.Lemmas.Order.{none_no_worse, worse_later, worse_left, worse_swap, worst-more}
-use Rattle.tc_entry.specs.declared.{comp.Comp.Comp, entry.Entry.Entry, op.Op.Op, reply.Reply.Reply}
-use Rattle.tc_rules.specs.{Deciding.DecidesIfLegal, Deciding.IsDeciding, Deciding.deciding, Deciding.worst_given, History.add_new, History.comp_of, History.comps, History.created, History.exists, History.is_comp, History.is_in, Inside.Step.next_local, Legal.IsLegal, Local.gives, Local.local, Local.overall, Local.verdicts_of}
-use Rattle.tc_rules.proofs.{Lemmas.Deciding.equal_if, Lemmas.Differing.later_legal, Lemmas.LawsOfHistories.answered_is_running, Lemmas.Over.on_existing, Lemmas.Over.stays, Named.map_same}
+use Rattle.tc_rules.{specs.{Deciding.{DecidesIfLegal, IsDeciding, deciding, worst_given}, History.{add_new, comp_of, comps, created, exists, is_comp, is_in}, Inside.Step.next_local, Legal.IsLegal, Local.{gives, local, overall, verdicts_of}}, proofs.{Lemmas.Deciding.equal_if, Lemmas.Differing.later_legal, Lemmas.LawsOfHistories.answered_is_running, Lemmas.Over.{on_existing, stays}, Named.map_same}}
 
 -- a verdict after more that are given
 

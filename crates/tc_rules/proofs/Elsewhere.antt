@@ -1,13 +1,8 @@
 -- An entry leaves the states that it does not touch as they are.
-use Rattle.std.proofs.Common.{ℕ, ◌≡◌, ◌≢◌, ◌<◌, ◌≤◌, ◌==◌, ◌&&◌, ◌||◌, not, if◌then◌else◌, Bool, true, false, Option, Some, None, List, [], ◌∷◌, length, get_or, refl, ap, sym, ◌∙◌, arith, get_or-set_other, get_or-set_same}
-use Rattle.std.proofs.{Math.ListN.set, Math.Bool.or-false}
-use Rattle.std.proofs.lemmas.{Bool.Decides.nat_tests, List.get_or_default}
-use Rattle.tc_entry.specs.Prelude.{Verdict, Run, level_of, is_ended, is_fault, is_ok}
+use Rattle.std.proofs.{Common.{ℕ, ◌≡◌, ◌≢◌, ◌<◌, ◌≤◌, ◌==◌, ◌&&◌, ◌||◌, not, if◌then◌else◌, Bool, true, false, Option, Some, None, List, [], ◌∷◌, length, get_or, refl, ap, sym, ◌∙◌, arith, get_or-set_other, get_or-set_same}, Math.ListN.set, Math.Bool.or-false, lemmas.Bool.Decides.nat_tests, lemmas.List.get_or_default}
+use Rattle.tc_entry.specs.{Prelude.{Verdict, Run, level_of, is_ended, is_fault, is_ok}, declared.comp.Comp.Comp, declared.entry.Entry.Entry, declared.op.Group.Group, declared.op.Op.Op, declared.reply.Reply.Reply}
 use Rattle.tc_verdict.proofs.Lemmas.Order.{worse_left}
-use Rattle.tc_entry.specs.declared.{comp.Comp.Comp, entry.Entry.Entry, op.Group.Group, op.Op.Op, reply.Reply.Reply}
-use Rattle.tc_rules.specs.{History.ends_case, Inside.Words.first_some, History.halts, History.is_comp, History.is_finish, History.is_kill_of, History.is_stop_case, History.is_stop_of, History.kills, Inside.Words.starts_on, Inside.Step.IsSettled, Inside.Step.next_excused, Inside.Step.next_local, Inside.Step.next_phase, Inside.Step.next_state, Inside.Step.touched, Inside.Step.touched_by, Inside.Step.touched_own, Local.gives, Local.setting, Phases.halts_from_outside, Phases.start_in, Status.is_running, Answers.answer, History.comp_of, History.created, Inside.Kept.IsKept, Inside.Step.asks, Inside.Step.next_run, Inside.Words.started_run, Standing.Kept, Standing.StandsFor}
-use Rattle.tc_rules.specs.declared.{component_state.ComponentState.ComponentState, step.Scope.Scope, run_state.RunState.RunState}
-use Rattle.tc_rules.proofs.{Lemmas.Deciding.if_same, Lemmas.Deciding.and_no, Lemmas.Keeping.keeps_entry, Lemmas.Keeping.stands_by, Settled.settled_kept}
+use Rattle.tc_rules.{specs.{History.{ends_case, halts, is_comp, is_finish, is_kill_of, is_stop_case, is_stop_of, kills, comp_of, created}, Inside.Words.{first_some, starts_on, started_run}, Inside.Step.{IsSettled, next_excused, next_local, next_phase, next_state, touched, touched_by, touched_own, asks, next_run}, Local.{gives, setting}, Phases.{halts_from_outside, start_in}, Status.is_running, Answers.answer, Inside.Kept.IsKept, Standing.{Kept, StandsFor}, declared.component_state.ComponentState.ComponentState, declared.step.Scope.Scope, declared.run_state.RunState.RunState}, proofs.{Lemmas.Deciding.{if_same, and_no}, Lemmas.Keeping.{keeps_entry, stands_by}, Settled.settled_kept}}
 
 -- what is known of an operation that does not touch component c
 record Spares (own : Option Comp) (op : Op) (c : ℕ) : Type 0 where

@@ -1,13 +1,7 @@
 -- What the table keeps is right after an entry that makes a component.
-use Rattle.std.proofs.Common.{ℕ, ◌≡◌, ◌+◌, ◌<◌, ◌==◌, ◌&&◌, ◌||◌, if◌then◌else◌, Bool, true, false, Option, Some, None, List, [], ◌∷◌, ◌++◌, length, get_or, refl, ap, subst, sym, ◌∙◌, arith, length-append, below_more, suc, ◌≤◌}
-use Rattle.std.proofs.lemmas.{Bool.Decides.nat_tests, List.get_or_append_left}
-use Rattle.std.proofs.Math.Seq.{get_or-append_seam}
-use Rattle.std.specs.List.{list_all}
-use Rattle.tc_entry.specs.declared.{comp.Comp.Comp, entry.Entry.Entry, limits.TheConstants.COMPONENTS, op.Op.Op, reply.Reply.Reply, limits.TheConstants.BEHAVIOURS}
-use Rattle.tc_entry.specs.Prelude.{Run}
-use Rattle.tc_rules.specs.{Answers.answer, Faults.all_exist, Faults.components, Faults.target_names, History.add_new, History.comp_of, History.comps, History.created, History.exists, Inside.Words.first_some, History.is_alive_create, History.is_comp, History.is_in, Inside.Counts.made_state, Inside.Kept.IsKept, Inside.Kept.numbers_from, Inside.Kept.state_of, Inside.Step.next_local, Inside.Step.next_run, Inside.Step.next_state, Phases.was_halted, Phases.was_killed, Standing.Kept, Standing.StandsFor, Status.is_running, Waiting.waiting, Inside.Counts.main_state, Inside.Kept.blank, Inside.Kept.run_of, Local.local, Phases.last_run, Phases.phase}
-use Rattle.tc_rules.specs.declared.{awaited.Awaited.Awaited, component_state.ComponentState.ComponentState, run_state.RunState.RunState}
-use Rattle.tc_rules.proofs.{Lemmas.Deciding.other_comp, Lemmas.Fresh.fresh_step, Lemmas.Keeping.stands_by, Lemmas.Kept.components_kept, Lemmas.Kept.exists_if, Lemmas.Kept.exists_unless, Lemmas.Numbers.numbers_from-more, Lemmas.Sound.next, Lemmas.Steps.run_step, Lemmas.Steps.state_step, Settled.running_not_excused}
+use Rattle.std.{proofs.{Common.{ℕ, ◌≡◌, ◌+◌, ◌<◌, ◌==◌, ◌&&◌, ◌||◌, if◌then◌else◌, Bool, true, false, Option, Some, None, List, [], ◌∷◌, ◌++◌, length, get_or, refl, ap, subst, sym, ◌∙◌, arith, length-append, below_more, suc, ◌≤◌}, lemmas.Bool.Decides.nat_tests, lemmas.List.get_or_append_left, Math.Seq.get_or-append_seam}, specs.List.list_all}
+use Rattle.tc_entry.specs.{declared.comp.Comp.Comp, declared.entry.Entry.Entry, declared.limits.TheConstants.{COMPONENTS, BEHAVIOURS}, declared.op.Op.Op, declared.reply.Reply.Reply, Prelude.Run}
+use Rattle.tc_rules.{specs.{Answers.answer, Faults.{all_exist, components, target_names}, History.{add_new, comp_of, comps, created, exists, is_alive_create, is_comp, is_in}, Inside.Words.first_some, Inside.Counts.{made_state, main_state}, Inside.Kept.{IsKept, numbers_from, state_of, blank, run_of}, Inside.Step.{next_local, next_run, next_state}, Phases.{was_halted, was_killed, last_run, phase}, Standing.{Kept, StandsFor}, Status.is_running, Waiting.waiting, Local.local, declared.awaited.Awaited.Awaited, declared.component_state.ComponentState.ComponentState, declared.run_state.RunState.RunState}, proofs.{Lemmas.Deciding.other_comp, Lemmas.Fresh.fresh_step, Lemmas.Keeping.stands_by, Lemmas.Kept.{components_kept, exists_if, exists_unless}, Lemmas.Numbers.numbers_from-more, Lemmas.Sound.next, Lemmas.Steps.{run_step, state_step}, Settled.running_not_excused}}
 
 abbrev create : Run → Bool → Option (List ℕ) → Comp → Entry
 create caller alive name d = record { caller = caller; op = Op.Create alive name; reply = Reply.Made d }

@@ -1,11 +1,7 @@
 -- An entry changes the state of its caller and of the run that it starts.
-use Rattle.std.proofs.Common.{ℕ, ◌≡◌, ◌≢◌, ◌<◌, ◌==◌, Bool, true, false, Option, Some, None, List, length, get_or, refl, ap, sym, ◌∙◌, arith}
-use Rattle.std.proofs.lemmas.Bool.Decides.{nat_tests}
-use Rattle.tc_entry.specs.Prelude.{Run, is_ok}
-use Rattle.tc_entry.specs.declared.{comp.Comp.Comp, entry.Entry.Entry, op.Op.Op}
-use Rattle.std.specs.Prelude.{is_none, is_some}
-use Rattle.tc_rules.specs.{Inside.Words.starts_run, Inside.Step.next_run, Inside.Words.started_run, Waiting.parks, declared.awaited.Awaited.Awaited, declared.run_state.RunState.RunState}
-use Rattle.tc_rules.proofs.Lemmas.Deciding.{if_same, first_alone}
+use Rattle.std.{proofs.{Common.{ℕ, ◌≡◌, ◌≢◌, ◌<◌, ◌==◌, Bool, true, false, Option, Some, None, List, length, get_or, refl, ap, sym, ◌∙◌, arith}, lemmas.Bool.Decides.nat_tests}, specs.Prelude.{is_none, is_some}}
+use Rattle.tc_entry.specs.{Prelude.{Run, is_ok}, declared.comp.Comp.Comp, declared.entry.Entry.Entry, declared.op.Op.Op}
+use Rattle.tc_rules.{specs.{Inside.Words.{starts_run, started_run}, Inside.Step.next_run, Waiting.parks, declared.awaited.Awaited.Awaited, declared.run_state.RunState.RunState}, proofs.Lemmas.Deciding.{if_same, first_alone}}
 
 not_started : (op : Op) (b : ℕ) → started_run op ≡ None → starts_run op b ≡ None
 not_started (Op.Start c run args) b h = absurd cc

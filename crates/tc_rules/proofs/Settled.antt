@@ -1,9 +1,7 @@
 -- A component that is running is not excused.
 use Rattle.std.proofs.Common.{ℕ, ◌≡◌, ◌<◌, ◌&&◌, ◌||◌, not, if◌then◌else◌, Bool, true, false, Option, Some, None, is_some, List, [], ◌∷◌, length, refl, ap, sym, ◌∙◌, arith}
-use Rattle.tc_entry.specs.declared.{comp.Comp.Comp, entry.Entry.Entry, limits.TheConstants.COMPONENTS}
-use Rattle.tc_entry.specs.Prelude.{Run}
-use Rattle.tc_rules.specs.{Answers.answer, History.comp_of, History.created, History.halts, History.is_alive_type, History.is_comp, History.is_kill_of, History.is_stop_of, Inside.Kept.IsKept, Inside.Kept.state_of, Inside.Step.IsSettled, Phases.is_excused, Phases.last_run, Phases.phase, Phases.start_in, Phases.was_halted, Phases.was_killed, Status.is_running, declared.component_state.ComponentState.ComponentState, declared.run_state.RunState.RunState}
-use Rattle.tc_rules.proofs.Lemmas.{Kept.components_kept, Sound.next, Steps.phase_by}
+use Rattle.tc_entry.specs.{declared.comp.Comp.Comp, declared.entry.Entry.Entry, declared.limits.TheConstants.COMPONENTS, Prelude.Run}
+use Rattle.tc_rules.{specs.{Answers.answer, History.{comp_of, created, halts, is_alive_type, is_comp, is_kill_of, is_stop_of}, Inside.Kept.{IsKept, state_of}, Inside.Step.IsSettled, Phases.{is_excused, last_run, phase, start_in, was_halted, was_killed}, Status.is_running, declared.component_state.ComponentState.ComponentState, declared.run_state.RunState.RunState}, proofs.{Lemmas.Kept.components_kept, Lemmas.Sound.next, Lemmas.Steps.phase_by}}
 
 not_excused_by : (start halt was out old : Bool) → (was ≡ false → old ≡ false) → (not start && (halt || was)) ≡ false → (not start && (if was then old else (halt && out))) ≡ false
 not_excused_by true halt was out old f h = refl

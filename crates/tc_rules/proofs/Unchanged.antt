@@ -1,13 +1,8 @@
 -- Lists that are changed place by place; a Stop of all if none is running, and a Kill of all if each is killed, leave
 -- the states as they are.
-use Rattle.std.proofs.Common.{ℕ, ◌≡◌, ◌≢◌, ◌+◌, ◌<◌, ◌≤◌, List, length, get_or, get_or-set_other, get_or-set_same, below_more, arith, ◌∙◌, ap, sym, zero, suc, ◌==◌, ◌&&◌, ◌||◌, not, if◌then◌else◌, Bool, true, false, Option, None, [], ◌∷◌, drop, refl}
-use Rattle.std.proofs.Math.ListN.{set, length-set}
-use Rattle.std.proofs.lemmas.{Bool.Decides.nat_tests, List.get_or_default}
-use Rattle.std.specs.List.{list_all}
-use Rattle.tc_entry.specs.Prelude.{Verdict, Run, is_ended, is_fault, is_ok}
-use Rattle.tc_entry.specs.declared.{comp.Comp.Comp, entry.Entry.Entry, op.Group.Group, op.Op.Op, phase.Phase.Phase, reply.Reply.Reply}
-use Rattle.tc_rules.specs.{History.ends_case, Inside.Words.first_some, History.halts, History.is_comp, History.is_kill_of, History.is_stop_of, History.kills, Inside.States.all_killed, Inside.States.none_running, Inside.Step.IsSettled, Inside.Step.finds, Inside.Step.finds_none, Inside.Step.halted, Inside.Step.next_excused, Inside.Step.next_local, Inside.Step.next_phase, Inside.Step.next_state, Local.gives, Local.setting, Phases.start_in, Status.is_killed, Status.is_running, declared.component_state.ComponentState.ComponentState}
-use Rattle.tc_rules.proofs.Lemmas.Deciding.{and_left, and_no, and_right, if_same}
+use Rattle.std.{proofs.{Common.{ℕ, ◌≡◌, ◌≢◌, ◌+◌, ◌<◌, ◌≤◌, List, length, get_or, get_or-set_other, get_or-set_same, below_more, arith, ◌∙◌, ap, sym, zero, suc, ◌==◌, ◌&&◌, ◌||◌, not, if◌then◌else◌, Bool, true, false, Option, None, [], ◌∷◌, drop, refl}, Math.ListN.{set, length-set}, lemmas.Bool.Decides.nat_tests, lemmas.List.get_or_default}, specs.List.list_all}
+use Rattle.tc_entry.specs.{Prelude.{Verdict, Run, is_ended, is_fault, is_ok}, declared.comp.Comp.Comp, declared.entry.Entry.Entry, declared.op.Group.Group, declared.op.Op.Op, declared.phase.Phase.Phase, declared.reply.Reply.Reply}
+use Rattle.tc_rules.{specs.{History.{ends_case, halts, is_comp, is_kill_of, is_stop_of, kills}, Inside.Words.first_some, Inside.States.{all_killed, none_running}, Inside.Step.{IsSettled, finds, finds_none, halted, next_excused, next_local, next_phase, next_state}, Local.{gives, setting}, Phases.start_in, Status.{is_killed, is_running}, declared.component_state.ComponentState.ComponentState}, proofs.Lemmas.Deciding.{and_left, and_no, and_right, if_same}}
 
 -- one more place has F of what was there
 mapped_more : {A : Type 0} (F : ℕ → A → A) (old xs : List A) (i : ℕ) (x y e : A) → length xs ≡ length old → i < length old →

@@ -1,6 +1,5 @@
 -- The component table: the reply to every call, by what came before it.
-use Rattle.std.specs.Prelude.{ℕ, ◌==◌, ◌&&◌, if◌then◌else◌, Bool, false, List}
-use Rattle.std.specs.Option.{option_map_or}
+use Rattle.std.specs.{Prelude.{ℕ, ◌==◌, ◌&&◌, if◌then◌else◌, Bool, false, List}, Option.option_map_or}
 use Rattle.tc_entry.specs.declared.{entry.Entry.Entry, op.Op.Op, phase.Phase.Phase, reply.Fault.Fault, reply.Reply.Reply}
 use Rattle.tc_rules.specs.{Faults.components, Faults.fault, History.comp_of, Local.local, Phases.phase, Status.alive, Status.done, Status.killed, Status.running, Waiting.holds, Waiting.is_stuck, declared.awaited.Awaited.Awaited}
 

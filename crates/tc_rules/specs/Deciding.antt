@@ -1,8 +1,6 @@
 -- Which entry decided the verdict of a test case, and who made it.
-use Rattle.std.specs.Prelude.{ℕ, ◌≡◌, ◌<◌, ◌↔◌, nat_lt, if◌then◌else◌, Option, Some, None, MatchOption, List, [], ◌∷◌, ◌++◌, length}
-use Rattle.std.specs.{List.flat_map, Option.option_or}
-use Rattle.tc_entry.specs.Prelude.{Verdict, level_of, worst}
-use Rattle.tc_entry.specs.declared.{entry.Entry.Entry, op.Op.Op}
+use Rattle.std.specs.{Prelude.{ℕ, ◌≡◌, ◌<◌, ◌↔◌, nat_lt, if◌then◌else◌, Option, Some, None, MatchOption, List, [], ◌∷◌, ◌++◌, length}, List.flat_map, Option.option_or}
+use Rattle.tc_entry.specs.{Prelude.{Verdict, level_of, worst}, declared.entry.Entry.Entry, declared.op.Op.Op}
 use Rattle.tc_rules.specs.{History.created, History.is_comp, Legal.IsLegal, Local.gives, Local.overall}
 
 -- the entry at this place, counted from 0, decides: the overall verdict is the reported one from this entry on, and not before

@@ -1,6 +1,5 @@
 -- The dynamic errors, in the order in which they are found. The eight errors are this project's own.
-use Rattle.std.specs.Prelude.{ℕ, ◌==◌, ◌&&◌, ◌||◌, not, nat_le, if◌then◌else◌, Bool, true, false, Option, Some, None, is_some, List, [], ◌∷◌, length}
-use Rattle.std.specs.{List.list_all, Option.option_map_or}
+use Rattle.std.specs.{Prelude.{ℕ, ◌==◌, ◌&&◌, ◌||◌, not, nat_le, if◌then◌else◌, Bool, true, false, Option, Some, None, is_some, List, [], ◌∷◌, length}, List.list_all, Option.option_map_or}
 use Rattle.tc_entry.specs.declared.{comp.Comp.Comp, entry.Entry.Entry, limits.TheConstants.COMPONENTS, op.Group.Group, op.Op.Op, op.Target.Target, reply.Fault.Fault}
 use Rattle.tc_rules.specs.{History.comp_of, History.comps, History.exists, Phases.phase, Status.is_killed, Status.is_running}
 

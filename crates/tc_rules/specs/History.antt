@@ -1,10 +1,8 @@
 -- What the past entries of a test case say of its components and runs.
 -- Here and in the files next to it, `past` lists the entries so far, the newest first, and components and runs are
 -- numbers.
-use Rattle.std.specs.Prelude.{ℕ, ◌==◌, ◌&&◌, ◌||◌, not, if◌then◌else◌, Bool, true, false, Option, Some, None, List, [], ◌∷◌, ◌++◌, drop}
-use Rattle.std.specs.Option.{option_and_then, option_map_or, option_or}
-use Rattle.tc_entry.specs.Prelude.{Run, is_of, is_ended, is_fault, is_ok}
-use Rattle.tc_entry.specs.declared.{comp.Comp.Comp, entry.Entry.Entry, op.Op.Op, reply.Reply.Reply}
+use Rattle.std.specs.{Prelude.{ℕ, ◌==◌, ◌&&◌, ◌||◌, not, if◌then◌else◌, Bool, true, false, Option, Some, None, List, [], ◌∷◌, ◌++◌, drop}, Option.{option_and_then, option_map_or, option_or}}
+use Rattle.tc_entry.specs.{Prelude.{Run, is_of, is_ended, is_fault, is_ok}, declared.comp.Comp.Comp, declared.entry.Entry.Entry, declared.op.Op.Op, declared.reply.Reply.Reply}
 
 -- a number is in a list
 abbrev pub is_in : ℕ → List ℕ → Bool

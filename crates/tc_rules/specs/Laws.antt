@@ -1,8 +1,6 @@
 -- What holds of every legal history, and the definitions leave unsaid.
-use Rattle.std.specs.Prelude.{ℕ, ◌≡◌, if◌then◌else◌, ◌↔◌, true, false, Some, None, List, [], ◌∷◌, ◌++◌, map}
-use Rattle.std.specs.List.{flat_map}
-use Rattle.tc_entry.specs.Prelude.{Verdict, worst, is_ended}
-use Rattle.tc_entry.specs.declared.{comp.Comp.Comp, entry.Entry.Entry, op.Op.Op, phase.Phase.Phase}
+use Rattle.std.specs.{Prelude.{ℕ, ◌≡◌, if◌then◌else◌, ◌↔◌, true, false, Some, None, List, [], ◌∷◌, ◌++◌, map}, List.flat_map}
+use Rattle.tc_entry.specs.{Prelude.{Verdict, worst, is_ended}, declared.comp.Comp.Comp, declared.entry.Entry.Entry, declared.op.Op.Op, declared.phase.Phase.Phase}
 use Rattle.tc_rules.specs.{History.comp_of, History.is_comp, History.is_over, Legal.IsAllOver, Legal.IsLegal, Local.gives, Local.local, Local.overall, Phases.phase, Phases.was_halted, Phases.was_killed, Standing.Kept, Standing.StandsFor}
 pub use Rattle.tc_rules.specs.Inside.Laws.{halting_op, is_quiet, keeps_phases, lets_go_on, may_halt}
 

@@ -1,7 +1,6 @@
 -- The local verdicts of the components, and the verdict of the case.
 use Rattle.std.specs.Prelude.{ℕ, Option, Some, None, if◌then◌else◌, List, [], ◌∷◌, ◌++◌, map}
-use Rattle.tc_entry.specs.Prelude.{Verdict, worst, given}
-use Rattle.tc_entry.specs.declared.{entry.Entry.Entry, op.Op.Op, reply.Reply.Reply}
+use Rattle.tc_entry.specs.{Prelude.{Verdict, worst, given}, declared.entry.Entry.Entry, declared.op.Op.Op, declared.reply.Reply.Reply}
 use Rattle.tc_rules.specs.History.{comps, comp_of, exists, is_comp}
 
 -- the verdict that an operation sets

@@ -1,9 +1,7 @@
 -- The part of a history by one run, and the merge of a history without verdict entries with the logs of its runs.
 -- `past` lists entries of the history, the newest first, and `log b` is the log of run b.
-use Rattle.std.specs.Prelude.{ℕ, zero, suc, ◌==◌, ◌++◌, ◌∷◌, [], Bool, Option, List, filter, reverse, ◌+◌, ◌&&◌, not, max, if◌then◌else◌, true, false, None, length, sum_by}
-use Rattle.std.specs.Option.{option_map, option_map_or}
-use Rattle.tc_entry.specs.declared.{entry.Entry.Entry, op.Op.Op}
-use Rattle.tc_entry.specs.Prelude.{Run, is_ended, is_ok}
+use Rattle.std.specs.{Prelude.{ℕ, zero, suc, ◌==◌, ◌++◌, ◌∷◌, [], Bool, Option, List, filter, reverse, ◌+◌, ◌&&◌, not, max, if◌then◌else◌, true, false, None, length, sum_by}, Option.{option_map, option_map_or}}
+use Rattle.tc_entry.specs.{declared.entry.Entry.Entry, declared.op.Op.Op, Prelude.{Run, is_ended, is_ok}}
 use Rattle.tc_rules.specs.{History.comp_of, History.start, declared.run_log.RunLog.RunLog}
 
 -- the entry is one of run b

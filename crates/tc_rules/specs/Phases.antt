@@ -1,8 +1,6 @@
 -- What a component is doing.
-use Rattle.std.specs.Prelude.{ℕ, ◌==◌, ◌&&◌, ◌||◌, not, if◌then◌else◌, Bool, false, Option, Some, None, is_some, List, [], ◌∷◌}
-use Rattle.std.specs.Option.{option_and_then, option_map_or, option_or}
-use Rattle.tc_entry.specs.Prelude.{Run, is_ok}
-use Rattle.tc_entry.specs.declared.{comp.Comp.Comp, entry.Entry.Entry, phase.Phase.Phase}
+use Rattle.std.specs.{Prelude.{ℕ, ◌==◌, ◌&&◌, ◌||◌, not, if◌then◌else◌, Bool, false, Option, Some, None, is_some, List, [], ◌∷◌}, Option.{option_and_then, option_map_or, option_or}}
+use Rattle.tc_entry.specs.{Prelude.{Run, is_ok}, declared.comp.Comp.Comp, declared.entry.Entry.Entry, declared.phase.Phase.Phase}
 use Rattle.tc_rules.specs.History.{exists, is_alive_type, comp_of, start, is_comp, is_stop_of, is_kill_of, halts, kills}
 
 -- an entry after its creation killed component c

@@ -1,8 +1,6 @@
 -- What a closed case reports: one history of one thread; and why a case was not closed, or has no report.
-use Rattle.std.specs.Prelude.{ℕ, ◌≡◌, ◌++◌, [], true, None, List, length, reverse, map, filter, codes}
-use Rattle.std.specs.List.{range_with_len}
-use Rattle.tc_entry.specs.Prelude.{worst, memory_text}
-use Rattle.tc_entry.specs.declared.entry.Entry.{Entry}
+use Rattle.std.specs.{Prelude.{ℕ, ◌≡◌, ◌++◌, [], true, None, List, length, reverse, map, filter, codes}, List.range_with_len}
+use Rattle.tc_entry.specs.{Prelude.{worst, memory_text}, declared.entry.Entry.Entry}
 use Rattle.tc_rules.specs.{History.comp_of, History.comps, History.is_over, Legal.IsAllOver, Legal.IsLegal, Local.local, Local.overall, Merge.is_other, Merge.logged, Merge.logs_below, Merge.merge, Merge.part, declared.closed.CloseFault.CloseFault, declared.closed.Closed.Closed, declared.refusal.CaseError.CaseError}
 
 -- the entries of a closed case, the newest first

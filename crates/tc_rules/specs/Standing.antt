@@ -1,10 +1,8 @@
 -- What contracts see of a case's state, and the histories that it represents: a new state represents no entries, a call
 -- adds its entry, and each answer is about the entries. So nothing has to be known of what is kept.
 use Rattle.std.specs.Prelude.{ℕ, ◌≡◌, Bool, List, ◌∷◌, reverse}
-use Rattle.tc_entry.specs.Prelude.{Run}
-use Rattle.tc_entry.specs.declared.{entry.Entry.Entry, op.Op.Op, reply.Reply.Reply}
-use Rattle.tc_rules.specs.{Answers.answer, Inside.Kept.IsKept}
-use Rattle.tc_rules.specs.declared.{component_state.ComponentState.ComponentState, run_state.RunState.RunState}
+use Rattle.tc_entry.specs.{Prelude.Run, declared.entry.Entry.Entry, declared.op.Op.Op, declared.reply.Reply.Reply}
+use Rattle.tc_rules.specs.{Answers.answer, Inside.Kept.IsKept, declared.component_state.ComponentState.ComponentState, declared.run_state.RunState.RunState}
 
 -- a test case: how many behaviours it has, its entries, the oldest first, and how many more have their place
 pub record Case : Type 0 where

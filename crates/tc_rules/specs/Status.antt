@@ -1,6 +1,5 @@
 -- The status of components: running, alive, done, killed.
-use Rattle.std.specs.Prelude.{◌||◌, not, Bool, true, false, is_some, List}
-use Rattle.std.specs.List.{list_any, list_all}
+use Rattle.std.specs.{Prelude.{◌||◌, not, Bool, true, false, is_some, List}, List.{list_any, list_all}}
 use Rattle.tc_entry.specs.declared.{entry.Entry.Entry, op.Target.Target, phase.Phase.Phase}
 use Rattle.tc_rules.specs.{History.ptcs, Phases.is_excused, Phases.last_run, Phases.phase}
 

@@ -1,7 +1,6 @@
 -- Waiting for the end or the kill of components, and when a case can no longer continue.
 -- All of it is this project's own: there are no timers, so a case that waits for what cannot come is stuck.
-use Rattle.std.specs.Prelude.{ℕ, ◌==◌, not, if◌then◌else◌, Bool, true, false, Option, Some, None, List, [], ◌∷◌}
-use Rattle.std.specs.{List.list_all, Option.option_map_or}
+use Rattle.std.specs.{Prelude.{ℕ, ◌==◌, not, if◌then◌else◌, Bool, true, false, Option, Some, None, List, [], ◌∷◌}, List.list_all, Option.option_map_or}
 use Rattle.tc_entry.specs.declared.{entry.Entry.Entry, op.Op.Op, phase.Phase.Phase, reply.Reply.Reply}
 use Rattle.tc_rules.specs.{History.comps, Phases.phase, Status.done, Status.killed, declared.awaited.Awaited.Awaited}
 

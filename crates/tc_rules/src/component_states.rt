@@ -1,7 +1,6 @@
 //! The states of all components, with what is counted over them.
 ghost use Rattle.std.specs.Prelude.{◌≡◌, ◌≤◌, ◌<◌, ◌+◌, ◌++◌, ◌&&◌, ◌∷◌, [], drop, length, slice_index_or, slice_set, IfOk, OnOk, OnErr};
-ghost use Rattle.tc_entry.specs.declared.limits.TheConstants.{COMPONENTS};
-ghost use Rattle.tc_entry.specs.Prelude.{level_of};
+ghost use Rattle.tc_entry.specs.{declared.limits.TheConstants.COMPONENTS, Prelude.level_of};
 ghost use Rattle.tc_rules.specs.Inside.Counts.{bit, is_lapsed as lapsed_state, main_state, made_state};
 ghost use Rattle.tc_rules.specs.Inside.States as tests;
 
@@ -24,8 +23,7 @@ pub(crate) struct ComponentStates {
 
 impl Model for ComponentStates {
     ghost use Rattle.std.specs.Prelude.{List};
-    ghost use Rattle.tc_rules.specs.declared.component_state.ComponentState.{ComponentState};
-    ghost use Rattle.tc_rules.specs.Inside.Counts.{IsCounted};
+    ghost use Rattle.tc_rules.specs.{declared.component_state.ComponentState.ComponentState, Inside.Counts.IsCounted};
 
     ghost Value = { List ComponentState };
 

@@ -1,6 +1,5 @@
 //! What is kept of a test case next to its history.
-ghost use Rattle.std.specs.Prelude.{◌≡◌, ◌≢◌, ◌<◌, ◌≤◌, [], false, List, IfOk, IfSome, IfNone, OnErr};
-ghost use Rattle.std.specs.{Bool.OnTrue, Result.IsOk};
+ghost use Rattle.std.specs.{Prelude.{◌≡◌, ◌≢◌, ◌<◌, ◌≤◌, [], false, List, IfOk, IfSome, IfNone, OnErr}, Bool.OnTrue, Result.IsOk};
 ghost use Rattle.tc_entry.specs.declared.limits.TheConstants.{BEHAVIOURS};
 ghost use Rattle.tc_rules.specs.Standing.{StandsFor, IsReplyOf, TakesIn};
 ghost use Rattle.tc_rules.specs.History as history;
@@ -37,8 +36,7 @@ pub struct CaseState {
 impl Model for CaseState {
     ghost use Rattle.std.specs.Prelude.{List};
     ghost use Rattle.tc_entry.specs.declared.entry.Entry.{Entry};
-    ghost use Rattle.tc_rules.specs.Standing.{Kept};
-    ghost use Rattle.tc_rules.specs.Inside.Kept.{IsKept};
+    ghost use Rattle.tc_rules.specs.{Standing.Kept, Inside.Kept.IsKept};
 
     ghost Value = { Kept };
 

@@ -1,6 +1,5 @@
 //! What one more entry does to what is kept of components and runs.
-ghost use Rattle.std.specs.Prelude.{◌≡◌, ◌≢◌, ℕ, None, false, length, slice_index_or, IsTrue};
-ghost use Rattle.std.specs.Option.{option_or};
+ghost use Rattle.std.specs.{Prelude.{◌≡◌, ◌≢◌, ℕ, None, false, length, slice_index_or, IsTrue}, Option.option_or};
 ghost use Rattle.tc_rules.specs.History as history;
 ghost use Rattle.tc_rules.specs.Local as verdicts;
 ghost use Rattle.tc_rules.specs.Inside.Words.{started_run};

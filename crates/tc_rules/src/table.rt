@@ -1,6 +1,5 @@
 //! The component table.
-ghost use Rattle.std.specs.Prelude.{◌≡◌, ◌<◌, ◌≤◌, ◌+◌, ◌++◌, ◌∷◌, [], false, IfOk, OnErr, OnOk};
-ghost use Rattle.std.specs.{Bool.OnTrue, Result.IsOk};
+ghost use Rattle.std.specs.{Prelude.{◌≡◌, ◌<◌, ◌≤◌, ◌+◌, ◌++◌, ◌∷◌, [], false, IfOk, OnErr, OnOk}, Bool.OnTrue, Result.IsOk};
 ghost use Rattle.tc_entry.specs.declared.limits.TheConstants.{BEHAVIOURS};
 ghost use Rattle.tc_rules.specs.Standing.{past_of};
 ghost use Rattle.tc_rules.specs.History as history;
@@ -28,10 +27,8 @@ pub struct Table {
 }
 
 impl Model for Table {
-    ghost use Rattle.std.specs.Prelude.{reverse, ◌-◌};
-    ghost use Rattle.std.specs.Vec.{vec_len, vec_capacity};
-    ghost use Rattle.tc_rules.specs.Standing.{Case};
-    ghost use Rattle.tc_rules.specs.Standing.{StandsFor};
+    ghost use Rattle.std.specs.{Prelude.{reverse, ◌-◌}, Vec.{vec_len, vec_capacity}};
+    ghost use Rattle.tc_rules.specs.Standing.{Case, StandsFor};
 
     ghost Value = { Case };
 

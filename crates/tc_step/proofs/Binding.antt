@@ -1,6 +1,5 @@
 -- When the places of steps are bound.
-use Rattle.std.proofs.Common.{ℕ, List, ◌∷◌, All}
-use Rattle.std.proofs.lemmas.List.Elements.{All-cons, All-head, All-tail}
+use Rattle.std.proofs.{Common.{ℕ, List, ◌∷◌, All}, lemmas.List.Elements.{All-cons, All-head, All-tail}}
 use Rattle.tc_step.specs.{Steps.IsBound, declared.place.Place.Place}
 
 -- all of a list are bound if its first is and the others are

@@ -1,6 +1,5 @@
 //! The arguments of a start step.
-ghost use Rattle.std.specs.Prelude.{◌≡◌, ◌<◌, ◌≤◌, [], ◌∷◌, ◌++◌, length, IsTrue, ◌↔◌};
-ghost use Rattle.std.specs.Bool.{OnTrue, OnFalse};
+ghost use Rattle.std.specs.{Prelude.{◌≡◌, ◌<◌, ◌≤◌, [], ◌∷◌, ◌++◌, length, IsTrue, ◌↔◌}, Bool.{OnTrue, OnFalse}};
 ghost use Rattle.tc_entry.specs.declared.limits.TheConstants.{ARGUMENTS};
 
 use crate::place::Place;

@@ -1,6 +1,5 @@
 -- Whole inputs and outputs, their faults, and the readers and writers for tests.
-use Rattle.std.specs.Prelude.{ℕ, ◌≡◌, ◌≤◌, List, Option, IfSome, length, take, codes}
-use Rattle.std.specs.Io.KnownBytes.{Appends}
+use Rattle.std.specs.{Prelude.{ℕ, ◌≡◌, ◌≤◌, List, Option, IfSome, length, take, codes}, Io.KnownBytes.Appends}
 use Rattle.tc_verdict.specs.Prelude.{memory_text}
 use Rattle.tc_stream.specs.declared.{devices.NarrowWriter.NarrowWriter, input.InputFault.InputFault}
 

@@ -1,6 +1,5 @@
 //! Readers and writers whose calls are counted.
-ghost use Rattle.std.specs.Prelude.{◌≡◌, ◌+◌, ◌<◌, ◌^◌, ◌↔◌, Bool, List, Option, ℕ, true, false, is_err, IfOk};
-ghost use Rattle.std.specs.{Borrow.GName, Io.KnownBytes.ReadConsumes, Io.KnownBytes.WriteAppends, Io.ReadsAtMost, Io.WritesAtMost};
+ghost use Rattle.std.specs.{Prelude.{◌≡◌, ◌+◌, ◌<◌, ◌^◌, ◌↔◌, Bool, List, Option, ℕ, true, false, is_err, IfOk}, Borrow.GName, Io.KnownBytes.{ReadConsumes, WriteAppends}, Io.{ReadsAtMost, WritesAtMost}};
 
 use std::io;
 use std::io::{Read, Write};

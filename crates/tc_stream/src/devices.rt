@@ -1,6 +1,5 @@
 //! Readers and writers for tests: each moves one byte at a time, and fails at one call.
-ghost use Rattle.std.specs.Prelude.{◌≡◌, ◌<◌, ◌≤◌, ◌+◌, ◌↔◌, [], Some, Ok, IfOk, IfErr, IsErr, IsErrAnd, IsOk, MatchResult, length, min};
-ghost use Rattle.std.specs.{Io.KnownBytes.Keeps, Io.KnownBytes.ReadConsumes, Io.KnownBytes.WriteAppends, Io.ReadsAtMost, Io.WritesAtMost, IoError.error_kind};
+ghost use Rattle.std.specs.{Prelude.{◌≡◌, ◌<◌, ◌≤◌, ◌+◌, ◌↔◌, [], Some, Ok, IfOk, IfErr, IsErr, IsErrAnd, IsOk, MatchResult, length, min}, Io.KnownBytes.{Keeps, ReadConsumes, WriteAppends}, Io.{ReadsAtMost, WritesAtMost}, IoError.error_kind};
 ghost use Rattle.tc_stream.specs.Streams.{FailsNext};
 
 use std::alloc::Global;

@@ -1,6 +1,5 @@
 //! A whole input, up to a limit.
-ghost use Rattle.std.specs.Prelude.{◌≡◌, true, false, ◌<◌, ◌≤◌, ◌+◌, ◌^◌, ◌↔◌, length, take, [], Some, IfOk, OnOk, IfSome, IfNone, vec_len, IsErrOf};
-ghost use Rattle.std.specs.Io.{KnownBytes.Consumes, KnownBytes.IsAtEnd, StartsWith, appended_bytes};
+ghost use Rattle.std.specs.{Prelude.{◌≡◌, true, false, ◌<◌, ◌≤◌, ◌+◌, ◌^◌, ◌↔◌, length, take, [], Some, IfOk, OnOk, IfSome, IfNone, vec_len, IsErrOf}, Io.KnownBytes.{Consumes, IsAtEnd}, Io.{StartsWith, appended_bytes}};
 ghost use Rattle.tc_stream.specs.Streams.{input_text};
 
 use crate::counted::{CountedRead, CountedReader};

@@ -1,6 +1,5 @@
 //! A whole output.
-ghost use Rattle.std.specs.Prelude.{◌≡◌, true, false, ◌<◌, ◌≤◌, ◌+◌, ◌^◌, ◌↔◌, length, take, Some, IfOk, IsErr, OnOk, OnErr};
-ghost use Rattle.std.specs.Io.KnownBytes.{Appends, Keeps};
+ghost use Rattle.std.specs.{Prelude.{◌≡◌, true, false, ◌<◌, ◌≤◌, ◌+◌, ◌^◌, ◌↔◌, length, take, Some, IfOk, IsErr, OnOk, OnErr}, Io.KnownBytes.{Appends, Keeps}};
 ghost use Rattle.tc_stream.specs.Streams.{write_text, AppendsPrefix};
 
 use crate::counted::{CountedWrite, CountedWriter};

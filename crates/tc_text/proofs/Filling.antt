@@ -1,8 +1,5 @@
 -- The digits of a number, written from the last to the first.
-use Rattle.std.proofs.Common.{◌≡◌, ◌∙◌, ◌<◌, ◌≤◌, ◌+◌, ◌*◌, ◌/◌, ◌%◌, ◌^◌, ℕ, zero, suc, List, [], ◌∷◌, ◌++◌, length, drop, set, sym, ap, arith, append_assoc, add-one}
-use Rattle.std.specs.Fmt.{decimal}
-use Rattle.std.proofs.lemmas.{Fmt.decimal_digit, Fmt.decimal_step, List.drop-set, List.length-set}
-use Rattle.std.proofs.Math.Nat.{pow-succ'}
+use Rattle.std.{proofs.{Common.{◌≡◌, ◌∙◌, ◌<◌, ◌≤◌, ◌+◌, ◌*◌, ◌/◌, ◌%◌, ◌^◌, ℕ, zero, suc, List, [], ◌∷◌, ◌++◌, length, drop, set, sym, ap, arith, append_assoc, add-one}, lemmas.Fmt.{decimal_digit, decimal_step}, lemmas.List.{drop-set, length-set}, Math.Nat.pow-succ'}, specs.Fmt.decimal}
 
 -- the digits from the place on are those of the number after those of what is left
 pub record Filled (number left place : ℕ) (digits : List ℕ) : Type 0 where

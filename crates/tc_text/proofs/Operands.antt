@@ -1,11 +1,7 @@
 -- The first words of operations, and what operations are about, read from the text after these.
-use Rattle.std.proofs.Common.{◌≡◌, ◌≢◌, ◌∙◌, true, false, Some, None, ℕ, List, ◌++◌, codes, refl, ap, sym, append_assoc, ◌<◌, ◌≤◌, ◌+◌, ◌^◌, [], ◌∷◌, length, arith}
-use Rattle.std.specs.Fmt.{decimal}
-use Rattle.std.proofs.lemmas.Grind.{common_steps}
-use Rattle.tc_entry.specs.declared.{comp.Comp.Comp, limits.TheConstants.ARGUMENTS, op.Group.Group, op.Op.Op, op.Target.Target}
-use Rattle.tc_entry.specs.Prelude.{Run}
-use Rattle.tc_text.specs.{Inside.IsWait, Inside.operand_text, Inside.status_text, Inside.verb_of, Inside.verb_text, Reading.EndsMove, Reading.EndsNumber, Spelling.AreComps, Spelling.IsComp, Spelling.IsGroup, Spelling.IsTarget, Spelling.args_text, Spelling.group_text, Spelling.op_text, Inside.start_text, Spelling.target_text, declared.verb.Status.Status, declared.verb.Verb.Verb}
-use Rattle.tc_text.proofs.Lemmas.Digits.{digit_first, no_letter}
+use Rattle.std.{proofs.{Common.{◌≡◌, ◌≢◌, ◌∙◌, true, false, Some, None, ℕ, List, ◌++◌, codes, refl, ap, sym, append_assoc, ◌<◌, ◌≤◌, ◌+◌, ◌^◌, [], ◌∷◌, length, arith}, lemmas.Grind.common_steps}, specs.Fmt.decimal}
+use Rattle.tc_entry.specs.{declared.comp.Comp.Comp, declared.limits.TheConstants.ARGUMENTS, declared.op.Group.Group, declared.op.Op.Op, declared.op.Target.Target, Prelude.Run}
+use Rattle.tc_text.{specs.{Inside.{IsWait, operand_text, status_text, verb_of, verb_text, start_text}, Reading.{EndsMove, EndsNumber}, Spelling.{AreComps, IsComp, IsGroup, IsTarget, args_text, group_text, op_text, target_text}, declared.verb.Status.Status, declared.verb.Verb.Verb}, proofs.Lemmas.Digits.{digit_first, no_letter}}
 
 -- an operation is its first words and what follows them
 pub op_words : (op : Op) → op_text op ≡ verb_text (verb_of op) ++ operand_text op

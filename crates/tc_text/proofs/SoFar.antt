@@ -1,10 +1,7 @@
 -- How far a list of moves is read.
-use Rattle.std.proofs.Common.{◌≡◌, ◌≢◌, ◌∙◌, ◌+◌, ℕ, List, [], ◌∷◌, ◌++◌, length, map, sym, ap, refl, append_assoc, arith}
-use Rattle.std.specs.List.{AllByRecursion}
-use Rattle.std.proofs.lemmas.List.{append-nil, length-append}
+use Rattle.std.{proofs.{Common.{◌≡◌, ◌≢◌, ◌∙◌, ◌+◌, ℕ, List, [], ◌∷◌, ◌++◌, length, map, sym, ap, refl, append_assoc, arith}, lemmas.List.{append-nil, length-append}}, specs.List.AllByRecursion}
 use Rattle.tc_entry.specs.Prelude.{IsBehaviours}
-use Rattle.tc_text.specs.{Inside.IsNoMove, MoveList.IsBadFirstLine, MoveList.IsBadMove, MoveList.IsMadeOfMoves, MoveList.IsMove, MoveList.IsMoveList, MoveList.Move, MoveList.behaviours_line, MoveList.lines_of, MoveList.list_lines, MoveList.move_line}
-use Rattle.tc_text.proofs.Lemmas.LinesOf.{some_line}
+use Rattle.tc_text.{specs.{Inside.IsNoMove, MoveList.{IsBadFirstLine, IsBadMove, IsMadeOfMoves, IsMove, IsMoveList, Move, behaviours_line, lines_of, list_lines, move_line}}, proofs.Lemmas.LinesOf.some_line}
 
 -- the moves are the ones read, and those that the rest spells
 pub record Remains (moves : List Move) (rest : List ℕ) (all : List Move) : Type 0 where

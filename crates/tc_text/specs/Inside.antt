@@ -1,8 +1,6 @@
 -- What only the way the texts are read needs: no public clause names a word of this file.
-use Rattle.std.specs.Prelude.{ℕ, ◌≡◌, ◌≢◌, ◌<◌, ◌≤◌, ◌+◌, ◌-◌, ◌*◌, ◌^◌, ◌++◌, codes, drop, length, take, Bool, true, false, if◌then◌else◌, List, [], ◌∷◌, Option, Some, None, MatchOption, slice_get}
-use Rattle.std.specs.{Borrow.Bor, Char.is_ascii_digit, Fmt.decimal, Str.all_ascii_digits}
-use Rattle.tc_entry.specs.Prelude.{Run, given, name_of}
-use Rattle.tc_entry.specs.declared.{comp.Comp.Comp, op.Op.Op, op.Target.Target}
+use Rattle.std.specs.{Prelude.{ℕ, ◌≡◌, ◌≢◌, ◌<◌, ◌≤◌, ◌+◌, ◌-◌, ◌*◌, ◌^◌, ◌++◌, codes, drop, length, take, Bool, true, false, if◌then◌else◌, List, [], ◌∷◌, Option, Some, None, MatchOption, slice_get}, Borrow.Bor, Char.is_ascii_digit, Fmt.decimal, Str.all_ascii_digits}
+use Rattle.tc_entry.specs.{Prelude.{Run, given, name_of}, declared.comp.Comp.Comp, declared.op.Op.Op, declared.op.Target.Target}
 use Rattle.tc_text.specs.{MoveList.IsMove, MoveList.Move, MoveList.lines_of, MoveList.move_line, Said.ends_word, Spelling.args_text, Spelling.group_text, Spelling.target_text, declared.said.Part.Part, declared.verb.Status.Status, declared.verb.Verb.Verb}
 
 -- this value was read of a line, and these lines are after it

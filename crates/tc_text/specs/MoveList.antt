@@ -1,10 +1,7 @@
 -- The lines of a text, lists of moves as texts, and what is wrong with other texts.
-use Rattle.std.specs.Prelude.{ℕ, ◌==◌, if◌then◌else◌, List, [], ◌∷◌, ◌≡◌, ◌≢◌, ◌<◌, ◌+◌, ◌^◌, ◌++◌, length, map, codes}
-use Rattle.std.specs.{Fmt.decimal, List.AllByRecursion, List.onto_first}
-use Rattle.tc_entry.specs.Prelude.{IsBehaviours, Run}
-use Rattle.tc_entry.specs.declared.op.Op.{Op}
-use Rattle.tc_text.specs.Spelling.{IsOp, move_text}
-use Rattle.tc_text.specs.declared.{fault.TextFault.TextFault, fault.TextKind.TextKind}
+use Rattle.std.specs.{Prelude.{ℕ, ◌==◌, if◌then◌else◌, List, [], ◌∷◌, ◌≡◌, ◌≢◌, ◌<◌, ◌+◌, ◌^◌, ◌++◌, length, map, codes}, Fmt.decimal, List.{AllByRecursion, onto_first}}
+use Rattle.tc_entry.specs.{Prelude.{IsBehaviours, Run}, declared.op.Op.Op}
+use Rattle.tc_text.specs.{Spelling.{IsOp, move_text}, declared.fault.TextFault.TextFault, declared.fault.TextKind.TextKind}
 use Rattle.tc_verdict.specs.Prelude.{early_text, memory_text}
 
 -- LF ends a line; a last line may lack it, and after a last LF there is none

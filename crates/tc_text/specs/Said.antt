@@ -1,7 +1,6 @@
 -- Bytes that are shown to a reader, and lines for a reader next to an answer, by what matters of each: its numbers and
 -- its names. No clause spells the prose around them.
-use Rattle.std.specs.Prelude.{ℕ, ◌&&◌, nat_le, Bool, ◌≡◌, ◌⊎◌, not, true, if◌then◌else◌, List, [], ◌∷◌, ◌++◌, map}
-use Rattle.std.specs.Fmt.{decimal}
+use Rattle.std.specs.{Prelude.{ℕ, ◌&&◌, nat_le, Bool, ◌≡◌, ◌⊎◌, not, true, if◌then◌else◌, List, [], ◌∷◌, ◌++◌, map}, Fmt.decimal}
 use Rattle.tc_entry.specs.Prelude.{is_name_byte}
 use Rattle.tc_text.specs.declared.said.Part.{Part}
 

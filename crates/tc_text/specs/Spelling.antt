@@ -1,8 +1,6 @@
 -- The one spelling of each move and each reply; it is this project's own.
-use Rattle.std.specs.Prelude.{ℕ, ◌<◌, ◌≤◌, ◌^◌, true, false, Some, IfSome, if◌then◌else◌, List, [], ◌++◌, length, codes}
-use Rattle.std.specs.{Fmt.decimal, List.AllByRecursion, List.flat_map, Option.option_map_or}
-use Rattle.tc_entry.specs.declared.{comp.Comp.Comp, limits.TheConstants.ARGUMENTS, op.Group.Group, op.Op.Op, op.Target.Target, reply.Reply.Reply}
-use Rattle.tc_entry.specs.Prelude.{IsName, fault_name, given, name_of}
+use Rattle.std.specs.{Prelude.{ℕ, ◌<◌, ◌≤◌, ◌^◌, true, false, Some, IfSome, if◌then◌else◌, List, [], ◌++◌, length, codes}, Fmt.decimal, List.{AllByRecursion, flat_map}, Option.option_map_or}
+use Rattle.tc_entry.specs.{declared.comp.Comp.Comp, declared.limits.TheConstants.ARGUMENTS, declared.op.Group.Group, declared.op.Op.Op, declared.op.Target.Target, declared.reply.Reply.Reply, Prelude.{IsName, fault_name, given, name_of}}
 
 -- a component by its number, or all of them
 abbrev pub group_text : Group → List ℕ

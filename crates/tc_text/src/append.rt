@@ -1,6 +1,5 @@
 //! Appending to a text.
-ghost use Rattle.std.specs.Prelude.{◌≡◌, ◌<◌, ◌++◌, OnOk, OnErr};
-ghost use Rattle.std.specs.Fmt.{decimal};
+ghost use Rattle.std.specs.{Prelude.{◌≡◌, ◌<◌, ◌++◌, OnOk, OnErr}, Fmt.decimal};
 
 use tc_entry::NoMemory;
 

@@ -1,6 +1,5 @@
 //! Numbers in their one spelling: decimal digits with no leading zero.
-ghost use Rattle.std.specs.Prelude.{◌≡◌, ◌<◌, ◌≤◌, ◌+◌, ◌^◌, ◌++◌, ◌⊎◌, ℕ, List, true, false, length, drop, slice_index, Some, IfSome, IfNone};
-ghost use Rattle.std.specs.Fmt.{decimal};
+ghost use Rattle.std.specs.{Prelude.{◌≡◌, ◌<◌, ◌≤◌, ◌+◌, ◌^◌, ◌++◌, ◌⊎◌, ℕ, List, true, false, length, drop, slice_index, Some, IfSome, IfNone}, Fmt.decimal};
 ghost use Rattle.tc_text.specs.{Inside.AreDigits, Inside.Counted, Inside.NoDigitFirst, Reading.EndsNumber, Reading.Takes};
 
 // The value of the digit at a place of the text, if there is one.

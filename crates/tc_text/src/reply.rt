@@ -1,8 +1,6 @@
 //! The texts of replies.
-ghost use Rattle.std.specs.Prelude.{◌≡◌, ◌++◌, ℕ, List, Some, IfSome, OnOk, OnErr};
-ghost use Rattle.std.specs.Io.{StartsWith};
-ghost use Rattle.tc_entry.specs.Prelude.{fault_name};
-ghost use Rattle.tc_entry.specs.declared.reply.Reply.TheVariants.{Made};
+ghost use Rattle.std.specs.{Prelude.{◌≡◌, ◌++◌, ℕ, List, Some, IfSome, OnOk, OnErr}, Io.StartsWith};
+ghost use Rattle.tc_entry.specs.{Prelude.fault_name, declared.reply.Reply.TheVariants.Made};
 ghost use Rattle.tc_text.specs.{Inside.BeginsWithE, Reading.EndsReply, Reading.Takes, Spelling.IsReply, Spelling.reply_text};
 
 use crate::append::{append_number, append_text};

@@ -1,6 +1,5 @@
 //! Writing moves.
-ghost use Rattle.std.specs.Prelude.{◌≡◌, ◌++◌, OnOk, OnErr};
-ghost use Rattle.std.specs.Io.{StartsWith};
+ghost use Rattle.std.specs.{Prelude.{◌≡◌, ◌++◌, OnOk, OnErr}, Io.StartsWith};
 ghost use Rattle.tc_text.specs.{Inside.operand_text, Spelling.args_text, Spelling.group_text, Spelling.move_text, Spelling.op_text, Spelling.target_text};
 
 use crate::append::{append_number, append_text};

@@ -1,8 +1,6 @@
 -- A list of starts, as one more start is noted in it.
-use Rattle.std.proofs.Common.{ℕ, zero, suc, ◌≡◌, ◌≢◌, ◌<◌, ◌==◌, if◌then◌else◌, Bool, true, false, Option, Some, None, is_none, List, [], ◌∷◌, ◌++◌, length, set, refl, ◌∙◌, arith}
-use Rattle.std.proofs.lemmas.{Bool.Decides.nat_tests, List.get_or-set_other, List.get_or-set_same, List.length-set}
-use Rattle.tc_rules.specs.Prelude.{Run, Comp, Entry, Op, Reply, first_some, answer}
-use Rattle.tc_rules.proofs.Lemmas.Sound.{plain_if, no_special, start_in_range}
+use Rattle.std.proofs.{Common.{ℕ, zero, suc, ◌≡◌, ◌≢◌, ◌<◌, ◌==◌, if◌then◌else◌, Bool, true, false, Option, Some, None, is_none, List, [], ◌∷◌, ◌++◌, length, set, refl, ◌∙◌, arith}, lemmas.Bool.Decides.nat_tests, lemmas.List.{get_or-set_other, get_or-set_same, length-set}}
+use Rattle.tc_rules.{specs.Prelude.{Run, Comp, Entry, Op, Reply, first_some, answer}, proofs.Lemmas.Sound.{plain_if, no_special, start_in_range}}
 use Rattle.tc_book.specs.Inside.{start_at, StartsBelow}
 
 abbrev Starts : Type 0

@@ -1,6 +1,5 @@
 -- What only the way the merge is made needs: no public clause names a word of this file.
-use Rattle.std.specs.Prelude.{ℕ, suc, ◌≡◌, ◌<◌, ◌≤◌, Option, List, [], length, reverse, slice_index_or}
-use Rattle.std.specs.{Borrow.Bor, Option.option_map_or}
+use Rattle.std.specs.{Prelude.{ℕ, suc, ◌≡◌, ◌<◌, ◌≤◌, Option, List, [], length, reverse, slice_index_or}, Borrow.Bor, Option.option_map_or}
 use Rattle.tc_rules.specs.Prelude.{Run, Entry, in_place, verdict_calls_after}
 
 -- what the table has of run b, and this if it has no such run

@@ -1,6 +1,5 @@
 -- What only the way the words are settled needs: no public clause names a word of this file.
-use Rattle.std.specs.Prelude.{ℕ, ◌≡◌, ◌<◌, Bool, true, false, Option, Some, List, [], ◌∷◌, length, set}
-use Rattle.std.specs.Option.{option_and_then}
+use Rattle.std.specs.{Prelude.{ℕ, ◌≡◌, ◌<◌, Bool, true, false, Option, Some, List, [], ◌∷◌, length, set}, Option.option_and_then}
 use Rattle.tc_rules.specs.Prelude.{Run, UserVerdict, Comp, Entry, Op, Reply, comp_of, is_active, last_run}
 use Rattle.tc_board.specs.declared.record.Record.{Record, TheVariants.Closed, TheVariants.Open, TheVariants.Unbegun}
 use Rattle.tc_book.specs.Words.{IsWordOf, record_at, carried, is_closed, left_by, run_before}

@@ -1,6 +1,5 @@
 //! The condition that one run of a case waits on.
-ghost use Rattle.std.specs.Prelude.{◌≡◌, ◌+◌, IsTrue};
-ghost use Rattle.std.specs.Sync.Mutex.{mutex_guard_value};
+ghost use Rattle.std.specs.{Prelude.{◌≡◌, ◌+◌, IsTrue}, Sync.Mutex.mutex_guard_value};
 ghost use Rattle.tc_book.specs.Inside.{goes_on, lacks};
 
 use crate::logged_book::LoggedBook;

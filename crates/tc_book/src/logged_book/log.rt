@@ -1,6 +1,5 @@
 //! The log of a started run.
-ghost use Rattle.std.specs.Prelude.{◌≡◌, ◌<◌, ◌≤◌, ◌+◌, ◌++◌, ◌∷◌, [], true, false, OnErr, OnOk};
-ghost use Rattle.std.specs.Vec.{vec_len, vec_capacity};
+ghost use Rattle.std.specs.{Prelude.{◌≡◌, ◌<◌, ◌≤◌, ◌+◌, ◌++◌, ◌∷◌, [], true, false, OnErr, OnOk}, Vec.{vec_len, vec_capacity}};
 ghost use Rattle.tc_board.specs.declared.answer.Answer.TheVariants.{Met};
 ghost use Rattle.tc_rules.specs.Prelude.{is_verdict_call};
 ghost use Rattle.tc_book.specs.{Hands.IsHandOf, Inside.is_closed, Inside.with_own, Passes.ended_by, Inside.Replies.suits};
@@ -24,11 +23,8 @@ pub(crate) struct Log {
 }
 
 impl Model for Log {
-    ghost use Rattle.std.specs.Prelude.{◌≡◌, ◌-◌};
-    ghost use Rattle.std.specs.Vec.{vec_len, vec_capacity};
-    ghost use Rattle.tc_book.specs.Passes.{ended_by};
-    ghost use Rattle.tc_book.specs.Hands.{IsHandOf};
-    ghost use Rattle.tc_book.specs.Inside.{LogState};
+    ghost use Rattle.std.specs.{Prelude.{◌≡◌, ◌-◌}, Vec.{vec_len, vec_capacity}};
+    ghost use Rattle.tc_book.specs.{Passes.ended_by, Hands.IsHandOf, Inside.LogState};
 
     ghost Value = { LogState };
 

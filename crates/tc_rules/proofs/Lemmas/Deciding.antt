@@ -1,8 +1,6 @@
 -- Small facts on tests, options and operations, which several files need.
-use Rattle.std.proofs.Common.{ℕ, ◌≡◌, ◌==◌, ◌&&◌, ◌<◌, ◌≤◌, if◌then◌else◌, Bool, true, false, Option, Some, None, is_some, refl, arith}
-use Rattle.std.proofs.lemmas.Bool.Decides.{nat_tests}
-use Rattle.tc_entry.specs.declared.{comp.Comp.Comp, op.Op.Op, reply.Reply.Reply}
-use Rattle.tc_entry.specs.Prelude.{is_ok}
+use Rattle.std.proofs.{Common.{ℕ, ◌≡◌, ◌==◌, ◌&&◌, ◌<◌, ◌≤◌, if◌then◌else◌, Bool, true, false, Option, Some, None, is_some, refl, arith}, lemmas.Bool.Decides.nat_tests}
+use Rattle.tc_entry.specs.{declared.comp.Comp.Comp, declared.op.Op.Op, declared.reply.Reply.Reply, Prelude.is_ok}
 use Rattle.tc_rules.specs.{Inside.Words.first_some, History.is_comp, History.is_finish, History.is_kill_of, History.is_stop_case, History.is_stop_of, Inside.Laws.halting_op}
 
 pub self_equal : (m : ℕ) → (m == m) ≡ true

@@ -1,7 +1,5 @@
 -- A list with a wrong reply is not legal.
-use Rattle.std.proofs.Common.{ℕ, ◌≡◌, ◌<◌, ◌+◌, List, [], ◌∷◌, ◌++◌, length, get_or, take, drop, reverse, sym, ap, ◌∙◌, subst, add-one}
-use Rattle.std.proofs.lemmas.List.{reverse-append, take-append-drop}
-use Rattle.std.proofs.Math.Seq.{take-suc}
+use Rattle.std.proofs.{Common.{ℕ, ◌≡◌, ◌<◌, ◌+◌, List, [], ◌∷◌, ◌++◌, length, get_or, take, drop, reverse, sym, ap, ◌∙◌, subst, add-one}, lemmas.List.{reverse-append, take-append-drop}, Math.Seq.take-suc}
 use Rattle.tc_entry.specs.declared.{entry.Entry.Entry, op.Op.Op, reply.Reply.Reply}
 use Rattle.tc_rules.specs.{Legal.DiffersAt, Legal.IsFaultOf, Legal.IsLegal, declared.check.CheckFault.CheckFault}
 

@@ -1,9 +1,7 @@
 -- A component that is not yet made, after one more entry.
 use Rattle.std.proofs.Common.{ℕ, ◌≡◌, ◌&&◌, Bool, true, false, Option, None, List, ◌∷◌, refl, ap}
-use Rattle.tc_entry.specs.Prelude.{Run, worst, Verdict}
-use Rattle.tc_entry.specs.declared.{entry.Entry.Entry, phase.Phase.Phase}
-use Rattle.tc_rules.specs.{History.comp_of, History.created, History.exists, History.is_alive_create, History.is_alive_type, History.is_comp, Inside.Counts.made_state, Inside.Kept.blank, Inside.Kept.state_of, Local.local, Local.verdicts_of, Phases.last_run, Phases.phase, Phases.start_in, Phases.was_halted, Phases.was_killed}
-use Rattle.tc_rules.proofs.Lemmas.Steps.{phase_by}
+use Rattle.tc_entry.specs.{Prelude.{Run, worst, Verdict}, declared.entry.Entry.Entry, declared.phase.Phase.Phase}
+use Rattle.tc_rules.{specs.{History.{comp_of, created, exists, is_alive_create, is_alive_type, is_comp}, Inside.Counts.made_state, Inside.Kept.{blank, state_of}, Local.{local, verdicts_of}, Phases.{last_run, phase, start_in, was_halted, was_killed}}, proofs.Lemmas.Steps.phase_by}
 
 not_killed_if : (k : Bool) (r : Option Run) (h a : Bool) → phase_by k r h a ≡ Phase.Inactive → k ≡ false
 not_killed_if true r h a e = cc

@@ -1,9 +1,7 @@
 -- Which runs continue after one more entry.
 use Rattle.std.proofs.Common.{ℕ, ◌≡◌, ◌<◌, ◌==◌, ◌&&◌, ◌||◌, not, nat_le, if◌then◌else◌, Bool, true, false, Option, Some, None, is_some, List, [], ◌∷◌, refl, ap, sym, ◌∙◌}
-use Rattle.tc_entry.specs.Prelude.{Run, is_ended, is_fault, is_ok}
-use Rattle.tc_entry.specs.declared.{comp.Comp.Comp, entry.Entry.Entry, op.Op.Op, phase.Phase.Phase, reply.Fault.Fault, reply.Reply.Reply}
-use Rattle.tc_rules.specs.{Answers.answer, Answers.is_active, Answers.is_run_of, Faults.start_fault, History.comp_of, History.exists, Inside.Words.first_some, History.halts, History.is_alive_type, History.is_comp, History.is_finish, History.is_kill_of, History.is_stop_case, History.is_stop_of, History.kills, History.started_on, Inside.Words.starts_on, Inside.Words.starts_run, Inside.Laws.halting_op, Inside.Laws.may_halt, Legal.IsLegal, Phases.last_run, Phases.phase, Phases.start_in, Phases.was_halted, Phases.was_killed, Status.is_killed, Status.is_running}
-use Rattle.tc_rules.proofs.Lemmas.{Deciding.and_no, Deciding.equal_if, Deciding.no_finish, Deciding.no_kill, Deciding.no_stop, Deciding.no_stop_case, Deciding.ok_is, Deciding.self_equal, Deciding.test_by, Keeping.kill_halts, Kept.inactive, Over.on_existing, Sound.IsPlain, Sound.no_special, Sound.plain_if, Sound.runs_on, Sound.starts, Sound.starts_fresh, Steps.phase_by}
+use Rattle.tc_entry.specs.{Prelude.{Run, is_ended, is_fault, is_ok}, declared.comp.Comp.Comp, declared.entry.Entry.Entry, declared.op.Op.Op, declared.phase.Phase.Phase, declared.reply.Fault.Fault, declared.reply.Reply.Reply}
+use Rattle.tc_rules.{specs.{Answers.{answer, is_active, is_run_of}, Faults.start_fault, History.{comp_of, exists, halts, is_alive_type, is_comp, is_finish, is_kill_of, is_stop_case, is_stop_of, kills, started_on}, Inside.Words.{first_some, starts_on, starts_run}, Inside.Laws.{halting_op, may_halt}, Legal.IsLegal, Phases.{last_run, phase, start_in, was_halted, was_killed}, Status.{is_killed, is_running}}, proofs.{Lemmas.Deciding.{and_no, equal_if, no_finish, no_kill, no_stop, no_stop_case, ok_is, self_equal, test_by}, Lemmas.Keeping.kill_halts, Lemmas.Kept.inactive, Lemmas.Over.on_existing, Lemmas.Sound.{IsPlain, no_special, plain_if, runs_on, starts, starts_fresh}, Lemmas.Steps.phase_by}}
 
 -- this is run b
 abbrev is_the_run : ℕ → Option Run → Bool

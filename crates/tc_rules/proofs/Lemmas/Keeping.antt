@@ -1,10 +1,7 @@
 -- What the table keeps is right after one more entry.
-use Rattle.std.proofs.Common.{ℕ, ◌≡◌, ◌<◌, ◌≤◌, ◌==◌, ◌&&◌, ◌||◌, not, if◌then◌else◌, Bool, true, false, Option, Some, None, is_some, List, ◌∷◌, length, get_or, refl, ap, subst, sym, ◌∙◌, arith}
-use Rattle.std.specs.List.{list_all}
-use Rattle.tc_entry.specs.declared.{comp.Comp.Comp, entry.Entry.Entry}
-use Rattle.tc_entry.specs.Prelude.{is_ended, is_ok}
-use Rattle.tc_rules.specs.{Answers.answer, Faults.all_exist, Faults.target_names, History.add_new, History.comp_of, History.comps, History.created, History.ends_case, History.exists, Inside.Words.first_some, History.halts, History.is_alive_create, History.is_comp, History.is_finish, History.is_in, History.is_kill_of, History.is_over, History.is_stop_of, History.kills, Inside.Words.starts_run, Inside.Counts.made_state, Inside.Kept.IsKept, Inside.Kept.numbers_from, Inside.Step.next_run, Inside.Step.next_state, Phases.last_run, Phases.start_in, Phases.was_halted, Phases.was_killed, Standing.Kept, Standing.StandsFor, Waiting.parks, Waiting.waiting, declared.awaited.Awaited.Awaited, declared.component_state.ComponentState.ComponentState, declared.run_state.RunState.RunState}
-use Rattle.tc_rules.proofs.Lemmas.{Deciding.equal_if, Deciding.other_comp, Fresh.fresh_step, Kept.existing, Kept.exists_if, Kept.exists_unless, Sound.no_parks, Sound.parked, Sound.runs_on, Sound.starts, Sound.starts_fresh, Steps.run_step, Steps.state_step}
+use Rattle.std.{proofs.Common.{ℕ, ◌≡◌, ◌<◌, ◌≤◌, ◌==◌, ◌&&◌, ◌||◌, not, if◌then◌else◌, Bool, true, false, Option, Some, None, is_some, List, ◌∷◌, length, get_or, refl, ap, subst, sym, ◌∙◌, arith}, specs.List.list_all}
+use Rattle.tc_entry.specs.{declared.comp.Comp.Comp, declared.entry.Entry.Entry, Prelude.{is_ended, is_ok}}
+use Rattle.tc_rules.{specs.{Answers.answer, Faults.{all_exist, target_names}, History.{add_new, comp_of, comps, created, ends_case, exists, halts, is_alive_create, is_comp, is_finish, is_in, is_kill_of, is_over, is_stop_of, kills}, Inside.Words.{first_some, starts_run}, Inside.Counts.made_state, Inside.Kept.{IsKept, numbers_from}, Inside.Step.{next_run, next_state}, Phases.{last_run, start_in, was_halted, was_killed}, Standing.{Kept, StandsFor}, Waiting.{parks, waiting}, declared.awaited.Awaited.Awaited, declared.component_state.ComponentState.ComponentState, declared.run_state.RunState.RunState}, proofs.{Lemmas.Deciding.{equal_if, other_comp}, Lemmas.Fresh.fresh_step, Lemmas.Kept.{existing, exists_if, exists_unless}, Lemmas.Sound.{no_parks, parked, runs_on, starts, starts_fresh}, Lemmas.Steps.{run_step, state_step}}}
 
 halting_by : (ended ends fin stop kill : Bool) → (ends || (not ended && kill)) ≡ true → (ends || (not ended && (fin || stop || kill))) ≡ true
 halting_by ended true fin stop kill h = refl

@@ -1,11 +1,7 @@
 -- What follows from what the table keeps.
-use Rattle.std.proofs.Common.{ℕ, ◌≡◌, ◌<◌, ◌≤◌, ◌&&◌, ◌||◌, not, Bool, true, false, Some, None, is_some, nat_lt, List, [], ◌∷◌, length, map, drop, get_or, refl, ap, sym, ◌∙◌, arith}
-use Rattle.std.proofs.lemmas.{Bool.Decides.nat_tests, List.Folds.list_all-map}
-use Rattle.std.specs.List.{list_any, list_all}
-use Rattle.tc_entry.specs.declared.{comp.Comp.Comp, entry.Entry.Entry, op.Target.Target}
-use Rattle.tc_entry.specs.Prelude.{worst}
-use Rattle.tc_rules.specs.{Answers.is_active, Answers.is_run_of, Faults.all_exist, Faults.components, Faults.target_names, History.comp_of, History.comps, History.exists, History.is_alive_type, History.is_in, History.ptcs, Inside.Kept.IsKept, Inside.Kept.run_of, Inside.Kept.state_of, Inside.States.all_alive, Inside.States.all_below, Inside.States.all_killed, Inside.States.any_alive, Inside.States.any_done, Inside.States.any_killed, Inside.States.any_running, Inside.States.none_lapsed, Inside.States.none_running, Inside.States.worst_local, Local.local, Local.local_if_any, Local.overall, Phases.is_excused, Phases.last_run, Phases.phase, Phases.phase_if_any, Status.alive, Status.done, Status.is_done, Status.is_killed, Status.is_running, Status.killed, Status.running, Waiting.waiting, declared.awaited.Awaited.Awaited, declared.component_state.ComponentState.ComponentState, declared.run_state.RunState.RunState}
-use Rattle.tc_rules.proofs.Lemmas.Numbers.{length-numbers_from, is_in-numbers_from, map-numbers_from, drop-one-map}
+use Rattle.std.{proofs.{Common.{ℕ, ◌≡◌, ◌<◌, ◌≤◌, ◌&&◌, ◌||◌, not, Bool, true, false, Some, None, is_some, nat_lt, List, [], ◌∷◌, length, map, drop, get_or, refl, ap, sym, ◌∙◌, arith}, lemmas.Bool.Decides.nat_tests, lemmas.List.Folds.list_all-map}, specs.List.{list_any, list_all}}
+use Rattle.tc_entry.specs.{declared.comp.Comp.Comp, declared.entry.Entry.Entry, declared.op.Target.Target, Prelude.worst}
+use Rattle.tc_rules.{specs.{Answers.{is_active, is_run_of}, Faults.{all_exist, components, target_names}, History.{comp_of, comps, exists, is_alive_type, is_in, ptcs}, Inside.Kept.{IsKept, run_of, state_of}, Inside.States.{all_alive, all_below, all_killed, any_alive, any_done, any_killed, any_running, none_lapsed, none_running, worst_local}, Local.{local, local_if_any, overall}, Phases.{is_excused, last_run, phase, phase_if_any}, Status.{alive, done, is_done, is_killed, is_running, killed, running}, Waiting.waiting, declared.awaited.Awaited.Awaited, declared.component_state.ComponentState.ComponentState, declared.run_state.RunState.RunState}, proofs.Lemmas.Numbers.{length-numbers_from, is_in-numbers_from, map-numbers_from, drop-one-map}}
 
 map-map : {A B C : Type 0} (g : B → C) (f : A → B) (xs : List A) → map g (map f xs) ≡ map (λ x. g (f x)) xs
 map-map g f [] = refl

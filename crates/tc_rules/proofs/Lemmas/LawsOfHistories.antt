@@ -1,10 +1,7 @@
 -- Facts on legal histories.
-use Rattle.std.proofs.Common.{ℕ, ◌≡◌, if◌then◌else◌, Bool, true, false, Option, Some, None, is_some, List, [], ◌∷◌, ◌++◌, refl, ap, sym, ◌∙◌, append_assoc, arith}
-use Rattle.std.proofs.lemmas.Bool.Decides.{nat_tests}
-use Rattle.tc_entry.specs.Prelude.{Verdict, worst, is_ended}
-use Rattle.tc_entry.specs.declared.{comp.Comp.Comp, entry.Entry.Entry, op.Op.Op, phase.Phase.Phase, reply.Reply.Reply}
-use Rattle.tc_rules.specs.{Answers.answer, Inside.Words.answer_unless, Answers.is_active, Inside.Words.is_active_on, Answers.is_run_of, Answers.plain_answer, Faults.fault, History.comp_of, History.exists, History.halts, History.is_comp, History.kills, Laws.AnsweredIsRunning, Laws.KilledWasHalted, Laws.LocalOfWhole, Laws.OverForAll, Inside.Words.RunsNow, Laws.SameComponentLater, Laws.verdicts_in, Legal.IsLegal, Local.gives, Local.local, Local.verdicts_of, Phases.phase, Phases.start_in, Phases.was_halted, Phases.was_killed}
-use Rattle.tc_rules.proofs.Lemmas.{Keeping.halted_by, Keeping.kill_halts, Over.all_over, Sound.starts}
+use Rattle.std.proofs.{Common.{ℕ, ◌≡◌, if◌then◌else◌, Bool, true, false, Option, Some, None, is_some, List, [], ◌∷◌, ◌++◌, refl, ap, sym, ◌∙◌, append_assoc, arith}, lemmas.Bool.Decides.nat_tests}
+use Rattle.tc_entry.specs.{Prelude.{Verdict, worst, is_ended}, declared.comp.Comp.Comp, declared.entry.Entry.Entry, declared.op.Op.Op, declared.phase.Phase.Phase, declared.reply.Reply.Reply}
+use Rattle.tc_rules.{specs.{Answers.{answer, is_active, is_run_of, plain_answer}, Inside.Words.{answer_unless, is_active_on, RunsNow}, Faults.fault, History.{comp_of, exists, halts, is_comp, kills}, Laws.{AnsweredIsRunning, KilledWasHalted, LocalOfWhole, OverForAll, SameComponentLater, verdicts_in}, Legal.IsLegal, Local.{gives, local, verdicts_of}, Phases.{phase, start_in, was_halted, was_killed}}, proofs.{Lemmas.Keeping.{halted_by, kill_halts}, Lemmas.Over.all_over, Lemmas.Sound.starts}}
 
 pub over_for_all : OverForAll
 over_for_all = all_over

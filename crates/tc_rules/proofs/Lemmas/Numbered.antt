@@ -1,10 +1,7 @@
 -- The components of a legal history are numbered from 0 on.
-use Rattle.std.proofs.Common.{ℕ, zero, suc, ◌≡◌, ◌+◌, ◌<◌, ◌&&◌, nat_lt, nat_le, true, false, Option, Some, None, List, [], ◌∷◌, ◌++◌, length, map, refl, ap, sym, ◌∙◌, arith}
-use Rattle.std.specs.List.{range_with_len}
-use Rattle.std.proofs.lemmas.{Bool.Decides.nat_tests, List.FromFn.length-range_with_len, List.FromFn.map-range_with_len_more}
+use Rattle.std.{proofs.{Common.{ℕ, zero, suc, ◌≡◌, ◌+◌, ◌<◌, ◌&&◌, nat_lt, nat_le, true, false, Option, Some, None, List, [], ◌∷◌, ◌++◌, length, map, refl, ap, sym, ◌∙◌, arith}, lemmas.Bool.Decides.nat_tests, lemmas.List.FromFn.{length-range_with_len, map-range_with_len_more}}, specs.List.range_with_len}
 use Rattle.tc_entry.specs.declared.{comp.Comp.Comp, entry.Entry.Entry}
-use Rattle.tc_rules.specs.{Faults.components, History.add_new, History.comps, History.created, History.exists, History.is_in, Legal.IsLegal, Local.local, Local.local_if_any}
-use Rattle.tc_rules.proofs.Lemmas.Sound.{next}
+use Rattle.tc_rules.{specs.{Faults.components, History.{add_new, comps, created, exists, is_in}, Legal.IsLegal, Local.{local, local_if_any}}, proofs.Lemmas.Sound.next}
 
 is_in-range : (c a n : ℕ) → is_in c (range_with_len a n) ≡ (nat_le a c && nat_lt c (a + n))
 is_in-range c a zero = grind (arith, nat_tests)

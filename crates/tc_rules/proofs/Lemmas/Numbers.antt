@@ -1,6 +1,5 @@
 -- Lists of consecutive numbers.
-use Rattle.std.proofs.Common.{ℕ, zero, suc, ◌≡◌, ◌+◌, ◌<◌, ◌&&◌, nat_lt, nat_le, List, [], ◌∷◌, ◌++◌, length, map, drop, get_or, refl, ap, ◌∙◌, arith}
-use Rattle.std.proofs.lemmas.Bool.Decides.{nat_tests}
+use Rattle.std.proofs.{Common.{ℕ, zero, suc, ◌≡◌, ◌+◌, ◌<◌, ◌&&◌, nat_lt, nat_le, List, [], ◌∷◌, ◌++◌, length, map, drop, get_or, refl, ap, ◌∙◌, arith}, lemmas.Bool.Decides.nat_tests}
 use Rattle.tc_rules.specs.{History.is_in, Inside.Kept.numbers_from}
 
 pub length-numbers_from : (s n : ℕ) → length (numbers_from s n) ≡ n

@@ -1,10 +1,7 @@
 -- After an entry that ends the case every component is killed, and every call is replied Ended.
-use Rattle.std.proofs.Common.{ℕ, ◌≡◌, ◌&&◌, ◌||◌, ◌==◌, not, if◌then◌else◌, Bool, true, false, Option, Some, None, List, [], ◌∷◌, ◌++◌, refl, ap, sym, ◌∙◌}
-use Rattle.std.specs.Bool.{OnTrue}
-use Rattle.tc_entry.specs.Prelude.{Run, is_ended, is_ok}
-use Rattle.tc_entry.specs.declared.{comp.Comp.Comp, entry.Entry.Entry, op.Op.Op, phase.Phase.Phase, reply.Reply.Reply}
-use Rattle.tc_rules.specs.{Answers.answer, Answers.is_active, History.add_new, History.comp_of, History.comps, History.created, History.ends_case, History.exists, Inside.Words.first_some, History.is_in, History.is_kill_of, History.is_over, History.kills, Inside.Words.starts_run, Inside.Kept.IsKept, Legal.IsAllOver, Legal.IsLegal, Phases.phase, Phases.was_killed, Standing.Kept, Standing.StandsFor, declared.component_state.ComponentState.ComponentState, declared.run_state.RunState.RunState}
-use Rattle.tc_rules.proofs.Lemmas.Sound.{runs_on}
+use Rattle.std.{proofs.Common.{ℕ, ◌≡◌, ◌&&◌, ◌||◌, ◌==◌, not, if◌then◌else◌, Bool, true, false, Option, Some, None, List, [], ◌∷◌, ◌++◌, refl, ap, sym, ◌∙◌}, specs.Bool.OnTrue}
+use Rattle.tc_entry.specs.{Prelude.{Run, is_ended, is_ok}, declared.comp.Comp.Comp, declared.entry.Entry.Entry, declared.op.Op.Op, declared.phase.Phase.Phase, declared.reply.Reply.Reply}
+use Rattle.tc_rules.{specs.{Answers.{answer, is_active}, History.{add_new, comp_of, comps, created, ends_case, exists, is_in, is_kill_of, is_over, kills}, Inside.Words.{first_some, starts_run}, Inside.Kept.IsKept, Legal.{IsAllOver, IsLegal}, Phases.{phase, was_killed}, Standing.{Kept, StandsFor}, declared.component_state.ComponentState.ComponentState, declared.run_state.RunState.RunState}, proofs.Lemmas.Sound.runs_on}
 
 opening_exists : (b : ℕ) (c : Comp) → comp_of [] b ≡ Some c → exists [] c.0 ≡ true
 unfolding exists

@@ -1,10 +1,7 @@
 -- An entry that changes no component's phase, and whose caller continues, wakes nobody.
-use Rattle.std.proofs.Common.{ℕ, ◌≡◌, ◌==◌, ◌&&◌, ◌||◌, not, if◌then◌else◌, Bool, true, false, Option, Some, None, is_some, List, [], ◌∷◌, ◌++◌, drop, refl, ap, sym, ◌∙◌}
-use Rattle.std.specs.List.{list_any, list_all}
-use Rattle.tc_entry.specs.Prelude.{Run, is_ended, is_fault, is_ok}
-use Rattle.tc_entry.specs.declared.{comp.Comp.Comp, entry.Entry.Entry, op.Op.Op, op.Target.Target, phase.Phase.Phase, reply.Fault.Fault, reply.Reply.Reply}
-use Rattle.tc_rules.specs.{Answers.answer, Inside.Words.answer_unless, Answers.is_active, Inside.Words.is_active_on, Answers.is_run_of, Faults.all_exist, Faults.asks_many, Faults.fault, Faults.target_names, History.add_new, History.comp_of, History.comps, History.created, History.ends_case, History.exists, Inside.Words.first_some, History.halts, History.is_alive_type, History.is_finish, History.is_in, History.kills, Inside.Words.starts_on, Inside.Words.starts_run, Inside.Laws.WakesNobody, Inside.Laws.halting_op, Inside.Laws.is_quiet, Inside.Laws.keeps_phases, Inside.Laws.lets_go_on, Legal.IsLegal, Phases.last_run, Phases.phase, Inside.Words.phase_if_not_killed, Phases.start_in, Phases.was_halted, Phases.was_killed, Status.done, Status.is_done, Status.is_killed, Status.is_running, Status.killed, Waiting.holds, Waiting.is_still, Waiting.is_stuck, Waiting.parks, Waiting.waiting, declared.awaited.Awaited.Awaited}
-use Rattle.tc_rules.proofs.Lemmas.{Deciding.and_left, Deciding.and_no, Deciding.and_right, Deciding.first_alone, Deciding.if_same, Deciding.no_finish, Deciding.no_kill, Deciding.no_stop, Deciding.no_stop_case, Deciding.none_if, Deciding.self_equal, LawsOfHistories.answered_is_running, Over.on_existing, Over.stays, Sound.starts, Stuck.one_false}
+use Rattle.std.{proofs.Common.{ℕ, ◌≡◌, ◌==◌, ◌&&◌, ◌||◌, not, if◌then◌else◌, Bool, true, false, Option, Some, None, is_some, List, [], ◌∷◌, ◌++◌, drop, refl, ap, sym, ◌∙◌}, specs.List.{list_any, list_all}}
+use Rattle.tc_entry.specs.{Prelude.{Run, is_ended, is_fault, is_ok}, declared.comp.Comp.Comp, declared.entry.Entry.Entry, declared.op.Op.Op, declared.op.Target.Target, declared.phase.Phase.Phase, declared.reply.Fault.Fault, declared.reply.Reply.Reply}
+use Rattle.tc_rules.{specs.{Answers.{answer, is_active, is_run_of}, Inside.Words.{answer_unless, is_active_on, first_some, starts_on, starts_run, phase_if_not_killed}, Faults.{all_exist, asks_many, fault, target_names}, History.{add_new, comp_of, comps, created, ends_case, exists, halts, is_alive_type, is_finish, is_in, kills}, Inside.Laws.{WakesNobody, halting_op, is_quiet, keeps_phases, lets_go_on}, Legal.IsLegal, Phases.{last_run, phase, start_in, was_halted, was_killed}, Status.{done, is_done, is_killed, is_running, killed}, Waiting.{holds, is_still, is_stuck, parks, waiting}, declared.awaited.Awaited.Awaited}, proofs.{Lemmas.Deciding.{and_left, and_no, and_right, first_alone, if_same, no_finish, no_kill, no_stop, no_stop_case, none_if, self_equal}, Lemmas.LawsOfHistories.answered_is_running, Lemmas.Over.{on_existing, stays}, Lemmas.Sound.starts, Lemmas.Stuck.one_false}}
 
 -- what an operation that keeps the phases is not
 

@@ -1,10 +1,7 @@
 -- What an entry with the right reply says.
-use Rattle.std.proofs.Common.{ℕ, ◌≡◌, ◌<◌, ◌==◌, ◌&&◌, ◌||◌, not, nat_le, if◌then◌else◌, Bool, true, false, Option, Some, None, is_some, List, ◌∷◌, refl, ap, subst, sym, ◌∙◌, arith}
-use Rattle.std.proofs.lemmas.Bool.Decides.{nat_tests}
-use Rattle.tc_entry.specs.declared.{comp.Comp.Comp, entry.Entry.Entry, limits.TheConstants.COMPONENTS, op.Op.Op, reply.Fault.Fault, reply.Reply.Reply}
-use Rattle.tc_entry.specs.Prelude.{Run, is_ended, is_fault, is_ok}
-use Rattle.tc_rules.specs.{Answers.answer, Inside.Words.answer_unless, Answers.is_active, Answers.plain_answer, Faults.all_exist, Faults.asks_many, Faults.components, Faults.fault, Faults.names, Faults.special_fault, Faults.start_fault, Faults.target_names, History.comp_of, History.created, History.exists, History.is_alive_create, History.is_alive_type, History.kills, Inside.Words.starts_on, Inside.Words.starts_run, Phases.last_run, Phases.phase, Phases.start_in, Phases.was_halted, Phases.was_killed, Status.is_killed, Status.is_running, Waiting.awaited, Waiting.parks, declared.awaited.Awaited.Awaited}
-use Rattle.tc_rules.proofs.Lemmas.{Deciding.equal_if, Deciding.ok_is, Deciding.self_equal, Deciding.test_by, Kept.all_exist_more, Steps.phase_by}
+use Rattle.std.proofs.{Common.{ℕ, ◌≡◌, ◌<◌, ◌==◌, ◌&&◌, ◌||◌, not, nat_le, if◌then◌else◌, Bool, true, false, Option, Some, None, is_some, List, ◌∷◌, refl, ap, subst, sym, ◌∙◌, arith}, lemmas.Bool.Decides.nat_tests}
+use Rattle.tc_entry.specs.{declared.comp.Comp.Comp, declared.entry.Entry.Entry, declared.limits.TheConstants.COMPONENTS, declared.op.Op.Op, declared.reply.Fault.Fault, declared.reply.Reply.Reply, Prelude.{Run, is_ended, is_fault, is_ok}}
+use Rattle.tc_rules.{specs.{Answers.{answer, is_active, plain_answer}, Inside.Words.{answer_unless, starts_on, starts_run}, Faults.{all_exist, asks_many, components, fault, names, special_fault, start_fault, target_names}, History.{comp_of, created, exists, is_alive_create, is_alive_type, kills}, Phases.{last_run, phase, start_in, was_halted, was_killed}, Status.{is_killed, is_running}, Waiting.{awaited, parks}, declared.awaited.Awaited.Awaited}, proofs.{Lemmas.Deciding.{equal_if, ok_is, self_equal, test_by}, Lemmas.Kept.all_exist_more, Lemmas.Steps.phase_by}}
 
 -- the call was made by a run that is active, and is no error
 pub record IsPlain (n : ℕ) (past : List Entry) (b : ℕ) (op : Op) (reply : Reply) : Type 0 where

@@ -1,11 +1,7 @@
 -- A case is stuck if none of its runs continues.
-use Rattle.std.proofs.Common.{ℕ, ◌≡◌, ◌<◌, ◌≤◌, ◌==◌, ◌&&◌, not, nat_lt, Bool, true, false, Option, Some, None, List, [], ◌∷◌, refl, ap, sym, ◌∙◌, arith}
-use Rattle.std.specs.List.{list_all}
-use Rattle.std.proofs.lemmas.Bool.Decides.{nat_tests}
-use Rattle.tc_entry.specs.Prelude.{Run}
-use Rattle.tc_entry.specs.declared.{comp.Comp.Comp, entry.Entry.Entry, phase.Phase.Phase}
-use Rattle.tc_rules.specs.{Answers.is_active, Answers.is_run_of, History.comp_of, History.comps, History.exists, History.is_alive_type, History.is_in, Inside.Kept.IsKept, Inside.States.goes_on, Phases.last_run, Phases.phase, Phases.was_halted, Phases.was_killed, Waiting.is_still, Waiting.is_stuck, Waiting.waiting, Inside.Words.waits_in_vain, declared.component_state.ComponentState.ComponentState, declared.run_state.RunState.RunState}
-use Rattle.tc_rules.proofs.Lemmas.{Deciding.and_no, Deciding.self_equal, Kept.exists_if, Steps.phase_by}
+use Rattle.std.{proofs.{Common.{ℕ, ◌≡◌, ◌<◌, ◌≤◌, ◌==◌, ◌&&◌, not, nat_lt, Bool, true, false, Option, Some, None, List, [], ◌∷◌, refl, ap, sym, ◌∙◌, arith}, lemmas.Bool.Decides.nat_tests}, specs.List.list_all}
+use Rattle.tc_entry.specs.{Prelude.Run, declared.comp.Comp.Comp, declared.entry.Entry.Entry, declared.phase.Phase.Phase}
+use Rattle.tc_rules.{specs.{Answers.{is_active, is_run_of}, History.{comp_of, comps, exists, is_alive_type, is_in}, Inside.Kept.IsKept, Inside.States.goes_on, Phases.{last_run, phase, was_halted, was_killed}, Waiting.{is_still, is_stuck, waiting}, Inside.Words.waits_in_vain, declared.component_state.ComponentState.ComponentState, declared.run_state.RunState.RunState}, proofs.{Lemmas.Deciding.{and_no, self_equal}, Lemmas.Kept.exists_if, Lemmas.Steps.phase_by}}
 
 all_true : (f : ℕ → Bool) (xs : List ℕ) → ((x : ℕ) → f x ≡ true) → list_all f xs ≡ true
 all_true f [] h = refl

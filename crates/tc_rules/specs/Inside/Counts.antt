@@ -1,7 +1,6 @@
 -- What is counted over the states of all components.
 use Rattle.std.specs.Prelude.{ℕ, ◌≡◌, ◌+◌, ◌≤◌, ◌&&◌, not, if◌then◌else◌, Bool, false, Some, None, is_some, List, [], ◌∷◌, length, drop}
-use Rattle.tc_entry.specs.declared.{limits.TheConstants.COMPONENTS, phase.Phase.Phase}
-use Rattle.tc_entry.specs.Prelude.{Verdict}
+use Rattle.tc_entry.specs.{declared.limits.TheConstants.COMPONENTS, declared.phase.Phase.Phase, Prelude.Verdict}
 use Rattle.tc_rules.specs.{Inside.States.worst_local, Status.is_done, Status.is_killed, Status.is_running, declared.component_state.ComponentState.ComponentState}
 
 abbrev pub bit : Bool → ℕ

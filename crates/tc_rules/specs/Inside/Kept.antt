@@ -1,7 +1,6 @@
 -- What the table keeps next to its history, and how that follows from the history.
 use Rattle.std.specs.Prelude.{ℕ, zero, suc, ◌≡◌, ◌+◌, ◌<◌, ◌≤◌, ◌&&◌, Bool, true, false, None, Some, is_some, List, [], ◌∷◌, length, slice_index_or}
-use Rattle.tc_entry.specs.Prelude.{IsBehaviours, Run, Verdict}
-use Rattle.tc_entry.specs.declared.{comp.Comp.Comp, entry.Entry.Entry, limits.TheConstants.COMPONENTS, phase.Phase.Phase}
+use Rattle.tc_entry.specs.{Prelude.{IsBehaviours, Run, Verdict}, declared.comp.Comp.Comp, declared.entry.Entry.Entry, declared.limits.TheConstants.COMPONENTS, declared.phase.Phase.Phase}
 use Rattle.tc_rules.specs.{Faults.all_exist, Faults.target_names, History.comp_of, History.comps, History.is_alive_type, History.is_over, Legal.IsLegal, Local.local, Phases.is_excused, Phases.last_run, Phases.phase, Phases.was_halted, Phases.was_killed, Waiting.waiting, declared.awaited.Awaited.Awaited, declared.component_state.ComponentState.ComponentState, declared.run_state.RunState.RunState}
 
 -- what the table keeps of component c

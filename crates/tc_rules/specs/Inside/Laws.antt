@@ -1,7 +1,6 @@
 -- What one entry does to the runs of a legal history. Proofs of this crate, and of those that use it, cite these laws.
 use Rattle.std.specs.Prelude.{ℕ, ◌≡◌, ◌&&◌, ◌||◌, not, Bool, true, false, List, ◌∷◌}
-use Rattle.tc_entry.specs.declared.{entry.Entry.Entry, op.Op.Op, op.Target.Target, reply.Reply.Reply}
-use Rattle.tc_entry.specs.Prelude.{is_fault}
+use Rattle.tc_entry.specs.{declared.entry.Entry.Entry, declared.op.Op.Op, declared.op.Target.Target, declared.reply.Reply.Reply, Prelude.is_fault}
 use Rattle.tc_rules.specs.{Answers.answer, History.comp_of, History.halts, History.is_over}
 
 -- the operation is one that halts components if it is no error

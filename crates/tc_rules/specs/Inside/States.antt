@@ -1,8 +1,6 @@
 -- Tests on what is kept of components.
-use Rattle.std.specs.Prelude.{ℕ, ◌&&◌, ◌||◌, not, nat_lt, Bool, is_some, List, map}
-use Rattle.std.specs.List.{list_any, list_all}
-use Rattle.tc_entry.specs.Prelude.{Verdict, worst}
-use Rattle.tc_entry.specs.declared.{comp.Comp.Comp, entry.Entry.Entry}
+use Rattle.std.specs.{Prelude.{ℕ, ◌&&◌, ◌||◌, not, nat_lt, Bool, is_some, List, map}, List.{list_any, list_all}}
+use Rattle.tc_entry.specs.{Prelude.{Verdict, worst}, declared.comp.Comp.Comp, declared.entry.Entry.Entry}
 use Rattle.tc_rules.specs.{Answers.is_active, Status.is_done, Status.is_killed, Status.is_running, Waiting.waiting, Inside.Words.waits_in_vain, declared.component_state.ComponentState.ComponentState}
 
 unfoldable pub any_running : List ComponentState → Bool

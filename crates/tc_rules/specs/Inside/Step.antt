@@ -1,7 +1,6 @@
 -- What one more entry does to what the table keeps.
 use Rattle.std.specs.Prelude.{ℕ, ◌≡◌, ◌<◌, length, slice_index_or, ◌==◌, not, if◌then◌else◌, Bool, true, false, Option, Some, None, List, [], ◌∷◌, drop}
-use Rattle.tc_entry.specs.Prelude.{Verdict, Run, worse, is_ended}
-use Rattle.tc_entry.specs.declared.{comp.Comp.Comp, entry.Entry.Entry, op.Group.Group, op.Op.Op, phase.Phase.Phase}
+use Rattle.tc_entry.specs.{Prelude.{Verdict, Run, worse, is_ended}, declared.comp.Comp.Comp, declared.entry.Entry.Entry, declared.op.Group.Group, declared.op.Op.Op, declared.phase.Phase.Phase}
 use Rattle.tc_rules.specs.{History.ends_case, Inside.Words.first_some, History.halts, History.is_comp, History.kills, History.started_on, Inside.States.all_killed, Inside.States.none_running, Local.gives, Phases.halts_from_outside, Phases.start_in, Status.is_killed, Status.is_running, Waiting.parks, declared.component_state.ComponentState.ComponentState, declared.run_state.RunState.RunState, declared.step.Scope.Scope}
 
 -- a phase once its component is halted

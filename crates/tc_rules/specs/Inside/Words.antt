@@ -1,8 +1,6 @@
 -- Parts of the public definitions that proofs speak of by a name.
-use Rattle.std.specs.Prelude.{ℕ, ◌≡◌, ◌==◌, not, if◌then◌else◌, Bool, false, Option, Some, None, List, [], ◌∷◌}
-use Rattle.std.specs.Option.{option_and_then, option_map, option_map_or, option_or}
-use Rattle.tc_entry.specs.Prelude.{Run}
-use Rattle.tc_entry.specs.declared.{comp.Comp.Comp, entry.Entry.Entry, op.Op.Op, phase.Phase.Phase, reply.Fault.Fault, reply.Reply.Reply}
+use Rattle.std.specs.{Prelude.{ℕ, ◌≡◌, ◌==◌, not, if◌then◌else◌, Bool, false, Option, Some, None, List, [], ◌∷◌}, Option.{option_and_then, option_map, option_map_or, option_or}}
+use Rattle.tc_entry.specs.{Prelude.Run, declared.comp.Comp.Comp, declared.entry.Entry.Entry, declared.op.Op.Op, declared.phase.Phase.Phase, declared.reply.Fault.Fault, declared.reply.Reply.Reply}
 use Rattle.tc_rules.specs.{Answers.is_run_of, Deciding.name_in, History.comp_of, History.created, History.is_comp, History.start, Local.local, Merge.part, Phases.phase, Waiting.holds, declared.awaited.Awaited.Awaited, declared.run_log.RunLog.RunLog}
 
 -- the first of two that is there

@@ -1,7 +1,6 @@
 -- Worked cases: the calls of one test case with the reply to each, and the overall verdict at the end.
 use Rattle.std.specs.Prelude.{ℕ, ◌≡◌, true, false, Some, None, List, [], ◌∷◌, reverse, codes}
-use Rattle.tc_entry.specs.Prelude.{Verdict, UserVerdict}
-use Rattle.tc_entry.specs.declared.{comp.Comp.Comp, entry.Entry.Entry, op.Group.Group, op.Op.Op, op.Target.Target, reply.Fault.Fault, reply.Reply.Reply}
+use Rattle.tc_entry.specs.{Prelude.{Verdict, UserVerdict}, declared.comp.Comp.Comp, declared.entry.Entry.Entry, declared.op.Group.Group, declared.op.Op.Op, declared.op.Target.Target, declared.reply.Fault.Fault, declared.reply.Reply.Reply}
 use Rattle.tc_rules.specs.{Legal.IsLegal, Local.overall}
 
 -- among n behaviours the table gives the reply of each of these entries, the oldest first, and this is the overall verdict

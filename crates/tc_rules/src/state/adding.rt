@@ -1,6 +1,5 @@
 //! Taking in an entry, and what it does to all that is kept.
-ghost use Rattle.std.specs.Prelude.{◌≡◌, ◌||◌, true, false, Some, None, List, OnErr, OnOk};
-ghost use Rattle.std.specs.Result.{IsOk};
+ghost use Rattle.std.specs.{Prelude.{◌≡◌, ◌||◌, true, false, Some, None, List, OnErr, OnOk}, Result.IsOk};
 ghost use Rattle.tc_entry.specs.Prelude.{is_fault};
 ghost use Rattle.tc_rules.specs.Standing.{StandsFor, IsReplyOf, TakesIn};
 ghost use Rattle.tc_rules.specs.History as history;

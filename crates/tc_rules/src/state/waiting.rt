@@ -1,13 +1,12 @@
 //! Which runs continue, which wait, and whether the case is stuck.
 ghost use Rattle.std.specs.Prelude.{◌≡◌, ◌<◌, true, false, Some, IfSome, MatchOption, List, length};
 ghost use Rattle.tc_entry.specs.declared.entry.Entry.{Entry};
-ghost use Rattle.tc_rules.specs.Standing.{StandsFor};
+ghost use Rattle.tc_rules.specs.{Standing.StandsFor, Inside.Words.waits_in_vain};
 ghost use Rattle.tc_rules.specs.History as history;
 ghost use Rattle.tc_rules.specs.Waiting as waits;
 ghost use Rattle.tc_rules.specs.Faults as faults;
 ghost use Rattle.tc_rules.specs.Answers as answers;
 ghost use Rattle.tc_rules.specs.Inside.States as tests;
-ghost use Rattle.tc_rules.specs.Inside.Words.{waits_in_vain};
 
 use crate::awaited::Awaited;
 use crate::state::CaseState;

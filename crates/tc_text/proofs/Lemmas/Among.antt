@@ -1,8 +1,6 @@
 -- Lines that are appended, some of which matter.
-use Rattle.std.proofs.Common.{ℕ, ◌≡◌, inl, inr, List, [], ◌∷◌, ◌++◌, refl, subst}
-use Rattle.std.proofs.lemmas.List.{append-nil}
-use Rattle.tc_text.specs.Said.{AreAmong, Line, TellsAmong, TellsLine}
-use Rattle.tc_text.proofs.Lemmas.Saying.{tells_after, tells_line, tells_none, tells_one, tells_some, tells_then}
+use Rattle.std.proofs.{Common.{ℕ, ◌≡◌, inl, inr, List, [], ◌∷◌, ◌++◌, refl, subst}, lemmas.List.append-nil}
+use Rattle.tc_text.{specs.Said.{AreAmong, Line, TellsAmong, TellsLine}, proofs.Lemmas.Saying.{tells_after, tells_line, tells_none, tells_one, tells_some, tells_then}}
 
 are_all : (lines : List Line) → AreAmong lines lines
 are_all [] = tt

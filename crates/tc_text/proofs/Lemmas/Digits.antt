@@ -1,7 +1,5 @@
 -- What the digits that a text begins with say of its number.
-use Rattle.std.proofs.Common.{◌≡◌, ◌∙◌, ◌<◌, ◌≤◌, ◌+◌, ◌-◌, ◌*◌, ◌^◌, ◌⊎◌, ◌&&◌, ℕ, Bool, List, [], ◌∷◌, ◌++◌, length, slice_index, take, drop, sym, ap, true, false, arith, rules, inl, inr, zero, suc, refl}
-use Rattle.std.specs.{Char.is_ascii_digit, Fmt.decimal, Str.all_ascii_digits}
-use Rattle.std.proofs.lemmas.{Bool.Decides.nat_tests, Fmt.decimal-digits_value, Fmt.decimal_digit, Fmt.decimal_is_IsNumeral, Fmt.decimal_nonempty, Fmt.digits_decimal, Fmt.digits_value-decimal, Fmt.first_decimal, List.take-append-drop, List.take_more, Str.Parse.IsNumeralModel, Str.Parse.digit_at, Str.Parse.numerals_by_fold}
+use Rattle.std.{proofs.{Common.{◌≡◌, ◌∙◌, ◌<◌, ◌≤◌, ◌+◌, ◌-◌, ◌*◌, ◌^◌, ◌⊎◌, ◌&&◌, ℕ, Bool, List, [], ◌∷◌, ◌++◌, length, slice_index, take, drop, sym, ap, true, false, arith, rules, inl, inr, zero, suc, refl}, lemmas.Bool.Decides.nat_tests, lemmas.Fmt.{decimal-digits_value, decimal_digit, decimal_is_IsNumeral, decimal_nonempty, digits_decimal, digits_value-decimal, first_decimal}, lemmas.List.{take-append-drop, take_more}, lemmas.Str.Parse.{IsNumeralModel, digit_at, numerals_by_fold}}, specs.{Char.is_ascii_digit, Fmt.decimal, Str.all_ascii_digits}}
 use Rattle.tc_text.specs.{Inside.AreDigits, Inside.Counted, Inside.NoDigitFirst, Inside.read_on, Reading.EndsNumber}
 
 own : IsNumeralModel (λ ds. all_ascii_digits ds ≡ true) (read_on 0)

@@ -1,11 +1,7 @@
 -- Lines, and what follows them.
-use Rattle.std.proofs.Common.{◌≡◌, ◌≢◌, ◌∙◌, ◌==◌, inl, inr, ℕ, List, [], ◌∷◌, ◌++◌, Bool, true, false, if◌then◌else◌, length, ◌<◌, sym, ap, refl, arith, ◌^◌, codes, Some, None, rules, ◌+◌, ◌≤◌, IsTrue, All, take, get_or}
-use Rattle.std.specs.{List.onto_first, List.AllByRecursion, Fmt.decimal, Char.is_ascii_digit, Str.all_ascii_digits}
-use Rattle.std.proofs.lemmas.{Bool.Decides.nat_tests, List.Elements.All-head, List.Elements.All-tail, List.take_more}
-use Rattle.tc_text.specs.{MoveList.lines_of, Reading.EndsLine, MoveList.IsMove, MoveList.Move, MoveList.behaviours_line, MoveList.move_line, Reading.EndsMove, Reading.EndsNumber, Reading.EndsReply, Spelling.IsOp, Spelling.move_text, Spelling.AreComps, Spelling.IsGroup, Spelling.IsTarget, Spelling.args_text, Spelling.group_text, Spelling.op_text, Spelling.target_text, Inside.NoLow}
-use Rattle.tc_entry.specs.Prelude.{Run, IsBehaviours, name_of, given, UserVerdict, IsName, is_name_byte}
-use Rattle.tc_entry.specs.declared.{op.Op.Op, comp.Comp.Comp, op.Group.Group, op.Target.Target}
-use Rattle.tc_text.proofs.{Operands.IsThatNumber, Operands.ends_nothing, Lemmas.Digits.both, Lemmas.Digits.digit_first, Lemmas.Digits.spelled_digits}
+use Rattle.std.{proofs.{Common.{◌≡◌, ◌≢◌, ◌∙◌, ◌==◌, inl, inr, ℕ, List, [], ◌∷◌, ◌++◌, Bool, true, false, if◌then◌else◌, length, ◌<◌, sym, ap, refl, arith, ◌^◌, codes, Some, None, rules, ◌+◌, ◌≤◌, IsTrue, All, take, get_or}, lemmas.Bool.Decides.nat_tests, lemmas.List.Elements.{All-head, All-tail}, lemmas.List.take_more}, specs.{List.{onto_first, AllByRecursion}, Fmt.decimal, Char.is_ascii_digit, Str.all_ascii_digits}}
+use Rattle.tc_text.{specs.{MoveList.{lines_of, IsMove, Move, behaviours_line, move_line}, Reading.{EndsLine, EndsMove, EndsNumber, EndsReply}, Spelling.{IsOp, move_text, AreComps, IsGroup, IsTarget, args_text, group_text, op_text, target_text}, Inside.NoLow}, proofs.{Operands.{IsThatNumber, ends_nothing}, Lemmas.Digits.{both, digit_first, spelled_digits}}}
+use Rattle.tc_entry.specs.{Prelude.{Run, IsBehaviours, name_of, given, UserVerdict, IsName, is_name_byte}, declared.op.Op.Op, declared.comp.Comp.Comp, declared.op.Group.Group, declared.op.Target.Target}
 
 -- no byte is LF
 abbrev pub NoLf : List ℕ → Type 0

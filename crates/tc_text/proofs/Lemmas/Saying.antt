@@ -1,7 +1,5 @@
 -- Lines that are said, one after another, and what the parts of a line hold.
-use Rattle.std.proofs.Common.{ℕ, ◌≡◌, ◌∙◌, Bool, true, false, if◌then◌else◌, List, [], ◌∷◌, ◌++◌, map, Result, Ok, Err, OnOk, refl, sym, ap, subst, append_assoc}
-use Rattle.std.specs.{Fmt.decimal, List.flat_map}
-use Rattle.std.proofs.lemmas.List.{append-nil}
+use Rattle.std.{proofs.{Common.{ℕ, ◌≡◌, ◌∙◌, Bool, true, false, if◌then◌else◌, List, [], ◌∷◌, ◌++◌, map, Result, Ok, Err, OnOk, refl, sym, ap, subst, append_assoc}, lemmas.List.append-nil}, specs.{Fmt.decimal, List.flat_map}}
 use Rattle.tc_text.specs.{Inside.part_text, Inside.prose_text, Said.Holds, Said.Line, Said.Tells, Said.TellsLine, Said.as_printable, Said.ends_word, Said.part_words, Said.shown_line, declared.said.Part.Part}
 
 -- ---- what the parts of a line hold

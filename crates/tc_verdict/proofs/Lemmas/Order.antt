@@ -1,7 +1,5 @@
 -- Lemmas on the order of verdicts.
-use Rattle.std.proofs.Common.{ℕ, suc, ◌≡◌, ◌≢◌, ◌+◌, ◌<◌, ◌≤◌, if◌then◌else◌, nat_lt, Bool, true, false, List, [], ◌∷◌, ◌++◌, length, get_or, take, All, Contains, refl, ap, sym, ◌∙◌, arith}
-use Rattle.std.proofs.lemmas.{Bool.Decides.nat_tests, List.Elements.All-from_recursion, List.take_more}
-use Rattle.std.specs.List.{AllByRecursion as EachOf}
+use Rattle.std.{proofs.{Common.{ℕ, suc, ◌≡◌, ◌≢◌, ◌+◌, ◌<◌, ◌≤◌, if◌then◌else◌, nat_lt, Bool, true, false, List, [], ◌∷◌, ◌++◌, length, get_or, take, All, Contains, refl, ap, sym, ◌∙◌, arith}, lemmas.Bool.Decides.nat_tests, lemmas.List.Elements.All-from_recursion, lemmas.List.take_more}, specs.List.AllByRecursion as EachOf}
 use Rattle.tc_verdict.specs.{Verdict.level_of, Verdict.worse, Verdict.worst, declared.verdict.Verdict.Verdict}
 
 abbrev larger : ℕ → ℕ → ℕ

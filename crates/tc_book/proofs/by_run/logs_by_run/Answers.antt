@@ -1,5 +1,4 @@
-use Rattle.std.proofs.Common.{◌≡◌, ◌∙◌, ◌∷◌, [], ◌++◌, length, arith, ap, refl}
-use Rattle.std.proofs.lemmas.List.{length-set}
+use Rattle.std.proofs.{Common.{◌≡◌, ◌∙◌, ◌∷◌, [], ◌++◌, length, arith, ap, refl}, lemmas.List.length-set}
 use Rattle.tc_rules.specs.Prelude.{runs_end}
 use Rattle.tc_book.proofs.InPlace.{end_of-last, has-none, has-last, has-all}
 use Rattle.tc_book.proofs.by_run.logs_by_run.Goals as goal

@@ -1,5 +1,4 @@
-use Rattle.std.proofs.Common.{ap, length, arith}
-use Rattle.std.specs.Arc.{arc_value}
+use Rattle.std.{proofs.Common.{ap, length, arith}, specs.Arc.arc_value}
 use Rattle.tc_book.proofs.Opened.{length_hands, without_first, first_hand}
 use Rattle.tc_book.proofs.case.open_with.Goals as goal
 

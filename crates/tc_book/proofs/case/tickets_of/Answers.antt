@@ -1,5 +1,4 @@
-use Rattle.std.proofs.Common.{rules, ◌-◌, ap, length, arith}
-use Rattle.std.specs.Arc.{arc_value}
+use Rattle.std.{proofs.Common.{rules, ◌-◌, ap, length, arith}, specs.Arc.arc_value}
 use Rattle.tc_book.proofs.Opened.{length_hands, later_hand, without_next}
 use Rattle.tc_book.proofs.case.tickets_of.Goals as goal
 

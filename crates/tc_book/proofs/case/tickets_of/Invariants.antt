@@ -1,5 +1,4 @@
-use Rattle.std.proofs.Common.{◌≡◌, ℕ, ◌<◌, ◌+◌, ◌-◌, length, get_or}
-use Rattle.std.specs.Arc.{arc_value}
+use Rattle.std.{proofs.Common.{◌≡◌, ℕ, ◌<◌, ◌+◌, ◌-◌, length, get_or}, specs.Arc.arc_value}
 use Rattle.tc_rules.specs.Prelude.{Run}
 use Rattle.tc_board.specs.Prelude.{new_hands}
 use Rattle.tc_book.proofs.case.tickets_of.Given as goal

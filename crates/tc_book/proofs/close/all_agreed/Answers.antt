@@ -1,5 +1,4 @@
-use Rattle.std.proofs.Common.{below_more, get_or, length, refl, subst, arith}
-use Rattle.std.proofs.lemmas.List.{get_or_read_under}
+use Rattle.std.proofs.{Common.{below_more, get_or, length, refl, subst, arith}, lemmas.List.get_or_read_under}
 use Rattle.tc_book.specs.{Closing.IsAgreed, Passes.LeftState}
 use Rattle.tc_book.proofs.close.all_agreed.Goals as goal
 

@@ -1,5 +1,4 @@
-use Rattle.std.proofs.Common.{◌≡◌, ◌∙◌, ap, List}
-use Rattle.std.specs.Borrow.{Bor}
+use Rattle.std.{proofs.Common.{◌≡◌, ◌∙◌, ap, List}, specs.Borrow.Bor}
 use Rattle.tc_rules.specs.Prelude.{Entry}
 use Rattle.tc_book.proofs.InPlace.{late_none, late_step}
 use Rattle.tc_book.proofs.merging.add_all_late.Goals as goal

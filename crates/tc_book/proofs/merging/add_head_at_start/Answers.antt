@@ -1,7 +1,6 @@
 use Rattle.std.proofs.Common.{◌≡◌, ◌∙◌, ◌++◌, ap, sym, subst, List, Some, OnOk}
 use Rattle.tc_rules.specs.Prelude.{Entry, verdict_calls_after, started}
-use Rattle.tc_book.specs.Inside.Merging.{head_at_start}
-use Rattle.tc_book.proofs.InPlace.{at-run}
+use Rattle.tc_book.{specs.Inside.Merging.head_at_start, proofs.InPlace.at-run}
 use Rattle.tc_book.proofs.merging.add_head_at_start.Goals as goal
 
 pub returns-in-Some : goal.returns-in-Some

@@ -1,7 +1,6 @@
 use Rattle.std.proofs.Common.{◌≡◌, ◌++◌, ℕ, List, take, reverse}
 use Rattle.tc_rules.specs.Prelude.{Entry, calls_of, in_place}
-use Rattle.tc_book.specs.Inside.Merging.{Has}
-use Rattle.tc_book.proofs.InPlace.{HasRests}
+use Rattle.tc_book.{specs.Inside.Merging.Has, proofs.InPlace.HasRests}
 use Rattle.tc_book.proofs.merging.add_history.Given as goal
 
 -- the entries passed so far are in their place, and the table has what follows them

@@ -1,8 +1,6 @@
-use Rattle.std.proofs.Common.{◌≡◌, ◌++◌, ◌∙◌, ap, sym, reverse, length, List, ℕ}
-use Rattle.std.specs.Borrow.{Bor}
+use Rattle.std.{proofs.Common.{◌≡◌, ◌++◌, ◌∙◌, ap, sym, reverse, length, List, ℕ}, specs.Borrow.Bor}
 use Rattle.tc_rules.specs.Prelude.{Entry, in_place, late, log_of}
-use Rattle.tc_book.specs.Inside.Merging.{Has}
-use Rattle.tc_book.proofs.{InPlace.late_table, PartOfMerge.merge-is}
+use Rattle.tc_book.{specs.Inside.Merging.Has, proofs.{InPlace.late_table, PartOfMerge.merge-is}}
 use Rattle.tc_book.proofs.merging.merge_by_run.Goals as goal
 
 pub returns : goal.returns

@@ -1,7 +1,6 @@
 use Rattle.std.proofs.Common.{rules, arith, length, reverse, subst, take, ◌≡◌, ◌<◌, List, false, IsTrue}
 use Rattle.tc_rules.specs.Prelude.{Entry}
-use Rattle.tc_book.specs.Inside.{CanFollow}
-use Rattle.tc_book.proofs.{ByRun.no_next, Walking.follows, Walking.walked_all, Walking.walked_next, Walking.walked_none}
+use Rattle.tc_book.{specs.Inside.CanFollow, proofs.{ByRun.no_next, Walking.{follows, walked_all, walked_next, walked_none}}}
 use Rattle.tc_book.proofs.walk.walk.Goals as goal
 
 pub loop-entry-init : goal.loop-entry-init

@@ -1,6 +1,5 @@
 use Rattle.std.proofs.Common.{◌∙◌, ap, length}
-use Rattle.tc_entry.specs.{Inside.any_of, Name.matches}
-use Rattle.tc_entry.proofs.Patterns.{first_alone, first_length, next_behind, next_passed}
+use Rattle.tc_entry.{specs.{Inside.any_of, Name.matches}, proofs.Patterns.{first_alone, first_length, next_behind, next_passed}}
 use Rattle.tc_entry.proofs.pattern.places_of.Goals as goal
 
 pub loop-byte-init : goal.loop-byte-init

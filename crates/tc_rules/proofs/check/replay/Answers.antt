@@ -1,5 +1,4 @@
-use Rattle.std.proofs.Common.{◌∙◌, ap, sym}
-use Rattle.std.proofs.lemmas.List.{get_or_read}
+use Rattle.std.proofs.{Common.{◌∙◌, ap, sym}, lemmas.List.get_or_read}
 use Rattle.tc_rules.proofs.check.replay.Goals as goal
 
 pub returns-in-Some-clause-stands : goal.returns-in-Some-clause-stands

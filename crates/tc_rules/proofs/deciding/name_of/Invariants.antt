@@ -1,5 +1,4 @@
-use Rattle.std.proofs.Common.{◌≡◌, take, reverse}
-use Rattle.std.specs.Prelude.{option_copied}
+use Rattle.std.{proofs.Common.{◌≡◌, take, reverse}, specs.Prelude.option_copied}
 use Rattle.tc_rules.specs.Deciding.{component_name}
 use Rattle.tc_rules.proofs.deciding.name_of.Given as goal
 

@@ -1,6 +1,5 @@
 use Rattle.std.proofs.Common.{◌≡◌, ◌∙◌, Some}
-use Rattle.tc_rules.specs.Local.{local}
-use Rattle.tc_rules.proofs.Lemmas.{Numbered.local_there, Standing.stands_legal}
+use Rattle.tc_rules.{specs.Local.local, proofs.{Lemmas.Numbered.local_there, Lemmas.Standing.stands_legal}}
 use Rattle.tc_rules.proofs.locals.local_of.Goals as goal
 
 pub returns-in-Some : goal.returns-in-Some

@@ -1,8 +1,5 @@
-use Rattle.std.proofs.Common.{◌≡◌, ◌<◌, ◌∙◌, ap, sym, map, arith, rules}
-use Rattle.std.proofs.lemmas.Grind.{common_steps}
-use Rattle.std.specs.List.{range_with_len}
-use Rattle.tc_rules.specs.{Faults.components, Local.local}
-use Rattle.tc_rules.proofs.Lemmas.{Numbered.comps_numbered, Numbered.local_more, Standing.stands_legal}
+use Rattle.std.{proofs.{Common.{◌≡◌, ◌<◌, ◌∙◌, ap, sym, map, arith, rules}, lemmas.Grind.common_steps}, specs.List.range_with_len}
+use Rattle.tc_rules.{specs.{Faults.components, Local.local}, proofs.{Lemmas.Numbered.{comps_numbered, local_more}, Lemmas.Standing.stands_legal}}
 use Rattle.tc_rules.proofs.locals.locals_of.Goals as goal
 
 pub loop-comp-preserved : goal.loop-comp-preserved

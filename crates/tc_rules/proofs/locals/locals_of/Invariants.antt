@@ -1,5 +1,4 @@
-use Rattle.std.proofs.Common.{◌≡◌, List, map}
-use Rattle.std.specs.List.{range_with_len}
+use Rattle.std.{proofs.Common.{◌≡◌, List, map}, specs.List.range_with_len}
 use Rattle.tc_entry.specs.declared.entry.Entry.{Entry}
 use Rattle.tc_rules.specs.{Local.local, Standing.StandsFor}
 use Rattle.tc_rules.proofs.locals.locals_of.Given as goal

@@ -1,6 +1,5 @@
 use Rattle.std.proofs.Common.{◌≡◌, length, arith, ap}
-use Rattle.tc_rules.specs.Inside.Step.{next_state}
-use Rattle.tc_rules.proofs.{Elsewhere.no_better_at, Unchanged.mapped_step}
+use Rattle.tc_rules.{specs.Inside.Step.next_state, proofs.{Elsewhere.no_better_at, Unchanged.mapped_step}}
 use Rattle.tc_rules.proofs.step.take_in_all.Goals as goal
 
 pub loop-i-preserved : goal.loop-i-preserved

@@ -1,6 +1,5 @@
 use Rattle.std.proofs.Common.{◌≡◌, ◌∙◌, length, arith, ap, sym}
-use Rattle.tc_rules.specs.Inside.Step.{next_state}
-use Rattle.tc_rules.proofs.{Elsewhere.no_better_at, Unchanged.mapped_step, Unchanged.passed_by, step.take_in_found.Goals.else-finds, step.take_in_found.Goals.then-finds}
+use Rattle.tc_rules.{specs.Inside.Step.next_state, proofs.{Elsewhere.no_better_at, Unchanged.{mapped_step, passed_by}, step.take_in_found.Goals.{else-finds, then-finds}}}
 use Rattle.tc_rules.proofs.step.take_in_found.Goals as goal
 
 pub loop-i-preserved : goal.loop-i-preserved

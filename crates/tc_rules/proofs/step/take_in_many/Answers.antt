@@ -1,7 +1,5 @@
-use Rattle.std.proofs.Common.{◌≡◌, true, false, arith}
-use Rattle.std.proofs.lemmas.Bool.Decides.{nat_tests}
-use Rattle.tc_rules.specs.{History.ends_case, Inside.Step.finds_none}
-use Rattle.tc_rules.proofs.Unchanged.{none_found}
+use Rattle.std.proofs.{Common.{◌≡◌, true, false, arith}, lemmas.Bool.Decides.nat_tests}
+use Rattle.tc_rules.{specs.{History.ends_case, Inside.Step.finds_none}, proofs.Unchanged.none_found}
 use Rattle.tc_rules.proofs.step.take_in_many.Goals as goal
 
 pub returns-else-not-finds_none-clause-each : goal.returns-else-not-finds_none-clause-each

@@ -1,5 +1,4 @@
-use Rattle.std.proofs.Common.{◌≡◌, ◌≤◌, ◌+◌, ◌-◌, false, vec_len}
-use Rattle.std.specs.Io.KnownBytes.{Consumes}
+use Rattle.std.{proofs.Common.{◌≡◌, ◌≤◌, ◌+◌, ◌-◌, false, vec_len}, specs.Io.KnownBytes.Consumes}
 use Rattle.tc_stream.proofs.input.read_counted.Given as goal
 
 abbrev pub invariant-loop-bytes : goal.invariant-loop-bytes

@@ -1,5 +1,4 @@
-use Rattle.std.proofs.Common.{◌≡◌, ◌≤◌, ◌+◌, ◌-◌, false, length, take}
-use Rattle.std.specs.Io.KnownBytes.{Appends}
+use Rattle.std.{proofs.Common.{◌≡◌, ◌≤◌, ◌+◌, ◌-◌, false, length, take}, specs.Io.KnownBytes.Appends}
 use Rattle.tc_stream.proofs.output.write_counted.Given as goal
 
 abbrev pub invariant-loop-done : goal.invariant-loop-done

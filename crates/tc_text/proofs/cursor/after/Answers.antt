@@ -1,5 +1,4 @@
-use Rattle.std.proofs.Common.{arith}
-use Rattle.std.proofs.lemmas.List.{length-take-le, take-append-drop, take_all, take_more_same}
+use Rattle.std.proofs.{Common.arith, lemmas.List.{length-take-le, take-append-drop, take_all, take_more_same}}
 use Rattle.tc_text.proofs.cursor.after.Goals as goal
 
 pub loop-place-preserved : goal.loop-place-preserved

@@ -1,6 +1,4 @@
-use Rattle.std.proofs.Common.{◌≡◌, ◌∙◌, ap, rules, sym}
-use Rattle.std.specs.Int.{w32, to_le_bytes}
-use Rattle.std.proofs.lemmas.Nat.{le_bytes_4}
+use Rattle.std.{proofs.{Common.{◌≡◌, ◌∙◌, ap, rules, sym}, lemmas.Nat.le_bytes_4}, specs.Int.{w32, to_le_bytes}}
 use Rattle.tc_text.proofs.cursor.are_same.Goals as goal
 
 pub returns-clause-same : goal.returns-clause-same

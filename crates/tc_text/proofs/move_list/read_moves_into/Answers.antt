@@ -1,5 +1,4 @@
-use Rattle.std.proofs.Common.{◌≡◌, ◌<◌, length, arith}
-use Rattle.std.proofs.lemmas.{Grind.common_steps, List.nil_from_length}
+use Rattle.std.proofs.{Common.{◌≡◌, ◌<◌, length, arith}, lemmas.Grind.common_steps, lemmas.List.nil_from_length}
 use Rattle.tc_text.proofs.{Lemmas.LinesOf.not_empty, SoFar.bad_first, SoFar.made_all, SoFar.made_bad, SoFar.made_more, SoFar.made_none, SoFar.made_only, SoFar.no_list}
 use Rattle.tc_text.proofs.move_list.read_moves_into.Goals as goal
 

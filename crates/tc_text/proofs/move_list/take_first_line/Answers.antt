@@ -1,6 +1,5 @@
 use Rattle.std.proofs.Common.{◌∙◌, ap}
-use Rattle.tc_text.specs.MoveList.{lines_of}
-use Rattle.tc_text.proofs.Lemmas.LinesOf.{same_behind, behaviours_spelled, no_behaviours, no_word, that_first}
+use Rattle.tc_text.{specs.MoveList.lines_of, proofs.Lemmas.LinesOf.{same_behind, behaviours_spelled, no_behaviours, no_word, that_first}}
 use Rattle.tc_text.proofs.move_list.take_first_line.Goals as goal
 
 pub returns-in_err-rest-clause-only : goal.returns-in_err-rest-clause-only

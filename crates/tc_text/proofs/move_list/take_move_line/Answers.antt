@@ -1,6 +1,5 @@
 use Rattle.std.proofs.Common.{◌∙◌, ap}
-use Rattle.tc_text.specs.MoveList.{lines_of}
-use Rattle.tc_text.proofs.Lemmas.LinesOf.{same_behind, move_spelled, never_move, that_line}
+use Rattle.tc_text.{specs.MoveList.lines_of, proofs.Lemmas.LinesOf.{same_behind, move_spelled, never_move, that_line}}
 use Rattle.tc_text.proofs.move_list.take_move_line.Goals as goal
 
 pub returns-in_err-one-clause-only : goal.returns-in_err-one-clause-only

@@ -1,6 +1,5 @@
 use Rattle.std.proofs.Common.{◌∙◌, ap}
-use Rattle.tc_text.specs.{MoveList.lines_of, Reading.op_of}
-use Rattle.tc_text.proofs.Lemmas.LinesOf.{first_line, same_behind, ends_line, move_spelled, that_short_line}
+use Rattle.tc_text.{specs.{MoveList.lines_of, Reading.op_of}, proofs.Lemmas.LinesOf.{first_line, same_behind, ends_line, move_spelled, that_short_line}}
 use Rattle.tc_text.proofs.move_list.take_short_line.Goals as goal
 
 pub returns-in_default-clause-only : goal.returns-in_default-clause-only

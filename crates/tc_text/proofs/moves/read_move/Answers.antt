@@ -1,5 +1,4 @@
-use Rattle.std.proofs.Common.{◌∙◌, [], sym, arith, rules}
-use Rattle.std.proofs.lemmas.{Grind.common_steps, List.append-nil}
+use Rattle.std.proofs.{Common.{◌∙◌, [], sym, arith, rules}, lemmas.Grind.common_steps, lemmas.List.append-nil}
 use Rattle.tc_text.proofs.Operands.{ends_nothing}
 use Rattle.tc_text.proofs.moves.read_move.Goals as goal
 

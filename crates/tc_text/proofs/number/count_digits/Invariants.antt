@@ -1,5 +1,4 @@
-use Rattle.std.proofs.Common.{◌≡◌, ◌≤◌, ◌-◌, length, take, true}
-use Rattle.std.specs.Str.{all_ascii_digits}
+use Rattle.std.{proofs.Common.{◌≡◌, ◌≤◌, ◌-◌, length, take, true}, specs.Str.all_ascii_digits}
 use Rattle.tc_text.proofs.number.count_digits.Given as goal
 
 abbrev pub invariant-loop-end : goal.invariant-loop-end

@@ -1,5 +1,4 @@
-use Rattle.std.proofs.Common.{◌∙◌, [], sym, arith}
-use Rattle.std.proofs.lemmas.{Grind.common_steps, List.append-nil}
+use Rattle.std.proofs.{Common.{◌∙◌, [], sym, arith}, lemmas.Grind.common_steps, lemmas.List.append-nil}
 use Rattle.tc_text.proofs.Operands.{ends_nothing}
 use Rattle.tc_text.proofs.number.read_number.Goals as goal
 

@@ -1,5 +1,4 @@
-use Rattle.std.proofs.Common.{◌≡◌, ◌∷◌, [], ◌++◌, arith}
-use Rattle.std.proofs.lemmas.Grind.{common_steps}
+use Rattle.std.proofs.{Common.{◌≡◌, ◌∷◌, [], ◌++◌, arith}, lemmas.Grind.common_steps}
 use Rattle.tc_text.proofs.Operands.{no_args, no_number, args_spelled, args_only}
 use Rattle.tc_text.proofs.operand.+take_args.Goals as goal
 

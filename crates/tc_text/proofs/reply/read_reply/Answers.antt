@@ -1,5 +1,4 @@
-use Rattle.std.proofs.Common.{◌∙◌, [], sym, inl, refl, arith, rules}
-use Rattle.std.proofs.lemmas.{Grind.common_steps, List.append-nil}
+use Rattle.std.proofs.{Common.{◌∙◌, [], sym, inl, refl, arith, rules}, lemmas.Grind.common_steps, lemmas.List.append-nil}
 use Rattle.tc_text.proofs.Lemmas.LinesOf.{ends_reply}
 use Rattle.tc_text.proofs.reply.read_reply.Goals as goal
 

@@ -1,6 +1,5 @@
 use Rattle.std.proofs.Common.{◌≡◌, ◌≢◌, ℕ, List, ◌++◌, codes}
-use Rattle.tc_entry.specs.declared.reply.Fault.{Fault}
-use Rattle.tc_entry.specs.Prelude.{fault_name}
+use Rattle.tc_entry.specs.{declared.reply.Fault.Fault, Prelude.fault_name}
 use Rattle.tc_text.proofs.reply.take_fault.Goals as goal
 
 -- no name of a dynamic error begins the text

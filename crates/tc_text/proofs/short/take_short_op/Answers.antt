@@ -1,7 +1,5 @@
-use Rattle.std.proofs.Common.{◌∙◌, ◌++◌, sym}
-use Rattle.std.proofs.lemmas.Option.{IfSome_then}
-use Rattle.tc_text.specs.{Inside.operand_text, Inside.verb_of, Reading.op_of}
-use Rattle.tc_text.proofs.Operands.{op_parts, op_spelled}
+use Rattle.std.proofs.{Common.{◌∙◌, ◌++◌, sym}, lemmas.Option.IfSome_then}
+use Rattle.tc_text.{specs.{Inside.{operand_text, verb_of}, Reading.op_of}, proofs.Operands.{op_parts, op_spelled}}
 use Rattle.tc_text.proofs.short.take_short_op.Goals as goal
 
 pub returns-in-None-clause-only : goal.returns-in-None-clause-only

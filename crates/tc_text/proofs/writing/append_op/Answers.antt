@@ -1,8 +1,5 @@
-use Rattle.std.proofs.Common.{◌≡◌, ◌∙◌, ◌++◌, ℕ, List, length, take, drop, sym, ap, append_assoc, take-append-drop, Result, Ok, Err, OnErr, OnOk}
-use Rattle.std.specs.Io.{StartsWith}
-use Rattle.std.proofs.Math.Seq.{take-append_seam}
-use Rattle.tc_text.specs.{Inside.operand_text, Spelling.op_text}
-use Rattle.tc_text.proofs.Operands.{op_words}
+use Rattle.std.{proofs.{Common.{◌≡◌, ◌∙◌, ◌++◌, ℕ, List, length, take, drop, sym, ap, append_assoc, take-append-drop, Result, Ok, Err, OnErr, OnOk}, Math.Seq.take-append_seam}, specs.Io.StartsWith}
+use Rattle.tc_text.{specs.{Inside.operand_text, Spelling.op_text}, proofs.Operands.op_words}
 use Rattle.tc_text.proofs.writing.append_op.Goals as goal
 
 -- what begins with more begins with less

@@ -1,7 +1,5 @@
-use Rattle.std.proofs.Common.{◌≡◌, arith}
-use Rattle.std.proofs.lemmas.Grind.{common_steps}
-use Rattle.tc_verdict.specs.{Verdict.worst, declared.verdict.Verdict.Verdict}
-use Rattle.tc_verdict.proofs.Lemmas.Order.{worst_take, worst_is_greatest, worst_is_member}
+use Rattle.std.proofs.{Common.{◌≡◌, arith}, lemmas.Grind.common_steps}
+use Rattle.tc_verdict.{specs.{Verdict.worst, declared.verdict.Verdict.Verdict}, proofs.Lemmas.Order.{worst_take, worst_is_greatest, worst_is_member}}
 use Rattle.tc_verdict.proofs.verdict.worst.Goals as goal
 
 pub loop-verdict-preserved : goal.loop-verdict-preserved

@@ -1,7 +1,6 @@
 use Rattle.std.proofs.Common.{◌≡◌, ◌<◌, ◌+◌, ◌-◌, [], slice_set, sym, ap, ◌∙◌, arith, subst}
 use Rattle.atomic_table.specs.Seated.{TableId}
-use Rattle.tc_board.specs.{Board.first_records, Inside.Seats.first_lists, Inside.Seats.keeper_view}
-use Rattle.tc_board.proofs.NewBoard.{new_holds, splits_at, keeper_left, hand_made, hand_shape, keeper_shape, hands_added}
+use Rattle.tc_board.{specs.{Board.first_records, Inside.Seats.{first_lists, keeper_view}}, proofs.NewBoard.{new_holds, splits_at, keeper_left, hand_made, hand_shape, keeper_shape, hands_added}}
 use Rattle.tc_board.proofs.board.Board.new.Goals as goal
 
 pub of_words-requires : goal.of_words-requires

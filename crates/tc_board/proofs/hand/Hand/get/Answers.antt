@@ -1,7 +1,6 @@
 use Rattle.std.proofs.Common.{rules, ◌≢◌, ◌<◌, List, [], sym, ap, subst, ◌∙◌}
 use Rattle.atomic_table.specs.Seated.{TableId}
-use Rattle.tc_board.specs.{Hand.HandView, declared.answer.Answer.Answer}
-use Rattle.tc_board.proofs.{HandSteps.gets_at, Numbers.read_answer}
+use Rattle.tc_board.{specs.{Hand.HandView, declared.answer.Answer.Answer}, proofs.{HandSteps.gets_at, Numbers.read_answer}}
 use Rattle.tc_board.proofs.hand.Hand.get.Goals as goal
 
 pub load-requires : goal.load-requires

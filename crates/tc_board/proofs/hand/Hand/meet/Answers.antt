@@ -1,7 +1,6 @@
 use Rattle.std.proofs.Common.{rules, ◌<◌, sym, ap, subst, ◌∙◌}
 use Rattle.atomic_table.specs.Seated.{TableId}
-use Rattle.tc_board.specs.Hand.{HandView}
-use Rattle.tc_board.proofs.HandSteps.{meets_at}
+use Rattle.tc_board.{specs.Hand.HandView, proofs.HandSteps.meets_at}
 use Rattle.tc_board.proofs.hand.Hand.meet.Goals as goal
 
 pub load-requires : goal.load-requires

@@ -1,7 +1,6 @@
 use Rattle.std.proofs.Common.{rules, ◌≢◌, ◌<◌, List, [], sym, ap, subst, ◌∙◌}
 use Rattle.atomic_table.specs.Seated.{TableId}
-use Rattle.tc_board.specs.{Hand.HandView, declared.answer.Answer.Answer}
-use Rattle.tc_board.proofs.HandSteps.{sets_at}
+use Rattle.tc_board.{specs.{Hand.HandView, declared.answer.Answer.Answer}, proofs.HandSteps.sets_at}
 use Rattle.tc_board.proofs.hand.Hand.set.Goals as goal
 
 pub fetch_max-found-requires : goal.fetch_max-found-requires

@@ -1,8 +1,6 @@
-use Rattle.std.specs.Prelude.{slice_get}
-use Rattle.std.proofs.Common.{◌<◌, ℕ, sym, ap, subst, ◌∙◌}
+use Rattle.std.{specs.Prelude.slice_get, proofs.Common.{◌<◌, ℕ, sym, ap, subst, ◌∙◌}}
 use Rattle.atomic_table.specs.Seated.{TableId}
-use Rattle.tc_board.specs.Keeper.{KeeperView}
-use Rattle.tc_board.proofs.{KeeperSteps.opens_at, Lookup.at_length, Lookup.got_elem}
+use Rattle.tc_board.{specs.Keeper.KeeperView, proofs.{KeeperSteps.opens_at, Lookup.{at_length, got_elem}}}
 use Rattle.tc_board.proofs.keeper.Keeper.begin.Goals as goal
 
 pub store-requires : goal.store-requires

@@ -1,9 +1,7 @@
-use Rattle.std.specs.Prelude.{slice_get}
-use Rattle.std.proofs.Common.{◌≡◌, ◌<◌, ℕ, sym, ap, subst, ◌∙◌, Contains}
+use Rattle.std.{specs.Prelude.slice_get, proofs.Common.{◌≡◌, ◌<◌, ℕ, sym, ap, subst, ◌∙◌, Contains}}
 use Rattle.atomic_table.specs.Seated.{TableId}
 use Rattle.tc_entry.specs.Prelude.{given}
-use Rattle.tc_board.specs.{Answers.worst_answer, Inside.Steps.verdict_of, Keeper.KeeperView, Keeper.carried_by, declared.answer.AnswerList.AnswerList}
-use Rattle.tc_board.proofs.{KeeperSteps.closes_at, KeeperSteps.counts_gathered, Lookup.at_length, Lookup.got_elem, Numbers.read_some, Numbers.verdict_of-rank}
+use Rattle.tc_board.{specs.{Answers.worst_answer, Inside.Steps.verdict_of, Keeper.{KeeperView, carried_by}, declared.answer.AnswerList.AnswerList}, proofs.{KeeperSteps.{closes_at, counts_gathered}, Lookup.{at_length, got_elem}, Numbers.{read_some, verdict_of-rank}}}
 use Rattle.tc_board.proofs.keeper.Keeper.close.Goals as goal
 
 pub fetch_or-found-requires : goal.fetch_or-found-requires

@@ -1,8 +1,6 @@
-use Rattle.std.specs.Prelude.{slice_get, Some}
-use Rattle.std.proofs.Common.{◌≡◌, ◌<◌, ℕ, List, [], ◌++◌, sym, ap, subst, ◌∙◌, arith}
+use Rattle.std.{specs.Prelude.{slice_get, Some}, proofs.Common.{◌≡◌, ◌<◌, ℕ, List, [], ◌++◌, sym, ap, subst, ◌∙◌, arith}}
 use Rattle.atomic_table.specs.Seated.{TableId}
-use Rattle.tc_board.specs.{Hand.HandView, Inside.Seats.keeper_view, Inside.Seats.taken_back, Inside.Steps.Seated, Keeper.KeeperView, Rule.AnswersAgree, declared.answer.Answer.Answer, declared.record.Record.Record}
-use Rattle.tc_board.proofs.KeeperSteps.{takes_back_at, looks_at, seen_agrees}
+use Rattle.tc_board.{specs.{Hand.HandView, Inside.Seats.{keeper_view, taken_back}, Inside.Steps.Seated, Keeper.KeeperView, Rule.AnswersAgree, declared.answer.Answer.Answer, declared.record.Record.Record}, proofs.KeeperSteps.{takes_back_at, looks_at, seen_agrees}}
 use Rattle.tc_board.proofs.keeper.Keeper.gather.Goals as goal
 
 pub join_seat-requires : goal.join_seat-requires

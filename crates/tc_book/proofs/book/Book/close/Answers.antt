@@ -1,6 +1,5 @@
 use Rattle.std.proofs.Common.{rules, ◌≡◌, false, true}
-use Rattle.tc_book.specs.Inside.{ArePlaced}
-use Rattle.tc_book.proofs.{Wholeness.AtClose, Wholeness.torn_placed, book.Book.close.Goals.then-not-are_placed-via-else-not-are_placed+then-not-all_agreed, book.Book.close.Goals.then-not-are_placed-via-then-not-are_placed}
+use Rattle.tc_book.{specs.Inside.ArePlaced, proofs.{Wholeness.{AtClose, torn_placed}, book.Book.close.Goals.{then-not-are_placed-via-else-not-are_placed+then-not-all_agreed, then-not-are_placed-via-then-not-are_placed}}}
 use Rattle.tc_book.proofs.book.Book.close.Goals as goal
 
 pub returns-then-not-are_placed-clause-torn : goal.returns-then-not-are_placed-clause-torn

@@ -1,7 +1,6 @@
 use Rattle.std.proofs.Common.{rules, reverse, ◌≡◌, false, true, IsTrue}
 use Rattle.tc_rules.specs.Prelude.{is_over}
-use Rattle.tc_book.specs.{Closing.merged, Inside.IsSound}
-use Rattle.tc_book.proofs.{Joining.has_logs, Joining.joined_by, Joining.merged_by, Joining.sound_of, Joining.walk_of, Wholeness.sound_by}
+use Rattle.tc_book.{specs.{Closing.merged, Inside.IsSound}, proofs.{Joining.{has_logs, joined_by, merged_by, sound_of, walk_of}, Wholeness.sound_by}}
 use Rattle.tc_book.proofs.book.closing.one_history.Goals as goal
 
 pub returns-clause-merged : goal.returns-clause-merged

@@ -1,7 +1,6 @@
 use Rattle.std.proofs.Common.{◌≡◌, arith, subst}
 use Rattle.tc_rules.specs.Prelude.{past_of}
-use Rattle.tc_book.specs.Inside.Words.{WordsLag}
-use Rattle.tc_book.proofs.Settling.{all_agree}
+use Rattle.tc_book.{specs.Inside.Words.WordsLag, proofs.Settling.all_agree}
 use Rattle.tc_book.proofs.words.Words.settle.Goals as goal
 
 pub returns-clause-agreeing : goal.returns-clause-agreeing

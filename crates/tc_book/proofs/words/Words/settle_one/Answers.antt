@@ -1,8 +1,7 @@
 use Rattle.std.proofs.Common.{◌≡◌, true, false, sym, ap, ◌∙◌, arith}
 use Rattle.tc_rules.specs.Prelude.{past_of, is_active}
 use Rattle.tc_board.specs.declared.record.Record.TheVariants.{Closed}
-use Rattle.tc_book.specs.{Inside.Words.is_open, Inside.Words.opening, Words.record_at}
-use Rattle.tc_book.proofs.Settling.{close_one, open_unclosed, stay_closed}
+use Rattle.tc_book.{specs.{Inside.Words.{is_open, opening}, Words.record_at}, proofs.Settling.{close_one, open_unclosed, stay_closed}}
 use Rattle.tc_book.proofs.words.Words.settle_one.Goals as goal
 
 pub returns-then-not-is_active-clause-lagging : goal.returns-then-not-is_active-clause-lagging

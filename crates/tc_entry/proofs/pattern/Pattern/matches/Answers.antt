@@ -1,5 +1,4 @@
-use Rattle.std.proofs.Common.{◌==◌, ◌∙◌, ap, ap₂, sym}
-use Rattle.std.specs.{List.list_any, Str.bytes_eq}
+use Rattle.std.{proofs.Common.{◌==◌, ◌∙◌, ap, ap₂, sym}, specs.{List.list_any, Str.bytes_eq}}
 use Rattle.tc_entry.proofs.Patterns.{matches_same}
 use Rattle.tc_entry.proofs.pattern.Pattern.matches.Goals as goal
 

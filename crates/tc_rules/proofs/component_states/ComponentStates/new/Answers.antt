@@ -1,7 +1,5 @@
-use Rattle.std.proofs.Common.{◌≡◌, ◌∷◌, [], arith}
-use Rattle.std.proofs.lemmas.Grind.{common_steps}
-use Rattle.tc_rules.specs.Inside.Counts.{main_state}
-use Rattle.tc_rules.proofs.Counting.{counted_main}
+use Rattle.std.proofs.{Common.{◌≡◌, ◌∷◌, [], arith}, lemmas.Grind.common_steps}
+use Rattle.tc_rules.{specs.Inside.Counts.main_state, proofs.Counting.counted_main}
 use Rattle.tc_rules.proofs.component_states.ComponentStates.new.Goals as goal
 
 pub invariant_of-result : goal.invariant_of-result

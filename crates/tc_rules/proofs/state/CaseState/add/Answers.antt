@@ -1,6 +1,5 @@
 use Rattle.std.proofs.Common.{◌∷◌}
-use Rattle.tc_rules.specs.Standing.{StandsFor}
-use Rattle.tc_rules.proofs.{Lemmas.Keeping.keeps_entry, Lemmas.Keeping.stands_by, Settled.settled_kept}
+use Rattle.tc_rules.{specs.Standing.StandsFor, proofs.{Lemmas.Keeping.{keeps_entry, stands_by}, Settled.settled_kept}}
 use Rattle.tc_rules.proofs.state.CaseState.add.Goals as goal
 
 pub take_in-requires : goal.take_in-requires

@@ -1,6 +1,5 @@
 use Rattle.std.proofs.Common.{◌∷◌}
-use Rattle.tc_rules.specs.Standing.{StandsFor}
-use Rattle.tc_rules.proofs.{Elsewhere.keeps_asking, Lemmas.Keeping.stands_by}
+use Rattle.tc_rules.{specs.Standing.StandsFor, proofs.{Elsewhere.keeps_asking, Lemmas.Keeping.stands_by}}
 use Rattle.tc_rules.proofs.state.CaseState.ask.Goals as goal
 
 pub invariant_of-self : goal.invariant_of-self

@@ -1,6 +1,5 @@
 use Rattle.std.proofs.Common.{rules}
-use Rattle.tc_rules.specs.Standing.{StandsFor}
-use Rattle.tc_rules.proofs.Lemmas.Kept.{kept_rules}
+use Rattle.tc_rules.{specs.Standing.StandsFor, proofs.Lemmas.Kept.kept_rules}
 use Rattle.tc_rules.proofs.state.CaseState.components.Goals as goal
 
 pub returns : goal.returns

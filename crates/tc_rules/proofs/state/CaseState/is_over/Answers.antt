@@ -1,6 +1,5 @@
 use Rattle.std.proofs.Common.{refl, rules}
-use Rattle.tc_rules.specs.Standing.{StandsFor}
-use Rattle.tc_rules.proofs.Lemmas.Over.{on_over, over_rules}
+use Rattle.tc_rules.{specs.Standing.StandsFor, proofs.Lemmas.Over.{on_over, over_rules}}
 use Rattle.tc_rules.proofs.state.CaseState.is_over.Goals as goal
 
 pub returns-clause-after : goal.returns-clause-after

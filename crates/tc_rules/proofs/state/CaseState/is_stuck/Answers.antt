@@ -1,6 +1,5 @@
 use Rattle.std.proofs.Common.{arith}
-use Rattle.tc_rules.specs.Standing.{StandsFor}
-use Rattle.tc_rules.proofs.Lemmas.Stuck.{stuck_if_none, not_stuck_run}
+use Rattle.tc_rules.{specs.Standing.StandsFor, proofs.Lemmas.Stuck.{stuck_if_none, not_stuck_run}}
 use Rattle.tc_rules.proofs.state.CaseState.is_stuck.Goals as goal
 
 pub returns-then-goes_on : goal.returns-then-goes_on

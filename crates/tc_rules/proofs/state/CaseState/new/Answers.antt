@@ -1,6 +1,5 @@
 use Rattle.std.proofs.Common.{◌≡◌, ◌∷◌, []}
-use Rattle.tc_rules.specs.{Inside.Counts.main_state, Standing.StandsFor}
-use Rattle.tc_rules.proofs.Making.{opening}
+use Rattle.tc_rules.{specs.{Inside.Counts.main_state, Standing.StandsFor}, proofs.Making.opening}
 use Rattle.tc_rules.proofs.state.CaseState.new.Goals as goal
 
 pub invariant_of-result : goal.invariant_of-result

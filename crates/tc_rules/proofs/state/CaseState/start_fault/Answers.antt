@@ -1,6 +1,5 @@
 use Rattle.std.proofs.Common.{rules}
-use Rattle.tc_rules.specs.{Faults.start_fault, Standing.StandsFor}
-use Rattle.tc_rules.proofs.Lemmas.Kept.{kept_rules}
+use Rattle.tc_rules.{specs.{Faults.start_fault, Standing.StandsFor}, proofs.Lemmas.Kept.kept_rules}
 use Rattle.tc_rules.proofs.state.CaseState.start_fault.Goals as goal
 
 pub returns-then-run-eq0 : goal.returns-then-run-eq0

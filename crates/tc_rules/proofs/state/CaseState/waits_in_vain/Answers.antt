@@ -1,7 +1,5 @@
-use Rattle.std.proofs.Common.{arith}
-use Rattle.std.proofs.lemmas.Grind.{common_steps}
-use Rattle.tc_rules.specs.declared.run_state.RunState.{RunState}
-use Rattle.tc_rules.proofs.Lemmas.Kept.{awaited_below}
+use Rattle.std.proofs.{Common.arith, lemmas.Grind.common_steps}
+use Rattle.tc_rules.{specs.declared.run_state.RunState.RunState, proofs.Lemmas.Kept.awaited_below}
 use Rattle.tc_rules.proofs.state.CaseState.waits_in_vain.Goals as goal
 
 pub holds-requires : goal.holds-requires

@@ -1,0 +1,7 @@
+//! What a host calls: the component table of a test case, and the program where no thread can be started.
+#![tactic(auto)]
+
+pub mod answer;
+mod engine;
+pub mod table;
+mod words;

@@ -1,0 +1,4 @@
+-- What the proofs of this crate share.
+pub mod Heap
+pub mod Pieces
+pub mod Reading
