@@ -2,4 +2,3 @@
 pub mod Lemmas
 pub mod Going
 pub mod Places
-pub mod Rightness

@@ -1,43 +1,25 @@
--- Lists that agree with the beginning of another, and the last element of a list.
-use Rattle.std.proofs.Common.{ℕ, zero, suc, ◌≡◌, ◌∙◌, ◌-◌, ◌++◌, ◌∷◌, [], Some, List, All, length, take, arith, refl, sym, ap, subst}
-use Rattle.std.specs.Prelude.{IfSome, slice_get}
+-- Lists that agree with the beginning of another, and what comes after it.
+use Rattle.std.proofs.Common.{◌≡◌, ◌∙◌, ◌-◌, ◌++◌, ◌∷◌, [], List, length, take, drop, arith, sym, ap, subst}
 use Rattle.std.specs.List.{AllZip}
 use Rattle.std.proofs.Math.Seq.{take-append_seam}
-use Rattle.std.proofs.lemmas.{List.Elements.All-head, List.Elements.All-tail, List.length-append, Slice.Zip.AllZip-long}
+use Rattle.std.proofs.lemmas.{List.drop-append-le, List.drop_all, List.length-append, Slice.Zip.AllZip-long}
+use Rattle.tc_exec.specs.Inside.{AreDone}
 
-pub AllZip-weaker : {A B : Type 0} (Q R : A → B → Type 0) → ((x : A) (y : B) → Q x y → R x y) → (xs : List A) (ys : List B) → AllZip Q xs ys → AllZip R xs ys
-AllZip-weaker Q R weaker [] [] each = tt
-AllZip-weaker Q R weaker [] (b ∷ ys) each = absurd each
-AllZip-weaker Q R weaker (a ∷ xs) [] each = absurd each
-AllZip-weaker Q R weaker (a ∷ xs) (b ∷ ys) each = (weaker a b each.0, AllZip-weaker Q R weaker xs ys each.1)
+module _ {A B : Type 0} (R : A → B → Type 0) (all left : List A) (ys : List B) (are : AreDone R all left ys) where
+  -- those that are done are the beginning of that length
+  pub done_begin : AllZip R (take (length ys) all) ys
+  done_begin =
+      let same : take (length ys) all ≡ are.done = ap (take (length ys)) are.prefix ∙ ap (λ n. take n (are.done ++ left)) (AllZip-long R are.done ys are.each) ∙ take-append_seam are.done left in
+      subst (λ l. AllZip R l ys) (sym same) are.each
 
--- the part of a list with which another agrees is its beginning of that length
-pub AllZip-begin : {A B : Type 0} (R : A → B → Type 0) (all done rest : List A) (ys : List B) → all ≡ done ++ rest → AllZip R done ys → AllZip R (take (length ys) all) ys
-AllZip-begin R all done rest ys prefix each =
-    let same : take (length ys) all ≡ done = ap (take (length ys)) prefix ∙ ap (λ n. take n (done ++ rest)) (AllZip-long R done ys each) ∙ take-append_seam done rest in
-    subst (λ l. AllZip R l ys) (sym same) each
-
-slice_get-seam : {A : Type 0} (xs ys : List A) → slice_get (xs ++ ys) (length xs) ≡ slice_get ys 0
-slice_get-seam [] ys = refl
-slice_get-seam (x ∷ xs) ys = slice_get-seam xs ys
-
--- the element after that part
-pub slice_get-behind : {A B : Type 0} (R : A → B → Type 0) (all done rest : List A) (ys : List B) → all ≡ done ++ rest → AllZip R done ys → slice_get all (length ys) ≡ slice_get rest 0
-slice_get-behind R all done rest ys prefix each =
-    ap (λ l. slice_get l (length ys)) prefix ∙ ap (slice_get (done ++ rest)) (AllZip-long R done ys each) ∙ slice_get-seam done rest
-
-length_front : {A : Type 0} (xs : List A) (x : A) → length (xs ++ x ∷ []) - 1 ≡ length xs
-length_front xs x = omega (arith, length-append xs (x ∷ []))
+  -- and the rest are those that are left
+  pub done_rest : drop (length ys) all ≡ left
+  done_rest =
+      ap (drop (length ys)) are.prefix ∙ ap (λ n. drop n (are.done ++ left)) (AllZip-long R are.done ys are.each)
+      ∙ drop-append-le (length are.done) are.done left (omega arith) ∙ ap (λ l. l ++ left) (drop_all (length are.done) are.done (omega arith))
 
 -- all except the last
 pub take-front : {A : Type 0} (xs : List A) (x : A) → take (length (xs ++ x ∷ []) - 1) (xs ++ x ∷ []) ≡ xs
-take-front xs x = ap (λ n. take n (xs ++ x ∷ [])) (length_front xs x) ∙ take-append_seam xs (x ∷ [])
-
--- the last
-pub slice_get-last : {A : Type 0} (xs : List A) (x : A) → slice_get (xs ++ x ∷ []) (length (xs ++ x ∷ []) - 1) ≡ Some x
-slice_get-last xs x = ap (slice_get (xs ++ x ∷ [])) (length_front xs x) ∙ slice_get-seam xs (x ∷ [])
-
-pub All-slice_get : {A : Type 0} (P : A → Type 0) (xs : List A) (i : ℕ) → All P xs → IfSome (slice_get xs i) P
-All-slice_get P [] i all = tt
-All-slice_get P (x ∷ xs) zero all = All-head P x xs all
-All-slice_get P (x ∷ xs) (suc i) all = All-slice_get P xs i (All-tail P x xs all)
+take-front xs x =
+    let long : length (xs ++ x ∷ []) - 1 ≡ length xs = omega (arith, length-append xs (x ∷ [])) in
+    ap (λ n. take n (xs ++ x ∷ [])) long ∙ take-append_seam xs (x ∷ [])

@@ -2,7 +2,7 @@
 ghost use Rattle.std.specs.Prelude.{◌≡◌, ◌≤◌, [], All, IfOk, IfErr, IfSome, IfNone, Option, length, map, slice_get, ℕ};
 ghost use Rattle.std.specs.Vec.{vec_capacity, vec_len};
 ghost use Rattle.tc_rules.specs.Prelude.{Verdict as AnyVerdict};
-ghost use Rattle.tc_campaign.specs.{Campaign.AreBack, Campaign.IsCalled, Campaign.IsCutShort, Campaign.IsObserved, Campaign.IsRunTo, Inside.HasThreads, Inside.IsOf, Inside.IsRefused, Inside.IsStep, Inside.IsUnrun, Inside.WasRun, Inside.ended_by, Outline.HasNames, Outline.outline_of};
+ghost use Rattle.tc_campaign.specs.{Campaign.AreBack, Campaign.IsCalled, Campaign.IsCutShort, Campaign.IsObserved, Campaign.IsRunTo, Inside.HasThreads, Inside.IsOf, Inside.IsRefused, Inside.IsStep, Inside.IsUnrun, Inside.ended_by, Outline.HasNames, Outline.outline_of};
 
 use crate::step::Step;
 use crate::stopping::stop_after;
@@ -75,29 +75,6 @@ fn run_next<R: Threads + Wait + Copy + Send + 'static, B: Callable, O: Observer>
     }
 }
 
-/// Runs the test cases up to the last by the stopping rule, or the first that is refused, or the one at which the
-/// observer ends the campaign. Says how the campaign ended, if the observer did not end it.
-fn run_all<R: Threads + Wait + Copy + Send + 'static, B: Callable, O: Observer>(
-    rt: &R,
-    alloc: Global,
-    cases: Vec<Case<B>>,
-    stop_on: Option<Verdict>,
-    threads: u16,
-    observer: &mut O,
-) -> Option<CampaignEnd>
-    ensures { WasRun B.outcome O.takes stop_on threads cases.items observer.old observer.new result }
-{
-    for case in cases {
-        match run_next(rt, alloc, case, stop_on, threads, observer) {
-            Step::GoesOn => {}
-            Step::Stops(ending) => return Some(ending),
-            Step::Refused(ending) => return Some(ending),
-            Step::CutShort => return None,
-        }
-    }
-    Some(CampaignEnd::Complete)
-}
-
 /// Runs the test cases of a campaign one after the other, and gives the report of each to the observer before the next
 /// one begins. No report is kept here, so the campaign takes the memory of one test case.
 ///
@@ -115,7 +92,15 @@ pub fn run_campaign_with<R: Threads + Wait + Copy + Send + 'static, B: Callable,
     ensures ended { IfSome result (IsObserved B.outcome cases.items stop_on threads O.takes observer.old observer.new) }
     ensures cut { IfNone result (IsCutShort B.outcome cases.items stop_on threads O.takes observer.old observer.new) }
 {
-    run_all(rt, alloc, cases, stop_on, threads, observer)
+    for case in cases {
+        match run_next(rt, alloc, case, stop_on, threads, observer) {
+            Step::GoesOn => {}
+            Step::Stops(ending) => return Some(ending),
+            Step::Refused(ending) => return Some(ending),
+            Step::CutShort => return None,
+        }
+    }
+    Some(CampaignEnd::Complete)
 }
 
 /// How a campaign ends that has no room for its reports.

@@ -1,14 +1,10 @@
 -- What the report of a case says.
-use Rattle.std.specs.Prelude.{ℕ, ◌≡◌, ◌≢◌, ◌<◌, ◌⊎◌, Some, None, List, length, reverse, All, slice_index_or}
-use Rattle.tc_rules.specs.Prelude.{Comp, Entry, comp_of, IsOneHistory}
-use Rattle.tc_rules.specs.declared.{closed.Closed.Closed, run_log.RunLog.RunLog}
-use Rattle.tc_book.specs.Prelude.{IsOneEach, IsWhole, PassState, LeftState, start_of}
-use Rattle.tc_exec.specs.Workers.{IsLeftBy, WasCalledFor, WasCalled, WasStarted}
+use Rattle.std.specs.Prelude.{ℕ, ◌≡◌, ◌≢◌, ◌<◌, ◌⊎◌, None, List, length, slice_index_or}
+use Rattle.tc_rules.specs.Prelude.{IsOneHistory}
+use Rattle.tc_rules.specs.declared.{closed.Closed.Closed}
+use Rattle.tc_book.specs.Prelude.{IsOneEach, IsWhole, PassState, LeftState}
+use Rattle.tc_exec.specs.Workers.{IsLeftBy, WasCalled}
 use Rattle.tc_exec.specs.declared.{job.Back.Back, job.Ending.Ending}
-
--- a Start of this log's run, on the log's component, was replied Ok in the history
-abbrev pub WasStartedIn : List Entry → RunLog → Type 0
-WasStartedIn history log = 0 < log.run.0 → (args : List Comp) × (start_of (reverse history) log.run.0 ≡ Some (log.comp, args))
 
 -- The report of a case of n behaviours. It has one history of one thread, in which each reply is the component table's
 -- at that point, and the logs are the parts of this history. Once an entry has ended the case no component is alive.
@@ -19,13 +15,6 @@ pub record IsCaseReport (n : ℕ) (c : Closed) : Type 0 where
   pub one_history : IsOneHistory c
   -- as many behaviours as jobs
   pub behaviours : c.behaviours ≡ n
-  -- each log is of a run that was started
-  pub started : All (WasStartedIn c.history) c.logs
-
--- The behaviours are those of the runs, in the order of the runs' numbers: each of which the run was started was called,
--- with a new pass of that run.
-abbrev pub AreCalled : {B : Type 0} → (B → PassState → Back → Type 0) → List B → Closed → Type 0
-AreCalled outcome jobs c = (k : ℕ) (b : _) → k < length jobs → comp_of (reverse c.history) k ≢ None → WasCalledFor (record { 0 = k }) (outcome (slice_index_or jobs k b))
 
 -- What was handed back of a case, whole or not. Each behaviour was called with a new pass of its run, did not run out
 -- of memory, and the pass that it handed back has left; or its run was never started.
@@ -38,8 +27,9 @@ pub record IsHandedBack {B : Type 0} (outcome : B → PassState → Back → Typ
   -- that of run 0 was called
   pub main : (l : LeftState) → (slice_index_or lefts 0 l).started ≢ None
 
--- What a report was made of: what was handed back, and it is whole, so the logs of the report are the logs of the passes
--- that have left.
+-- What a report was made of: what was handed back, and it is whole. So the logs of the report are the logs of the passes
+-- that have left, on the component and with the arguments with which their runs were started. And each behaviour of
+-- which the run was started was called.
 pub record IsMadeOf {B : Type 0} (outcome : B → PassState → Back → Type 0) (jobs : List B) (c : Closed) : Type 0 where
   pub handed : IsHandedBack outcome jobs
   pub whole : IsWhole c.behaviours c.history handed.lefts
@@ -48,17 +38,4 @@ pub record IsMadeOf {B : Type 0} (outcome : B → PassState → Back → Type 0)
 -- memory ran out. Or what was handed back is one of each run, and memory ran out as the case was closed.
 abbrev pub IsOutOfMemory : {B : Type 0} → (B → PassState → Back → Type 0) → List B → Type 0
 IsOutOfMemory outcome jobs =
-    ((k : ℕ) × (k < length jobs) × ((b : _) → WasCalledFor (record { 0 = k }) (λ p back. outcome (slice_index_or jobs k b) p back × (back.ending ≡ Ending.Starved)))) ⊎ ((h : IsHandedBack outcome jobs) × IsOneEach (length jobs) h.lefts)
-
--- The log is that of a pass of its run, which was new when the behaviour was called with it, on the component and with
--- the arguments of the run's Start. The behaviour did not run out of memory. The log is what the pass that it handed
--- back has logged, and then a Finish if that pass had not ended.
-pub record IsLogBy (outcome : PassState → Back → Type 0) (history : List Entry) (l : RunLog) : Type 0 where
-  pub left : LeftState
-  pub made : WasStarted l.run (λ p. WasCalled (outcome p) (record { left = left; ending = Ending.Returned }))
-  pub entries : l.entries ≡ left.log
-  pub started : 0 < l.run.0 → left.started ≡ start_of (reverse history) l.run.0
-
--- each log is that of the behaviour of its run
-abbrev pub AreLogsBy : {B : Type 0} → (B → PassState → Back → Type 0) → List B → Closed → Type 0
-AreLogsBy outcome behaviours c = (b : _) → All (λ l. IsLogBy (outcome (slice_index_or behaviours l.run.0 b)) c.history l) c.logs
+    ((k : ℕ) × (k < length jobs) × ((b : _) → (l : LeftState) × WasCalled (outcome (slice_index_or jobs k b)) (record { 0 = k }) l Ending.Starved)) ⊎ ((h : IsHandedBack outcome jobs) × IsOneEach (length jobs) h.lefts)

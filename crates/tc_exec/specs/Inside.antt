@@ -4,7 +4,7 @@ use Rattle.std.specs.Prelude.{ℕ, ◌≡◌, ◌≢◌, ◌<◌, ◌+◌, ◌++
 use Rattle.tc_rules.specs.Prelude.{Run, of_close}
 use Rattle.tc_rules.specs.declared.{closed.CloseFault.CloseFault, closed.Closed.Closed, refusal.CaseError.CaseError}
 use Rattle.tc_book.specs.Prelude.{PassState, LeftState}
-use Rattle.tc_exec.specs.{Workers.IsLeftBy, Workers.WasCalledFor, declared.gathered.Gathered.Gathered, declared.job.Back.Back, declared.job.Ending.Ending, declared.worker.Worker.Worker}
+use Rattle.tc_exec.specs.{Workers.HasLeft, Workers.IsLeftBy, Workers.WasCalled, declared.gathered.Gathered.Gathered, declared.handed.Handed.Handed, declared.job.Back.Back, declared.job.Ending.Ending, declared.worker.Worker.Worker}
 
 -- what the close of a case is answered by: the report as it is, or the refusal
 abbrev pub handed_on : Result Closed CloseFault → Result Closed CaseError
@@ -15,6 +15,14 @@ handed_on (Err fault) = Err (of_close fault)
 abbrev pub is_starved : Ending → Bool
 is_starved Ending.Starved = true
 is_starved Ending.Returned = false
+
+-- of this call it came, and left so
+abbrev pub HasCome : (Back → Type 0) → Handed → Type 0
+HasCome outcome h = (p : PassState) × outcome (record { pass = p; ending = h.ending }) × HasLeft p h.left
+
+-- what a worker hands back: that the run was never started, or what the behaviour left, and why it came back
+abbrev pub IsWorked : Run → (PassState → Back → Type 0) → Handed → Type 0
+IsWorked run outcome h = (h ≡ record { left = record { run = run; log = []; started = None }; ending = Ending.Returned }) ⊎ WasCalled outcome run h.left h.ending
 
 -- the runs of these workers
 abbrev pub runs_of : {B : Type 0} → List (Worker B) → List Run
@@ -45,7 +53,7 @@ module _ {B : Type 0} (outcome : B → PassState → Back → Type 0) where
 
   -- the behaviour of this run was called, and memory ran out in it
   abbrev pub HasStarved : Run → B → Type 0
-  HasStarved run b = WasCalledFor run (λ p back. outcome b p back × (back.ending ≡ Ending.Starved))
+  HasStarved run b = (l : LeftState) × WasCalled (outcome b) run l Ending.Starved
 
   -- memory ran out in the behaviour of one of these runs
   abbrev pub IsOneStarved : List Run → List B → Type 0

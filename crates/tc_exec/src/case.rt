@@ -4,7 +4,7 @@ ghost use Rattle.std.specs.Vec.{vec_len, vec_capacity};
 ghost use Rattle.tc_entry.specs.declared.limits.TheConstants.{BEHAVIOURS};
 ghost use Rattle.tc_book.specs.Prelude.{IsOneEach, IsWhole};
 ghost use Rattle.tc_rules.specs.declared.refusal.CaseError.TheVariants.{NoBehaviours, TooManyBehaviours, NoMemory, NoThread, Torn};
-ghost use Rattle.tc_exec.specs.{Case.AreCalled, Case.IsCaseReport, Case.IsHandedBack, Case.IsMadeOf, Case.IsOutOfMemory, Gates.IsPassed, Gates.IsStopped, Inside.AreAbove, Inside.Gathers, Inside.IsFirstStarted, Inside.handed_on, Inside.jobs_of, Inside.runs_of, Workers.opening_pass};
+ghost use Rattle.tc_exec.specs.{Case.IsCaseReport, Case.IsHandedBack, Case.IsMadeOf, Case.IsOutOfMemory, Gates.IsPassed, Gates.IsStopped, Inside.AreAbove, Inside.Gathers, Inside.IsFirstStarted, Inside.handed_on, Inside.jobs_of, Inside.runs_of, Workers.opening_pass};
 
 use crate::callable::Callable;
 use crate::gate::{Everyone, Gate};
@@ -122,7 +122,6 @@ fn run_made<R: Threads + Wait, B: Callable>(
     requires runs { AreAbove (runs_of workers.items) }
     ensures kind { (result ≢ Err NoBehaviours) × (result ≢ Err TooManyBehaviours) × (result ≢ Err NoThread) }
     ensures report { IfOk result (IsCaseReport (vec_len workers + 1)) }
-    ensures called { IfOk result (AreCalled B.outcome (first ∷ jobs_of workers.items)) }
     ensures made { IfOk result (IsMadeOf B.outcome (first ∷ jobs_of workers.items)) }
     ensures torn { result ≡ Err Torn → IsHandedBack B.outcome (first ∷ jobs_of workers.items) }
     ensures memory { result ≡ Err NoMemory → IsOutOfMemory B.outcome (first ∷ jobs_of workers.items) }
@@ -162,7 +161,6 @@ fn run_jobs<R: Threads + Wait + Copy + Send + 'static, B: Callable, G: Gate>(
     ensures kind { (result ≢ Err NoBehaviours) × (result ≢ Err TooManyBehaviours) }
     ensures alone { behaviours ≡ 1 → result ≢ Err NoThread }
     ensures report { IfOk result (IsCaseReport behaviours) }
-    ensures called { IfOk result (AreCalled B.outcome jobs.items) }
     ensures made { IfOk result (IsMadeOf B.outcome jobs.items) }
     ensures asked { OnOk result (IsPassed G.asks (behaviours - 1) gate.old gate.new) }
     ensures stopped { result ≡ Err NoThread → IsStopped G.asks (behaviours - 1) gate.old gate.new }
@@ -205,7 +203,6 @@ pub fn run_case<R: Threads + Wait + Copy + Send + 'static>(
     ensures threads { (0 < vec_len jobs) × (vec_len jobs ≤ BEHAVIOURS) × (threads < vec_len jobs - 1) → result ≡ Err NoThread }
     ensures alone { vec_len jobs ≡ 1 → result ≢ Err NoThread }
     ensures report { IfOk result (IsCaseReport (vec_len jobs)) }
-    ensures called { IfOk result (AreCalled ⟦<Job as Callable>⟧.outcome jobs.items) }
     ensures made { IfOk result (IsMadeOf ⟦<Job as Callable>⟧.outcome jobs.items) }
     ensures torn { result ≡ Err Torn → IsHandedBack ⟦<Job as Callable>⟧.outcome jobs.items }
 {
@@ -226,7 +223,6 @@ pub fn run_case_with<R: Threads + Wait + Copy + Send + 'static, B: Callable, G: 
     ensures threads { (0 < vec_len jobs) × (vec_len jobs ≤ BEHAVIOURS) × (threads < vec_len jobs - 1) → result ≡ Err NoThread }
     ensures alone { vec_len jobs ≡ 1 → result ≢ Err NoThread }
     ensures report { IfOk result (IsCaseReport (vec_len jobs)) }
-    ensures called { IfOk result (AreCalled B.outcome jobs.items) }
     ensures made { IfOk result (IsMadeOf B.outcome jobs.items) }
     ensures asked { OnOk result (IsPassed G.asks (vec_len jobs - 1) gate.old gate.new) }
     ensures stopped { result ≡ Err NoThread → vec_len jobs ≤ threads + 1 → IsStopped G.asks (vec_len jobs - 1) gate.old gate.new }

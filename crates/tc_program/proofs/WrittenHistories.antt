@@ -9,8 +9,8 @@ use Rattle.tc_blocks.specs.declared.{block.Block.Block, header.Kind.Kind, line.L
 use Rattle.tc_blocks.proofs.Lemmas.WrittenEvidence.{written_evidence}
 use Rattle.tc_report.specs.{Inside.case_lines, Inside.namings, declared.results.Finished.Finished, declared.results.Results.Results}
 use Rattle.tc_report.specs.Prelude.{blocks_text, case_block, finished_header}
+use Rattle.tc_exec.specs.Prelude.{IsCaseReport}
 use Rattle.tc_campaign.specs.Prelude.{Outline}
-use Rattle.tc_campaign.specs.Inside.{IsReported}
 use Rattle.tc_judge.specs.{Check.AreAllLegal, Check.Checks, Check.IsLegalBlock, Inside.each}
 use Rattle.tc_judge.specs.Prelude.{legal_line}
 use Rattle.tc_judge.proofs.Lemmas.{block_line, only_legal}
@@ -98,7 +98,7 @@ said_of_written kind r out legal ran checks =
 abbrev pub HasHistory : Finished → Type 0
 HasHistory f = IsOneHistory f.report
 
-have_histories : (cases : List Outline) (fs : List Finished) → AllZip IsReported cases fs → All HasHistory fs
+have_histories : (cases : List Outline) (fs : List Finished) → AllZip (λ c f. IsCaseReport c.jobs f.report) cases fs → All HasHistory fs
 have_histories [] [] each = All-nil HasHistory
 have_histories [] (f ∷ fs) each = absurd each
 have_histories (c ∷ cases) [] each = absurd each

@@ -1,22 +1,19 @@
 -- The results of the test cases that were made of a script are those of the script.
-use Rattle.std.proofs.Common.{ℕ, zero, suc, ◌≡◌, ◌∙◌, ◌-◌, ◌⊎◌, inl, inr, List, [], ◌∷◌, Option, None, Some, All, length, map, take, arith, refl, sym, ap, subst}
+use Rattle.std.proofs.Common.{ℕ, zero, suc, ◌≡◌, ◌∙◌, ◌⊎◌, inl, inr, List, [], ◌∷◌, Option, None, Some, All, length, map, take, drop, arith, refl, sym, ap, subst}
 use Rattle.std.proofs.lemmas.List.{Elements.All-cons, Elements.All-nil, Elements.All-tail, length-map}
 use Rattle.std.specs.{Io.KnownBytes.Appends, List.AllZip, Vec.vec_len}
-use Rattle.std.specs.Prelude.{IfSome, slice_get}
 use Rattle.tc_stream.specs.Prelude.{AppendsPrefix}
 use Rattle.tc_rules.specs.Prelude.{Verdict}
 use Rattle.tc_step.specs.Prelude.{ScriptView}
 use Rattle.tc_script.specs.Prelude.{Acts, MakesItsCalls}
-use Rattle.tc_script.proofs.Lemmas.{Reports.report_is_course, Running.run_grown, Spelled.are_called, Spelled.made_of_calls}
+use Rattle.tc_script.proofs.Lemmas.{Reports.report_is_course, Spelled.made_of_calls}
 use Rattle.tc_reader.specs.Prelude.{IsCase}
-use Rattle.tc_book.specs.Prelude.{PassState}
-use Rattle.tc_exec.specs.declared.{job.Back.Back, test_case.Case.Case}
+use Rattle.tc_exec.specs.declared.test_case.Case.{Case}
 use Rattle.tc_exec.specs.Prelude.{IsCaseReport, IsHandedBack, IsMadeOf}
-use Rattle.tc_exec.proofs.Lemmas.Logs.{logs_by}
 use Rattle.tc_report.specs.declared.{fault.OutFault.OutFault, live_form.LiveForm.LiveForm, results.CampaignEnd.CampaignEnd, results.Finished.Finished, results.Results.Results}
-use Rattle.tc_campaign.specs.Prelude.{AreBack, Outline, HasNames, outline_of, AreFinished, IsCalled, IsEnding, IsOfCase, IsRefusal as RefusesCase, IsRunTo}
-use Rattle.tc_campaign.specs.Inside.{IsReported}
-use Rattle.tc_report.specs.Prelude.{LeavesPrefix, IsMet}
+use Rattle.tc_campaign.specs.Prelude.{AreBack, Outline, HasNames, outline_of, AreFinished, IsCalled, IsEnding, IsOfCase, IsRunTo}
+use Rattle.tc_campaign.specs.Campaign.IsEnding.{aborted, complete, stopped}
+use Rattle.tc_report.specs.Prelude.{LeavesPrefix}
 use Rattle.tc_rules.specs.declared.refusal.CaseError.{CaseError}
 use Rattle.tc_command.specs.declared.task.RunOptions.{RunOptions}
 use Rattle.tc_answer.specs.Prelude.{run_fault_line, IsPrintedRefusal, Streams, CaseView, scripts_of}
@@ -53,66 +50,65 @@ same_names [] (k ∷ ks) each = absurd each
 same_names (c ∷ cs) [] each = absurd each
 same_names (c ∷ cs) (k ∷ ks) each = rw (each.0.name, same_names cs ks each.1) refl
 
--- a script hands back the pass of its own run
-own : (s : ScriptView) (p : PassState) (k : Back) → MakesItsCalls s p k → k.pass.run ≡ p.run
-own s p k is = ap (λ q. q.run) (run_grown s.steps p k.pass k.ending is.calls).1
+-- a test case that was made of a script is finished as that of the script
+of_script : (threads : ℕ) (c : CaseView) (k : Case ScriptView) (f : Finished) → IsCase c.1 → IsCaseOf c k → IsOfCase outline_of (IsCalled Acts) threads k f → IsOfCase script_outline IsScripted threads c f
+of_script threads c k f lawful is of =
+    let report : IsCaseReport (length c.1) f.report = subst (λ n. IsCaseReport n f.report) (count c k is) of.report in
+    let as_many : IsCaseReport (length (scripts_of c.1)) f.report = subst (λ n. IsCaseReport n f.report) (sym (length-map c.1 (λ b. b.1))) report in
+    let made : IsMadeOf Acts (scripts_of c.1) f.report = subst (λ js. IsMadeOf Acts js f.report) is.jobs of.calls in
+    let called : IsMadeOf MakesItsCalls (scripts_of c.1) f.report = made_of_calls c.1 f.report lawful report.one_history report.behaviours made in
+    record {
+      name = of.name ∙ is.name;
+      names = of.names ∙ is.names;
+      behaviours = of.behaviours;
+      named = of.named;
+      threads_are = of.threads_are;
+      report = report;
+      calls = (called, report_is_course (scripts_of c.1) f.report (record { report = as_many; made = called }));
+    }
 
-of_script : (c : CaseView) (k : Case ScriptView) (f : Finished) → IsCase c.1 → IsCaseOf c k → IsReported (script_outline c) f → IsCalled Acts k f → IsScripted c f
-of_script c k f lawful is report called =
-    let made : IsMadeOf Acts (scripts_of c.1) f.report = subst (λ js. IsMadeOf Acts js f.report) is.jobs called.1 in
-    let calls : IsMadeOf MakesItsCalls (scripts_of c.1) f.report = made_of_calls c.1 f.report lawful report.one_history report.behaviours made in
-    let as_many : IsCaseReport (length (scripts_of c.1)) f.report = subst (λ n. IsCaseReport n f.report) (sym (length-map c.1 (λ b. b.1))) report in (
-      are_called c.1 f.report lawful report.one_history report.behaviours made,
-      calls,
-      logs_by MakesItsCalls own f.report (scripts_of c.1) report.one_history (report.behaviours ∙ sym (length-map c.1 (λ b. b.1))) calls,
-      report_is_course (scripts_of c.1) f.report (record { report = as_many; made = calls }),
-    )
+scripted : (threads n : ℕ) (cs : List CaseView) (ks : List (Case ScriptView)) (fs : List Finished) → All (λ c. IsCase c.1) cs → AllZip IsCaseOf cs ks
+    → AllZip (IsOfCase outline_of (IsCalled Acts) threads) (take n ks) fs → AllZip (IsOfCase script_outline IsScripted threads) (take n cs) fs
+scripted threads zero cs ks [] lawful each of = tt
+scripted threads zero cs ks (f ∷ fs) lawful each of = absurd of
+scripted threads (suc n) [] [] [] lawful each of = tt
+scripted threads (suc n) [] [] (f ∷ fs) lawful each of = absurd of
+scripted threads (suc n) [] (k ∷ ks) fs lawful each of = absurd each
+scripted threads (suc n) (c ∷ cs) [] fs lawful each of = absurd each
+scripted threads (suc n) (c ∷ cs) (k ∷ ks) [] lawful each of = absurd of
+scripted threads (suc n) (c ∷ cs) (k ∷ ks) (f ∷ fs) lawful each of =
+    (of_script threads c k f (lawful 0 c (omega arith)) each.0 of.0, scripted threads n cs ks fs (All-tail (λ c. IsCase c.1) c cs lawful) each.1 of.1)
 
-scripted : (n : ℕ) (cs : List CaseView) (ks : List (Case ScriptView)) (fs : List Finished) → All (λ c. IsCase c.1) cs → AllZip IsCaseOf cs ks
-    → AllZip IsReported (take n (map script_outline cs)) fs → AllZip (IsCalled Acts) (take n ks) fs → AllZip IsScripted (take n cs) fs
-scripted zero cs ks [] lawful each reports called = tt
-scripted zero cs ks (f ∷ fs) lawful each reports called = absurd called
-scripted (suc n) [] [] [] lawful each reports called = tt
-scripted (suc n) [] [] (f ∷ fs) lawful each reports called = absurd called
-scripted (suc n) [] (k ∷ ks) fs lawful each reports called = absurd each
-scripted (suc n) (c ∷ cs) [] fs lawful each reports called = absurd each
-scripted (suc n) (c ∷ cs) (k ∷ ks) [] lawful each reports called = absurd called
-scripted (suc n) (c ∷ cs) (k ∷ ks) (f ∷ fs) lawful each reports called =
-    (of_script c k f (lawful 0 c (omega arith)) each.0 reports.0 called.0, scripted n cs ks fs (All-tail (λ c. IsCase c.1) c cs lawful) each.1 reports.1 called.1)
+-- those that are left are those of the script
+left_of : (n : ℕ) (cs : List CaseView) (ks : List (Case ScriptView)) → AllZip IsCaseOf cs ks → AllZip IsCaseOf (drop n cs) (drop n ks)
+left_of zero cs ks each = each
+left_of (suc n) [] [] each = tt
+left_of (suc n) [] (k ∷ ks) each = absurd each
+left_of (suc n) (c ∷ cs) [] each = absurd each
+left_of (suc n) (c ∷ cs) (k ∷ ks) each = left_of n cs ks each.1
 
--- the scripts of a torn test case are those of the script
-torn_scripts : (n : ℕ) (cs : List CaseView) (ks : List (Case ScriptView)) → AllZip IsCaseOf cs ks → IfSome (slice_get ks n) (AreBack Acts) → IfSome (slice_get cs n) AreScriptsBack
-torn_scripts n [] ks each back = tt
-torn_scripts n (c ∷ cs) [] each back = absurd each
-torn_scripts zero (c ∷ cs) (k ∷ ks) each back = subst (IsHandedBack Acts) each.0.jobs back
-torn_scripts (suc n) (c ∷ cs) (k ∷ ks) each back = torn_scripts n cs ks each.1 back
+-- and the campaign ended as one of the script
+ends : (stop_on : Option Verdict) (Refuses : CaseError → Outline → Type 0) (fs : List Finished) (cs : List CaseView) (ks : List (Case ScriptView)) (ending : CampaignEnd) → AllZip IsCaseOf cs ks
+    → IsEnding outline_of stop_on (AreBack Acts) Refuses fs ks ending → IsEnding script_outline stop_on AreScriptsBack Refuses fs cs ending
+ends stop_on Refuses fs [] _ _ each (complete better) = complete better
+ends stop_on Refuses fs (c ∷ cs) _ _ each (complete better) = absurd each
+ends stop_on Refuses fs [] _ _ each (aborted k ks why better refused torn) = absurd each
+ends stop_on Refuses fs (c ∷ cs) _ _ each (aborted k ks why better refused torn) =
+    subst (λ n. IsEnding script_outline stop_on AreScriptsBack Refuses fs (let l : List CaseView = c ∷ cs in l) (CampaignEnd.Aborted n why)) (sym each.0.name)
+    (aborted c cs why better (subst (Refuses why) (same_outline c k each.0) refused) (λ is. subst (IsHandedBack Acts) each.0.jobs (torn is)))
+ends stop_on Refuses fs cs ks _ each (stopped others f _ is met) = stopped others f cs is met
 
 module _ (cs : List CaseView) (ks : List (Case ScriptView)) (stop_on : Option Verdict) (threads : ℕ) (lawful : All (λ c. IsCase c.1) cs) (each : AllZip IsCaseOf cs ks) where
-  same : map outline_of ks ≡ map script_outline cs
-  same = outlines cs ks each
-
   -- the finished test cases are those of the script
   finished : (fs : List Finished) → AreFinished outline_of (IsCalled Acts) ks stop_on threads fs → AreFinished script_outline IsScripted cs stop_on threads fs
-  finished fs are =
-      let reports : AllZip IsReported (take (length fs) (map script_outline cs)) fs = subst (λ os. AllZip IsReported (take (length fs) os) fs) same are.reports in
-      record {
-        names = subst (λ os. AllZip IsOfCase (take (length fs) os) fs) same are.names;
-        better = are.better;
-        reports = reports;
-        calls = scripted (length fs) cs ks fs lawful each reports are.calls;
-        named = are.named;
-        threads_are = are.threads_are;
-        behaviours = are.behaviours;
-      }
+  finished fs are = record { each = scripted threads (length fs) cs ks fs lawful each are.each; better = are.better }
 
   -- and so are they if the campaign ended
   results : (fs : List Finished) (ending : CampaignEnd) → IsRunTo outline_of (IsCalled Acts) ks stop_on threads (AreBack Acts) fs ending
       → IsRunTo script_outline IsScripted cs stop_on threads AreScriptsBack fs ending
   results fs ending are = record {
     each = finished fs are.each;
-    last = subst (λ os. IsEnding (λ f. IsMet stop_on f.report.verdict) (λ why c. RefusesCase threads why c ⊎ ((fs ≡ []) × (why ≡ CaseError.NoMemory)))
-        (slice_get fs (length fs - 1)) (slice_get os (length fs)) ending) same are.last;
-    torn = λ name is. torn_scripts (length fs) cs ks each (are.torn name is);
+    last = ends stop_on _ fs (drop (length fs) cs) (drop (length fs) ks) ending (left_of (length fs) cs ks each) are.last;
   }
 
 module _ (o : RunOptions) (Are : List CaseView → Type 0) (cs : List CaseView) (ks : List (Case ScriptView)) (chosen : Are cs) (lawful : All (λ c. IsCase c.1) cs)

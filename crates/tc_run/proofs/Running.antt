@@ -13,7 +13,7 @@ use Rattle.tc_report.proofs.Lemmas.{Pieces.IsAt, Pieces.Takes, Pieces.all_at, Pi
 use Rattle.tc_answer.specs.Prelude.{case_name, Streams, IsTold}
 use Rattle.tc_campaign.specs.Prelude.{AreBack, outline_of, AreFinished, IsCalled, IsRunTo}
 use Rattle.tc_campaign.specs.Inside.{IsUnrun}
-use Rattle.tc_campaign.proofs.Lemmas.Keeping.{none_finished, unrun_run}
+use Rattle.tc_campaign.proofs.Lemmas.{none_finished, unrun_run}
 use Rattle.tc_command.specs.declared.task.{Form.Form, RunOptions.RunOptions}
 use Rattle.tc_answer.specs.declared.{fault.RunFault.RunFault, outcome.Outcome.Outcome}
 use Rattle.tc_answer.proofs.Lemmas.Giving.{keeps_same}

@@ -7,7 +7,7 @@ use Rattle.tc_report.specs.declared.{fault.OutFault.OutFault, progress.Progress.
 use Rattle.tc_report.specs.Prelude.{HasTold, IsToldBy}
 use Rattle.tc_report.proofs.Lemmas.Telling.{AreSame, Takes, all_told, ended_told}
 use Rattle.tc_campaign.specs.Prelude.{IsCutShort, IsObserved}
-use Rattle.tc_campaign.proofs.Lemmas.Keeping.{ended_at, run_to}
+use Rattle.tc_campaign.proofs.Lemmas.{ended_at, run_to}
 use Rattle.tc_command.specs.declared.task.RunOptions.{RunOptions}
 use Rattle.tc_run.specs.Inside.{WasTold, worker_limit}
 

@@ -9,7 +9,7 @@ use Rattle.tc_command.specs.declared.task.RunOptions.{RunOptions}
 use Rattle.tc_answer.specs.declared.{fault.RunFault.RunFault, outcome.Outcome.Outcome}
 use Rattle.tc_entry.specs.declared.limits.TheConstants.{BEHAVIOURS}
 use Rattle.tc_answer.specs.Prelude.{Streams, IsTold, run_fault_line, IsPrintedRefusal, CaseView, scripts_of}
-use Rattle.tc_exec.specs.Prelude.{AreCalled, IsHandedBack, IsMadeOf, AreLogsBy}
+use Rattle.tc_exec.specs.Prelude.{IsHandedBack, IsMadeOf}
 use Rattle.tc_script.specs.Prelude.{Acts, MakesItsCalls}
 use Rattle.tc_course.specs.Prelude.{IsWitness}
 use Rattle.tc_run.specs.Output.{of_output, live_form, results_in_form}
@@ -76,12 +76,11 @@ abbrev pub script_outline : CaseView → Outline
 script_outline c = record { name = c.0; names = map (λ b. b.0) c.1; jobs = length c.1 }
 
 -- each behaviour of which the run was started got as many arguments as its script has parameters, and made the calls of
--- its steps with a new pass of that run. The report is made of what these passes have logged, and each of its logs is
--- that of the script of its run. Its history is a complete course of the scripts, with the verdict of the report.
+-- its steps with a new pass of that run. The report is made of what these passes have logged. Its history is a complete
+-- course of the scripts, with the verdict of the report.
 abbrev pub IsScripted : CaseView → Finished → Type 0
 IsScripted c f =
-    AreCalled MakesItsCalls (scripts_of c.1) f.report × IsMadeOf MakesItsCalls (scripts_of c.1) f.report × AreLogsBy MakesItsCalls (scripts_of c.1) f.report
-    × IsWitness (scripts_of c.1) f.report.history f.report.verdict
+    IsMadeOf MakesItsCalls (scripts_of c.1) f.report × IsWitness (scripts_of c.1) f.report.history f.report.verdict
 
 -- each script of this case was called, did not run out of memory, and handed back its pass; or its run was never started
 abbrev pub AreScriptsBack : CaseView → Type 0

@@ -9,7 +9,7 @@ use Rattle.tc_step.specs.declared.step.{Status.Status, Step.Step}
 use Rattle.tc_step.specs.Prelude.{operation, question, target, component, ScriptView}
 use Rattle.tc_reader.specs.Prelude.{Head, StartsOne}
 use Rattle.tc_book.specs.Prelude.{PassState, LeftState, has_ended, with_own_entry, entry_of}
-use Rattle.tc_exec.specs.declared.job.Back.{Back}
+use Rattle.tc_exec.specs.declared.{job.Back.Back, job.Ending.Ending}
 use Rattle.tc_exec.specs.Prelude.{HasLeft, IsLeftBy}
 use Rattle.tc_script.specs.Calls.{Acts, Calls, HasCalled, none, one_more}
 
@@ -93,5 +93,5 @@ left_gives hs p l left all = by (has_ended p) refl
 
 -- what the worker of a run left
 pub worker_gives : (hs : List Head) (run : Run) (s : ScriptView) (l : LeftState) → All (StartsOne hs) s.steps → IsLeftBy Acts run s l → GiveAll hs l.log
-worker_gives hs run s l ones (inl unstarted) = subst (GiveAll hs) (sym (ap (λ h. h.left.log) unstarted)) (give_none hs)
-worker_gives hs run s l ones (inr w) = left_gives hs w.called.back.pass l w.called.left (back_gives hs s w.pass w.called.back ones w.new w.called.outcome_of)
+worker_gives hs run s l ones (inl unstarted) = subst (GiveAll hs) (sym (ap (λ m. m.log) unstarted)) (give_none hs)
+worker_gives hs run s l ones (inr w) = left_gives hs w.handed l w.left (back_gives hs s w.given (record { pass = w.handed; ending = Ending.Returned }) ones w.new w.came)

@@ -1,12 +1,11 @@
 -- What workers left, one after another.
-use Rattle.std.proofs.Common.{ℕ, zero, suc, ◌≡◌, ◌≢◌, ◌<◌, ◌+◌, ◌==◌, ◌||◌, inl, inr, Bool, true, false, Some, None, Result, Ok, Err, IfOk, List, [], ◌∷◌, ◌++◌, length, get_or, map, reverse, refl, sym, ap, subst, ◌∙◌, arith}
-use Rattle.std.proofs.lemmas.{Bool.Decides.nat_tests, List.Elements.All-get_or, List.append-nil}
-use Rattle.tc_rules.specs.Prelude.{Entry, comp_of, Run, Reply, is_ended, is_fault, is_ok, Op}
+use Rattle.std.proofs.Common.{ℕ, zero, suc, ◌≡◌, ◌≢◌, ◌<◌, ◌+◌, ◌==◌, ◌||◌, inl, inr, Bool, true, false, Some, None, Result, Ok, Err, IfOk, List, [], ◌∷◌, ◌++◌, length, get_or, map, refl, sym, ap, subst, ◌∙◌, arith}
+use Rattle.std.proofs.lemmas.{Bool.Decides.nat_tests, List.append-nil}
+use Rattle.tc_rules.specs.Prelude.{Run, Reply, is_ended, is_fault, is_ok, Op}
 use Rattle.tc_rules.specs.declared.{closed.Closed.Closed, refusal.CaseError.CaseError, refusal.CaseError.TheVariants.NoMemory, refusal.CaseError.TheVariants.Torn}
-use Rattle.tc_book.specs.Prelude.{IsFitting, IsOneEach, IsWhole, start_of, PassState, LeftState, has_ended, with_own_entry}
+use Rattle.tc_book.specs.Prelude.{IsOneEach, IsWhole, PassState, LeftState, has_ended, with_own_entry}
 use Rattle.tc_book.specs.Inside.{comp_by}
-use Rattle.tc_book.proofs.Lemmas.PartOf.{comp_is}
-use Rattle.tc_exec.specs.{Case.AreCalled, Case.IsHandedBack, Case.IsMadeOf, Case.IsOutOfMemory, Inside.AreLeftBy, Inside.Gathers, Inside.HasStarved, Inside.IsOneStarved, Inside.is_starved, Workers.IsLeftBy, Workers.IsWorked, Workers.WasCalled, Workers.WasCalledFor, Workers.opening_pass, Workers.HasLeft}
+use Rattle.tc_exec.specs.{Case.IsHandedBack, Case.IsMadeOf, Case.IsOutOfMemory, Inside.AreLeftBy, Inside.Gathers, Inside.HasCome, Inside.HasStarved, Inside.IsOneStarved, Inside.IsWorked, Inside.is_starved, Workers.HasLeft, Workers.IsLeftBy, Workers.WasCalled, Workers.opening_pass}
 use Rattle.tc_exec.specs.declared.{gathered.Gathered.Gathered, handed.Handed.Handed, job.Back.Back, job.Ending.Ending}
 
 -- memory ran out neither before nor now
@@ -32,16 +31,8 @@ first_kept d old (n ∷ now) after x was is some = rw is (omega arith, (was some
 module _ {B : Type 0} (outcome : B → PassState → Back → Type 0) where
   -- what a worker handed back whose behaviour did not run out of memory
   pub left_by : (run : Run) (b : B) (h : Handed) → is_starved h.ending ≡ false → IsWorked run (outcome b) h → IsLeftBy outcome run b h.left
-  left_by run b h none (inl unstarted) = inl (ap (λ m. let x : Handed = record { left = m.left; ending = Ending.Returned } in x) unstarted)
-  left_by run b h none (inr w) =
-      let called = w.called in
-      inr (record {
-        pass = w.pass;
-        own = w.own;
-        new = w.new;
-        main = w.main;
-        called = record { back = called.back; outcome_of = called.outcome_of; left = called.left; ending = sym (came_back h.ending none) ∙ called.ending };
-      })
+  left_by run b h none (inl unstarted) = inl (ap (λ m. m.left) unstarted)
+  left_by run b h none (inr w) = inr (subst (WasCalled (outcome b) run h.left) (came_back h.ending none) w)
 
   pushed : (runs : List Run) (bs : List B) (ls : List LeftState) (run : Run) (b : B) (l : LeftState) →
       AreLeftBy outcome runs bs ls → IsLeftBy outcome run b l → AreLeftBy outcome (runs ++ run ∷ []) (bs ++ b ∷ []) (ls ++ l ∷ [])
@@ -60,8 +51,7 @@ module _ {B : Type 0} (outcome : B → PassState → Back → Type 0) where
   -- what a worker handed back whose behaviour ran out of memory
   starved_by : (run : Run) (b : B) (h : Handed) → is_starved h.ending ≡ true → IsWorked run (outcome b) h → HasStarved outcome run b
   starved_by run b h some (inl unstarted) = let bad : false ≡ true = sym (ap (λ m. is_starved m.ending) unstarted) ∙ some in absurd cc
-  starved_by run b h some (inr w) =
-      record { pass = w.pass; own = w.own; new = w.new; main = w.main; called = (w.called.back, (w.called.outcome_of, sym w.called.ending ∙ ran_out h.ending some)) }
+  starved_by run b h some (inr w) = (h.left, subst (WasCalled (outcome b) run h.left) (ran_out h.ending some) w)
 
   -- with one more, the one that ran out of memory is among them still
   one_stays : (runs : List Run) (bs : List B) (run : Run) (b : B) → IsOneStarved outcome runs bs → IsOneStarved outcome (runs ++ run ∷ []) (bs ++ b ∷ [])
@@ -139,47 +129,18 @@ module _ {B : Type 0} (outcome : B → PassState → Back → Type 0) where
   pub unstarted_comp : (b : ℕ) → 0 < b → comp_by b None ≡ None
   unstarted_comp b above = let k : (b == 0) ≡ false = grind (arith, nat_tests) in rw k refl
 
-  -- a started run above 0 was not left unstarted
-  of_one : (history : List Entry) (run : Run) (b : B) (l : LeftState) → IsLeftBy outcome run b l → 0 < run.0 → IsFitting history l → comp_of (reverse history) run.0 ≢ None →
-      WasCalledFor run (outcome b)
-  of_one history run b l (inr w) above fits started =
-      record { pass = w.pass; own = w.own; new = w.new; main = w.main; called = (w.called.back, w.called.outcome_of) }
-  of_one history run b l (inl e) above fits started =
-      let left : l ≡ record { run = run; log = []; started = None } = ap (λ h. h.left) e in
-      let own : l.run ≡ run = ap (λ m. m.run) left in
-      let none : l.started ≡ None = ap (λ m. m.started) left in
-      let known : l.started ≡ start_of (reverse history) l.run.0 = fits.started (rw own above) in
-      let start : start_of (reverse history) run.0 ≡ None = rw (← own) (sym known ∙ none) in
-      absurd (started (comp_is (reverse history) run.0 ∙ (rw start (unstarted_comp run.0 above))))
-
-  -- the main behaviour was not left unstarted
-  of_main : (b : B) (l : LeftState) → IsLeftBy outcome (record { 0 = 0 }) b l → l.started ≢ None → WasCalledFor (record { 0 = 0 }) (outcome b)
-  of_main b l (inr w) some = record { pass = w.pass; own = w.own; new = w.new; main = w.main; called = (w.called.back, w.called.outcome_of) }
-  of_main b l (inl e) some = absurd (some (ap (λ h. h.left.started) e))
-
-  pub all_called : (c : Closed) (bs : List B) → IsMadeOf outcome bs c → AreCalled outcome bs c
-  all_called c bs made = λ k b below started. by k b below started
-    where
-      nothing : LeftState
-      nothing = record { run = record { 0 = 0 }; log = []; started = None }
-
-      by : (k : ℕ) (b : B) → k < length bs → comp_of (reverse c.history) k ≢ None → WasCalledFor (record { 0 = k }) (outcome (get_or bs k b))
-      by zero b below started = of_main (get_or bs 0 b) (get_or made.handed.lefts 0 nothing) (made.handed.left 0 b nothing below) (made.handed.main nothing)
-      by (suc k) b below started =
-          let above : 0 < suc k = omega arith in
-          of_one c.history (record { 0 = suc k }) (get_or bs (suc k) b) (get_or made.handed.lefts (suc k) nothing) (made.handed.left (suc k) b nothing below) above
-          (All-get_or (IsFitting c.history) made.handed.lefts (suc k) nothing (omega (arith, below, made.handed.as_many)) made.whole.fitting) started
+  -- what comes of a call with a new pass of this run
+  pub called_with : (run : Run) (b : B) (p : PassState) (h : Handed) → p.run ≡ run → p.log ≡ [] → (run.0 ≡ 0 → p ≡ opening_pass) → HasCome (outcome b p) h → WasCalled (outcome b) run h.left h.ending
+  called_with run b p h own new main came = record { given = p; own = own; new = new; main = main; handed = came.0; came = came.1; left = came.2 }
 
   -- what the main behaviour left, as the first of all
-  pub main_left : (p : PassState) (b : B) (h : Handed) (before after : Gathered) → p ≡ opening_pass → WasCalled (outcome b p) h →
+  pub main_left : (p : PassState) (b : B) (h : Handed) (before after : Gathered) → p ≡ opening_pass → HasCome (outcome b p) h →
       before.lefts.items ≡ [] → before.starved ≡ false →
       after.lefts.items ≡ before.lefts.items ++ h.left ∷ [] → after.starved ≡ (before.starved || is_starved h.ending) →
       Gathers outcome (record { 0 = 0 } ∷ []) (b ∷ []) after
-  main_left p b h before after is called empty fed taken starved =
-      let own : p.run ≡ record { 0 = 0 } = ap (λ q. q.run) is in
-      let new : p.log ≡ [] = ap (λ q. q.log) is in
+  main_left p b h before after is came empty fed taken starved =
       let none : Gathers outcome [] [] before = record { lefts = λ _. rw empty tt; one_starved = λ some. let bad : false ≡ true = sym fed ∙ some in absurd cc } in
-      gathered_more [] [] (record { 0 = 0 }) b h before after none (inr (record { pass = p; own = own; new = new; main = λ _. is; called = called })) taken starved
+      gathered_more [] [] (record { 0 = 0 }) b h before after none (inr (called_with (record { 0 = 0 }) b p h (ap (λ q. q.run) is) (ap (λ q. q.log) is) (λ _. is) came)) taken starved
 
   -- run 0, and then the others from 1 on
   pub numbered : (runs : List Run) → ((k : ℕ) (run : Run) → k < length runs → (get_or runs k run).0 ≡ k + 1) →
@@ -188,11 +149,11 @@ module _ {B : Type 0} (outcome : B → PassState → Back → Type 0) where
   numbered runs h (suc k) run below = h k run (omega arith) ∙ omega arith
 
   -- what the main behaviour left is not that of a run that was never started
-  pub main_started : (p : PassState) (b : B) (h : Handed) → WasCalled (outcome b p) h → (ls taken : List LeftState) (l : LeftState) → taken ≡ h.left ∷ [] →
+  pub main_started : (p : PassState) (b : B) (h : Handed) → HasCome (outcome b p) h → (ls taken : List LeftState) (l : LeftState) → taken ≡ h.left ∷ [] →
       (0 < length taken → get_or ls 0 l ≡ get_or taken 0 l) → (get_or ls 0 l).started ≢ None
-  main_started p b h called ls taken l is first started =
+  main_started p b h came ls taken l is first started =
       let found : get_or ls 0 l ≡ h.left = first (rw is (omega arith)) ∙ (rw is refl) in
-      let bad : Some (called.back.pass.me, called.back.pass.args) ≡ None = sym called.left.started ∙ ap (λ m. m.started) (sym found) ∙ started in
+      let bad : Some (came.0.me, came.0.args) ≡ None = sym came.2.started ∙ ap (λ m. m.started) (sym found) ∙ started in
       absurd cc
 
   -- what was handed back of a case in which no behaviour ran out of memory
@@ -210,11 +171,6 @@ module _ {B : Type 0} (outcome : B → PassState → Back → Type 0) where
   report_made (Ok c) false runs bs ls refused all number main whole = record { handed = handed_back runs bs ls (all refl) number main; whole = whole }
   report_made (Ok c) true runs bs ls refused all number main whole = let bad = refused refl in absurd cc
   report_made (Err e) starved runs bs ls refused all number main whole = tt
-
-  -- each behaviour whose run was started was called for what the report is made of
-  pub report_called : (result : Result Closed CaseError) (bs : List B) → IfOk result (IsMadeOf outcome bs) → IfOk result (AreCalled outcome bs)
-  report_called (Ok c) bs made = all_called c bs made
-  report_called (Err e) bs made = tt
 
   -- if a case is torn, memory ran out in no behaviour
   pub torn_handed : (result : Result Closed CaseError) (starved : Bool) (runs : List Run) (bs : List B) (ls : List LeftState) →

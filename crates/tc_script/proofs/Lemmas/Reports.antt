@@ -9,9 +9,9 @@ use Rattle.tc_rules.proofs.Lemmas.{Deciding.equal_if, Deciding.self_equal, Diffe
 use Rattle.tc_rules.specs.declared.closed.Closed.{Closed}
 use Rattle.tc_book.specs.Prelude.{all_started, PassState, LeftState, started_with, start_of, starts_with}
 use Rattle.tc_book.proofs.Lemmas.PartOf.{comp_is, part_end}
-use Rattle.tc_exec.specs.declared.job.Back.{Back}
-use Rattle.tc_exec.specs.Prelude.{IsCaseReport, IsMadeOf, IsLogBy, opening_pass}
-use Rattle.tc_exec.proofs.Lemmas.Logs.{log_of_run}
+use Rattle.tc_exec.specs.declared.{job.Back.Back, job.Ending.Ending}
+use Rattle.tc_exec.specs.Prelude.{IsCaseReport, IsMadeOf, opening_pass}
+use Rattle.tc_exec.proofs.Lemmas.Logs.{IsLogBy, log_of_run}
 use Rattle.tc_course.specs.Prelude.{CourseState, after_own, after_other_by, arguments, stand, steps_of, turn, turn_on, IsTurn, IsCourse, IsWitness}
 use Rattle.tc_course.proofs.Lemmas.{run_in_range, stand_other, stand_own, unstarted}
 use Rattle.tc_script.specs.{Calls.MakesItsCalls, Laws.ReportIsCourse, Laws.ReportIsFound}
@@ -140,21 +140,18 @@ some_same x y h = cc
 
 -- the pass that a script hands back is on the component and has the arguments of the start of its run
 begun_with : (s : ScriptView) (history entries : List Entry) (b : ℕ) (comp : Comp) (w : Comp × List Comp) (log : IsLogBy (MakesItsCalls s) history (record { run = record { 0 = b }; comp = comp; entries = entries }))
-    → given (reverse history) b ≡ Some w → (log.made.called.back.pass.me, log.made.called.back.pass.args) ≡ w
+    → given (reverse history) b ≡ Some w → (log.made.handed.me, log.made.handed.args) ≡ w
 begun_with s history entries b comp w log start = by (b == 0) refl start
   where
-    back : Back
-    back = log.made.called.back
-
     pair : PassState → Comp × List Comp
     pair p = (p.me, p.args)
 
-    by : (t : Bool) → (b == 0) ≡ t → given_by t (start_of (reverse history) b) ≡ Some w → pair back.pass ≡ w
+    by : (t : Bool) → (b == 0) ≡ t → given_by t (start_of (reverse history) b) ≡ Some w → pair log.made.handed ≡ w
     by true zero is =
-        ap pair (run_grown s.steps log.made.pass back.pass back.ending log.made.called.outcome_of.calls).1
+        ap pair (run_grown s.steps log.made.given log.made.handed Ending.Returned log.made.came.calls).1
         ∙ (ap pair (log.made.main (equal_if b 0 zero)) ∙ some_same (pair opening_pass) w is)
     by false above is =
-        some_same (pair back.pass) w (sym log.made.called.left.started ∙ (log.started (grind (arith, nat_tests)) ∙ is))
+        some_same (pair log.made.handed) w (sym log.made.left.started ∙ (log.started (grind (arith, nat_tests)) ∙ is))
 
 -- ---- the course of a report
 
@@ -183,9 +180,8 @@ module _ (scripts : List ScriptView) (c : Closed) (report : IsCaseReport (length
       let s : ScriptView = get_or scripts b empty in
       let on : comp_of whole b ≡ Some w.0 = given_comp whole b ∙ ap (option_map (λ s. s.0)) start in
       let log = log_of_run MakesItsCalls own c scripts made b empty w.0 below on in
-      let called = log.made.called in
-      let pass : PassState = called.back.pass in
-      let is : IsLogOf s.steps pass.me pass.args log.left.log = log_left s log.made.pass called.back log.left log.made.new called.outcome_of called.ending called.left in
+      let pass : PassState = log.made.handed in
+      let is : IsLogOf s.steps pass.me pass.args log.left.log = log_left s log.made.given (record { pass = pass; ending = Ending.Returned }) log.left log.made.new log.made.came refl log.made.left in
       let same_start : (pass.me, pass.args) ≡ w = begun_with s c.history (part c.history b) b w.0 w log start in
       let same : IsLogOf s.steps w.0 w.1 log.left.log = subst (λ (x : Comp × List Comp). IsLogOf s.steps x.0 x.1 log.left.log) same_start is in
       subst (λ l. IsLogOf (steps_of scripts b) w.0 w.1 l) (sym log.entries) (subst (λ x. IsLogOf x w.0 w.1 log.left.log) (steps_at b below) same)

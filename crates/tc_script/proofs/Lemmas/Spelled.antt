@@ -11,8 +11,8 @@ use Rattle.tc_rules.specs.declared.closed.Closed.{Closed}
 use Rattle.tc_book.specs.Prelude.{IsFitting, LeftState, start_of, started_with}
 use Rattle.tc_book.proofs.Lemmas.{PartOf.comp_is, Starting.starts_below}
 use Rattle.tc_exec.specs.declared.job.Ending.{Ending}
-use Rattle.tc_exec.specs.Prelude.{AreCalled, IsMadeOf, WasCalled, WasStarted, IsLeftBy}
-use Rattle.tc_exec.proofs.Lemmas.Calls.{all_called, unstarted_comp}
+use Rattle.tc_exec.specs.Prelude.{IsMadeOf, WasCalled, IsLeftBy}
+use Rattle.tc_exec.proofs.Lemmas.Calls.{unstarted_comp}
 use Rattle.tc_script.specs.Calls.{Acts, MakesItsCalls}
 use Rattle.tc_script.proofs.{Giving.GiveAll, Giving.GivesAll, Giving.worker_gives, Lemmas.Running.acts_grown}
 
@@ -106,16 +106,16 @@ caller_below c k d (suc b) one some below is = by (start_of (reverse c.history) 
 
 -- the run of what a worker left
 own_run : (run : Run) (s : ScriptView) (l : LeftState) → IsLeftBy Acts run s l → l.run ≡ run
-own_run run s l (inl none) = ap (λ h. h.left.run) none
-own_run run s l (inr w) = w.called.left.run ∙ ap (λ q. q.run) (acts_grown s _ _ w.called.outcome_of).1 ∙ w.own
+own_run run s l (inl none) = ap (λ m. m.run) none
+own_run run s l (inr w) = w.left.run ∙ ap (λ q. q.run) (acts_grown s _ _ w.came).1 ∙ w.own
 
 -- with these arguments a started run was called
-called_with : (history : List Entry) (run : Run) (s : ScriptView) (l : LeftState) (w : WasStarted run (λ p. WasCalled (Acts s p) (record { left = l; ending = Ending.Returned }))) → IsFitting history l → 0 < run.0
-    → start_of (reverse history) run.0 ≡ Some (w.pass.me, w.pass.args)
+called_with : (history : List Entry) (run : Run) (s : ScriptView) (l : LeftState) (w : WasCalled (Acts s) run l Ending.Returned) → IsFitting history l → 0 < run.0
+    → start_of (reverse history) run.0 ≡ Some (w.given.me, w.given.args)
 called_with history run s l w fits above =
     let same : l.run ≡ run = own_run run s l (inr w) in
     let known : l.started ≡ start_of (reverse history) l.run.0 = fits.started (rw same above) in
-    ap (λ r. start_of (reverse history) r.0) (sym same) ∙ sym known ∙ w.called.left.started ∙ ap (λ q. Some (q.me, q.args)) (acts_grown s _ _ w.called.outcome_of).1
+    ap (λ r. start_of (reverse history) r.0) (sym same) ∙ sym known ∙ w.left.started ∙ ap (λ q. Some (q.me, q.args)) (acts_grown s _ _ w.came).1
 
 no_script : Word × ScriptView
 no_script = ([], record { parameters = 0; steps = [] })
@@ -181,14 +181,14 @@ module _ (scripts : List (Word × ScriptView)) (c : Closed) (lawful : IsCase scr
   main_has_none some = subst (λ o. IfSome o (λ b. b.1.parameters ≡ 0)) (slice_get-get_or scripts 0 no_script some) lawful.main
 
   -- each behaviour was called with as many arguments as it has parameters
-  as_many : (k : ℕ) (l : LeftState) → k < length scripts → (w : WasStarted (record { 0 = k }) (λ p. WasCalled (Acts (script k) p) (record { left = get_or made.handed.lefts k l; ending = Ending.Returned })))
-      → length w.pass.args ≡ (script k).parameters
+  as_many : (k : ℕ) (l : LeftState) → k < length scripts → (w : WasCalled (Acts (script k)) (record { 0 = k }) (get_or made.handed.lefts k l) Ending.Returned)
+      → length w.given.args ≡ (script k).parameters
   as_many zero l below w = ap (λ p. length p.args) (w.main refl) ∙ sym (main_has_none below)
   as_many (suc k) l below w =
       let some : 0 < length scripts = omega (arith, below) in
       let started = called_with c.history (record { 0 = suc k }) (script (suc k)) (get_or made.handed.lefts (suc k) l) w (worker (suc k) l below).1 (omega arith) in
       let past : GiveAll heads (reverse c.history) = reversed (λ e. GivesAll heads e.op) c.history (history_gives some) in
-      has_as_many (suc k) w.pass.args below (start_gives heads (reverse c.history) (suc k) (w.pass.me, w.pass.args) past started)
+      has_as_many (suc k) w.given.args below (start_gives heads (reverse c.history) (suc k) (w.given.me, w.given.args) past started)
 
   made_its_calls : (k : ℕ) (l : LeftState) → k < length scripts → IsLeftBy MakesItsCalls (record { 0 = k }) (script k) (get_or made.handed.lefts k l)
   made_its_calls k l below = by (worker k l below).0
@@ -198,11 +198,13 @@ module _ (scripts : List (Word × ScriptView)) (c : Closed) (lawful : IsCase scr
       by (inr w) =
           let many = as_many k l below w in
           inr (record {
-            pass = w.pass;
+            given = w.given;
             own = w.own;
             new = w.new;
             main = w.main;
-            called = record { back = w.called.back; outcome_of = record { as_many = many; calls = w.called.outcome_of.calls many }; left = w.called.left; ending = w.called.ending };
+            handed = w.handed;
+            came = record { as_many = many; calls = w.came.calls many };
+            left = w.left;
           })
 
   -- the report is made of the calls of the scripts
@@ -218,6 +220,3 @@ module _ (scripts : List (Word × ScriptView)) (c : Closed) (lawful : IsCase scr
     };
     whole = made.whole;
   }
-
-  pub are_called : AreCalled MakesItsCalls jobs c
-  are_called = all_called MakesItsCalls c jobs made_of_calls

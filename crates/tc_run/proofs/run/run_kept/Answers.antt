@@ -2,7 +2,7 @@ use Rattle.std.proofs.Common.{◌≤◌, length, arith, subst, sym}
 use Rattle.std.specs.Vec.{vec_capacity}
 use Rattle.tc_report.specs.Prelude.{Keeps, IsToldBy}
 use Rattle.tc_campaign.specs.Prelude.{AreBack, IsCalled, IsRunTo, outline_of}
-use Rattle.tc_campaign.proofs.Lemmas.Keeping.{all_are_kept, not_ended}
+use Rattle.tc_campaign.proofs.Lemmas.{all_are_kept, not_ended}
 use Rattle.tc_run.specs.Inside.{AreGiven, worker_limit}
 use Rattle.tc_run.proofs.run.run_kept.Goals as goal
 

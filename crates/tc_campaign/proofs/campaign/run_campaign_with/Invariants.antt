@@ -1,7 +1,7 @@
 use Rattle.std.proofs.Common.{◌≡◌, length}
 use Rattle.std.specs.Vec.Iter.{into_iter_items, into_iter_len}
 use Rattle.tc_campaign.specs.Inside.{IsGoing}
-use Rattle.tc_campaign.proofs.campaign.run_all.Given as goal
+use Rattle.tc_campaign.proofs.campaign.run_campaign_with.Given as goal
 
 abbrev pub invariant-loop-case : goal.invariant-loop-case
 invariant-loop-case g l =
