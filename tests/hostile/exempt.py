@@ -41,7 +41,7 @@ UNREFUSED: Tuple[Exempt, ...] = (
 )
 # What these are handed holds no allocator, so that they can ask for no memory; memory.py looks at their heads.
 WITHOUT_ALLOCATOR = ("SlowReader::new", "InputFault::text", "WriteFault::text", "Shard::new", "Shard::place", "Shard::shards", "Shard::has",
-                     "WordFault::text", "Step::operation", "Place::map", "GroupPlace::map", "TargetPlace::map", "Places::new", "Places::push",
+                     "WordFault::text", "Step::operation", "Places::new", "Places::push",
                      "Places::as_slice", "Script::is_script", "ScriptKind::text", "read_reference", "is_comment", "is_word", "Keyword::text",
                      "read_keyword", "tc_reader::read_name", "Lines::new", "Lines::next", "awaited_line", "of_input", "fault_of",
                      "split_script", "deciding_entry", "component_of", "name_of", "Refusal::text", "Pattern::read", "Pattern::bytes",

@@ -27,6 +27,7 @@ VERBS = "create start stop kill stopcase running alive done killed wait setverdi
 REPLIES = "made ok true false none pass inconc fail error matched parked ended"
 ERRORS = "no-component not-main start-main already-running not-startable no-behaviour too-many stuck"
 IN_HISTORY = "a history began in line 1"
+SAID = "evidence has such a line: RUN # TEXT, RUN ! TEXT, or behaviour RUN NAME before others of the run"
 RETURN = "a carriage return; a line ends with a line feed only"
 NAME_RULE = "a name has 1 to 32 letters, digits and _, the first a letter, and is not all, any, mtc or self"
 UNBOUND = "a component is named by a parameter, or by a create above"
@@ -85,6 +86,8 @@ STEP_LINES: Dict[str, List[Row]] = {
         ("a_reason_without_brackets", 'setverdict fail ^"reason"', there("the end of the call"), *instead("setverdict fail")),
         ("a_name_with_a_semicolon", "create ^p; // x", COMPONENT, *instead("create p")),
         ("a_line_of_many_tokens", f"setverdict{' ' * 30}^(pass);", VERDICT, *instead("setverdict pass")),
+        ("a_line_of_200_tokens", f"setverdict{' ' * 198}^(", VERDICT, SOURCE, ONE_CALL),
+        ("a_line_of_201_tokens", f"setverdict{' ' * 199}^(", VERDICT),
     ],
     "line 3: bad name": [
         ("a_bad_name", "create  ^1x", COMPONENT, NAME_RULE),
@@ -272,6 +275,8 @@ TEXTS: Dict[str, List[Tuple[Union[str, bytes], ...]]] = {
          "column 1: a byte order mark of UTF-16"),
         ("a_history_for_a_script", "^history 2 a 1;end none", "line 1: line not understood",
          "the text looks like histories, which ttrun check and ttrun report read", there("testcase")),
+        ("evidence_for_a_script", "^evidence 1 t 1", "line 1: line not understood",
+         "the text looks like histories, which ttrun check and ttrun report read", there("testcase")),
         ("moves_for_a_script", "^behaviours 1", "line 1: line not understood",
          "the text looks like a list of moves, which ttrun replay reads", there("testcase"), "nearest: behaviour"),
         ("ttcn_3_for_a_script", "^module M {;}", "line 1: line not understood", LIKE_TTCN, there("testcase"), NO_MODULES),
@@ -337,6 +342,10 @@ TEXTS: Dict[str, List[Tuple[Union[str, bytes], ...]]] = {
         ("a_history_with_a_bad_name", "history 2 ^my-name 1", "line 1: bad first line", HEADER, NAME_RULE),
         ("a_history_of_format_1_with_a_name", "history 1 a 1;0 create named p -> made 1;end none", "line 2: bad entry",
          "a history of format 1 names no component", IN_HISTORY),
+        ("a_first_line_of_evidence", "evidence 1 t 300", "line 1: bad first line", there("evidence 1 NAME N, with N from 1 to 256")),
+        ("an_entry_of_evidence", "evidence 1 t 1;0 setverdict ^pasz -> ok", "line 2: bad entry", VERDICT, "nearest: pass", IN_HISTORY),
+        ("a_remark_of_no_run", "evidence 1 t 1;5 # hi", "line 2: bad entry", SAID, IN_HISTORY),
+        ("a_name_after_a_remark", "evidence 1 t 1;0 # hi;behaviour 0 a", "line 3: bad entry", SAID, IN_HISTORY),
         ("a_script_for_histories", "testcase t;behaviour b;end;end", "line 1: bad first line", LIKE_SCRIPT, HEADER),
     ],
     "replay": [

@@ -73,6 +73,17 @@ def each_line_of_random_sessions_is_answered_before_the_next(command: Sequence[s
 
 
 @test
+def answers_of_8192_bytes_are_flushed(command: Sequence[str]) -> Iterator[str]:
+    """Those to one read, before the next."""
+    made = [f"0 create -> made {number}" for number in range(1, 489)]
+    remark = f"0 # {'x' * 18}"
+    with Pipe(command) as pipe:
+        yield from exchanged(pipe, b"case t 1\n" + b"0 create\n" * 99, as_lines("evidence 1 t 1", *made[:99]))
+        yield from exchanged(pipe, b"0 create\n" * 389 + as_lines(remark), as_lines(*made[99:], remark))
+        yield from exchanged(pipe, b"0 finish\nend\n", as_lines("0 finish -> ok", "end none"))
+
+
+@test
 def half_a_line_is_not_answered(command: Sequence[str]) -> List[str]:
     """A line byte by byte is answered at its line feed, and not before."""
     with Pipe(command) as pipe:

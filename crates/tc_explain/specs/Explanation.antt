@@ -1,6 +1,6 @@
 -- What matters of what is printed about a refused text, besides its fault: what some of the lines hold, and what is open
 -- before a line.
-use Rattle.std.specs.Prelude.{ℕ, suc, nat_le, true, false, if◌then◌else◌, Option, Some, None, List, [], ◌∷◌, codes, not, Bool, take, ◌+◌, ◌++◌}
+use Rattle.std.specs.Prelude.{ℕ, suc, nat_le, true, false, if◌then◌else◌, Option, Some, None, List, [], ◌∷◌, codes, not, Bool, take, ◌+◌, ◌++◌, ◌||◌}
 use Rattle.std.specs.{Fmt.decimal, List.before_first, List.position, Option.option_map_or}
 use Rattle.tc_reader.specs.declared.line.Keyword.{Keyword}
 use Rattle.tc_reader.specs.Prelude.{words, is_text, keyword, lines}
@@ -15,10 +15,10 @@ after_keyword number (Some Keyword.End) (Opened.Inside outer inner) = Opened.Beg
 after_keyword number (Some Keyword.End) o = Opened.Nothing
 after_keyword number keyword o = o
 
--- what is open after the line with this number and these words; a history ends by the same word as a test case
+-- what is open after the line with this number and these words; a history and evidence end by the same word as a test case
 abbrev pub behind : ℕ → List (List ℕ) → Opened → Opened
 behind number [] o = o
-behind number (w ∷ ws) o = if is_text w (codes "history") then Opened.Begun number false else after_keyword number (keyword w) o
+behind number (w ∷ ws) o = if is_text w (codes "history") || is_text w (codes "evidence") then Opened.Begun number false else after_keyword number (keyword w) o
 
 -- what is open before the wanted line, and that line, if it is among these, of which the first has this number
 abbrev pub find : ℕ → ℕ → Opened → List (List ℕ) → Opened × Option (List ℕ)

@@ -1,4 +1,5 @@
 //! Lines that only help, as a text.
+use crate::nearest::near_word;
 use crate::places::start_of;
 use crate::quote::{SHOWN, quoted_begin, quoted_rest};
 use std::alloc::Global;
@@ -44,13 +45,19 @@ impl Help {
         self.add_line(after)
     }
 
+    /// Adds the column that comes after that many bytes, and what is wrong there.
+    pub(crate) fn add_column(&mut self, start: usize, what: &str) -> Result<(), NoMemory> {
+        self.begin("column ", start.saturating_add(1))?;
+        append_text(&mut self.text, ": ")?;
+        self.add_line(what)
+    }
+
     /// Adds the word at a place of a line, with its column, if there is one.
     pub(crate) fn add_word(&mut self, line: Line, place: usize) -> Result<(), NoMemory> {
         let Some(word) = line.words.get(place) else {
             return Ok(());
         };
-        append_text(&mut self.text, "column ")?;
-        append_number(&mut self.text, start_of(line.bytes, place) as u64 + 1)?;
+        self.begin("column ", start_of(line.bytes, place).saturating_add(1))?;
         append_text(&mut self.text, ": ")?;
         self.text
             .extend_from_slice(quoted_begin(self.alloc, word)?.as_slice())?;
@@ -67,18 +74,44 @@ impl Help {
         append_text(&mut self.text, "\n")
     }
 
+    /// Adds the one of these words that is the nearest to a word, if one is near. Whether one is.
+    pub(crate) fn add_near(&mut self, word: &[u8], words: &[&[u8]]) -> Result<bool, NoMemory> {
+        match near_word(self.alloc, word, words)? {
+            Some(near) => self.add_named("nearest:", near)?,
+            None => return Ok(false),
+        }
+        Ok(true)
+    }
+
+    // Adds each of these after a space, to the line that comes.
+    fn add_spaced(&mut self, words: &[&[u8]]) -> Result<(), NoMemory> {
+        for word in words {
+            append_text(&mut self.text, " ")?;
+            self.text.extend_from_slice(word)?;
+        }
+        Ok(())
+    }
+
+    /// Adds the words that would be understood, and what else would; one of both may be empty.
+    pub(crate) fn add_expected(&mut self, words: &[&[u8]], other: &str) -> Result<(), NoMemory> {
+        append_text(&mut self.text, "expected:")?;
+        self.add_spaced(words)?;
+        append_text(&mut self.text, if words.is_empty() { " " } else { "" })?;
+        self.add_line(other)
+    }
+
     /// Adds a line of the first names, that many that they are shown as a line is.
     pub(crate) fn add_names(&mut self, head: &str, names: &[&[u8]]) -> Result<(), NoMemory> {
         append_text(&mut self.text, head)?;
         let mut room = SHOWN;
-        for name in names {
+        for (count, name) in names.iter().enumerate() {
             if name.len() >= room {
+                self.add_spaced(names.get(..count).unwrap_or(names))?;
                 return self.add_line(" ..");
             }
             room -= name.len() + 1;
-            append_text(&mut self.text, " ")?;
-            self.text.extend_from_slice(name)?;
         }
+        self.add_spaced(names)?;
         append_text(&mut self.text, "\n")
     }
 

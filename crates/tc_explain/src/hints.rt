@@ -1,14 +1,9 @@
 //! What helps besides the place where a line stops.
 use crate::help::{Help, Line};
 use crate::naming::add_naming;
-use crate::nearest::near_text;
 use crate::places::space_of;
-use crate::quote::odd_place;
 use crate::scan::Opened;
-use crate::slot::{
-    ARGUMENTS as GIVEN, ENTRY, GIVEN_NAME, KEYWORD, RUN, STARTED, Slot, VERDICT, is_digits,
-    is_whole, next, rows, walk, words_at,
-};
+use crate::slot::{Slot, Walk, is_digits};
 use crate::sort::{Refusal, Sort};
 use crate::source::{add_source, begins_comment};
 use std::alloc::Global;
@@ -48,12 +43,42 @@ fn add_limit(help: &mut Help, keyword: Option<Keyword>, others: usize) -> Result
     help.add_counted(before, most, after)
 }
 
-// Adds the one of the words of a form that may be at the slot which is the nearest to the word, if one is near.
-fn add_near_fixed(help: &mut Help, slot: Slot, word: &[u8]) -> Result<(), NoMemory> {
-    let table = words_at(help.alloc, slot, true)?;
-    match near_text(help.alloc, word, table.as_slice())? {
-        Some(near) => help.add_named("nearest:", near),
-        None => Ok(()),
+// Those of the words of a slot that may come while this is open.
+fn offered<'k>(opened: Opened, slot: Slot, words: &'k [&'static [u8]]) -> &'k [&'static [u8]] {
+    let places = match (slot, opened) {
+        (Slot::Keyword, Opened::Nothing) => 0..1,
+        (Slot::Keyword, Opened::Begun(_, has_behaviour)) => 1..2 + usize::from(has_behaviour),
+        (Slot::Keyword, Opened::Inside(..)) => 2..words.len(),
+        _ if slot.lists() => 0..words.len(),
+        _ => 0..0,
+    };
+    words.get(places).unwrap_or(&[])
+}
+
+// Adds the word at which a line of a text of this sort stops, or its end, what may be there, and the nearest of that.
+fn add_stop(
+    help: &mut Help,
+    sort: Sort,
+    opened: Opened,
+    line: Line,
+    walk: &Walk,
+) -> Result<(), NoMemory> {
+    let place = walk.slots.len();
+    let words = walk.last.words(help.alloc)?;
+    let offered = offered(opened, walk.last, words.as_slice());
+    let other = walk.last.text(sort, line.words.len() <= place);
+    match line.words.get(place) {
+        None if walk.last.ends_line(sort) => Ok(()),
+        None => {
+            help.add_column(line.bytes.len(), "the end of the line")?;
+            help.add_expected(offered, other)
+        }
+        Some(word) => {
+            help.add_word(line, place)?;
+            help.add_expected(offered, other)?;
+            help.add_near(word, words.as_slice())?;
+            Ok(())
+        }
     }
 }
 
@@ -65,23 +90,29 @@ fn add_stopped(help: &mut Help, kind: ScriptKind, slot: Slot, word: &[u8]) -> Re
     if kind == ScriptKind::BadName {
         return help.add_name_rule();
     }
-    if slot.0 == VERDICT.0 && is_word(word, b"error") {
+    if slot == Slot::Verdict && is_word(word, b"error") {
         return help.add_line("stopcase ends a test case with the verdict error");
     }
-    add_near_fixed(help, slot, word)
+    Ok(())
 }
 
 // Adds what helps with a line that is of no form of a script.
-fn add_unformed(help: &mut Help, kind: ScriptKind, seen: bool, line: Line) -> Result<(), NoMemory> {
-    let stop = walk(Sort::Script, KEYWORD, line.words);
-    if is_whole(Sort::Script, stop, line.words) {
+fn add_unformed(
+    help: &mut Help,
+    kind: ScriptKind,
+    around: Around,
+    line: Line,
+) -> Result<(), NoMemory> {
+    let walk = Walk::new(help.alloc, Sort::Script, Slot::Keyword, line.words)?;
+    if walk.is_whole(Sort::Script, line.words) {
         return help.add_line("the line is understood");
     }
-    if add_source(help, seen, line.bytes)? {
+    add_stop(help, Sort::Script, around.opened, line, &walk)?;
+    if add_source(help, around.in_source, line.bytes)? {
         return Ok(());
     }
-    match line.words.get(stop.place) {
-        Some(word) => add_stopped(help, kind, stop.slot, word),
+    match line.words.get(walk.slots.len()) {
+        Some(word) => add_stopped(help, kind, walk.last, word),
         None => Ok(()),
     }
 }
@@ -99,6 +130,21 @@ fn misplaced(keyword: Keyword, opened: Opened) -> &'static str {
     }
 }
 
+// Adds what helps with a line of this keyword that may not be where it is.
+fn add_misplaced(
+    help: &mut Help,
+    keyword: Keyword,
+    opened: Opened,
+    line: Line,
+) -> Result<(), NoMemory> {
+    let walk = Walk {
+        slots: Vec::new(help.alloc),
+        last: Slot::Keyword,
+    };
+    add_stop(help, Sort::Script, opened, line, &walk)?;
+    help.add_line(misplaced(keyword, opened))
+}
+
 // Adds what helps with a line of a script.
 fn add_script(
     help: &mut Help,
@@ -108,23 +154,16 @@ fn add_script(
 ) -> Result<(), NoMemory> {
     let keyword = line.words.first().and_then(|word| read_keyword(word));
     match (kind, keyword) {
-        (ScriptKind::BadLine | ScriptKind::BadName, _) => {
-            add_unformed(help, kind, around.in_source, line)
-        }
+        (ScriptKind::BadLine | ScriptKind::BadName, _) => { add_unformed(help, kind, around, line) }
         (ScriptKind::TooMany, _) => {
             help.add_line("one more than there may be")?;
             add_limit(help, keyword, line.words.len().saturating_sub(1))
         }
-        (ScriptKind::BadPlace, Some(keyword)) => help.add_line(misplaced(keyword, around.opened)),
+        (ScriptKind::BadPlace, Some(keyword)) => add_misplaced(help, keyword, around.opened, line),
         (ScriptKind::BadPlace | ScriptKind::BadByte, _) => Ok(()),
         (ScriptKind::Cut, _) => help.add_line("the line is understood"),
         _ => add_naming(help, kind, around.text, around.number, line),
     }
-}
-
-// Whether the number of a run is at the slot.
-fn is_run(slot: Slot) -> bool {
-    slot.0 == RUN.0 || slot.0 == ENTRY.0 || slot.0 == STARTED.0
 }
 
 // Adds why a word of digits at this place and slot is no number. Whether it is none.
@@ -135,76 +174,53 @@ fn add_number(
     slot: Slot,
     word: &[u8],
 ) -> Result<bool, NoMemory> {
-    let most = if is_run(slot) {
-        u16::MAX as u32
-    } else {
-        u32::MAX
+    let most = match slot {
+        Slot::Run | Slot::Entry | Slot::Started => u16::MAX as u32,
+        _ => u32::MAX,
     };
-    match (is_digits(word), word) {
-        (false, _) => return Ok(false),
-        (true, [b'0', _, ..]) => {
-            help.add_word(line, place)?;
-            help.add_line("a number begins with 0 only if it is 0")?;
-        }
-        _ => {
-            if read_number(word).is_some_and(|number| number <= most) {
-                return Ok(false);
-            }
-            help.add_word(line, place)?;
-            help.add_counted("the number is at most ", most as usize, "")?;
-        }
+    if !is_digits(word) || read_number(word).is_some_and(|number| number <= most) {
+        return Ok(false);
+    }
+    help.add_word(line, place)?;
+    match word {
+        [b'0', _, ..] => help.add_line("a number begins with 0 only if it is 0")?,
+        _ => help.add_counted("the number is at most ", most as usize, "")?,
     }
     Ok(true)
 }
 
-// Adds which of the words of a line of this sort, the first of which is at this slot, is no number, and why. Whether one
-// is none.
-fn add_numbers(help: &mut Help, sort: Sort, first: Slot, line: Line) -> Result<bool, NoMemory> {
-    let mut slot = first;
-    for (place, word) in line.words.iter().enumerate() {
-        if add_number(help, line, place, slot, word)? {
+// Adds which of the words of a line, which are at these slots, is no number, and why. Whether one is none.
+fn add_numbers(help: &mut Help, slots: &[Slot], line: Line) -> Result<bool, NoMemory> {
+    for (place, (slot, word)) in slots.iter().zip(line.words.iter()).enumerate() {
+        if add_number(help, line, place, *slot, word)? {
             return Ok(true);
         }
-        slot = match next(sort, slot, word, rows()) {
-            Some(behind) => behind,
-            None => return Ok(false),
-        };
     }
     Ok(false)
 }
 
-// How many of the words are at the wanted slot, if the first is at another, and no arrow.
-fn count_at(sort: Sort, first: Slot, wanted: Slot, words: &[&[u8]]) -> usize {
-    let mut slot = first;
-    let mut count = 0usize;
-    for word in words {
-        if slot.0 == wanted.0 && !is_word(word, b"->") {
-            count = count.saturating_add(1);
-        }
-        slot = match next(sort, slot, word, rows()) {
-            Some(behind) => behind,
-            None => return count,
-        };
-    }
-    count
+// How many of the words, which are at these slots, are at this one, and no arrow.
+fn count_at(wanted: Slot, slots: &[Slot], words: &[&[u8]]) -> usize {
+    let pairs = slots.iter().zip(words.iter());
+    pairs
+        .filter(|(slot, word)| **slot == wanted && !is_word(word, b"->"))
+        .count()
 }
 
 // Adds what helps with a line of moves or histories, the first word of which is at this slot.
 fn add_call(help: &mut Help, sort: Sort, first: Slot, line: Line) -> Result<(), NoMemory> {
-    let stop = walk(sort, first, line.words);
-    if !is_whole(sort, stop, line.words) {
-        return match line.words.get(stop.place) {
-            Some(word) => add_near_fixed(help, stop.slot, word),
-            None => Ok(()),
-        };
+    let walk = Walk::new(help.alloc, sort, first, line.words)?;
+    let slots = walk.slots.as_slice();
+    if !walk.is_whole(sort, line.words) {
+        return add_stop(help, sort, Opened::Nothing, line, &walk);
     }
-    if add_numbers(help, sort, first, line)? {
+    if add_numbers(help, slots, line)? {
         return Ok(());
     }
-    if count_at(sort, first, GIVEN, line.words) > ARGUMENTS {
+    if count_at(Slot::Arguments, slots, line.words) > ARGUMENTS {
         return help.add_counted("a start has at most ", ARGUMENTS, " arguments");
     }
-    if sort == Sort::Histories && count_at(sort, first, GIVEN_NAME, line.words) > 0 {
+    if sort == Sort::Histories && count_at(Slot::GivenName, slots, line.words) > 0 {
         return help.add_line("a history of format 1 names no component");
     }
     help.add_line("the line is understood")
@@ -212,7 +228,12 @@ fn add_call(help: &mut Help, sort: Sort, first: Slot, line: Line) -> Result<(), 
 
 // Adds what the first line of a history is, and of a name in its place what it may have.
 fn add_first_line(help: &mut Help, line: Line) -> Result<(), NoMemory> {
-    let text = "expected: history F NAME N, with F 1 or 2, and N from 1 to 64 or to 256";
+    let text = match line.words {
+        [first, ..] if is_word(first, b"evidence") => {
+            "expected: evidence 1 NAME N, with N from 1 to 256"
+        }
+        _ => "expected: history F NAME N, with F 1 or 2, and N from 1 to 64 or to 256",
+    };
     match line.words {
         [_, _, name, _] if read_name(name).is_none() => {
             help.add_word(line, 2)?;
@@ -223,14 +244,27 @@ fn add_first_line(help: &mut Help, line: Line) -> Result<(), NoMemory> {
     }
 }
 
+// Whether the words are those of a line that only evidence has.
+fn is_of_evidence(words: &[&[u8]]) -> bool {
+    match words {
+        [first, ..] if is_word(first, b"behaviour") => true,
+        [_, second, ..] => is_word(second, b"#") || is_word(second, b"!"),
+        _ => false,
+    }
+}
+
 // Adds what helps with a line of moves or histories.
 fn add_spaced(help: &mut Help, refusal: Refusal, line: Line) -> Result<(), NoMemory> {
-    if space_of(line.bytes) < line.bytes.len() {
-        return Ok(());
-    }
+    let space = space_of(line.bytes);
     match refusal {
-        Refusal::Histories(TextKind::Entry) => add_call(help, Sort::Histories, ENTRY, line),
-        Refusal::Moves(TextKind::Move) => add_call(help, Sort::Moves, RUN, line),
+        Refusal::Histories(TextKind::Entry) if is_of_evidence(line.words) => {
+            help.add_line(
+                "evidence has such a line: RUN # TEXT, RUN ! TEXT, or behaviour RUN NAME before others of the run",
+            )
+        }
+        _ if space < line.bytes.len() => help.add_column(space, "a space too many"),
+        Refusal::Histories(TextKind::Entry) => add_call(help, Sort::Histories, Slot::Entry, line),
+        Refusal::Moves(TextKind::Move) => add_call(help, Sort::Moves, Slot::Run, line),
         Refusal::Histories(TextKind::FirstLine) => add_first_line(help, line),
         Refusal::Moves(TextKind::FirstLine) => {
             help.add_line("expected: behaviours N, with N from 1 to 256")
@@ -251,16 +285,13 @@ fn add_end(help: &mut Help, refusal: Refusal, opened: Opened) -> Result<(), NoMe
     help.add_line(text)
 }
 
-// Adds what helps with the line, if its bytes may be in it.
-fn add_plain(
+// Adds what helps with the line.
+fn add_line(
     help: &mut Help,
     refusal: Refusal,
     around: Around,
     bytes: &[u8],
 ) -> Result<(), NoMemory> {
-    if odd_place(bytes).is_some() {
-        return Ok(());
-    }
     let mut words = Vec::new(help.alloc);
     read_words(bytes, &mut words)?;
     let line = Line {
@@ -273,7 +304,8 @@ fn add_plain(
     }
 }
 
-/// What helps with the line of the first fault of a text, or with the end of the text before it, line by line.
+/// What helps with the line of the first fault of a text, which has no odd byte, or with the end of the text before it,
+/// line by line.
 pub(crate) fn hints(
     alloc: Global,
     refusal: Refusal,
@@ -285,7 +317,7 @@ pub(crate) fn hints(
         text: Vec::new(alloc),
     };
     match line {
-        Some(line) => add_plain(&mut help, refusal, around, line)?,
+        Some(line) => add_line(&mut help, refusal, around, line)?,
         None => add_end(&mut help, refusal, around.opened)?,
     }
     Ok(help.text)

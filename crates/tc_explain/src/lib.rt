@@ -2,7 +2,6 @@
 //! understood.
 #![tactic(auto)]
 
-mod append;
 mod help;
 mod hints;
 mod names;
@@ -16,6 +15,5 @@ mod sort;
 mod source;
 mod telling;
 
-pub use append::append_unknown;
 pub use sort::Refusal;
-pub use telling::explain;
+pub use telling::{append_unknown, explain};

@@ -1,7 +1,6 @@
 //! What helps if a name of a script is wrong.
 use crate::help::{Help, Line};
 use crate::names::{Given, Names, given_as, no_names};
-use crate::nearest::near_word;
 use tc_entry::ARGUMENTS;
 use tc_reader::{Keyword, ScriptKind, is_word, read_keyword, read_name};
 use tc_verdict::NoMemory;
@@ -21,10 +20,13 @@ fn add_near(
     let mut all = Vec::new(help.alloc);
     all.extend_from_slice(names.as_slice())?;
     all.extend_from_slice(others)?;
-    match near_word(help.alloc, word, all.as_slice())? {
-        Some(near) => help.add_named("nearest:", near),
-        None if names.is_empty() => help.add_line(none),
-        None => help.add_names(head, names.as_slice()),
+    if help.add_near(word, all.as_slice())? {
+        return Ok(());
+    }
+    if names.is_empty() {
+        help.add_line(none)
+    } else {
+        help.add_names(head, names.as_slice())
     }
 }
 

@@ -1,33 +1,8 @@
-//! Which words may be at a place while something is open, and the nearest to a word.
-use crate::scan::Opened;
-use crate::slot::{KEYWORD, Slot};
+//! The nearest of some words to a word.
 use std::alloc::Global;
 use strsim::generic_damerau_levenshtein;
 use tc_entry::NAME_BYTES;
 use tc_verdict::NoMemory;
-
-// Those of the keywords of a script that may come while this is open.
-fn open_words<'t>(opened: Opened, keywords: &'t [&'static str]) -> &'t [&'static str] {
-    match opened {
-        Opened::Nothing => &["testcase"],
-        Opened::Begun(_, false) => &["behaviour"],
-        Opened::Begun(_, true) => &["behaviour", "end"],
-        Opened::Inside(..) => keywords.get(2..).unwrap_or(&[]),
-    }
-}
-
-/// Those of the words of a slot that may come while this is open.
-pub(crate) fn listed<'t>(
-    opened: Opened,
-    slot: Slot,
-    words: &'t [&'static str],
-) -> &'t [&'static str] {
-    if slot.0 == KEYWORD.0 {
-        open_words(opened, words)
-    } else {
-        words
-    }
-}
 
 // A word, and how many edits lead to it.
 #[derive(Clone, Copy)]
@@ -97,17 +72,4 @@ pub(crate) fn near_word<'t>(
         Some(near) if is_near(word, near.distance) => Ok(Some(near.word)),
         _ => Ok(None),
     }
-}
-
-/// The same of a table of texts.
-pub(crate) fn near_text<'t>(
-    alloc: Global,
-    word: &[u8],
-    table: &[&'t str],
-) -> Result<Option<&'t [u8]>, NoMemory> {
-    let mut words = Vec::new(alloc);
-    for text in table {
-        words.push(text.as_bytes())?;
-    }
-    near_word(alloc, word, words.as_slice())
 }

@@ -45,7 +45,9 @@ impl Opened {
     {
         match words {
             [] => self,
-            [first, ..] if is_word(first, b"history") => Opened::Begun(number, false),
+            [first, ..] if is_word(first, b"history") || is_word(first, b"evidence") => {
+                Opened::Begun(number, false)
+            }
             [first, ..] => self.after_keyword(number, read_keyword(first)),
         }
     }

@@ -55,7 +55,7 @@ impl Sort {
 
 // What a text seems to be whose first line that says something begins with this word.
 fn begun_sort(word: &[u8], line: &[u8]) -> Option<Sort> {
-    if is_word(word, b"history") {
+    if is_word(word, b"history") || is_word(word, b"evidence") {
         Some(Sort::Histories)
     } else if is_word(word, b"behaviours") {
         Some(Sort::Moves)

@@ -1,10 +1,8 @@
 //! Lines of TTCN-3 in a script, and what does the same there.
 use crate::help::Help;
-use crate::slot::{KEYWORD, is_whole, walk};
-use crate::sort::Sort;
+use crate::slot::has_word;
 use std::alloc::Global;
-use tc_reader::{is_word, read_words};
-use tc_text::append_text;
+use tc_reader::{Line, LineFault, is_word, read_line, read_words};
 use tc_verdict::NoMemory;
 
 // Lines of TTCN-3, without what ends them, and the lines of a script that do the same. In the first `$` is a word, `"` a
@@ -83,28 +81,16 @@ const LONGEST: usize = 100;
 // The most tokens and spaces of a line that are looked at.
 const TOKENS: usize = 200;
 
-// Whether the byte is one of a name.
-fn is_name_byte(byte: u8) -> bool {
-    byte.is_ascii_alphanumeric() || byte == b'_'
-}
-
 // How many bytes the first token of a text has: a word, a string in quotation marks, a space or another mark.
 fn token_length(text: &[u8]) -> usize {
-    let is_string = text.starts_with(b"\"");
-    let mut length = 0usize;
-    for (at, byte) in text.iter().enumerate() {
-        if is_string {
-            length = at + 1;
-            if at > 0 && *byte == b'"' {
-                return length;
-            }
-        } else if is_name_byte(*byte) {
-            length = at + 1;
-        } else {
-            return length.max(1);
-        }
+    let is_of_name = |byte: &&u8| byte.is_ascii_alphanumeric() || **byte == b'_';
+    match text {
+        [b'"', inside @ ..] => match inside.iter().position(|byte| *byte == b'"') {
+            Some(at) => at.saturating_add(2),
+            None => text.len(),
+        },
+        _ => text.iter().take_while(is_of_name).count().max(1),
     }
-    length
 }
 
 /// Whether a text begins with a comment, of a script or of TTCN-3.
@@ -128,13 +114,6 @@ fn read_tokens<'t>(line: &'t [u8], tokens: &mut Vec<&'t [u8]>) -> Result<(), NoM
     Ok(())
 }
 
-// Whether the text has this word.
-fn has_word(text: &str, word: &[u8]) -> bool {
-    text.as_bytes()
-        .split(|byte| *byte == b' ')
-        .any(|other| is_word(other, word))
-}
-
 // Whether the two tokens that follow one another are of TTCN-3 only.
 fn is_mark(first: &[u8], second: &[u8]) -> bool {
     match first {
@@ -148,13 +127,11 @@ fn is_mark(first: &[u8], second: &[u8]) -> bool {
     }
 }
 
-// What a script has instead of the first of these tokens that it lacks.
-fn absent(tokens: &[&[u8]]) -> Option<&'static str> {
-    for token in tokens {
-        for (words, text) in &ABSENT {
-            if has_word(words, token) {
-                return Some(text);
-            }
+// What a script has instead of this token, if it lacks it.
+fn absent(token: &[u8]) -> Option<&'static str> {
+    for (words, text) in &ABSENT {
+        if has_word(words, token) {
+            return Some(text);
         }
     }
     None
@@ -169,21 +146,18 @@ fn is_source(tokens: &[&[u8]]) -> bool {
         }
         before = token;
     }
-    absent(tokens.get(..1).unwrap_or(&[])).is_some() || begins(tokens, b"function")
-}
-
-// Whether the first token is this one.
-fn begins(tokens: &[&[u8]], word: &[u8]) -> bool {
     match tokens {
-        [first, ..] => is_word(first, word),
+        [first, ..] => absent(first).is_some() || is_word(first, b"function"),
         [] => false,
     }
 }
 
 // The tokens without what ends a line of TTCN-3, and without the type of a variable.
 fn plain<'a, 't>(tokens: &'a [&'t [u8]]) -> &'a [&'t [u8]] {
-    let skipped = if begins(tokens, b"var") { 2 } else { 0 };
-    let rest = tokens.get(skipped..).unwrap_or(tokens);
+    let rest = match tokens {
+        [first, _, others @ ..] if is_word(first, b"var") => others,
+        _ => tokens,
+    };
     let mut end = 0;
     for (at, token) in rest.iter().enumerate() {
         if !is_word(token, b";") && !is_word(token, b"{") {
@@ -207,8 +181,9 @@ fn take_list<'t>(
     tokens: &[&'t [u8]],
     found: &mut Vec<&'t [u8]>,
 ) -> Result<Option<usize>, NoMemory> {
-    if !begins(tokens, b"(") {
-        return Ok(None);
+    match tokens {
+        [first, ..] if is_word(first, b"(") => {}
+        _ => return Ok(None),
     }
     let mut last: Option<&'t [u8]> = None;
     for (at, token) in tokens.iter().enumerate().skip(1) {
@@ -290,14 +265,23 @@ fn has_form<'t>(
     Ok(taken == tokens.len())
 }
 
-// Adds the words of a line of a script, each `$` by the next of those that were found, and `*` by all that are left.
-fn fill<'t>(
-    line: &'static [u8],
-    found: &[&'t [u8]],
-    words: &mut Vec<&'t [u8]>,
-) -> Result<(), NoMemory> {
+// The words with a space between two.
+fn joined(alloc: Global, words: &[&[u8]]) -> Result<Vec<u8>, NoMemory> {
+    let mut line = Vec::new(alloc);
+    for word in words {
+        if !line.is_empty() {
+            line.push(b' ')?;
+        }
+        line.extend_from_slice(word)?;
+    }
+    Ok(line)
+}
+
+// The line of a script, with the next of the words that were found for each `$`, and all that are left for `*`.
+fn filled(alloc: Global, line: &str, found: &[&[u8]]) -> Result<Vec<u8>, NoMemory> {
+    let mut words = Vec::new(alloc);
     let mut rest = found;
-    for part in line.split(|byte| *byte == b' ') {
+    for part in line.as_bytes().split(|byte| *byte == b' ') {
         if is_word(part, b"*") {
             words.extend_from_slice(rest)?;
         } else if !is_word(part, b"$") {
@@ -307,71 +291,58 @@ fn fill<'t>(
             rest = others;
         }
     }
-    Ok(())
+    joined(alloc, words.as_slice())
 }
 
-// Whether these are the words of a line of a script.
-fn is_line(words: &[&[u8]]) -> bool {
-    is_whole(Sort::Script, walk(Sort::Script, KEYWORD, words), words)
+// Whether the reader of scripts understands the line, and it says something.
+fn is_line(alloc: Global, line: &[u8]) -> Result<bool, NoMemory> {
+    let mut words = Vec::new(alloc);
+    match read_line(alloc, line, &mut words) {
+        Ok(line) => Ok(!matches!(&line, Line::Skipped)),
+        Err(LineFault::NoMemory) => Err(NoMemory),
+        Err(LineFault::Kind(_)) => Ok(false),
+    }
 }
 
-// The words of the line of a script that does the same as this form, if the tokens are of it.
-fn words_by<'t>(
+// The line of a script that does the same as this form, if the tokens are of it; otherwise an empty one.
+fn line_by(
     alloc: Global,
-    (source, line): (&'static str, &'static str),
-    tokens: &[&'t [u8]],
-    words: &mut Vec<&'t [u8]>,
-) -> Result<bool, NoMemory> {
+    (source, line): (&str, &str),
+    tokens: &[&[u8]],
+) -> Result<Vec<u8>, NoMemory> {
     let mut form = Vec::new(alloc);
     read_words(source.as_bytes(), &mut form)?;
     let mut found = Vec::new(alloc);
-    if !has_form(form.as_slice(), tokens, &mut found)? {
-        return Ok(false);
+    if has_form(form.as_slice(), tokens, &mut found)? {
+        filled(alloc, line, found.as_slice())
+    } else {
+        Ok(Vec::new(alloc))
     }
-    words.clear();
-    fill(line.as_bytes(), found.as_slice(), words)?;
-    Ok(is_line(words.as_slice()))
 }
 
-// Leaves the words of the line of a script that does the same as these tokens, if there is one.
-fn translate<'t>(
-    alloc: Global,
-    tokens: &[&'t [u8]],
-    words: &mut Vec<&'t [u8]>,
-) -> Result<bool, NoMemory> {
+// The line of a script that does the same as these tokens, or the tokens.
+fn translated(alloc: Global, tokens: &[&[u8]]) -> Result<Vec<u8>, NoMemory> {
     for form in &FORMS {
-        if words_by(alloc, *form, tokens, words)? {
-            return Ok(true);
+        let line = line_by(alloc, *form, tokens)?;
+        if is_line(alloc, line.as_slice())? {
+            return Ok(line);
         }
     }
-    words.clear();
-    words.extend_from_slice(tokens)?;
-    Ok(is_line(tokens))
-}
-
-// The words with a space between two.
-fn joined(alloc: Global, words: &[&[u8]]) -> Result<Vec<u8>, NoMemory> {
-    let mut line = Vec::new(alloc);
-    for word in words {
-        if !line.is_empty() {
-            append_text(&mut line, " ")?;
-        }
-        line.extend_from_slice(word)?;
-    }
-    Ok(line)
+    joined(alloc, tokens)
 }
 
 // Adds what a script has instead of a line of these tokens.
 fn add_instead(help: &mut Help, tokens: &[&[u8]]) -> Result<(), NoMemory> {
-    let mut words = Vec::new(help.alloc);
-    if translate(help.alloc, plain(tokens), &mut words)? {
-        let line = joined(help.alloc, words.as_slice())?;
-        if line.len() <= LONGEST {
-            return help.add_named("in a script:", line.as_slice());
+    let line = translated(help.alloc, plain(tokens))?;
+    if line.len() <= LONGEST && is_line(help.alloc, line.as_slice())? {
+        return help.add_named("in a script:", line.as_slice());
+    }
+    for token in tokens {
+        if let Some(text) = absent(token) {
+            return help.add_line(text);
         }
     }
-    let text = "a line of a script is one call, in words without ( ) { } ; and :=";
-    help.add_line(absent(tokens).unwrap_or(text))
+    help.add_line("a line of a script is one call, in words without ( ) { } ; and :=")
 }
 
 /// Adds what a script has instead of a line that seems to be of TTCN-3. Whether it does.

@@ -78,19 +78,10 @@ one_more s xs ys two = (ap (λ zs. s ∷ zs) two.0, two.1)
 fills : (hs : List Head) (ns more : List Word) (ls : List Line) → Fills hs ns more ls
 unfolding step_of
 fills hs ns more [] = (refl, refl)
-fills hs ns more (Line.TestCase n ∷ rest) = (refl, refl)
-fills hs ns more (Line.Behaviour n ps ∷ rest) = (refl, refl)
-fills hs ns more (Line.End ∷ rest) = (refl, refl)
 fills hs ns more (Line.Skipped ∷ rest) = fills hs ns more rest
 fills hs ns more (Line.Step (Call.Create n alive given_name) ∷ rest) = one_more (step_of hs ns (Call.Create n alive given_name)) _ _ (fills hs (add n ns) more rest)
-fills hs ns more (Line.Step (Call.Start on b args) ∷ rest) = one_more (step_of hs ns (Call.Start on b args)) _ _ (fills hs ns more rest)
-fills hs ns more (Line.Step (Call.Stop g) ∷ rest) = one_more (step_of hs ns (Call.Stop g)) _ _ (fills hs ns more rest)
-fills hs ns more (Line.Step (Call.Kill g) ∷ rest) = one_more (step_of hs ns (Call.Kill g)) _ _ (fills hs ns more rest)
-fills hs ns more (Line.Step (Call.Ask s t) ∷ rest) = one_more (step_of hs ns (Call.Ask s t)) _ _ (fills hs ns more rest)
-fills hs ns more (Line.Step (Call.Wait killed t) ∷ rest) = one_more (step_of hs ns (Call.Wait killed t)) _ _ (fills hs ns more rest)
-fills hs ns more (Line.Step (Call.SetVerdict v) ∷ rest) = one_more (step_of hs ns (Call.SetVerdict v)) _ _ (fills hs ns more rest)
-fills hs ns more (Line.Step Call.StopCase ∷ rest) = one_more (step_of hs ns Call.StopCase) _ _ (fills hs ns more rest)
-fills hs ns more (Line.Step Call.GetVerdict ∷ rest) = one_more (step_of hs ns Call.GetVerdict) _ _ (fills hs ns more rest)
+fills hs ns more (Line.Step call ∷ rest) = one_more (step_of hs ns call) _ _ (fills hs ns more rest)
+fills hs ns more (_ ∷ rest) = (refl, refl)
 
 pub all_fill : (hs : List Head) (ls : List Line) → all_filled hs (behaviours [] ls) (called ls) ≡ behaviours hs ls
 all_fill hs [] = refl
@@ -100,6 +91,4 @@ all_fill hs (Line.Behaviour n ps ∷ rest) =
     ap (λ xs. (n, record { parameters = length ps; steps = xs }) ∷ all_filled hs (behaviours [] rest) (left_of (steps [] (all_of [] ps) rest) (called_in rest ++ called rest))) two.0
     ∙ ap (λ ms. (n, record { parameters = length ps; steps = steps hs (all_of [] ps) rest }) ∷ all_filled hs (behaviours [] rest) ms) two.1
     ∙ ap (λ bs. (n, record { parameters = length ps; steps = steps hs (all_of [] ps) rest }) ∷ bs) (all_fill hs rest)
-all_fill hs (Line.End ∷ rest) = all_fill hs rest
-all_fill hs (Line.Skipped ∷ rest) = all_fill hs rest
-all_fill hs (Line.Step call ∷ rest) = all_fill hs rest
+all_fill hs (_ ∷ rest) = all_fill hs rest

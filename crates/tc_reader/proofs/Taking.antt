@@ -14,8 +14,8 @@ at_last : (text : List ℕ) (n : ℕ) → length text ≡ n + 1 → without_end 
 unfolding without_end
 at_last text n long = let e : length text - 1 ≡ n = omega (arith, long) in rw e refl
 
-cut_behind : (b c : ℕ) (rest : List ℕ) → without_end (b ∷ c ∷ rest) ≡ b ∷ without_end (c ∷ rest)
-cut_behind b c rest = at_last (b ∷ c ∷ rest) (suc (length rest)) (omega arith) ∙ by (slice_index (c ∷ rest) (length rest) == 10) ∙ sym (ap (λ xs. b ∷ xs) (at_last (c ∷ rest) (length rest) (omega arith)))
+cut_on : (b c : ℕ) (rest : List ℕ) → without_end (b ∷ c ∷ rest) ≡ b ∷ without_end (c ∷ rest)
+cut_on b c rest = at_last (b ∷ c ∷ rest) (suc (length rest)) (omega arith) ∙ by (slice_index (c ∷ rest) (length rest) == 10) ∙ sym (ap (λ xs. b ∷ xs) (at_last (c ∷ rest) (length rest) (omega arith)))
   where
     by : (x : Bool) → (if x then take (suc (length rest)) (b ∷ c ∷ rest) else b ∷ c ∷ rest) ≡ b ∷ (if x then take (length rest) (c ∷ rest) else c ∷ rest)
     by true = refl
@@ -23,8 +23,8 @@ cut_behind b c rest = at_last (b ∷ c ∷ rest) (suc (length rest)) (omega arit
 
 cut_after : (front : List ℕ) (c : ℕ) (rest : List ℕ) → without_end (front ++ c ∷ rest) ≡ front ++ without_end (c ∷ rest)
 cut_after [] c rest = refl
-cut_after (b ∷ []) c rest = cut_behind b c rest
-cut_after (b ∷ d ∷ front) c rest = cut_behind b d (front ++ c ∷ rest) ∙ ap (λ xs. b ∷ xs) (cut_after (d ∷ front) c rest)
+cut_after (b ∷ []) c rest = cut_on b c rest
+cut_after (b ∷ d ∷ front) c rest = cut_on b d (front ++ c ∷ rest) ∙ ap (λ xs. b ∷ xs) (cut_after (d ∷ front) c rest)
 
 some_lines : (text : List ℕ) → 1 ≤ length text → lines text ≡ slice_split is_newline (without_end text)
 unfolding lines
@@ -63,7 +63,7 @@ unfolding lines
 lines_next front [] none =
     some_lines (front ++ 10 ∷ []) (longer front 10 []) ∙ ap (slice_split is_newline) (cut_after front 10 [] ∙ ap (λ xs. front ++ xs) lone_end ∙ append-nil front) ∙ slice_split_none is_newline front none
 lines_next front (c ∷ rest) none =
-    some_lines (front ++ 10 ∷ c ∷ rest) (longer front 10 (c ∷ rest)) ∙ ap (slice_split is_newline) (cut_after front 10 (c ∷ rest) ∙ ap (λ xs. front ++ xs) (cut_behind 10 c rest))
+    some_lines (front ++ 10 ∷ c ∷ rest) (longer front 10 (c ∷ rest)) ∙ ap (slice_split is_newline) (cut_after front 10 (c ∷ rest) ∙ ap (λ xs. front ++ xs) (cut_on 10 c rest))
     ∙ slice_split_at is_newline front 10 (without_end (c ∷ rest)) none refl ∙ ap (λ xs. front ∷ xs) (sym (some_lines (c ∷ rest) (omega arith)))
 
 not_true : (b : Bool) → (b ≡ true → ⊥) → b ≡ false

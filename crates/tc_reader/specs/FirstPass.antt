@@ -3,7 +3,7 @@ use Rattle.std.specs.Prelude.{ℕ, ◌+◌, ◌||◌, not, nat_le, nat_lt, Bool,
 use Rattle.std.specs.{Option.unwrap_or, Result.result_map_both}
 use Rattle.tc_entry.specs.declared.limits.TheConstants.{ARGUMENTS, BEHAVIOURS}
 use Rattle.tc_step.specs.declared.limits.TheConstants.{STEPS}
-use Rattle.tc_reader.specs.{Line.line_of, Line.◌>>=◌, declared.fault.ScriptFault.ScriptFault, declared.kind.ScriptKind.ScriptKind, declared.line.Call.Call, declared.line.Line.Line, declared.open.Open.Open}
+use Rattle.tc_reader.specs.{Line.line_of, Line.◌>>=◌, declared.fault.ScriptFault.ScriptFault, declared.kind.ScriptKind.ScriptKind, declared.line.Call.Call, declared.line.Line.Line, declared.counts.Open.Open}
 
 -- it begins a test case
 abbrev pub is_case : Line → Bool

@@ -5,7 +5,7 @@ use Rattle.std.specs.{List.list_any, Option.option_map, Option.option_map_or, Op
 use Rattle.tc_entry.specs.declared.limits.TheConstants.{ARGUMENTS, BEHAVIOURS}
 use Rattle.tc_step.specs.declared.{limits.TheConstants.STEPS, place.Place.Place, place.TargetPlace.TargetPlace, step.Status.Status, step.Step.Step}
 use Rattle.tc_step.specs.Prelude.{of_group, of_target, IsScript, ScriptView}
-use Rattle.tc_reader.specs.{Campaign.CampaignView, Campaign.IsCase, Campaign.step_of, Campaign.steps, FirstPass.argument_count, FirstPass.at_next, FirstPass.behaviours_in, FirstPass.cases_in, FirstPass.ends_well, FirstPass.open_after, FirstPass.opened, FirstPass.placed, FirstPass.steps_in, Line.line_of, Line.word_name, Line.◌>>=◌, Names.Word, Names.add, Names.all_of, Names.among, Names.has_twice, Names.index_of, Scope.Head, Scope.ScopeView, Scope.heads, Scope.parameters_of, Scope.with_bound, SecondPass.is_unbound, SecondPass.name_fault, Words.is_text, declared.counts.Counts.Counts, declared.fault.ReadFault.ReadFault, declared.fault.ScriptFault.ScriptFault, declared.kind.ScriptKind.ScriptKind, declared.limits.TheConstants.TEST_CASES, declared.line.Call.Call, declared.line.Keyword.Keyword, declared.line.Line.Line, declared.open.Open.Open, declared.starts.Start.Start, declared.text.Part.Part}
+use Rattle.tc_reader.specs.{Campaign.CampaignView, Campaign.IsCase, Campaign.step_of, Campaign.steps, FirstPass.argument_count, FirstPass.at_next, FirstPass.behaviours_in, FirstPass.cases_in, FirstPass.ends_well, FirstPass.open_after, FirstPass.opened, FirstPass.placed, FirstPass.steps_in, Line.line_of, Line.word_name, Line.◌>>=◌, Names.Word, Names.add, Names.all_of, Names.among, Names.has_twice, Names.index_of, Scope.Head, Scope.ScopeView, Scope.heads, Scope.parameters_of, Scope.with_bound, SecondPass.is_unbound, SecondPass.name_fault, Words.is_text, declared.counts.Counts.Counts, declared.fault.ReadFault.ReadFault, declared.fault.ScriptFault.ScriptFault, declared.kind.ScriptKind.ScriptKind, declared.limits.TheConstants.TEST_CASES, declared.line.Call.Call, declared.line.Keyword.Keyword, declared.line.Line.Line, declared.counts.Open.Open, declared.starts.Start.Start, declared.text.Part.Part}
 
 -- the behaviours of a test case: their names, and the numbers of their parameters
 abbrev pub signatures : List (Word × ScriptView) → List Head

@@ -4,9 +4,8 @@ ghost use Rattle.tc_reader.specs.{Inside.create_named, Line.Gives, Line.are_prin
 
 use crate::kind::{LineFault, ScriptKind};
 use crate::line::{Call, Keyword, Line};
-use crate::spelling::{is_word, read_keyword, read_verdict};
+use crate::spelling::{is_word, read_keyword, read_name, read_verdict};
 use crate::text::read_words;
-use crate::word::read_name;
 use std::alloc::Global;
 use tc_entry::{Name, Sequence};
 use tc_step::{GroupPlace, Place, Status, TargetPlace};

@@ -4,8 +4,7 @@ ghost use Rattle.tc_reader.specs.{Inside.IsStepOf, Inside.IsTargetOf, Inside.key
 
 use crate::Step;
 use crate::names::Names;
-use crate::spelling::is_word;
-use crate::word::read_name;
+use crate::spelling::{is_word, read_name};
 use tc_entry::UserVerdict;
 use tc_step::{Place, Status, TargetPlace};
 

@@ -1,9 +1,9 @@
-//! The words of the script language: keywords and verdicts.
+//! The words of the script language: keywords, names and verdicts.
 ghost use Rattle.std.specs.Prelude.{◌≡◌, Some};
-ghost use Rattle.tc_reader.specs.{Inside.keyword_text, Words.is_text, Words.keyword, Words.verdict};
+ghost use Rattle.tc_reader.specs.{Inside.keyword_text, Words.is_text, Words.keyword, Words.name, Words.verdict};
 
 use crate::line::Keyword;
-use tc_entry::UserVerdict;
+use tc_entry::{Name, UserVerdict};
 use tc_step::Status;
 
 /// Whether the word is spelled so.
@@ -18,7 +18,7 @@ pub fn is_word(word: &[u8], spelling: &[u8]) -> bool
 impl Keyword {
     /// Its spelling.
     #[inline(always)]
-    #[tactic(auto, using(crate::proofs::Spelled::spelled))]
+    #[tactic(auto, using(crate::proofs::Naming::spelled))]
     pub fn text(self) -> &'static str
         ensures { keyword result.now ≡ Some self }
     {
@@ -105,4 +105,12 @@ pub(crate) fn read_verdict(word: &[u8]) -> Option<UserVerdict>
     } else {
         None
     }
+}
+
+/// The name that is spelled so, if there is one.
+#[tactic(auto, using(crate::proofs::Naming::naming_rules))]
+pub fn read_name(word: &[u8]) -> Option<Name>
+    ensures { result ≡ name word.now }
+{
+    Name::of_bytes(word)
 }

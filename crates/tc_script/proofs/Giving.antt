@@ -27,20 +27,12 @@ give_none hs = All-nil (λ e. GivesAll hs e.op)
 
 question_gives : (hs : List Head) (status : Status) (t : Target) → GivesAll hs (question status t)
 question_gives hs Status.Running t = tt
-question_gives hs Status.Alive t = tt
-question_gives hs Status.Done t = tt
-question_gives hs Status.Killed t = tt
+question_gives hs _ t = tt
 
 operation_gives : (hs : List Head) (me : Comp) (bound : List Comp) (s : Step) → StartsOne hs s → GivesAll hs (operation me bound s)
-operation_gives hs me bound (Step.Create alive name) one = tt
 operation_gives hs me bound (Step.Start on run args) one = one ∙ ap Some (sym (length-map args (component me bound)))
-operation_gives hs me bound (Step.Stop g) one = tt
-operation_gives hs me bound (Step.Kill g) one = tt
 operation_gives hs me bound (Step.Ask status t) one = question_gives hs status (target me bound t)
-operation_gives hs me bound (Step.Wait killed t) one = tt
-operation_gives hs me bound (Step.SetVerdict v) one = tt
-operation_gives hs me bound Step.StopCase one = tt
-operation_gives hs me bound Step.GetVerdict one = tt
+operation_gives hs me bound _ one = tt
 
 -- one entry more
 added_gives : (hs : List Head) (p q : PassState) (op : Op) (r : Reply) → q ≡ with_own_entry p op r → GivesAll hs op → GiveAll hs p.log → GiveAll hs q.log
@@ -51,12 +43,8 @@ added_gives hs p q op r is one all =
 
 -- the call of one step
 call_gives : (hs : List Head) (s : Step) (bound : List Comp) (p q : PassState) (r : Reply) → StartsOne hs s → Calls bound s p q r → GiveAll hs p.log → GiveAll hs q.log
-call_gives hs (Step.Create alive name) bound p q r one is all = added_gives hs p q (operation p.me bound (Step.Create alive name)) r is (operation_gives hs p.me bound (Step.Create alive name) one) all
 call_gives hs (Step.Start on run args) bound p q r one is all =
     added_gives hs p q (operation p.me bound (Step.Start on run args)) r is (operation_gives hs p.me bound (Step.Start on run args) one) all
-call_gives hs (Step.Stop g) bound p q r one is all = added_gives hs p q (operation p.me bound (Step.Stop g)) r is (operation_gives hs p.me bound (Step.Stop g) one) all
-call_gives hs (Step.Kill g) bound p q r one is all = added_gives hs p q (operation p.me bound (Step.Kill g)) r is (operation_gives hs p.me bound (Step.Kill g) one) all
-call_gives hs (Step.Ask status t) bound p q r one is all = added_gives hs p q (operation p.me bound (Step.Ask status t)) r is (operation_gives hs p.me bound (Step.Ask status t) one) all
 call_gives hs (Step.Wait killed t) bound p q r one (inl is, awake) all = added_gives hs p q (Op.Wait killed (target p.me bound t)) r is tt all
 call_gives hs (Step.Wait killed t) bound p q r one (inr is, awake) all =
     let parked : PassState = with_own_entry p (Op.Wait killed (target p.me bound t)) Reply.Parked in
@@ -64,6 +52,7 @@ call_gives hs (Step.Wait killed t) bound p q r one (inr is, awake) all =
 call_gives hs (Step.SetVerdict v) bound p q r one is all = added_gives hs p q (Op.SetVerdict v) r is tt all
 call_gives hs Step.StopCase bound p q r one is all = added_gives hs p q Op.StopCase r is tt all
 call_gives hs Step.GetVerdict bound p q r one is all = added_gives hs p q Op.GetVerdict r is tt all
+call_gives hs step bound p q r one is all = added_gives hs p q (operation p.me bound step) r is (operation_gives hs p.me bound step one) all
 
 -- the calls of the first steps, and the steps that are left
 calls_give : (hs : List Head) (steps : List Step) (start : PassState) (left : List Step) (bound : List Comp) (now : PassState)

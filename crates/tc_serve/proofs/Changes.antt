@@ -23,8 +23,7 @@ may_ask p caller op = not (is_wake op) && not (is_some (sleep_of p caller.0))
 abbrev pub may_add : Played → Line → Bool
 may_add p (Line.Named run name) = nat_lt run.0 p.behaviours && not (is_met run.0 p.lines)
 may_add p (Line.Entry e) = false
-may_add p (Line.Remark run sentence) = nat_lt run.0 p.behaviours
-may_add p (Line.Refused run sentence) = nat_lt run.0 p.behaviours
+may_add p _ = nat_lt run.0 p.behaviours
 
 -- what is in a line that is no entry
 abbrev pub IsNote : Line → Type 0

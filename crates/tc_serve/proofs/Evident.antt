@@ -36,16 +36,7 @@ made_by_create past b Op.GetVerdict c e = by_comp (comp_of past b) e
     by_comp : (o : Option Comp) → Reply.Made c ≡ local_reply past o → created Op.GetVerdict (Reply.Made c) ≡ Some c
     by_comp None e = absurd cc
     by_comp (Some d) e = absurd cc
-made_by_create past b (Op.Start d run args) c e = absurd cc
-made_by_create past b (Op.Stop g) c e = absurd cc
-made_by_create past b (Op.Kill g) c e = absurd cc
-made_by_create past b Op.StopCase c e = absurd cc
-made_by_create past b (Op.Running t) c e = absurd cc
-made_by_create past b (Op.Alive t) c e = absurd cc
-made_by_create past b (Op.Done t) c e = absurd cc
-made_by_create past b (Op.Killed t) c e = absurd cc
-made_by_create past b (Op.SetVerdict v) c e = absurd cc
-made_by_create past b Op.Finish c e = absurd cc
+made_by_create past b _ c e = absurd cc
 
 reply_fits : (n : ℕ) (past : List Entry) (run : Run) (op : Op) (reply : Reply) → reply ≡ answer n past run.0 op → IsReply reply
 reply_fits n past run op (Reply.Made c) legal =
@@ -155,16 +146,7 @@ all_plain (b ∷ bs) all (suc k) d within = all_plain bs (second_of (is_plain b)
 
 refusal_plain : (why : Refusal) → IsSentence (why_text why)
 refusal_plain Refusal.Unended = record { some = omega arith; short = omega arith; plain = all_plain (why_text Refusal.Unended) refl }
-refusal_plain Refusal.TooLong = record { some = omega arith; short = omega arith; plain = all_plain (why_text Refusal.TooLong) refl }
-refusal_plain Refusal.BadRemark = record { some = omega arith; short = omega arith; plain = all_plain (why_text Refusal.BadRemark) refl }
-refusal_plain Refusal.Behaviours = record { some = omega arith; short = omega arith; plain = all_plain (why_text Refusal.Behaviours) refl }
-refusal_plain Refusal.BadLine = record { some = omega arith; short = omega arith; plain = all_plain (why_text Refusal.BadLine) refl }
-refusal_plain Refusal.CaseOpen = record { some = omega arith; short = omega arith; plain = all_plain (why_text Refusal.CaseOpen) refl }
-refusal_plain Refusal.NoCase = record { some = omega arith; short = omega arith; plain = all_plain (why_text Refusal.NoCase) refl }
-refusal_plain Refusal.NoRun = record { some = omega arith; short = omega arith; plain = all_plain (why_text Refusal.NoRun) refl }
-refusal_plain Refusal.LateName = record { some = omega arith; short = omega arith; plain = all_plain (why_text Refusal.LateName) refl }
-refusal_plain Refusal.Wake = record { some = omega arith; short = omega arith; plain = all_plain (why_text Refusal.Wake) refl }
-refusal_plain Refusal.Waiting = record { some = omega arith; short = omega arith; plain = all_plain (why_text Refusal.Waiting) refl }
+refusal_plain why = record { some = omega arith; short = omega arith; plain = all_plain (why_text why) refl }
 
 note_fits : (p : Played) (l : Line) → may_add p l ≡ true → IsNote l → IsEvident p → IsEvident (with_line p l)
 note_fits p (Line.Named run name) may fits is =
@@ -356,10 +338,8 @@ sound : (p : Played) → IsSound p → Sound p.behaviours p.lines
 sound p so = record { legal = so.legal; wakes = so.wakes }
 
 pub no_entry : (p : Played) (l : Line) → may_add p l ≡ true → entry_in l ≡ []
-no_entry p (Line.Named run name) may = refl
 no_entry p (Line.Entry e) may = absurd cc
-no_entry p (Line.Remark run sentence) may = refl
-no_entry p (Line.Refused run sentence) may = refl
+no_entry p _ may = refl
 
 pub note_sound : (p : Played) (l : Line) → may_add p l ≡ true → IsSound p → IsSound (with_line p l)
 note_sound p l may so = let one = noted p.behaviours p.lines l (no_entry p l may) (sound p so) in record { legal = one.legal; wakes = one.wakes }

@@ -192,9 +192,8 @@ long_lines (l ∷ before) all = by_end l.ended refl (long_lines before (second l
 pub why_line : (f : ServeFault) (line behind : List ℕ) (lines : List Sent) (s : ServiceState) (input : Option (List ℕ)) → AllEnded lines → NoLf line → IsBadLine f true line lines s → IsWhy f lines s (line ++ 10 ∷ behind) input
 why_line (ServeFault.Line n why) line behind lines s input all plain bad = (bad.0, bad.1, (line, behind, plain, inl (refl, bad.2)))
 why_line ServeFault.TooLong line behind lines s input all plain bad = omega (arith, bad, long_lines lines all, length-append (bytes_of lines) (line ++ 10 ∷ behind))
-why_line ServeFault.Read line behind lines s input all plain bad = absurd bad
-why_line ServeFault.Write line behind lines s input all plain bad = absurd bad
 why_line ServeFault.NoMemory line behind lines s input all plain bad = tt
+why_line _ line behind lines s input all plain bad = absurd bad
 
 -- nothing more was appended, and the rest was not served
 pub stops_here : (read rest bytes : List ℕ) (v : Serving) (before out written before' told told' : List ℕ) (input : Option (List ℕ)) (f : ServeFault) → (fed : IsFed bytes v before out before' told) → read ≡ bytes_of fed.lines ++ rest →
@@ -304,9 +303,8 @@ some_seen line looked same some = λ none. some (same ∙ (ap seen none ∙ take
 why_last : (f : ServeFault) (line : List ℕ) (lines : List Sent) (s : ServiceState) (input : Option (List ℕ)) → IsAtEnd input → AllEnded lines → NoLf line → line ≢ [] → IsBadLine f false line lines s → IsWhy f lines s line input
 why_last (ServeFault.Line n why) line lines s input end all plain some bad = (bad.0, bad.1, (line, [], plain, inr (refl, some, end, bad.2)))
 why_last ServeFault.TooLong line lines s input end all plain some bad = omega (arith, bad, long_lines lines all, length-append (bytes_of lines) line)
-why_last ServeFault.Read line lines s input end all plain some bad = absurd bad
-why_last ServeFault.Write line lines s input end all plain some bad = absurd bad
 why_last ServeFault.NoMemory line lines s input end all plain some bad = tt
+why_last _ line lines s input end all plain some bad = absurd bad
 
 pub stops_last : (bytes before before' : List ℕ) (v : Serving) (out written told told' : List ℕ) (input : Option (List ℕ)) (f : ServeFault) → IsAtEnd input → IsFed bytes v before out before' told → v.line.items ≢ [] → Fails false v out told f → written ≡ out → told' ≡ told →
     HasEnded bytes input (before ++ written) (before' ++ told') (Err f)

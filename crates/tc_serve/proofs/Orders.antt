@@ -51,17 +51,11 @@ pub remark_only : (text : List ℕ) (run : Run) (bytes sentence : List ℕ) → 
     (o : Order) → IsOrder o → text ≡ order_text o → ◌≡◌ {A = Result Order Refusal} (Ok (Order.Remark run sentence)) (Ok o)
 remark_only text run bytes sentence low spelled only same (Order.Remark r that) fits e =
     let two = only r.0 that fits.0 e in ap (λ k. Ok (make k sentence)) two.0 ∙ ap (λ s. Ok (make r.0 s)) (same ∙ two.1)
-remark_only text run bytes sentence low spelled only same (Order.Case name n) fits e = absurd (not_remark text run.0 bytes low spelled (Order.Case name n) fits tt e)
-remark_only text run bytes sentence low spelled only same (Order.Named r name) fits e = absurd (not_remark text run.0 bytes low spelled (Order.Named r name) fits tt e)
-remark_only text run bytes sentence low spelled only same (Order.Move r p) fits e = absurd (not_remark text run.0 bytes low spelled (Order.Move r p) fits tt e)
-remark_only text run bytes sentence low spelled only same Order.End fits e = absurd (not_remark text run.0 bytes low spelled Order.End fits tt e)
+remark_only text run bytes sentence low spelled only same order fits e = absurd (not_remark text run.0 bytes low spelled order fits tt e)
 
 pub remark_none : (text : List ℕ) (run : Run) (bytes : List ℕ) → run.0 < 2 ^ 16 → text ≡ said_text false run.0 bytes → IsThatRemark text run bytes → (IsSentence bytes → ⊥) → (o : Order) → IsOrder o → text ≡ order_text o → ⊥
 remark_none text run bytes low spelled only none (Order.Remark r that) fits e = let two = only r.0 that fits.0 e in none (subst IsSentence (sym two.1) fits.1)
-remark_none text run bytes low spelled only none (Order.Case name n) fits e = not_remark text run.0 bytes low spelled (Order.Case name n) fits tt e
-remark_none text run bytes low spelled only none (Order.Named r name) fits e = not_remark text run.0 bytes low spelled (Order.Named r name) fits tt e
-remark_none text run bytes low spelled only none (Order.Move r p) fits e = not_remark text run.0 bytes low spelled (Order.Move r p) fits tt e
-remark_none text run bytes low spelled only none Order.End fits e = not_remark text run.0 bytes low spelled Order.End fits tt e
+remark_none text run bytes low spelled only none order fits e = not_remark text run.0 bytes low spelled order fits tt e
 
 -- ---- moves
 
@@ -97,18 +91,13 @@ group_short Group.All fits = omega arith
 
 target_short : (t : Target) → IsTarget t → length (target_text t) ≤ 10
 target_short (Target.One c) fits = comp_short c.0 fits
-target_short Target.Any fits = omega arith
-target_short Target.All fits = omega arith
+target_short _ fits = omega arith
 
 given_short : (v : UserVerdict) → length (name_of (given v)) ≤ 10
 given_short UserVerdict.None = omega arith
-given_short UserVerdict.Pass = omega arith
-given_short UserVerdict.Inconc = omega arith
-given_short UserVerdict.Fail = omega arith
+given_short _ = omega arith
 
 op_short : (op : Op) → IsOp op → length (op_text op) ≤ 100
-op_short (Op.Create false None) fits = omega arith
-op_short (Op.Create true None) fits = omega arith
 op_short (Op.Create false (Some name)) fits = let short = fits.is_short in omega (arith, short)
 op_short (Op.Create true (Some name)) fits = let short = fits.is_short in omega (arith, short)
 op_short (Op.Start c run args) fits =
@@ -116,7 +105,6 @@ op_short (Op.Start c run args) fits =
     omega (arith, comp_short c.0 fits.0, number_short run.0 fits.1, few, args_short args fits.3, length-append (decimal c.0) (codes " " ++ (decimal run.0 ++ args_text args)), length-append (decimal run.0) (args_text args))
 op_short (Op.Stop g) fits = omega (arith, group_short g fits)
 op_short (Op.Kill g) fits = omega (arith, group_short g fits)
-op_short Op.StopCase fits = omega arith
 op_short (Op.Running t) fits = omega (arith, target_short t fits)
 op_short (Op.Alive t) fits = omega (arith, target_short t fits)
 op_short (Op.Done t) fits = omega (arith, target_short t fits)
@@ -126,8 +114,7 @@ op_short (Op.Wait true t) fits = omega (arith, target_short t fits)
 op_short (Op.Wake false t) fits = omega (arith, target_short t fits)
 op_short (Op.Wake true t) fits = omega (arith, target_short t fits)
 op_short (Op.SetVerdict v) fits = omega (arith, given_short v)
-op_short Op.GetVerdict fits = omega arith
-op_short Op.Finish fits = omega arith
+op_short _ fits = omega arith
 
 pub order_short : (o : Order) → IsOrder o → length (order_text o) < LINE_BYTES
 order_short (Order.Case name n) fits =

@@ -337,11 +337,7 @@ module _ (n : ℕ) (past : List Entry) (caller : Run) (op : Op) (some : 0 < n) (
   by_reply Reply.Ended is nobody = by_ended (sym is)
   by_reply Reply.Parked is nobody = absurd cc
   by_reply (Reply.Fault f) is nobody = absurd cc
-  by_reply (Reply.Made c) is nobody = by_quiet (Reply.Made c) is refl (keeps_on _ nobody)
-  by_reply Reply.Ok is nobody = by_quiet Reply.Ok is refl (keeps_on _ nobody)
-  by_reply (Reply.Answer t) is nobody = by_quiet (Reply.Answer t) is refl (keeps_on _ nobody)
-  by_reply (Reply.Local v) is nobody = by_quiet (Reply.Local v) is refl (keeps_on _ nobody)
-  by_reply Reply.Matched is nobody = by_quiet Reply.Matched is refl (keeps_on _ nobody)
+  by_reply reply is nobody = by_quiet reply is refl (keeps_on _ nobody)
 
   -- nobody sleeps who can continue after a call that wakes nobody, if nobody did before it
   still_settled : wakes_nobody (keeps_phases op) (answer n past caller.0 op) ≡ true → AreSettled n (record { caller = caller; op = op; reply = answer n past caller.0 op } ∷ past) n

@@ -1,11 +1,7 @@
 -- The components that a group and a target name, and what a script is: steps whose places are bound before them.
-use Rattle.std.specs.Prelude.{◌≡◌, ℕ, ◌+◌, ◌<◌, ◌≤◌, List, [], ◌∷◌, length, All}
+use Rattle.std.specs.Prelude.{ℕ, ◌+◌, ◌<◌, ◌≤◌, List, [], ◌∷◌, length, All}
 use Rattle.tc_entry.specs.declared.limits.TheConstants.{ARGUMENTS}
 use Rattle.tc_step.specs.declared.{place.GroupPlace.GroupPlace, place.Place.Place, place.TargetPlace.TargetPlace, step.Step.Step}
-
--- what a call may give is the function's value
-abbrev pub Computes : {X Y : Type 0} → (X → Y → Type 0) → (X → Y) → Type 0
-Computes {X} {Y} gives f = (x : X) (y : Y) → gives x y → y ≡ f x
 
 -- the place with the value at a bound one
 abbrev pub place_map : {B C : Type 0} → (B → C) → Place B → Place C

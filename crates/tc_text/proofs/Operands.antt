@@ -35,10 +35,7 @@ no_wait Status.WaitDone text rest a b c d is e = a rest e
 no_wait Status.WaitKilled text rest a b c d is e = b rest e
 no_wait Status.WakeDone text rest a b c d is e = c rest e
 no_wait Status.WakeKilled text rest a b c d is e = d rest e
-no_wait Status.Running text rest a b c d is e = is
-no_wait Status.Alive text rest a b c d is e = is
-no_wait Status.Done text rest a b c d is e = is
-no_wait Status.Killed text rest a b c d is e = is
+no_wait _ text rest a b c d is e = is
 
 -- what reading a number shows: it is the number of each spelling that the text begins with
 abbrev pub IsThatNumber : List ℕ → ℕ → List ℕ → Type 0

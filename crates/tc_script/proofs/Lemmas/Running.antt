@@ -17,10 +17,6 @@ grown_more p q z one two =
 
 calls_grow : (s : Step) (bound : List Comp) (p q : PassState) (r : Reply) → Calls bound s p q r → HasGrown p q
 calls_grow (Step.Create alive name) bound p q r is = (entry_of p.run (Op.Create alive name) r ∷ [], is)
-calls_grow (Step.Start on run args) bound p q r is = (entry_of p.run (operation p.me bound (Step.Start on run args)) r ∷ [], is)
-calls_grow (Step.Stop g) bound p q r is = (entry_of p.run (operation p.me bound (Step.Stop g)) r ∷ [], is)
-calls_grow (Step.Kill g) bound p q r is = (entry_of p.run (operation p.me bound (Step.Kill g)) r ∷ [], is)
-calls_grow (Step.Ask status t) bound p q r is = (entry_of p.run (operation p.me bound (Step.Ask status t)) r ∷ [], is)
 calls_grow (Step.Wait killed t) bound p q r (inl is, awake) = (entry_of p.run (Op.Wait killed (target p.me bound t)) r ∷ [], is)
 calls_grow (Step.Wait killed t) bound p q r (inr is, awake) =
     let wait = entry_of p.run (Op.Wait killed (target p.me bound t)) Reply.Parked in
@@ -29,6 +25,7 @@ calls_grow (Step.Wait killed t) bound p q r (inr is, awake) =
 calls_grow (Step.SetVerdict v) bound p q r is = (entry_of p.run (Op.SetVerdict v) r ∷ [], is)
 calls_grow Step.StopCase bound p q r is = (entry_of p.run Op.StopCase r ∷ [], is)
 calls_grow Step.GetVerdict bound p q r is = (entry_of p.run Op.GetVerdict r ∷ [], is)
+calls_grow step bound p q r is = (entry_of p.run (operation p.me bound step) r ∷ [], is)
 
 grown_none : (p : PassState) → HasGrown p p
 grown_none p = ([], ap (with_log p) (sym (append-nil p.log)))

@@ -38,8 +38,7 @@ prose_ends t = by_test (ends_word t) refl
 
 part_ends : (p : Part) → ends_word (part_text p) ≡ true
 part_ends (Part.Text t) = prose_ends t.now
-part_ends (Part.Number n) = refl
-part_ends (Part.Word w) = refl
+part_ends _ = refl
 
 part_holds : (p : Part) → Holds (part_words p) (part_text p)
 part_holds (Part.Text t) = tt
