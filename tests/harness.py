@@ -29,15 +29,15 @@ class Skipped(Exception):
     """What is missing for a test."""
 
 
-def hold(is_so: object, text: object) -> None:
+def hold(is_so: object, text: object = "") -> None:
     """Fails the test unless it is so."""
     if not is_so:
         raise Fault(str(text)[:1500])
 
 
-def same(wanted: object, found: object, where: object = "") -> None:
-    """Fails the test unless both are the same."""
-    hold(wanted == found, f"{str(where)[:300]}: wanted {str(wanted)[:500]}, found {str(found)[:500]}")
+def same(one: object, other: object, where: object = "") -> None:
+    """Fails the test unless both are the same, the one that is wanted and the one that was found."""
+    hold(one == other, f"{str(where)[:300]} {str(one)[:500]!r} is not {str(other)[:500]!r}".strip())
 
 
 def wait_for(is_so: Callable[[], bool], text: str) -> None:
@@ -147,10 +147,12 @@ def tests_of(*kinds: type) -> Dict[str, Callable]:
 def answer_of(name: str, test: Callable[[], Optional[str]]) -> Answer:
     began = time.monotonic()
     try:
-        reached = test() or ""
+        reached = str(test() or "")
     except Skipped as lacking:
         return None, f"SKIPPED {name}: {lacking}"
-    except Exception as error:  # a test that breaks has failed, and the others are run
+    except KeyboardInterrupt:
+        raise
+    except BaseException as error:  # a test that breaks has failed, and the others are run
         return False, f"FAILED {name}\n  {type(error).__name__}: {error}"
     return True, f"ok {name}{reached and ': '}{reached}, in {time.monotonic() - began:.0f} seconds"
 

@@ -16,4 +16,12 @@ for _ in $(seq "$rounds"); do
     "$work/twin" >> "$work/theirs.txt"
     "$work/threads" >> "$work/threads.txt"
 done
-python3 "$here/medians.py" "$work/ours.txt" "$work/theirs.txt" "$work/threads.txt"
+
+# The median of the nanoseconds of a name in a file, in microseconds.
+median() {
+    sed -n "s/^$2 //p" "$work/$1.txt" | sort -n | awk '{ all[NR] = $1 } END { print (all[int((NR + 1) / 2)] + all[int(NR / 2) + 1]) / 2000 }'
+}
+for name in all sixty_four two; do
+    echo "$name $(median ours "$name") $(median theirs "$name")"
+done | awk 'BEGIN { print "microseconds a case: run_case, twin, ratio" } { printf "%-12s %10.1f %10.1f %6.2f\n", $1, $2, $3, $2 / $3 }'
+echo "a thread made and joined: $(median threads thread) microseconds"

@@ -1,15 +1,13 @@
 #!/usr/bin/env python3
-"""Times `ttrun serve`: calls a second of both clients, processor time a move next to `replay`, and memory.
+"""Times `ttrun serve`: calls a second of both clients, and processor time a move next to `replay`.
 
 usage: bench/serve/measure.py PROGRAM [ROUNDS]
 
 PROGRAM is the built ttrun, and each figure is the median of ROUNDS, 5 if none is given. With valgrind there are instructions
-a move too, which do not depend on other work. `--server COMMAND` instead of PROGRAM tries the script on another server,
-without the figures of `replay`.
+a move too, which do not depend on other work.
 """
 import os
 import re
-import shlex
 import shutil
 import statistics
 import subprocess
@@ -32,9 +30,6 @@ CPP_CALLS = 64_000
 ALONE = 80_000
 MIXED = 60_000
 BEHAVIOURS, MOST = 64, 256
-FEW, MANY = 100_000, 2_000_000
-CHUNK = 4_000
-TRACED = 3_000
 CALLGRIND = ("valgrind", "--tool=callgrind", "--callgrind-out-file=/dev/null")
 KINDS = ("getverdict", "setverdict pass", "running {0}", "alive all", "done any", "setverdict inconc", "killed {0}", "getverdict")
 
@@ -68,28 +63,20 @@ def cpp_rate(built: str, command: Sequence[str], callers: int) -> float:
     return CPP_CALLS / float(ran.stdout)
 
 
-def ask_alone(served: "subprocess.Popen[bytes]", calls: int) -> float:
-    """Makes calls over two pipes, each after the answer to the one before; their seconds. The input ends then."""
-    def ask(line: bytes) -> bytes:
-        os.write(served.stdin.fileno(), line)
-        return os.read(served.stdout.fileno(), 4096)
-
-    ask(b"case t_bare 1\n")
-    began = time.perf_counter()
-    for _ in range(calls):
-        if ask(b"0 getverdict\n") != b"0 getverdict -> none\n":
-            sys.exit("another answer")
-    seconds = time.perf_counter() - began
-    ask(b"0 finish\n")
-    ask(b"end\n")
-    served.stdin.close()
-    return seconds
-
-
 def bare_rate(command: Sequence[str]) -> float:
-    """Round trips a second over two pipes, without a client and without threads."""
+    """Round trips a second over two pipes, without a client and without threads: each call comes after the answer to the one before."""
     with subprocess.Popen(list(command), bufsize=0, stdin=subprocess.PIPE, stdout=subprocess.PIPE) as served:
-        return CALLS / ask_alone(served, CALLS)
+        def ask(line: bytes) -> bytes:
+            os.write(served.stdin.fileno(), line)
+            return os.read(served.stdout.fileno(), 4096)
+
+        ask(b"case t_bare 1\n")
+        began = time.perf_counter()
+        if {ask(b"0 getverdict\n") for _ in range(CALLS)} != {b"0 getverdict -> none\n"}:
+            sys.exit("another answer")
+        seconds = time.perf_counter() - began
+        ask(b"0 finish\n"), ask(b"end\n")
+    return CALLS / seconds
 
 
 def mixed_moves() -> Iterator[str]:
@@ -128,23 +115,9 @@ def texts_of(moves: Sequence[str], behaviours: int) -> Tuple[str, str]:
     return f"case t_moves {behaviours}\n{lines}end\n", f"behaviours {behaviours}\n{lines}"
 
 
-def collected(told: bytes) -> float:
-    return float(re.search(rb"Collected : (\d+)", told)[1])
-
-
 def instructions(words: Sequence[str], text: str) -> float:
     ran = subprocess.run([*CALLGRIND, *words], input=text.encode(), stdout=subprocess.DEVNULL, stderr=subprocess.PIPE, check=False)
-    return collected(ran.stderr)
-
-
-def instructions_alone(command: Sequence[str]) -> float:
-    """How many instructions a call takes that is sent after the answer to the one before, by callgrind."""
-    def counted(calls: int) -> float:
-        with subprocess.Popen([*CALLGRIND, *command], bufsize=0, stdin=subprocess.PIPE, stdout=subprocess.PIPE, stderr=subprocess.PIPE) as served:
-            ask_alone(served, calls)
-            return collected(served.stderr.read())
-
-    return (counted(2 * TRACED) - counted(TRACED)) / TRACED
+    return float(re.search(rb"Collected : (\d+)", ran.stderr)[1])
 
 
 def next_to_replay(program: str, rounds: int, moves: Sequence[str], behaviours: int) -> Tuple[float, float]:
@@ -158,34 +131,6 @@ def next_to_replay(program: str, rounds: int, moves: Sequence[str], behaviours: 
             sys.exit("serve and replay do not give the same replies")
         found.append((one, other))
     return tuple(1e9 * statistics.median(it) / len(moves) for it in zip(*found))  # type: ignore[return-value]
-
-
-def peak_memory(command: Sequence[str]) -> Tuple[int, int]:
-    """The most KiB of memory after few moves and after many, in one test case."""
-    with subprocess.Popen(list(command), bufsize=0, stdin=subprocess.PIPE, stdout=subprocess.PIPE) as served:
-        lines = served.stdout
-
-        def peak() -> int:
-            with open(f"/proc/{served.pid}/status", encoding="ascii") as file:
-                return next(int(it.split()[1]) for it in file if it.startswith("VmHWM:"))
-
-        def answered(count: int) -> int:
-            for _ in range(count // CHUNK):
-                # (these lines fit into a pipe)
-                served.stdin.write(b"0 getverdict\n" * CHUNK)
-                left = CHUNK * len(b"0 getverdict -> none\n")
-                while left > 0:
-                    left -= len(os.read(lines.fileno(), left))
-            return peak()
-
-        served.stdin.write(b"case t_many 1\n")
-        os.read(lines.fileno(), len(b"evidence 1 t_many 1\n"))
-        few = answered(FEW)
-        many = answered(MANY - FEW)
-        served.stdin.write(b"0 finish\nend\n")
-        served.stdin.close()
-        lines.read()
-    return few, many
 
 
 def rates(command: Sequence[str], rounds: int) -> None:
@@ -216,26 +161,15 @@ def times(program: str, rounds: int) -> None:
             serve, replay = (instructions([program, word], text) / len(moves) for word, text in zip(("serve", "replay"), texts_of(moves, behaviours)))
             counted = f"{serve:,.0f} | {replay:,.0f} | {serve / replay:.1f} |"
         print(f"| {name} | {one:.0f} | {other:.0f} | {one / other:.1f} | {counted}", flush=True)
-    if shutil.which("valgrind"):
-        print(f"\na call that is sent after the answer to the one before: {instructions_alone([program, 'serve']):,.0f} instructions")
-    print()
 
 
 def main() -> int:
-    words = sys.argv[1:]
-    if not words or words[0] == "--server" and len(words) < 2:
+    if not sys.argv[1:]:
         print(__doc__, file=sys.stderr)
         return 3
-    is_program = words[0] != "--server"
-    command = [words[0], "serve"] if is_program else shlex.split(words[1])
-    rest = words[1:] if is_program else words[2:]
-    rounds = int(rest[0]) if rest else 5
-    rates(command, rounds)
-    if is_program:
-        times(words[0], rounds)
-    few, many = peak_memory(command)
-    print(f"| peak memory | after {FEW:,} moves, KiB | after {MANY:,}, KiB | ratio |\n|---|---|---|---|")
-    print(f"| one test case | {few:,} | {many:,} | {many / few:.2f} |")
+    program, rounds = sys.argv[1], int((sys.argv + ["5"])[2])
+    rates([program, "serve"], rounds)
+    times(program, rounds)
     return 0
 
 

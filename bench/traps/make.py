@@ -66,14 +66,6 @@ def kills(first=0):
     return case
 
 
-def stops():
-    """Each Stop of all finds one component that it has to stop among 999."""
-    case = Case().create(COMPONENTS, alive=True)
-    for run in RUNS:
-        case.add(f'0 start {COMPONENTS} {run}').add('0 stop all')
-    return case
-
-
 def parked():
     """All runs but the last wait in vain, so a Wake asks 64 runs whether the case is stuck."""
     case = Case().create(63).start(63)
@@ -123,11 +115,6 @@ def kills_of_one():
     return test_cases(behaviour('main', [step for number in range(499) for step in (f'create p{number}', 'kill all')]))
 
 
-def padded(line):
-    """One small test case, and then the same line up to the limit."""
-    return filled('testcase t\n' + behaviour('main', []) + 'end\n', line, '', LIMITS['run'])
-
-
 def scripts():
     # test cases of two behaviours, one of which judges
     yield 'ordinary', test_cases(behaviour('main', ['create p', 'start p w', 'wait done p']) + behaviour('w', ['setverdict pass'] * 60))
@@ -136,37 +123,17 @@ def scripts():
     yield 'waiting_while_one_asks', waiting_while(['running mtc'] * 900)
     yield 'waiting_while_one_kills', waiting_while(['create z'] + ['kill z'] * 900)
     yield 'kills_of_one', kills_of_one()
-    yield 'empty_lines', padded('\n')
-    yield 'empty_comments', padded('#\n')
-    yield 'one_comment', padded('').rstrip('\n') + '\n#' + 'x' * 1_048_000
-    yield 'one_line_of_spaces', padded('').rstrip('\n') + '\n' + ' ' * 1_048_000
 
 
 def inputs():
     for name, text in scripts():
         yield 'run', name, text
     for subcommand in ('replay', 'check'):
-        yield subcommand, 'kill_of_all_finds_none', one_case(subcommand, Case().create(COMPONENTS), '0 kill all')
-        yield subcommand, 'stop_of_all_finds_none', one_case(subcommand, Case().create(COMPONENTS), '0 stop all')
         yield subcommand, 'kill_of_all_finds_one', one_case(subcommand, kills(), '0 kill all')
-        yield subcommand, 'stop_of_all_finds_one', one_case(subcommand, stops(), '0 stop all')
         yield subcommand, 'wakes_that_stay_parked', one_case(subcommand, parked(), '0 wake done 63', 'parked')
-        yield subcommand, 'wakes_of_another_run', one_case(subcommand, parked(), '1 wake killed 63', 'parked')
-        yield subcommand, 'waits_that_stay_parked', one_case(subcommand, parked(), '0 wait done 63', 'parked')
-        yield subcommand, 'status_of_all', one_case(subcommand, Case().create(COMPONENTS).start(63), '0 running all', 'true')
-        yield subcommand, 'status_of_one', one_case(subcommand, Case().create(COMPONENTS), '0 done 9', 'false')
-        yield subcommand, 'stops_of_one', one_case(subcommand, Case().create(COMPONENTS), '0 stop 9')
-        yield subcommand, 'verdicts', one_case(subcommand, Case(), '0 getverdict', 'none')
-        yield subcommand, 'calls_of_nobody', one_case(subcommand, Case(), '1 finish', 'ended')
-        yield subcommand, 'starts_by_nobody', one_case(subcommand, Case(), '9 start 9 9 1 2 3 4', 'ended')
     yield 'check', 'cases_of_kills', many_cases(kills())
     yield 'check', 'cases_of_kills_of_many', many_cases(kills(220))
-    yield 'check', 'cases_of_stops', many_cases(stops())
-    yield 'check', 'cases_that_end', many_cases(Case().create(COMPONENTS).add('0 finish'))
-    yield 'check', 'cases_of_a_fault', many_cases(Case().create(1).add('0 start 0 1', 'error start-main'), verdict='error')
     yield 'check', 'empty_cases', many_cases(Case(), 'a')
-    yield 'check', 'empty_cases_of_one_behaviour', many_cases(Case(), 'a', behaviours=1)
-    yield 'check', 'empty_cases_of_long_names', many_cases(Case(), 'a' * 32)
     yield 'check', 'cases_of_one_create', many_cases(Case().create(1), 'a')
 
 

@@ -14,6 +14,8 @@ CLASSIFIERS = ("Framework :: Pytest", "Operating System :: POSIX", "Programming 
                "Typing :: Typed")
 WHEEL = "Wheel-Version: 1.0\nGenerator: filskeam\nRoot-Is-Purelib: true\nTag: py3-none-any\n"
 ENTRY_POINTS = "[pytest11]\nfilskeam = pytest_filskeam\n"
+# When each file of a wheel was written, so that the same sources give the same bytes.
+DAY = (1980, 1, 1, 0, 0, 0)
 # What pip may pass; nothing of it is used.
 Settings = Optional[Dict[str, object]]
 
@@ -50,7 +52,9 @@ def write_wheel(folder: str, files: Dict[str, str]) -> str:
     name = f"{named()}-py3-none-any.whl"
     with zipfile.ZipFile(os.path.join(folder, name), "w", zipfile.ZIP_DEFLATED) as wheel:
         for path, text in {**files, f"{info}/RECORD": "".join(record) + f"{info}/RECORD,,\n"}.items():
-            wheel.writestr(path, text)
+            entry = zipfile.ZipInfo(path, DAY)
+            entry.external_attr = 0o644 << 16
+            wheel.writestr(entry, text, zipfile.ZIP_DEFLATED)
     return name
 
 

@@ -282,6 +282,11 @@ def nameless() -> Iterator[str]:
             yield f"{path}: {lines[0]}"
 
 
+def other_versions() -> List[str]:
+    """Copies of the version that are not the program's."""
+    return subprocess.run([os.path.join(TOP, "tools", "version"), "--check"], stdout=subprocess.PIPE, text=True, check=False).stdout.splitlines()
+
+
 def main() -> int:
     sources = Sources()
     documents = [read(TOP, it) for it in tracked() if it.endswith(".md")]
@@ -329,6 +334,7 @@ def main() -> int:
         "a planted wait, lock or value that is kept is found": unsaid.unseen,
         "no number stands for a rule that is written elsewhere": numbers,
         "the first line of each source says what it is": nameless,
+        "each copy of the version is the program's": other_versions,
         "the page is what its sources make": make.differing}
     failed = 0
     for name, check in checks.items():

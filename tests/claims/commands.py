@@ -13,7 +13,7 @@ PIPELINES, GUIDE, LIBRARY = "docs/pipelines.md", "docs/guide.md", "docs/library.
 BLOCKS, SHOWN = "tests/documents/blocks.py", "tests/program/documents_run.py"
 # A document, what the blocks have, and the test that runs them: its file, and its name.
 RUN: Tuple[Tuple[str, str, str, str], ...] = (
-    ("README.md", "./ttrun run < examples/restart.script", SHOWN, "cases"), ("README.md", "./gate", "tests/gate/run.py", "PARTS"),
+    ("README.md", "./ttrun run < examples/restart.script", SHOWN, "cases"), ("README.md", "python3 bench.py", BLOCKS, "the_bench_of_the_readme"),
     (PIPELINES, "", BLOCKS, "every_block_on_a_campaign_that_fails"), (GUIDE, "< examples/", SHOWN, "cases"),
     (GUIDE, "", BLOCKS, "blocks_of_the_guide"), (GUIDE, "printf 'testcase", SHOWN, "shown_cases"),
     (GUIDE, "./ttrun explore --details < race.script", SHOWN, "shown_cases"),
@@ -28,7 +28,7 @@ RUN: Tuple[Tuple[str, str, str, str], ...] = (
     ("clients/python/README.md", "pip install clients/python", "tests/python/document_tests.py", "the_package_is_installed_from_its_folder"))
 # The same of commands that a sentence has: those with an input.
 TYPED: Tuple[Tuple[str, str, str, str], ...] = (
-    ("README.md", "race.script", BLOCKS, "the_race_of_the_readme"), ("README.md", "< examples/", SHOWN, "cases"),
+    ("README.md", "race.script", BLOCKS, "the_race_of_the_readme"),
     (GUIDE, "< examples/", SHOWN, "cases"), (PIPELINES, "campaign.script", BLOCKS, "commands_in_the_text"),
     ("docs/benches.md", "< heater.script", BLOCKS, "the_model_of_a_bench"))
 # A command with an input; one with a word in capitals is a pattern.

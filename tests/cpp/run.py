@@ -438,17 +438,14 @@ def calls_in_a_second(place: Place) -> str:
 
 def main() -> int:
     holding.load(__name__)
-    parser = holding.parser("tests the C++ client of ttrun serve")
-    holding.add_server(parser)
-    given = parser.parse_args()
-    names = holding.chosen(given)
+    given, [names] = holding.chosen(holding.words_of_clients("tests the C++ client of ttrun serve"), (TESTS, 0))
     if not shutil.which("c++"):
         print(f"there is no compiler of C++: nothing is known of the C++ client\n0 passed, {len(names)} failed")
         return 1
     with tempfile.TemporaryDirectory(prefix="filskeam-cpp-") as room:
         place = Place(room, holding.command_of(given))
         place.build("c++", BENCH)
-        return holding.told(holding.judged(it, place) for it in names)
+        return holding.status_of(holding.judged(it, place) for it in names)
 
 
 if __name__ == "__main__":

@@ -296,6 +296,16 @@ class Blocks(Room):
         hold(second.status == 0 and f"`{second.output.strip()}`" in text and second.output == "t fail complete\n", f"{second}")
         return "3 commands"
 
+    def the_bench_of_the_readme(self) -> str:
+        """Its file, and the command below it, which is said to print a word."""
+        file, command = (next(it.text for it in read(TOP, README).blocks() if it.language == language and has in it.text)
+                         for language, has in (("python", "Server"), ("sh", "bench.py")))
+        self.write("bench.py", file)
+        os.symlink(os.path.join(TOP, "clients"), self.path("clients"))
+        ran, printed = self.shell(("bash",), command), re.search(r"# prints (\w+)$", command, re.MULTILINE)[1]
+        same((f"{printed}\n", "", 0), (ran.output, ran.errors, ran.status))
+        return printed
+
     def the_model_of_a_bench(self) -> str:
         """Its script has the line that is shown, and another one without the wait."""
         document, text = read(TOP, BENCHES), " ".join(read(TOP, BENCHES).lines)

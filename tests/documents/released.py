@@ -1,4 +1,4 @@
-"""The script release: what it refuses, and what its archive gives to a user who has no toolchain."""
+"""The script release: what it refuses, and what its archive and its packages give to a user who has no toolchain."""
 import hashlib
 import os
 import re
@@ -7,11 +7,11 @@ import tarfile
 import time
 from typing import List
 
+import words as of_words
 from browser import Chromium
 from documents import Document, output_of, read
 from harness import Folder, Ran, Skipped, add_tools, bytes_of, call, hold, same, tests_of, text_of
-from room import checkout, copy_checkout
-from yaml_reader import read_yaml
+from room import checkout, copy_checkout, read_yaml
 
 GREEN = "2345 passed, 0 failed"
 TOOLCHAIN = "the toolchain of the tests"
@@ -23,7 +23,11 @@ PARTS = ("ttrun", "MANIFEST", "SHA256SUMS", "README.md", "CHANGELOG.md", "docs/g
          "clients/python/filskeam/py.typed", "clients/cpp/README.md", "clients/cpp/filskeam.hpp", "clients/cpp/heater.cpp",
          "clients/cpp/filskeam_gtest.hpp", "clients/cpp/CMakeLists.txt", "page/play.html")
 # What a release is made of and by.
-NEEDED = ("release", ".gitignore", "*.md", "docs", "examples", "page", "clients")
+NEEDED = ("release", ".gitignore", "*.md", "docs", "examples", "page", "clients", "tools/manual.py")
+MANUAL, BASH, ZSH, FISH = (f"share/{it}" for it in ("man/man1/ttrun.1", "bash-completion/completions/ttrun", "zsh/vendor-completions/_ttrun",
+                                                  "fish/vendor_completions.d/ttrun.fish"))
+SUBCOMMANDS = ("run", "serve", "explore", "check", "report", "replay")
+VERDICTS_TO_STOP_ON = ["none", "pass", "inconc", "fail", "error"]
 
 
 class Tree(Folder):
@@ -56,7 +60,7 @@ class Tree(Folder):
         ran = self.release()
         hold(ran.status == 3 and not ran.output and ran.errors.startswith("release: "), ran)
         hold(all(it in ran.errors for it in words), f"{words} are not told: {ran}")
-        same([], [it for it in os.listdir(os.path.dirname(self.program)) if it.endswith((".gz", ".sha256"))], "what is left")
+        same([], [it for it in os.listdir(os.path.dirname(self.program)) if it.endswith((".gz", ".deb", ".whl", ".MANIFEST"))], "what is left")
 
 
 class Unpacked(Folder):
@@ -65,9 +69,13 @@ class Unpacked(Folder):
     def __init__(self, room: str, program: str) -> None:
         self.tree, top = Tree(room, program), os.path.join(room, "else where")
         self.tree.record()
-        ran, self.archive = self.tree.release(room), os.path.join(room, f"ttrun-{self.tree.version}-x86_64-linux.tar.gz")
-        hold(ran.status == 0 and not ran.errors and os.path.isfile(self.archive), ran)
-        same(f"{hashlib.sha256(bytes_of(self.archive)).hexdigest()}  {os.path.basename(self.archive)}\n", ran.output)
+        ran, version = self.tree.release(room), self.tree.version
+        self.wheel, self.package, self.archive = self.made = [os.path.join(room, it) for it in (
+            f"filskeam-{version}-py3-none-any.whl", f"filskeam_{version}_amd64.deb", f"ttrun-{version}-x86_64-linux.tar.gz")]
+        hold(ran.status == 0 and not ran.errors, ran)
+        same("".join(f"{hashlib.sha256(bytes_of(it)).hexdigest()}  {os.path.basename(it)}\n" for it in self.made), ran.output)
+        self.manifest = f"{self.archive[:-len('.tar.gz')]}.MANIFEST"
+        same(sorted([*self.made, self.manifest]), sorted(it.path for it in os.scandir(room) if it.is_file()), "what it leaves")
         with tarfile.open(self.archive) as archive:
             plain = [(it.isfile() or it.isdir()) and it.uid == 0 and ".." not in it.name for it in archive.getmembers()]
             hold(all(plain), "a file of another kind")
@@ -80,6 +88,12 @@ class Unpacked(Folder):
 
     def shell(self, text: str, **more: str) -> Ran:
         return call(["bash", "-c", text], cwd=self.folder, env={**self.environment, **more})
+
+    def completed(self, *words: str) -> List[str]:
+        """What bash offers for the last of these words."""
+        typed = " ".join(f"'{it}'" for it in words)
+        ran = self.shell(f". {BASH}; COMP_WORDS=({typed}) COMP_CWORD={len(words) - 1}; _ttrun; printf '%s\\n' \"${{COMPREPLY[@]}}\"")
+        return ran.output.split()
 
     def files(self) -> List[str]:
         return sorted(os.path.relpath(os.path.join(at, it), self.folder) for at, _, names in os.walk(self.folder) for it in names)
@@ -102,17 +116,89 @@ class Archive(Unpacked):
         same(wanted, self.text("MANIFEST").splitlines()[:5])
         needed = [it for it in self.shell("ldd ./ttrun").output.split() if it.startswith("lib") and not it.startswith("libc.")]
         same([], needed, "more than the C library is needed")
-        ran = self.shell(f"cd '{self.tree.room}' && sha256sum --check --strict --quiet {os.path.basename(self.archive)}.sha256")
-        hold(ran.status == 0, ran)
+        same(self.text("MANIFEST") + self.shell(f"cd '{self.tree.room}' && sha256sum *.whl *.deb *.tar.gz").output, self.text(self.manifest))
         return f"{len(there)} files, {os.path.getsize(self.archive) // 1024} KiB"
 
     def the_same_bytes_again(self) -> str:
-        before = bytes_of(self.archive)
+        before = list(map(bytes_of, [*self.made, self.manifest]))
         os.utime(self.tree.path("README.md"), (1, 1))
         time.sleep(1.1)
         same(0, self.tree.release(self.tree.room, mask="077").status, "the second one")
-        hold(bytes_of(self.archive) == before, "another archive of the same commit")
-        return f"{len(before)} bytes"
+        hold(list(map(bytes_of, [*self.made, self.manifest])) == before, "other files of the same commit")
+        return f"{sum(map(len, before))} bytes"
+
+    def the_package_is_installed_and_removed(self) -> str:
+        """Into a folder that has nothing but what dpkg notes."""
+        if os.geteuid() != 0:
+            raise Skipped("dpkg wants to be root")
+        with Folder(os.path.join(self.tree.room, "root")) as root:
+            root.write("var/lib/dpkg/status", ""), root.write("var/lib/dpkg/info/none", ""), root.write("var/lib/dpkg/updates/none", "")
+            os.remove(root.path("var/lib/dpkg/updates/none"))
+            dpkg = ["dpkg", f"--root={root.folder}", "--force-depends", "--log=/dev/null"]
+            ran = call([*dpkg, "--install", self.package])
+            hold(ran.status == 0, ran)
+            ran = call([root.path("usr/bin/ttrun"), "explore"], "testcase t\nbehaviour main\nsetverdict pass\nend\nend\n")
+            same(("t pass complete\n", "", 0), (ran.output, ran.errors, ran.status))
+            same(self.text(MANUAL), call(["gzip", "-dc", root.path(f"usr/{MANUAL}.gz")]).output, "another manual page")
+            same(0, call([root.path("usr/bin/ttrun-titan"), "--help"]).status, "the reader of Titan's logs does not run")
+            doc = "usr/share/doc/filskeam/"
+            same([], [it for it in PARTS if it not in ("ttrun", "SHA256SUMS") and not os.path.exists(root.path(doc + it))], "what is not there")
+            same([], [it for it in (BASH, ZSH, FISH) if self.text(it) != root.text(f"usr/{it}")], "other completions")
+            same(f"ii filskeam {self.tree.version}", call(["dpkg-query", f"--root={root.folder}", "-f", "${db:Status-Abbrev}${Package} ${Version}", "-W"]).output)
+            ran = call([*dpkg, "--purge", "filskeam"])
+            hold(ran.status == 0 and not os.path.exists(root.path("usr")), f"{ran}: {os.listdir(root.folder)}")
+        return f"{os.path.getsize(self.package) // 1024} KiB"
+
+    def the_package_has_the_library_of_the_gate(self) -> str:
+        out = "crates/filskeam/out/"
+        for name, text in (("libfilskeam.a", "archive"), ("libfilskeam.so", "shared"), ("filskeam.h", "header"), ("filskeam.pc", "prefix=/x\nlibdir=/y\n")):
+            self.tree.write(out + name, text)
+        self.tree.record(library=hashlib.sha256(b"archive").hexdigest())
+        same(0, self.tree.release(self.tree.room).status)
+        same(0, call(["dpkg-deb", "-x", self.package, self.path("tree")]).status)
+        found = [self.text(f"tree/usr/{it}") for it in ("include/filskeam.h", *(f"lib/x86_64-linux-gnu/{it}" for it in (
+            "libfilskeam.a", "libfilskeam.so", "pkgconfig/filskeam.pc")))]
+        same(["header", "archive", "shared", "prefix=/usr\nlibdir=${prefix}/lib/x86_64-linux-gnu\n"], found)
+        self.tree.write(f"{out}libfilskeam.a", "another")
+        ran = self.tree.release(self.tree.room)
+        hold(ran.status == 3 and "is not the library of the gate" in ran.errors, ran)
+        return "4 files"
+
+    def the_wheel_has_the_client(self) -> str:
+        self.write("bench.py", "import filskeam\nwith filskeam.Server() as server:\n    print(server.run('t', lambda run: run.set_verdict('pass')).verdict, filskeam.__version__)\n")
+        ran = self.shell(f"rm -r clients && python3 -B bench.py", PYTHONPATH=self.wheel, TTRUN=self.path("ttrun"))
+        same((f"pass {self.tree.version}\n", "", 0), (ran.output, ran.errors, ran.status))
+        return os.path.basename(self.wheel)
+
+    def the_manual_and_the_completions_name_all(self) -> str:
+        """Each subcommand, and each option with its values, as the tests of the help have them: in the manual, and as shells complete them."""
+        page, zsh, count = self.text(MANUAL).replace("\\-", "-"), self.text(ZSH), 0
+        first = [*SUBCOMMANDS, "--help", "--version"]
+        same(first, self.completed("ttrun", ""), "what bash begins with")
+        same([], [it for it in first if it not in page or it not in zsh], "what the manual or zsh lacks")
+        for command in SUBCOMMANDS:
+            lines = "".join(next(lines for words, lines in of_words.HELP if words == ("help", command)))
+            wanted = [*re.findall(r"(?m)^  (--[a-z-]+)", lines), "--help"]
+            of_page, of_zsh = page.partition(f'.SH "TTRUN {command.upper()}"')[2].partition(".SH ")[0], re.search(rf"(?m)^    {command}\) .*$", zsh)[0]
+            same([], [it for it in wanted if rf"\fB{it}\fR" not in of_page or not re.search(rf"'\*?{it}[=-]*\[", of_zsh)], f"{command} lacks")
+            same(sorted(wanted), [it for it in sorted(self.completed("ttrun", command, "--")) if "=" not in it], f"bash, {command}")
+            count += len(wanted)
+        for shown in (self.completed("ttrun", "run", "--stop-on", ""), re.search(r"'--stop-on\[[^']*:\(([^)]*)\)'", zsh)[1].split()):
+            same(VERDICTS_TO_STOP_ON, shown)
+        same(["--stop-on"], self.completed("ttrun", "run", "--st"))
+        return f"{count} options"
+
+    def other_shells_read_their_completions(self) -> str:
+        shells = [it for it in ("zsh", "fish") if shutil.which(it)]
+        for it, name in (("zsh", ZSH), ("fish", FISH)):
+            ran = self.shell(f"{it} -n {name}" if it in shells else "true")
+            hold(ran.status == 0 and not ran.errors, ran)
+        if "fish" not in shells:
+            raise Skipped("there is no fish")
+        for typed, wanted in (("run --stop-on ", VERDICTS_TO_STOP_ON), ("", [*SUBCOMMANDS]), ("replay --", ["--explain", "--help", "--no-explain"])):
+            ran = self.shell(f"fish --no-config -c 'source {FISH}; complete -C \"ttrun {typed}\"'")
+            same(sorted(wanted), sorted(it.split("\t")[0] for it in ran.output.splitlines() if it), typed)
+        return ", ".join(shells)
 
     def the_archive_runs_without_a_toolchain(self) -> str:
         count, readme = 0, self.read("README.md")

@@ -4,12 +4,12 @@ import os
 import shutil
 import sys
 import tarfile
-from typing import Dict, List, Sequence
+from typing import Any, Dict, List, Sequence
 
 TESTS_FOLDER = os.path.dirname(os.path.dirname(os.path.abspath(__file__)))
 sys.path += [TESTS_FOLDER, *(os.path.join(TESTS_FOLDER, it) for it in ("claims", "program", "page"))]
 
-from harness import GIT, TOP, Folder, Ran, bytes_of, call, hold, write
+from harness import GIT, TOP, Folder, Ran, Skipped, bytes_of, call, hold, write
 
 # A shell ends at the first command that fails. These are GitHub's, GitLab's and Jenkins's.
 SHELLS: Dict[str, Sequence[str]] = {"github": ("bash", "-e"), "gitlab": ("bash", "-eo", "pipefail"), "jenkins": ("sh", "-e")}
@@ -48,6 +48,21 @@ def copy_checkout(target: Folder, *paths: str) -> None:
 def checkout(*paths: str) -> List[str]:
     listed = call(["git", "ls-files", "-co", "--exclude-standard", *paths], cwd=TOP)
     return [it for it in listed.output.splitlines() if os.path.isfile(os.path.join(TOP, it))]
+
+
+def read_yaml(text: str) -> Any:
+    """What PyYAML reads, each scalar a text. No key may be there twice."""
+    try:
+        import yaml
+    except ImportError:
+        raise Skipped("there is no PyYAML") from None
+
+    class Loader(yaml.BaseLoader):
+        def construct_mapping(self, node: yaml.MappingNode, deep: bool = False) -> Dict[str, Any]:
+            hold(len({key.value for key, _ in node.value}) == len(node.value), f"a key is there twice: {node.start_mark}")
+            return super().construct_mapping(node, deep)
+
+    return yaml.load(text, Loader=Loader)
 
 
 class Room(Folder):

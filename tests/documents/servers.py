@@ -9,10 +9,9 @@ from functools import partial
 from typing import Callable, Dict, List, Optional, Tuple
 
 from blocks import PIPELINES, WORST, hold_junit, hold_left, step
-from room import SHELLS, VERDICTS, Room
+from room import SHELLS, VERDICTS, Room, read_yaml
 from documents import Block, read
-from harness import TOP, Ran, Skipped, bytes_of, hold, same, text_of
-from yaml_reader import read_yaml
+from harness import TOP, Ran, bytes_of, hold, same, text_of
 
 DOCUMENTS = (PIPELINES, "docs/titan.md")
 FEWEST_TEXTS, SHARDS = 3, 4
@@ -301,20 +300,8 @@ def every_yaml_is_read(_: str, __: str) -> str:
     return f"{sum(map(len, values))} keys"
 
 
-def every_yaml_as_another_reader_has_it(_: str, __: str) -> str:
-    try:
-        import yaml
-    except ImportError:
-        raise Skipped("there is no PyYAML") from None
-    for path, block in texts():
-        theirs = yaml.load(block.text, Loader=yaml.BaseLoader)
-        hold(read_yaml(block.text) == theirs, f"{path}:{block.line}: PyYAML has {theirs}")
-    return f"PyYAML {yaml.__version__}"
-
-
 OF_SERVERS = {"github_whole": (all_shards_end, github), "github_late": (a_shard_runs_out_of_time, github),
               "github_released": (a_released_program, github), "gitlab_whole": (all_shards_end, gitlab),
               "gitlab_late": (a_shard_runs_out_of_time, gitlab), "gitlab_released": (a_released_program, gitlab),
               "jenkins_whole": (all_shards_end, jenkins), "jenkins_late": (a_shard_runs_out_of_time, jenkins)}
-TESTS = {"every_yaml_is_read": every_yaml_is_read, "every_yaml_as_another_reader_has_it": every_yaml_as_another_reader_has_it,
-         **{name: partial(test, shell=pipeline.__name__, pipeline=pipeline) for name, (test, pipeline) in OF_SERVERS.items()}}
+TESTS = {"every_yaml_is_read": every_yaml_is_read, **{name: partial(test, shell=pipeline.__name__, pipeline=pipeline) for name, (test, pipeline) in OF_SERVERS.items()}}

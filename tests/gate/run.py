@@ -157,7 +157,8 @@ class Gate(Room):
 
     def a_part_that_counts_nothing(self) -> None:
         for text in ("exit 0", "exit 1", "echo 'all is well'", "echo '7 passed, 0 failed'; echo behind it", "echo '7 passed, 0 failed '",
-                     "echo 'about 7 passed, 0 failed'", "echo '7 passed, no failed'", "echo '7 passed, 0 failed' >&2", "echo '0 passed, 0 failed'"):
+                     "echo 'about 7 passed, 0 failed'", "echo '7 passed, no failed'", "echo '7 passed, 0 failed' >&2", "echo '0 passed, 0 failed'",
+                     "echo '0 passed, 0 failed, 0 skipped'"):
             _, errors = self.run(status=1, last=counted(1, wrapper=0), wrapper=text)
             hold("counts no failure" in errors, f"{text}: {errors}")
 
@@ -301,19 +302,19 @@ class Gate(Room):
         shutil.copy2(os.path.join(TOP, ".ci/run"), self.path(".ci"))
         for name in ("bash", "dirname", "timeout"):
             os.symlink(f"/usr/bin/{name}", self.path(f"tools/{name}"))
-        installed = ("nodejs", "chromium", "firefox-esr")
+        installed = ("nodejs", "chromium", "firefox-esr", "poppler-utils", "parallel", "zsh", "fish")
         wanted = ["bin/apt-get update", *(f"bin/apt-get install --yes --no-install-recommends {it}" for it in installed)]
         for status, processors, jobs in ((0, 64, 4), (1, 2, 2), (3, 4, 4)):
             calls, errors = self.integrate(status, processors)
-            hold(calls[:4] == wanted and calls[-1] == f"gate --jobs {jobs}", calls)
+            hold(calls[:len(wanted)] == wanted and calls[-1] == f"gate --jobs {jobs}", calls)
             lacking = [it for it in installed if f"this could not be installed: {it}\n" not in errors]
             hold(not lacking and "apt-get update failed" in errors, errors)
         os.remove(self.path("tools/timeout"))
         self.note_limits("tools/timeout")
         self.integrate(0, 2)
         limits = self.limits()
-        hold(len(limits) >= 4 and all(it.startswith("apt-get ") and limit >= 300 for it, limit in limits.items()), limits)
-        for name in ("node", "chromium", "firefox"):
+        hold(len(limits) > len(installed) and all(it.startswith("apt-get ") and limit >= 300 for it, limit in limits.items()), limits)
+        for name in ("node", "chromium", "firefox", "pdftotext", "parallel", "zsh", "fish"):
             self.write(f"bin/{name}", "#!/usr/bin/env bash\n", is_run=True)
         asked = [it for it in self.integrate(1, 8)[0] if "install" in it and "pytest" not in it]
         same([], asked, "what is there is installed")

@@ -32,8 +32,7 @@ import thread_limits
 from refusing import TOP, Refusing, refusing
 from sweeps import Sweep
 
-from case import below
-from lanes import lanes
+from case import below, lanes
 
 # What must be met in the gate, by the tests that refuse something, and by those of texts.
 REFUSING_FLOORS = {"right": 900, "refused": 5000, "aborted": 2000, "served in part": 60}

@@ -29,7 +29,7 @@ from lists import TOP, Answer, Mutant, Outcome
 
 sys.path.append(os.path.join(TOP, "tests", "program"))
 
-from lanes import lanes
+from case import lanes
 
 
 def refused_by_prover(chosen: List[Mutant], pool: ThreadPoolExecutor, rt: List[str]) -> Iterator[Tuple[Mutant, Answer]]:

@@ -14,8 +14,6 @@ from dataclasses import dataclass
 from itertools import islice
 from typing import Callable, Dict, Iterable, List, Mapping, Optional, Tuple, Union
 
-from lanes import lanes
-
 # A program that has not ended after that many seconds is stopped, and its case has failed.
 SECONDS = 60
 # A test that has found that many faults ends.
@@ -222,6 +220,12 @@ def below(met: Mapping[str, int], floors: Dict[str, int]) -> List[str]:
 def shown_with(faults: List[str], *shown: str) -> List[str]:
     """The faults, if there are any, and what they are of."""
     return [*faults, *shown] if faults else []
+
+
+def lanes() -> int:
+    """How many runs go side by side: as many as RT_JOBS says, which ./gate sets; otherwise one for each processor that there is to use."""
+    said = os.environ.get("RT_JOBS", "")
+    return int(said) if said.isdigit() and int(said) else len(os.sched_getaffinity(0))
 
 
 def chosen_tests(parser: argparse.ArgumentParser, tests: Callable[[int], List[Test]]) -> Tuple[argparse.Namespace, List[Test]]:

@@ -79,10 +79,8 @@ def faults_of_folder(_: str, names: List[str]) -> List[str]:
         given = {"replies": "moves", "summary": "history", **dict.fromkeys([*FORMS, "progress"], "script")}.get(suffix)
         if given is not None and f"{stem}.{given}" not in names or given is None and suffix not in ("script", "moves"):
             faults.append(f"{name} is no output of an example")
-        lacking = {"script": [f"{stem}.report", f"{stem}.csv", f"{stem}.history"], "moves": [f"{stem}.replies"]}.get(suffix, [])
-        if suffix == "script" and (f"{stem}.csv" in names or f"{stem}.history" in names):
-            lacking = lacking[:1]
-        faults += [f"{name} lacks {it}" for it in lacking if it not in names]
+        lacking = {"script": f"{stem}.report", "moves": f"{stem}.replies"}.get(suffix, name)
+        faults += [f"{name} lacks {lacking}"] * (lacking not in names)
     return faults
 
 

@@ -1,4 +1,4 @@
-"""What the tests of the clients share: how one fails, their list, the folder of each, and how they are chosen and counted."""
+"""What the tests of the clients share: their list, the folder of each, the server, and what any bench must have done."""
 import argparse
 import importlib
 import inspect
@@ -7,21 +7,17 @@ import re
 import shlex
 import sys
 from dataclasses import dataclass
-from typing import Callable, Dict, Iterable, List, Sequence, Type
+from functools import partial
+from typing import Callable, Dict, List, Sequence, Type
 
 TESTS_FOLDER = os.path.dirname(os.path.dirname(os.path.abspath(__file__)))
-TOP = os.path.dirname(TESTS_FOLDER)
 REFERENCE = os.path.join(TESTS_FOLDER, "serve", "reference.py")
+sys.path.append(TESTS_FOLDER)
+
+from harness import TOP, Answer, Fault, Skipped, answer_of, chosen, hold, same, status_of, text_of, words_of, write
+
 # The tests by their names. A test is called with its place, and may answer what it reached.
 TESTS: Dict[str, Callable[..., object]] = {}
-
-
-class Fault(Exception):
-    """Why a test has failed."""
-
-
-class Skipped(Exception):
-    """What a test needs and this machine has not."""
 
 
 def load(*modules: str) -> None:
@@ -32,16 +28,6 @@ def load(*modules: str) -> None:
                 if name in TESTS or inspect.getsource(module).count(f"\ndef {name}(") > 1:
                     sys.exit(f"two tests have one name: {name}")
                 TESTS[name] = it
-
-
-def hold(is_so: object, text: object = "") -> None:
-    """Fails the test unless it is so."""
-    if not is_so:
-        raise Fault(str(text))
-
-
-def same(found: object, wanted: object, about: object = "") -> None:
-    hold(found == wanted, f"{about} found {found!r}, and {wanted!r} is wanted".strip())
 
 
 def holds_word(word: str, text: str) -> None:
@@ -55,11 +41,6 @@ def raises(kind: Type[BaseException], call: Callable[[], object]) -> BaseExcepti
     except kind as raised:
         return raised
     raise Fault(f"no {kind.__name__} was raised")
-
-
-def text_of(path: str) -> str:
-    with open(path, encoding="utf-8") as file:
-        return file.read()
 
 
 def blocks_of(path: str, kind: str) -> List[str]:
@@ -95,14 +76,9 @@ class Room:
     def text(self, name: str) -> str:
         return text_of(self.path(name))
 
-    def write(self, name: str, text: str, mode: int = 0o644) -> str:
+    def write(self, name: str, text: str, is_run: bool = False) -> str:
         """Writes a file, in a folder that need not be there yet: its path."""
-        path = self.path(name)
-        os.makedirs(os.path.dirname(path), exist_ok=True)
-        with open(path, "w", encoding="utf-8") as file:
-            file.write(text)
-        os.chmod(path, mode)
-        return path
+        return write(self.path(name), text, is_run)
 
 
 @dataclass
@@ -113,20 +89,14 @@ class ServerRoom(Room):
 
     def program(self) -> str:
         """The server as a program that is called with the word serve."""
-        return self.write("ttrun", f'#!/bin/sh\n[ "$*" = serve ] || exit 9\nexec {shlex.join(self.command)}\n', 0o755)
+        return self.write("ttrun", f'#!/bin/sh\n[ "$*" = serve ] || exit 9\nexec {shlex.join(self.command)}\n', True)
 
 
-def parser(about: str) -> argparse.ArgumentParser:
-    """The words that choose tests."""
-    made = argparse.ArgumentParser(description=about)
-    made.add_argument("--only", default="", help="the tests with this in their names")
-    made.add_argument("--list", action="store_true", help="prints the names of the tests")
-    return made
-
-
-def add_server(made: argparse.ArgumentParser) -> None:
-    """Adds the word for another server than that in Python."""
+def words_of_clients(about: str) -> argparse.ArgumentParser:
+    """The words that choose tests, and that for another server than that in Python."""
+    made = words_of(about, has_program=False)
     made.add_argument("--server", default=shlex.join([sys.executable, REFERENCE]), help="the command of the server")
+    return made
 
 
 def command_of(given: argparse.Namespace) -> List[str]:
@@ -134,49 +104,6 @@ def command_of(given: argparse.Namespace) -> List[str]:
     return [os.path.abspath(it) if os.path.exists(it) else it for it in shlex.split(given.server)]
 
 
-def chosen(given: argparse.Namespace, fewest: int = 0) -> List[str]:
-    """The names of the tests that were asked for. If only these are wanted, it prints them and ends."""
-    if len(TESTS) < fewest:
-        sys.exit(f"{len(TESTS)} tests are fewer than {fewest}")
-    names = [it for it in TESTS if given.only in it]
-    if given.list:
-        print("\n".join(names))
-        sys.exit()
-    return names
-
-
-@dataclass
-class Answer:
-    """What a test reached, what it lacks if it was skipped, and what is wrong if it failed."""
-
-    name: str
-    reached: str = ""
-    lacks: str = ""
-    fault: str = ""
-
-    def line(self) -> str:
-        if self.fault:
-            return f"FAILED {self.name}\n  {self.fault}"
-        return f"skipped {self.name}: {self.lacks}" if self.lacks else f"{self.name}: {self.reached or 'as it should'}"
-
-
 def judged(name: str, place: Room) -> Answer:
-    """Runs a test. One that breaks has failed, also by what is no Exception, and the others run on."""
-    try:
-        return Answer(name, str(TESTS[name](place) or ""))
-    except Skipped as why:
-        return Answer(name, lacks=str(why))
-    except KeyboardInterrupt:
-        raise
-    except BaseException as error:  # pylint: disable=broad-except
-        return Answer(name, fault=f"{type(error).__name__}: {error}"[:2000])
-
-
-def told(answers: Iterable[Answer]) -> int:
-    """Prints what became of each test, and last how many passed: the status."""
-    count = failed = skipped = 0
-    for count, it in enumerate(answers, 1):
-        failed, skipped = failed + bool(it.fault), skipped + bool(it.lacks)
-        print(it.line(), flush=True)
-    print(f"{count - failed - skipped} passed, {failed} failed" + f", {skipped} skipped" * bool(skipped))
-    return 1 if failed or not count else 0
+    """Runs a test in its place."""
+    return answer_of(name, partial(TESTS[name], place))

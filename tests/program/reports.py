@@ -348,8 +348,7 @@ def cases() -> Iterator[Union[Case, Judgement]]:
     names = sorted(os.listdir(examples.FOLDER))
     for stem in (it[: -len(".script")] for it in names if it.endswith(".script")):
         yield Judgement(f"report_of_one_run_{stem}", f"ttrun run --history < examples/{stem}.script | ttrun report", faults_of_one_run, (stem,))
-        if f"{stem}.csv" in names:
-            yield Judgement(f"report_as_run_{stem}", f"ttrun run --csv < examples/{stem}.script", faults_as_run, (stem,))
+        yield Judgement(f"report_as_run_{stem}", f"ttrun run --csv < examples/{stem}.script", faults_as_run, (stem,))
     for name in (it for it in names if it.endswith(".history")):
         yield Judgement(f"report_of_{name}", f"ttrun report < examples/{name}", faults_of_each_form, (examples.bytes_of(name),))
     for name, fewest in (("verdicts.history", 15), ("restart.history", 10)):

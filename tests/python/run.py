@@ -18,7 +18,7 @@ sys.dont_write_bytecode = True
 import kit
 
 import holding
-from lanes import lanes
+from case import lanes
 
 holding.load("device_tests", "document_tests", "ending_tests", "random_tests", "runner_tests", "server_tests", "word_tests")
 
@@ -27,26 +27,27 @@ FEWEST = 55
 ALONE = ("the_program_is_found", "calls_in_a_second")
 
 
-def judged(name: str, command: Sequence[str]) -> holding.Answer:
+def reached(name: str, command: Sequence[str]) -> str:
     """Runs a test, which must say what it reached."""
     with tempfile.TemporaryDirectory(prefix="filskeam-test-") as room:
         place = kit.Place(room, command)
-        answer = holding.judged(name, place)
-    answer.reached = ", ".join(place.reached)
-    answer.fault = answer.fault or ("" if answer.reached or answer.lacks else "Fault: it does not say what it reached")
-    return answer
+        holding.TESTS[name](place)
+        holding.hold(place.reached, "it does not say what it reached")
+        return ", ".join(place.reached)
 
 
 def main() -> int:
-    parser = holding.parser("tests the Python client of ttrun serve")
-    holding.add_server(parser)
+    parser = holding.words_of_clients("tests the Python client of ttrun serve")
     parser.add_argument("--jobs", type=int, default=lanes(), help="how many run side by side")
-    given = parser.parse_args()
-    names, command = holding.chosen(given, FEWEST), holding.command_of(given)
-    alone = [it for it in names if it in ALONE]
+    given, [tests] = holding.chosen(parser, (holding.TESTS, FEWEST))
+    command = holding.command_of(given)
+
+    def judged(name: str) -> holding.Answer:
+        return holding.answer_of(name, lambda: reached(name, command))
+
     with ThreadPoolExecutor(given.jobs) as pool:
-        together = pool.map(lambda it: judged(it, command), [it for it in names if it not in ALONE])
-        return holding.told(itertools.chain(list(together), (judged(it, command) for it in alone)))
+        together = list(pool.map(judged, [it for it in tests if it not in ALONE]))
+        return holding.status_of(itertools.chain(together, (judged(it) for it in tests if it in ALONE)))
 
 
 if __name__ == "__main__":

@@ -233,14 +233,14 @@ def the_program_is_found(place: Place) -> None:
     """By a variable, then on the path, then the wrapper of the checkout."""
     before = dict(os.environ)
     try:
-        os.environ.update(FILSKEAM_TTRUN="", TTRUN=place.program())
+        os.environ.update(FILSKEAM_TTRUN=place.program(), TTRUN="")
         os.mkdir(place.path("other"))
         shutil.copyfile("/bin/false", place.path("other/ttrun"))
         os.chmod(place.path("other/ttrun"), 0o755)
         os.environ["PATH"] = place.path("other") + os.pathsep + before["PATH"]
         with Server(grace=0.4) as server:
             same(server.run("t", main_that_calls).verdict, "pass", "by the variable:")
-        os.environ["FILSKEAM_TTRUN"] = "/nowhere/ttrun"
+        os.environ["TTRUN"] = "/nowhere/ttrun"
         holds_word("/nowhere/ttrun cannot be started", str(raises(NoProgram, lambda: Server().run("t", main_that_calls))))
         del os.environ["FILSKEAM_TTRUN"], os.environ["TTRUN"]
         os.environ["PATH"] = place.room + os.pathsep + before["PATH"]

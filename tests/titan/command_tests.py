@@ -155,7 +155,7 @@ def without_ttrun_it_says_so(place: Place) -> None:
 
 
 def one_order_of_each_test_case(place: Place) -> None:
-    ran = place.command("audit", FULL, log("pumps-default.merged"), log("crowd-twice"), log("crowd-rotated"), "--history", "h")
+    ran = place.command("audit", FULL, log("pumps-default.merged"), *map(place.recorded, ("crowd-twice", "crowd-rotated")), "--history", "h")
     same((ran.status, ran.errors, ran.lines[-1]), (0, "", "43 test cases: 43 legal"))
     same(len(blocks_in(place, "h")), 43)
 
@@ -190,9 +190,9 @@ def functions_that_return_values(place: Place) -> None:
 def crashes_shots_and_mimics_are_named(place: Place) -> None:
     for name, words, status in (("crash.merged", "the main component crashed", 1), ("shot", "component 3 was shot", 1),
                                 ("mimic-default", "no order was found beyond", 1), ("quarrel-shim.merged", "3 test cases: 3 legal", 0)):
-        place.says(status, words, "audit", log(name))
-    place.says(3, "1 without, 1 not judged", "flaky", log("shot"))
-    same(place.command("flaky", log("shot"), FULL).status, 1, "a verdict that depends on luck stands beside a test case that is not judged")
+        place.says(status, words, "audit", log(name) if "." in name else place.recorded(name))
+    place.says(3, "1 without, 1 not judged", "flaky", "shot")
+    same(place.command("flaky", "shot", FULL).status, 1, "a verdict that depends on luck stands beside a test case that is not judged")
 
 
 def no_letter_of_a_log_moves_the_cursor(place: Place) -> None:
@@ -293,7 +293,7 @@ def scripts_are_what_explore_reads(place: Place) -> None:
 
 def a_script_of_each_log_is_run(place: Place) -> None:
     for name in ("pumps-full.merged", "pumps-default.merged", "faults-full.merged", "values-full.merged", "crowd-rotated", "crowd-twice"):
-        text = f"{place.command('script', log(name)).text}\n"
+        text = f"{place.command('script', log(name) if '.' in name else place.recorded(name)).text}\n"
         ran = subprocess.run([place.program, "run", "--list"], input=text.encode(), capture_output=True, check=False)
         same((ran.stderr, len(ran.stdout.splitlines()) > 0), (b"", True), name)
     for number in range(1, 256):
@@ -325,7 +325,7 @@ def what_no_script_holds_is_told(place: Place) -> None:
 
 
 def words_that_it_does_not_know(place: Place) -> None:
-    known = log("mimic-typed")
+    known = place.recorded("mimic-typed")
     for words in ([], ["x"], ["flaky"], ["flaky", known, "--x"], ["audit", known, "--states", "0"], ["audit", known, "--states", "x"],
                   ["audit", known, "--stat", "1"], ["audit", known, "--only", "t_none"], ["audit", known, "--program", "/none"],
                   ["audit", known, "--history", "/none/x"]):

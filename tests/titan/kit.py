@@ -36,6 +36,13 @@ class Place(holding.Room):
     def log(self, name: str, lines: Sequence[str]) -> str:
         return self.write(name, "".join(f"{it}\n" for it in lines))
 
+    def recorded(self, name: str) -> str:
+        """A folder of logs that were recorded, which record.sh keeps in one text."""
+        for part in holding.text_of(log(f"{name}.logs"))[len("==> "):].split("\n==> "):
+            file, _, text = part.partition(" <==\n")
+            self.write(f"{name}/{file}", text)
+        return self.path(name)
+
     def command(self, *words: str) -> Ran:
         environment = {**os.environ, "TTRUN": self.program, "PYTHONDONTWRITEBYTECODE": "1"}
         ran = subprocess.run([sys.executable, os.path.join(CLIENT, "ttrun-titan"), *words], cwd=self.room, env=environment,

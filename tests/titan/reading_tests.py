@@ -192,7 +192,7 @@ def a_folder_and_its_merged_file_are_the_same(place: Place) -> None:
 
 
 def rotated_logs_are_put_together(place: Place) -> None:
-    found = read(log("crowd-rotated"))
+    found = read(place.recorded("crowd-rotated"))
     same([(it.title, it.verdict, it.faults, it.missing, len(it.runs)) for it in found], [("t_crowd", "pass", [], [], 9)])
 
 
@@ -217,7 +217,7 @@ def a_missing_part_is_told(place: Place) -> None:
 
 
 def two_sessions_in_the_same_files(place: Place) -> None:
-    found = sessions.read_sessions([log("crowd-twice")])
+    found = sessions.read_sessions([place.recorded("crowd-twice")])
     same([(len(it.components), it.remarks[1:]) for it in found], [(2, []), (2, [])])
     same([it.verdict for session in found for it in map(reading.read_case, cases.cases_of(session)) if not it.faults], ["pass", "pass"])
 
@@ -289,7 +289,7 @@ def a_file_name_without_the_executable(place: Place) -> None:
 
 
 def lines_like_the_runtimes_own(place: Place) -> None:
-    typed, plain = place.command("audit", log("mimic-typed")), place.command("audit", log("mimic-default"))
+    typed, plain = place.command("audit", place.recorded("mimic-typed")), place.command("audit", place.recorded("mimic-default"))
     same((typed.status, plain.status), (0, 1))
     hold("may be taken for the runtime's" in plain.lines[0] and "may be taken" not in "\n".join(typed.lines), plain.lines)
 

@@ -4,19 +4,26 @@ import re
 import shutil
 
 from command_tests import STEADY, rows_of
-from holding import hold, same, text_of
+from holding import Skipped, hold, same, text_of
 from kit import Place
 
 import record
 
 
+def recorded(*named: object, **more: object) -> None:
+    """Runs a module on Titan, if that is installed."""
+    if record.why_not():
+        raise Skipped(record.why_not())
+    record.record(*named, **more)
+
+
 def titan_run_anew(place: Place) -> None:
     folder = place.path("full")
-    record.record("Pumps", folder, "full")
+    recorded("Pumps", folder, "full")
     other = place.path("default")
     os.mkdir(other)
     shutil.copy2(os.path.join(folder, "Pumps"), other)
-    record.record("Pumps", other, "default")
+    recorded("Pumps", other, "default")
     for logs in (folder, other):
         ran = place.command("audit", logs)
         same((ran.status, ran.lines[-1]), (0, "20 test cases: 20 legal"), ran.text)
@@ -31,7 +38,7 @@ def titan_run_anew(place: Place) -> None:
 def titan_with_a_log_for_each_test_case(place: Place) -> None:
     """The log of the first execution of a test case is overwritten by that of its second."""
     folder = place.path("each")
-    record.record("Pumps", folder, "each")
+    recorded("Pumps", folder, "each")
     ran = place.command("audit", folder)
     same((ran.status, ran.lines[-1]), (0, "19 test cases: 19 legal"), ran.text)
     hold(sum("-t_first.log: this component belongs to no test case that the log has" in it for it in ran.lines) == 1, ran.lines)
@@ -39,7 +46,7 @@ def titan_with_a_log_for_each_test_case(place: Place) -> None:
 
 def titan_with_the_shim(place: Place) -> None:
     folder = place.path("quarrel")
-    record.record("Quarrel", folder, "full", is_shimmed=True, parameters=["tsp_parts := 4", "tsp_times := 3"])
+    recorded("Quarrel", folder, "full", is_shimmed=True, parameters=["tsp_parts := 4", "tsp_times := 3"])
     text = "".join(text_of(os.path.join(folder, it)) for it in os.listdir(folder) if it.endswith(".log"))
     # How many there are depends on who is stopped first.
     count = len(re.findall(r"AUDIT running (?:\d+|any) -> (?:true|false)", text))

@@ -1,7 +1,7 @@
 #!/usr/bin/env bash
 # An rt that proves nothing. It locks the folders that an rt locks, holds each crate below to be built of its sources, and leaves
-# what an rt leaves. FAKE_PAUSE, or FAKE_PAUSE_NAME, is how long each half of a crate takes; what FAKE_STATUS, FAKE_FAULT and
-# FAKE_NOTHING say goes for the crate FAKE_AT, or the program.
+# what an rt leaves. FAKE_PAUSE, or FAKE_PAUSE_NAME, is how long each half of a crate takes; what FAKE_STATUS, FAKE_FAULT, FAKE_ENDS
+# and FAKE_NOTHING say goes for the crate FAKE_AT, or the program.
 name=${PWD##*/}
 tell() { echo "$*" >> "$FAKE_FOLDER/calls"; }
 trap 'tell "ended $name"; exit 1' INT TERM HUP
@@ -60,6 +60,7 @@ if [ "$verb" = run ] || [ "$(cat out/rlib/stamp 2> /dev/null)" != "$(stamp "$nam
         [ "$FAKE_FAULT" = once ] && : > "$FAKE_FOLDER/killed"
         tell "killed $name"
         echo "error: $name::one is not proved in $PWD"
+        [ "${FAKE_ENDS:-}" ] && exit "$FAKE_ENDS"
         kill -9 $$
     fi
     is_here && [ "${FAKE_STATUS:-0}" != 0 ] && { echo "error: $name::one is not proved in $PWD"; exit "$FAKE_STATUS"; }

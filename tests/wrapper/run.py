@@ -61,7 +61,7 @@ class Calls(Tree):
         self.hold_runs(1)
 
     def no_rt(self) -> None:
-        hold_refused(self.call("a", has_rt=False), "no rt on the path")
+        hold_refused(self.call("a", has_rt=False), "no rt on the path, the Rattle toolchain, which builds the program: or let TTRUN name a released program")
 
     def no_rt_but_a_program(self) -> None:
         hold_program(self.built().call("a", has_rt=False))
@@ -238,12 +238,15 @@ class Builds(Tree):
         hold("kept of tc_high before: begun\n" in text_of(f"{self.built().program}.log"), "the next call begins from nothing")
 
     def one_is_killed_beside_another(self) -> None:
-        ran = self.call("a", FAKE_FAULT="once", FAKE_AT="tc_aside", FAKE_PAUSE_tc_high="3")
-        same((0, b"<a>"), (ran.status, ran.output), ran)
-        calls, begins = self.calls(), self.begins()
-        same((["tc_aside 1", "tc_high 2"], ["tc_aside 1", "ttrun 2"]), (sorted(begins[1:3]), begins[3:]), calls)
-        hold(calls.index("killed tc_aside") < calls.index("built tc_high") < calls.index("built tc_aside"), f"it is not alone: {calls}")
-        hold(calls.count("built tc_aside") == 1 and self.runs(), calls)
+        """By the signal itself, or as a program above says it: 137 in a shell, 247 in Python."""
+        for ends in ("", "137", "247"):
+            with Tree() as it:
+                ran = it.call("a", FAKE_FAULT="once", FAKE_AT="tc_aside", FAKE_PAUSE_tc_high="3", FAKE_ENDS=ends)
+                same((0, b"<a>"), (ran.status, ran.output), ran)
+                calls, begins = it.calls(), it.begins()
+                same((["tc_aside 1", "tc_high 2"], ["tc_aside 1", "ttrun 2"]), (sorted(begins[1:3]), begins[3:]), calls)
+                hold(calls.index("killed tc_aside") < calls.index("built tc_high") < calls.index("built tc_aside"), f"it is not alone: {calls}")
+                hold(calls.count("built tc_aside") == 1 and it.runs(), calls)
 
     def a_library_that_is_killed_alone(self) -> None:
         self.hold_not_built(self.call("a", FAKE_FAULT="yes", FAKE_AT="tc_aside", FAKE_PAUSE_tc_high="3"), "status 137")
@@ -392,6 +395,14 @@ class Stops(Tree):
         same((-signal.SIGTERM, "ended ttrun"), (ended(started).status, self.calls()[-1]))
         self.hold_tidy()
 
+    def a_hangup_that_is_ignored(self) -> None:
+        """As below nohup: neither the build nor the program ends by it."""
+        for number in range(2):
+            started = self.begun(command=["sh", "-c", 'trap "" HUP; exec "$@"', "sh", self.path("ttrun")], FAKE_PAUSE="0.4")
+            os.killpg(started.pid, signal.SIGHUP)
+            same((0, b"<a>"), (lambda ran: (ran.status, ran.output))(ended(started)), self.calls())
+            self.change(text=f"-- {number}\n")
+
     def a_line_for_each_crate(self) -> None:
         ran = self.call("a", FAKE_PAUSE="1.5")
         lines = [it for it in ran.lines() if " crates built" in it]
@@ -434,13 +445,24 @@ class Stops(Tree):
     def another_rt_waits_for_the_build(self) -> None:
         started = self.begun(FAKE_PAUSE_tc_low="1")
         for crate in ("tc_low", "tc_aside", "ttrun"):
-            try:
-                with self.locked(crate):
-                    is_free = True
-            except BlockingIOError:
-                is_free = False
-            hold(not is_free, f"another rt may work in {crate}")
+            hold(not self.is_free(crate), f"another rt may work in {crate}")
         same(0, ended(started).status, "it is built")
+
+    def folders_are_taken_by_their_names(self) -> None:
+        """In that order an rt takes them too: two that wait for one another would wait for ever."""
+        with self.locked("tc_high"):
+            started = self.start("a")
+            wait_for(lambda: not self.is_free("tc_aside"), "the first folder is taken")
+            time.sleep(1)
+            same([False, True, True], [self.is_free(it) for it in ("tc_aside", "tc_low", "ttrun")], "what is taken before tc_high")
+        same(0, ended(started).status, "it is built")
+
+    def two_builders_at_once(self) -> None:
+        """As two wrappers begin them where the file system has no locks for the wrapper."""
+        command = [sys.executable, self.path("tools/first_build.py"), self.folder, "ttrun"]
+        both = [self.start(command=command, FAKE_PAUSE="0.2") for _ in range(2)]
+        same([0, 0], [ended(it).status for it in both])
+        same(2, len(self.runs()), self.calls())
 
     def a_build_at_a_terminal(self) -> None:
         _, lines = self.at_terminal("sum", FAKE_PAUSE="1.5")
@@ -617,7 +639,7 @@ class Tries(Tree):
 
 
 # There are no fewer tests.
-TESTS, FEWEST = tests_of(Calls, Changes, Builds, Stops, Tries), 80
+TESTS, FEWEST = tests_of(Calls, Changes, Builds, Stops, Tries), 83
 
 
 if __name__ == "__main__":

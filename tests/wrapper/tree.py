@@ -105,7 +105,7 @@ class Tree(Folder):
             shutil.copy2(os.path.join(TOP, "ttrun"), self.folder)
         self.add_program(BUILDER, text)
         for name in ("rt", "sort", "flock"):
-            self.add_program(f"../bin/{name}", text_of(f"tests/wrapper/{name}.sh"))
+            self.add_program(f"../bin/{name}", text_of(f"tests/wrapper/{'rt' if name == 'rt' else 'tools'}.sh"))
         self.give_memory(64)
 
     def add_program(self, name: str, data: str | bytes) -> str:
@@ -265,6 +265,14 @@ class Tree(Folder):
             yield
         finally:
             os.close(other)
+
+    def is_free(self, crate: str) -> bool:
+        """Whether another rt may work in a crate."""
+        try:
+            with self.locked(crate):
+                return True
+        except BlockingIOError:
+            return False
 
     def close_to_writing(self, name: str) -> None:
         """Gives the room to nobody, if the tests run as root, and takes the right to write from all below a folder of it."""

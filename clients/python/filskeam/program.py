@@ -17,8 +17,8 @@ MOST_BYTES_OF_A_LINE = 1000
 
 
 def find_program() -> str:
-    """The program: what FILSKEAM_TTRUN or TTRUN names, `ttrun` on the path, or the wrapper of the checkout that this file is in."""
-    named = os.environ.get("FILSKEAM_TTRUN") or os.environ.get("TTRUN")
+    """The program: what TTRUN or FILSKEAM_TTRUN names, `ttrun` on the path, or the wrapper of the checkout that this file is in."""
+    named = os.environ.get("TTRUN") or os.environ.get("FILSKEAM_TTRUN")
     if named:
         return named
     wrapper = os.path.join(os.path.dirname(os.path.abspath(__file__)), *[os.pardir] * 3, "ttrun")

@@ -1,11 +1,12 @@
 #!/bin/sh
 # Records the logs of this folder again, on Eclipse Titan: they were made by this on Titan 8.2.0 (Debian 12, package 8.2.0-1).
+# NAME.logs has the files of a folder of logs, each below a line with its name, as tail writes them.
 set -eu
 here=$(cd "$(dirname "$0")" && pwd)
 room=$(mktemp -d)
 trap 'rm -rf "$room"' EXIT
 record() { "$here/../record.py" "$@" > /dev/null; }
-keep() { rm -rf "${here:?}/$2"; mkdir "$here/$2"; cp "$room/$1"/*.log "$here/$2/"; rm -f "$here/$2"/*-hc*.log; }
+keep() { rm -f "$room/$1"/*-hc*.log; (cd "$room/$1" && LC_ALL=C tail -n +1 *.log) > "$here/$2.logs"; }
 merge() { ttcn3_logmerge -o "$here/$2" "$room/$1"/*.log 2> /dev/null; }
 # The executable of a module is built once.
 again() { mkdir -p "$room/$2"; cp -p "$room/$1/$3" "$room/$2/"; }

@@ -9,8 +9,6 @@ mod books;
 #[cfg(test)]
 mod campaigns;
 #[cfg(test)]
-mod checks;
-#[cfg(test)]
 mod jobs;
 #[cfg(test)]
 mod programs;
@@ -20,3 +18,6 @@ mod scripts;
 mod tables;
 #[cfg(test)]
 mod verdicts;
+
+#[cfg(test)]
+use checks_of_tests as checks;

@@ -7,8 +7,6 @@ mod campaigns;
 #[cfg(test)]
 mod cases;
 #[cfg(test)]
-mod checks;
-#[cfg(test)]
 mod devices;
 #[cfg(test)]
 mod forms;
@@ -24,3 +22,6 @@ mod refusals;
 mod results;
 #[cfg(test)]
 mod scripts;
+
+#[cfg(test)]
+use checks_of_tests as checks;

@@ -11,8 +11,6 @@ mod calls;
 #[cfg(test)]
 mod cases;
 #[cfg(test)]
-mod checks;
-#[cfg(test)]
 mod hostile;
 #[cfg(test)]
 mod jobs;
@@ -24,3 +22,6 @@ mod places;
 mod settings;
 #[cfg(test)]
 mod waking;
+
+#[cfg(test)]
+use checks_of_tests as checks;

@@ -1,5 +1,4 @@
 //! Test cases with one verdict and with several.
-mod checks;
 mod details;
 mod following;
 mod locals;
@@ -8,7 +7,8 @@ mod random;
 mod runs;
 mod schedules;
 
-use crate::tests::checks::{holds, is};
+use checks_of_tests as checks;
+use checks_of_tests::{holds, is};
 use play::{All, all_schedules};
 use std::alloc::Global;
 use std::process::Abort;

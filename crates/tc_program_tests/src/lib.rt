@@ -7,8 +7,6 @@ mod aborts;
 #[cfg(test)]
 mod calls;
 #[cfg(test)]
-mod checks;
-#[cfg(test)]
 mod devices;
 #[cfg(test)]
 mod runs;
@@ -18,3 +16,6 @@ mod terminal;
 mod words;
 #[cfg(test)]
 mod worked;
+
+#[cfg(test)]
+use checks_of_tests as checks;

@@ -3,8 +3,9 @@
 #![tactic(auto)]
 
 #[cfg(test)]
-mod checks;
-#[cfg(test)]
 mod explanations;
 #[cfg(test)]
 mod scripts;
+
+#[cfg(test)]
+use checks_of_tests as checks;
